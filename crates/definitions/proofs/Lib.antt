@@ -1,3 +1,9 @@
 pub mod Text
 pub mod Instances
 pub mod Modular
+pub mod Tests
+pub mod Rows
+pub mod Sound
+pub mod RoundTrip
+pub mod Numbers
+pub mod Refusals
