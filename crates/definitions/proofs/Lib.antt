@@ -1,7 +1,10 @@
 pub mod Text
 pub mod Instances
-pub mod Modular
+pub mod Views
+pub mod Printed
+pub mod Edges
 pub mod Tests
+pub mod Modular
 pub mod Rows
 pub mod Sound
 pub mod RoundTrip
