@@ -26,6 +26,7 @@ pub struct Layout {
 }
 
 impl Layout {
+    /// The layout under these limits.
     pub fn new(limits: &Limits) -> Layout {
         Layout {
             levels: limits.levels as usize + 1,

@@ -14,9 +14,11 @@ use std::collections::BTreeSet;
 /// Sizes at which a completion is given up.
 #[derive(Clone, Copy, Debug)]
 pub struct Caps {
+    /// elements of the basis
     pub elements: usize,
     /// terms of an element
     pub terms: usize,
+    /// the greatest exponent of an element
     pub exponent: u64,
     /// products formed
     pub products: u64,
@@ -31,6 +33,7 @@ pub struct Completion {
 }
 
 impl Completion {
+    /// For elements under these parameters.
     pub fn new(parameters: &Parameters, caps: Caps) -> Completion {
         Completion {
             field: Field::new(parameters.p),
@@ -72,8 +75,8 @@ impl Completion {
     /// to zero if there is one component only.
     fn add_pairs(&self, elements: &[Vector], j: usize, pairs: &mut BTreeSet<(u64, usize, usize)>) {
         let own = leading_monomial(&elements[j]);
-        for i in 0..j {
-            let other = leading_monomial(&elements[i]);
+        for (i, other) in elements[..j].iter().enumerate() {
+            let other = leading_monomial(other);
             let common = lcm(&own.exponents, &other.exponents);
             let coprime = common == multiply(&own.exponents, &other.exponents);
             if own.component == other.component && !(coprime && self.parameters.s == 1) {

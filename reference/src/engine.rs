@@ -12,13 +12,16 @@ use std::cmp::Ordering;
 /// this level.
 #[derive(Clone, Debug, PartialEq, Eq)]
 pub struct Basis {
+    /// the numbers of the R line
     pub parameters: Parameters,
+    /// levels 0 to h
     pub levels: Vec<Level>,
 }
 
 /// What the engine keeps between calls.
 #[derive(Clone, Debug, Default, PartialEq, Eq)]
 pub struct State {
+    /// the accepted basis, if there is one
     pub basis: Option<Basis>,
 }
 
@@ -53,6 +56,7 @@ impl Answer {
 /// How a call ends.
 #[derive(Clone, Debug, PartialEq, Eq)]
 pub enum Outcome {
+    /// the call came to its end
     Answered(Answer),
     /// the budget of products is used up; the state is as before the call
     GaveUp(Usage),

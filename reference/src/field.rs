@@ -2,7 +2,10 @@
 
 /// Whether `p` is a prime number.
 pub fn is_prime(p: u64) -> bool {
-    p >= 2 && (2..).take_while(|d| d * d <= p).all(|d| p % d != 0)
+    p >= 2
+        && (2..)
+            .take_while(|d| d * d <= p)
+            .all(|d| !p.is_multiple_of(d))
 }
 
 /// The numbers modulo a prime.
@@ -17,14 +20,17 @@ impl Field {
         Field { p }
     }
 
+    /// The sum.
     pub fn add(&self, a: u64, b: u64) -> u64 {
         (a + b) % self.p
     }
 
+    /// The product.
     pub fn multiply(&self, a: u64, b: u64) -> u64 {
         a * b % self.p
     }
 
+    /// The number that gives zero with `a`.
     pub fn negate(&self, a: u64) -> u64 {
         (self.p - a) % self.p
     }
@@ -34,6 +40,7 @@ impl Field {
         self.power(a, self.p - 2)
     }
 
+    /// `a` times the inverse of `b`, which is not zero.
     pub fn divide(&self, a: u64, b: u64) -> u64 {
         self.multiply(a, self.inverse(b))
     }

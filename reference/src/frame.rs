@@ -61,6 +61,7 @@ pub struct Reducers {
 }
 
 impl Reducers {
+    /// The leading monomials of these elements.
     pub fn new(elements: &[Vector]) -> Reducers {
         let mut by_component: BTreeMap<u64, Vec<(u64, Exponents)>> = BTreeMap::new();
         for (number, element) in (1..).zip(elements) {

@@ -15,6 +15,7 @@
 //! - [`random`], [`completion`], [`generate`]: seeded problem files and lists of calls.
 
 #![forbid(unsafe_code)]
+#![warn(missing_docs)]
 
 pub mod buffers;
 pub mod completion;

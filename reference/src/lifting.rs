@@ -13,21 +13,27 @@ use std::collections::BTreeMap;
 /// One of the three ways to lift.
 #[derive(Clone, Copy, Debug, PartialEq, Eq)]
 pub enum Way {
+    /// by the leading term, none dropped
     Division,
     /// with its pick code, which may be wrong
     Hybrid(u64),
+    /// by subtrees and a cache
     Tree,
 }
 
 /// "the picked term is, by pick code, 1 the greatest, 2 the newest, 3 the oldest."
 #[derive(Clone, Copy, Debug, PartialEq, Eq)]
 pub enum Pick {
+    /// pick code 1
     Greatest,
+    /// pick code 2
     Newest,
+    /// pick code 3
     Oldest,
 }
 
 impl Pick {
+    /// The pick that a code means, 1 to 3.
     pub fn from_code(code: u64) -> Option<Pick> {
         match code {
             1 => Some(Pick::Greatest),
@@ -201,10 +207,12 @@ impl WorkingValue {
         }
     }
 
+    /// How many terms it has.
     pub fn len(&self) -> usize {
         self.terms.len()
     }
 
+    /// Whether it is zero.
     pub fn is_empty(&self) -> bool {
         self.terms.is_empty()
     }
@@ -278,6 +286,7 @@ pub struct Lifter<'a> {
     elements: &'a [Vector],
     reducers: Reducers,
     budget: Option<u64>,
+    /// what the run took so far
     pub usage: Usage,
 }
 
@@ -618,9 +627,10 @@ impl<'a> Lifter<'a> {
             ..
         } = finished;
         let terms = sum.len();
-        let fits = tree.cache_used + terms as u64 + 1 <= tree.cache_length;
+        let taken = terms as u64 + 1;
+        let fits = tree.cache_used + taken <= tree.cache_length;
         if fits {
-            tree.cache_used += terms as u64 + 1;
+            tree.cache_used += taken;
             tree.area.release(terms);
         }
         let (area, usage) = (&mut tree.area, &mut self.usage);
@@ -704,6 +714,7 @@ impl Tree {
 /// How acceptance ends without accepting.
 #[derive(Clone, Debug, PartialEq, Eq)]
 pub struct NotAccepted {
+    /// why it stopped
     pub stop: Stop,
     /// the number of the frame term at which it stopped, 0 if before the first
     pub frame_number: u64,

@@ -15,14 +15,18 @@ pub const UNIT: Exponents = [0; VARIABLES];
 /// numbered from 1.
 #[derive(Clone, Copy, Debug, PartialEq, Eq, PartialOrd, Ord, Hash)]
 pub struct Monomial {
+    /// the component, from 1
     pub component: u64,
+    /// the exponents of x1 to x8
     pub exponents: Exponents,
 }
 
 /// A coefficient, 1 to p − 1, and a monomial.
 #[derive(Clone, Copy, Debug, PartialEq, Eq)]
 pub struct Term {
+    /// the coefficient
     pub coefficient: u64,
+    /// the monomial
     pub monomial: Monomial,
 }
 
@@ -35,10 +39,13 @@ pub type Level = Vec<Vector>;
 /// The numbers of the line `R,p,n,order,s`.
 #[derive(Clone, Copy, Debug, PartialEq, Eq)]
 pub struct Parameters {
+    /// the prime
     pub p: u64,
+    /// how many variables
     pub n: u64,
     /// the order code, 1 to 3
     pub order: u64,
+    /// how many components
     pub s: u64,
 }
 

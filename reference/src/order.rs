@@ -7,12 +7,16 @@ use std::cmp::Ordering;
 /// lexicographic. In all three x1 is the greatest variable."
 #[derive(Clone, Copy, Debug, PartialEq, Eq)]
 pub enum Order {
+    /// order code 1
     Lexicographic,
+    /// order code 2
     DegreeLexicographic,
+    /// order code 3
     DegreeReverseLexicographic,
 }
 
 impl Order {
+    /// The order that a code means, 1 to 3.
     pub fn from_code(code: u64) -> Option<Order> {
         match code {
             1 => Some(Order::Lexicographic),
@@ -77,11 +81,14 @@ pub struct Key {
 /// one component for each element of `levels[k - 1]`.
 #[derive(Clone, Copy, Debug)]
 pub struct Modules<'a> {
+    /// the file's order
     pub order: Order,
+    /// the levels that the modules stand on
     pub levels: &'a [Level],
 }
 
 impl<'a> Modules<'a> {
+    /// The modules over these levels.
     pub fn new(order: Order, levels: &'a [Level]) -> Modules<'a> {
         Modules { order, levels }
     }

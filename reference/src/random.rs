@@ -7,19 +7,19 @@ pub struct Random {
 }
 
 impl Random {
+    /// The source that starts from a seed.
     pub fn new(seed: u64) -> Random {
         Random { state: seed }
     }
 
     /// A source for one of many cases: different cases of a seed have nothing in common.
     pub fn for_case(seed: u64, case: u64) -> Random {
-        let mut random = Random::new(seed);
-        let first = random.next();
-        Random::new(first ^ case.wrapping_mul(0x9e37_79b9_7f4a_7c15))
+        let of_seed = Random::new(seed).bits();
+        Random::new(Random::new(of_seed ^ case).bits())
     }
 
     /// Any 64 bits.
-    pub fn next(&mut self) -> u64 {
+    pub fn bits(&mut self) -> u64 {
         self.state = self.state.wrapping_add(0x9e37_79b9_7f4a_7c15);
         let mut z = self.state;
         z = (z ^ (z >> 30)).wrapping_mul(0xbf58_476d_1ce4_e5b9);
@@ -29,7 +29,7 @@ impl Random {
 
     /// A number below `bound`, which is at least 1.
     pub fn below(&mut self, bound: u64) -> u64 {
-        ((u128::from(self.next()) * u128::from(bound)) >> 64) as u64
+        ((u128::from(self.bits()) * u128::from(bound)) >> 64) as u64
     }
 
     /// A number from `least` to `most`.

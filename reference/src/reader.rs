@@ -9,14 +9,18 @@ use std::cmp::Ordering;
 /// A refusal: its number and its place.
 #[derive(Clone, Copy, Debug, PartialEq, Eq)]
 pub struct Refusal {
+    /// the number of document 01's tables
     pub number: u64,
+    /// the line, or what else the refusal names
     pub place: u64,
 }
 
 /// What a file that is not refused says.
 #[derive(Clone, Debug, PartialEq, Eq)]
 pub struct Problem {
+    /// the numbers of the R line
     pub parameters: Parameters,
+    /// the elements of the T lines
     pub elements: Level,
 }
 

@@ -9,17 +9,25 @@ use crate::reckoning::Reckoning;
 /// One of the three calls with its arguments.
 #[derive(Clone, Debug, PartialEq, Eq)]
 pub enum Call {
+    /// read a file and accept or refuse its basis
     Read {
+        /// the file's bytes
         file: Vec<u8>,
     },
+    /// form the frame of a level and lift all its terms
     Lift {
+        /// the level, which may be wrong
         level: u64,
+        /// the way
         way: Way,
         /// the cache's length in terms; of use to the tree only
         cache: u64,
     },
+    /// fetch a vector of a level
     Fetch {
+        /// the level, which may be wrong
         level: u64,
+        /// the vector's number, which may be wrong
         vector: u64,
     },
 }
@@ -27,7 +35,9 @@ pub enum Call {
 /// A list of calls and the limits under which it runs.
 #[derive(Clone, Debug, PartialEq, Eq)]
 pub struct Script {
+    /// the limits
     pub limits: Limits,
+    /// the calls in their sequence
     pub calls: Vec<Call>,
 }
 
@@ -196,7 +206,7 @@ pub fn bytes_of_hex(hex: &str) -> Result<Vec<u8>, String> {
             .map(|digit| digit as u8)
             .ok_or_else(|| "a byte is two hexadecimal digits".to_string())
     };
-    if hex.len() % 2 != 0 {
+    if !hex.len().is_multiple_of(2) {
         return Err("a byte is two hexadecimal digits".to_string());
     }
     hex.as_bytes()

@@ -17,7 +17,9 @@ pub const SHEET_PRODUCTS: u64 = 300_000;
 /// A problem file and its sheet.
 #[derive(Clone, Debug)]
 pub struct FileCase {
+    /// the file's bytes
     pub file: Vec<u8>,
+    /// the sheet's bytes
     pub sheet: Vec<u8>,
 }
 

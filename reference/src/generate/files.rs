@@ -366,7 +366,7 @@ pub fn damaged_file(random: &mut Random) -> Vec<u8> {
 /// lines.
 pub fn damage(random: &mut Random, file: &mut Vec<u8>) {
     if file.is_empty() {
-        file.push(random.next() as u8);
+        file.push(random.bits() as u8);
         return;
     }
     let at = random.below(file.len() as u64) as usize;
@@ -378,7 +378,7 @@ pub fn damage(random: &mut Random, file: &mut Vec<u8>) {
         }
         3 => file.insert(at, file[at]),
         4 => {
-            let byte = random.next() as u8;
+            let byte = random.bits() as u8;
             file.insert(at, byte);
         }
         5 => {

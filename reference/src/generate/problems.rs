@@ -18,7 +18,9 @@ pub const PRIMES: [u64; 9] = [2, 3, 5, 7, 11, 101, 251, 32_003, 32_749];
 /// How large problems may be.
 #[derive(Clone, Copy, Debug)]
 pub struct Size {
+    /// variables, at most
     pub variables: u64,
+    /// components, at most
     pub components: u64,
     /// elements before completion
     pub generators: u64,

@@ -1,5 +1,6 @@
 //! Lists of calls, also with limits close to what a run needs.
 
+use crate::buffers::{out_words, work_words, ROW};
 use crate::engine::State;
 use crate::generate::files::{damage, plain_file};
 use crate::generate::problems::Size;
@@ -12,7 +13,9 @@ use crate::script::{make_call, Call, Run, Script};
 /// How long and how deep a list of calls may be.
 #[derive(Clone, Copy, Debug)]
 pub struct Reach {
+    /// the size of the files that are read
     pub size: Size,
+    /// calls in the list, at most
     pub calls: u64,
     /// the highest level that is lifted
     pub levels: u64,
@@ -108,9 +111,14 @@ fn random_call(random: &mut Random, reach: &Reach, state: &State, first: bool) -
 }
 
 fn random_read(random: &mut Random, reach: &Reach, damaged: u64) -> Call {
-    let mut file = plain_file(random, &reach.size);
+    let good = plain_file(random, &reach.size);
+    let mut file = good.clone();
     if random.chance(damaged) {
         damage(random, &mut file);
+    }
+    let lines = file.split(|byte| *byte == 10);
+    if lines.filter(|line| line.starts_with(b"T")).count() as u64 > reach.size.t_lines {
+        file = good;
     }
     if random.chance(1) {
         file.clear();
@@ -269,4 +277,38 @@ fn needs_of(script: &Script, run: &Run) -> Vec<Need> {
         need("field", parameters.p, parameters.p);
     }
     needs
+}
+
+/// The lengths, in words, of the buffers that a caller lends.
+#[derive(Clone, Copy, Debug, PartialEq, Eq)]
+pub struct Lent {
+    /// the state
+    pub state: usize,
+    /// the work buffer
+    pub work: usize,
+    /// the cache
+    pub cache: usize,
+    /// the buffer for a fetched vector
+    pub out: usize,
+}
+
+/// Lengths for a call: mostly as long as they have to be or longer, at times too short. The state
+/// keeps its length.
+pub fn random_lengths(random: &mut Random, limits: &Limits, call: &Call, state: usize) -> Lent {
+    let (work, cache) = match call {
+        Call::Lift { way, cache, .. } => (work_words(limits, Some(*way)), ROW * *cache as usize),
+        _ => (work_words(limits, None), 0),
+    };
+    let mut length = |needed: usize| match random.below(20) {
+        0 => needed.saturating_sub(1),
+        1 => random.below(needed as u64 + 1) as usize,
+        2..=5 => needed + random.below(30) as usize,
+        _ => needed,
+    };
+    Lent {
+        state,
+        work: length(work),
+        out: length(out_words(limits)),
+        cache: cache + random.below(ROW as u64) as usize,
+    }
 }
