@@ -5,6 +5,9 @@ mod common;
 use common::*;
 use reference::frame::frame;
 use reference::order::{Modules, Order};
+use reference::reader::read_problem;
+use reference::reckoning::reckon_levels;
+use reference::Limits;
 use std::cmp::Ordering;
 
 const PRINTED: [&str; 6] = [
@@ -131,6 +134,50 @@ fn instance_9_large_exponents() {
     let mut past = lines;
     past[2] = "T,1,1,1,0,255";
     assert_eq!(sheet_lines(&file(&past)), ["X,13,0"]);
+}
+
+#[test]
+fn no_limit_binds_the_reckoning() {
+    // the vector that 13 keeps from being lifted, its exponents and those of its images
+    let lines = [
+        "R,7,2,1,1",
+        "T,1,1,1,1,0",
+        "T,1,1,1,0,255",
+        "T,2,1,1,0,2",
+        "E,3",
+    ];
+    let problem = read_problem(&Limits::document_01(), &file(&lines)).expect("a problem");
+    let levels = reckon_levels(&problem, 2, None).expect("no budget");
+    let vector = vec![
+        term(1, 2, &[1, 0]),
+        term(6, 1, &[0, 2]),
+        term(1, 2, &[0, 255]),
+    ];
+    assert_eq!(levels[1], [vector]);
+    assert!(levels[2].is_empty());
+    // f = y + z^200, z^250, x + y²: the frame term z^250·e_3 goes down to z^650
+    let lines = [
+        "R,7,3,1,1",
+        "T,1,1,1,0,1,0",
+        "T,1,1,1,0,0,200",
+        "T,2,1,1,0,0,250",
+        "T,3,1,1,1,0,0",
+        "T,3,1,1,0,2,0",
+        "E,5",
+    ];
+    assert_eq!(sheet_lines(&file(&lines)), ["X,13,0"]);
+    let problem = read_problem(&Limits::document_01(), &file(&lines)).expect("a problem");
+    let levels = reckon_levels(&problem, 1, None).expect("no budget");
+    // the frame is y·e_2, z^250·e_3, y·e_3
+    let vector = vec![
+        term(1, 3, &[0, 0, 250]),
+        term(6, 2, &[1, 0, 0]),
+        term(6, 1, &[0, 1, 250]),
+        term(1, 1, &[0, 0, 450]),
+        term(6, 2, &[0, 0, 400]),
+    ];
+    assert_eq!(levels[1].len(), 3);
+    assert_eq!(levels[1][1], vector);
 }
 
 #[test]
