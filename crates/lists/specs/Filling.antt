@@ -2,7 +2,6 @@
 use mathlib.Core.Path.{_≡_, sym, _∙_, subst}
 use mathlib.Core.List.{List}
 use Prim.Native.Nat.{ℕ, _+_, _<_}
-use native.Mathlib.Nat.{not-suc-le-zero}
 use native.Mathlib.Omega.{arith}
 use native.Mathlib.Decide.{ℕ-discrete}
 use lib.ListN.{length, getD, set}
@@ -11,9 +10,6 @@ use lib.Seq.{ext-getD, getD-set-same, getD-set-other}
 -- the first i places of l hold what g says
 abbrev pub Filled : (ℕ → ℕ) → ℕ → List ℕ → Type 0
 Filled g i l = (k : ℕ) → k < i → getD l k 0 ≡ g k
-
-pub filled-none : (g : ℕ → ℕ) (l : List ℕ) → Filled g 0 l
-filled-none g l k h = absurd (not-suc-le-zero h)
 
 filled-at : (g : ℕ → ℕ) (i : ℕ) (l : List ℕ) (k : ℕ) → i < length l → k < i + 1 → Filled g i l → Dec (k ≡ i) → getD (set l i (g i)) k 0 ≡ g k
 filled-at g i l k room h f (yes e) = rw e (getD-set-same l i (g i) 0 room)
