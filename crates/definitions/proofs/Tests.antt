@@ -1,0 +1,78 @@
+-- What the tests of "Lists" say: each is turned into the fact that it tests, and back.
+use mathlib.Core.Path.{_≡_, refl, sym, subst}
+use mathlib.Core.Bool.{Bool, true, false, not}
+use mathlib.Core.List.{List, [], _∷_, _++_}
+use Prim.Native.Nat.{ℕ, zero, suc, _≤_}
+use lib.Dec.{T, leb, leb→le, le→leb}
+use lib.ListN.{getD, drop}
+use Rattle.definitions.specs.Lists.{_and_, between, every}
+
+-- ## Truth
+
+pub true-says : (b : Bool) → b ≡ true → T b
+true-says b e = subst T (sym e) tt
+
+pub true-is : (b : Bool) → T b → b ≡ true
+true-is true t = refl
+true-is false t = absurd t
+
+pub false-is : (b : Bool) → (T b → ⊥) → b ≡ false
+false-is true n = absurd (n tt)
+false-is false n = refl
+
+pub false-says : (b : Bool) → b ≡ false → T b → ⊥
+false-says b e t = subst T e t
+
+-- ## Both
+
+pub and-left : (a b : Bool) → T (a and b) → T a
+and-left true b t = tt
+and-left false b t = t
+
+pub and-right : (a b : Bool) → T (a and b) → T b
+and-right true b t = t
+and-right false b t = absurd t
+
+pub and-both : (a b : Bool) → T a → T b → T (a and b)
+and-both true b s t = t
+and-both false b s t = s
+
+pub between-low : (a b c : ℕ) → T (between a b c) → a ≤ b
+between-low a b c t = leb→le a b (and-left (leb a b) (leb b c) t)
+
+pub between-high : (a b c : ℕ) → T (between a b c) → b ≤ c
+between-high a b c t = leb→le b c (and-right (leb a b) (leb b c) t)
+
+-- ## All members of a list
+
+module _ {A : Type 0} where
+  abbrev pub All : (A → Type 0) → List A → Type 0
+  All P [] = Unit {0}
+  All P (a ∷ l) = P a × All P l
+
+  pub every-all : (f : A → Bool) (l : List A) → T (every f l) → All (λ a. T (f a)) l
+  every-all f [] t = tt
+  every-all f (a ∷ l) t = (and-left (f a) (every f l) t, every-all f l (and-right (f a) (every f l) t))
+
+  pub all-every : (f : A → Bool) (l : List A) → All (λ a. T (f a)) l → T (every f l)
+  all-every f [] h = tt
+  all-every f (a ∷ l) h = and-both (f a) (every f l) (h .0) (all-every f l (h .1))
+
+  pub all-map : (P Q : A → Type 0) → ((a : A) → P a → Q a) → (l : List A) → All P l → All Q l
+  all-map P Q f [] h = tt
+  all-map P Q f (a ∷ l) h = (f a (h .0), all-map P Q f l (h .1))
+
+  pub all-append : (P : A → Type 0) (l m : List A) → All P l → All P m → All P (l ++ m)
+  all-append P [] m h k = k
+  all-append P (a ∷ l) m h k = (h .0, all-append P l m (h .1) k)
+
+  -- the member at a place, or the default
+  pub all-at : (P : A → Type 0) (d : A) → P d → (l : List A) (i : ℕ) → All P l → P (getD l i d)
+  all-at P d k [] i h = k
+  all-at P d k (a ∷ l) zero h = h .0
+  all-at P d k (a ∷ l) (suc i) h = all-at P d k l i (h .1)
+
+  pub all-drop : (P : A → Type 0) (n : ℕ) (l : List A) → All P l → All P (drop n l)
+  all-drop P zero l h = h
+  all-drop P (suc n) [] h = tt
+  all-drop P (suc n) (a ∷ l) h = all-drop P n l (h .1)
