@@ -6,3 +6,6 @@ pub mod Comparisons
 pub mod Products
 pub mod Orders
 pub mod Induced
+pub mod Results
+pub mod Steady
+pub mod Bound
