@@ -1,11 +1,13 @@
 pub mod Text
 pub mod Instances
-pub mod Modular
 pub mod Tests
+pub mod Modular
+pub mod Coefficients
 pub mod Comparisons
 pub mod Products
 pub mod Orders
 pub mod Induced
+pub mod Reducers
 pub mod Results
 pub mod Steady
 pub mod Bound
