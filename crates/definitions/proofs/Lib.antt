@@ -9,5 +9,6 @@ pub mod Orders
 pub mod Induced
 pub mod Reducers
 pub mod Results
+pub mod Sums
 pub mod Steady
 pub mod Bound

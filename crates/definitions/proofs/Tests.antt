@@ -62,6 +62,10 @@ module _ {A : Type 0} where
   all-map P Q f [] h = tt
   all-map P Q f (a ∷ l) h = (f a (h .0), all-map P Q f l (h .1))
 
+  pub all-map₂ : (P Q R : A → Type 0) → ((a : A) → P a → Q a → R a) → (l : List A) → All P l → All Q l → All R l
+  all-map₂ P Q R f [] h k = tt
+  all-map₂ P Q R f (a ∷ l) h k = (f a (h .0) (k .0), all-map₂ P Q R f l (h .1) (k .1))
+
   pub all-append : (P : A → Type 0) (l m : List A) → All P l → All P m → All P (l ++ m)
   all-append P [] m h k = k
   all-append P (a ∷ l) m h k = (h .0, all-append P l m (h .1) k)
