@@ -27,6 +27,16 @@ module _ {A : Type 0} where
   if-done-map P Q f (refused number place value) h = tt
   if-done-map P Q f unfinished h = tt
 
+  pub if-done-always : (P : A → Type 0) → ((a : A) → P a) → (x : Result A) → If-done P x
+  if-done-always P f (done a) = f a
+  if-done-always P f (refused number place value) = tt
+  if-done-always P f unfinished = tt
+
+  pub if-done-both : (P Q : A → Type 0) (x : Result A) → If-done P x → If-done Q x → If-done (λ a. P a × Q a) x
+  if-done-both P Q (done a) h k = (h, k)
+  if-done-both P Q (refused number place value) h k = tt
+  if-done-both P Q unfinished h k = tt
+
   pub if-done-bind : {B : Type 0} (P : A → Type 0) (Q : B → Type 0) (x : Result A) (f : A → Result B)
       → If-done P x → ((a : A) → P a → If-done Q (f a)) → If-done Q (x >>= f)
   if-done-bind P Q (done a) f h k = k a h

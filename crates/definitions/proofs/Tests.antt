@@ -2,9 +2,10 @@
 use mathlib.Core.Path.{_≡_, refl, sym, subst}
 use mathlib.Core.Bool.{Bool, true, false, not}
 use mathlib.Core.List.{List, [], _∷_, _++_}
-use Prim.Native.Nat.{ℕ, zero, suc, _≤_}
+use Prim.Native.Nat.{ℕ, zero, suc, _≤_, _<_}
+use native.Mathlib.Omega.{arith}
 use lib.Dec.{T, leb, leb→le, le→leb}
-use lib.ListN.{getD, drop}
+use lib.ListN.{length, getD, drop}
 use Rattle.definitions.specs.Lists.{_and_, between, every}
 
 -- ## Truth
@@ -75,6 +76,11 @@ module _ {A : Type 0} where
   all-at P d k [] i h = k
   all-at P d k (a ∷ l) zero h = h .0
   all-at P d k (a ∷ l) (suc i) h = all-at P d k l i (h .1)
+
+  pub all-inside : (P : A → Type 0) (d : A) (l : List A) (i : ℕ) → i < length l → All P l → P (getD l i d)
+  all-inside P d [] i k h = absurd (omega arith)
+  all-inside P d (a ∷ l) zero k h = h .0
+  all-inside P d (a ∷ l) (suc i) k h = all-inside P d l i (omega arith) (h .1)
 
   pub all-drop : (P : A → Type 0) (n : ℕ) (l : List A) → All P l → All P (drop n l)
   all-drop P zero l h = h
