@@ -9,15 +9,15 @@ use Rattle.definitions.specs.Reducer.{Answer, reducer, lower-order, answer}
 
 -- ## Monomials, as many as matter
 
--- x before each of the lists, for x = 0 .. b
+-- x before each of the lists, for x = 0 .. b − 1
 unfoldable pub with-first : ℕ → List Exponents → List Exponents
-with-first zero l = map (λ e. zero ∷ e) l
-with-first (suc b) l = map (λ e. suc b ∷ e) l ++ with-first b l
+with-first zero l = []
+with-first (suc b) l = map (λ e. b ∷ e) l ++ with-first b l
 
 -- all lists of n exponents of 0 .. b
 unfoldable pub exponents-to : ℕ → ℕ → List Exponents
 exponents-to b zero = [] ∷ []
-exponents-to b (suc n) = with-first b (exponents-to b n)
+exponents-to b (suc n) = with-first (suc b) (exponents-to b n)
 
 unfoldable pub all-exponents : List Exponents
 all-exponents = exponents-to 255 8
