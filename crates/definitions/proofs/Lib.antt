@@ -10,5 +10,6 @@ pub mod Induced
 pub mod Reducers
 pub mod Results
 pub mod Sums
+pub mod Finished
 pub mod Steady
 pub mod Bound

@@ -7,6 +7,7 @@ use native.Mathlib.Nat.{add-zero, add-suc, add-comm}
 use lib.Dec.{T}
 use Rattle.definitions.specs.Lists.{_then_}
 use Rattle.definitions.specs.Result.{Result, done, refused, unfinished, finished?, _>>=_}
+use Rattle.definitions.proofs.Results.{If-done}
 
 -- over? says that the bound sufficed
 module _ {A : Type 0} (over? : A → Bool) where
@@ -27,10 +28,21 @@ module _ {A : Type 0} (over? : A → Bool) where
   pub steady-fixed : (a : A) → Steady (λ n. a)
   steady-fixed a n t = refl
 
+  -- some bound suffices
+  abbrev pub Ends : (ℕ → A) → Type 0
+  Ends g = (n : ℕ) × T (over? (g n))
+
 -- one after the other, where the second part is not over unless the first is
 pub steady-after : {A B : Type 0} (a? : A → Bool) (b? : B → Bool) (f : ℕ → A → B) → ((n : ℕ) (a : A) → T (b? (f n a)) → T (a? a))
     → (g : ℕ → A) → Steady a? g → ((a : A) → Steady b? (λ n. f n a)) → Steady b? (λ n. f n (g n))
 steady-after a? b? f strict g s k n t = ap (f (suc n)) (s n (strict n (g n) t)) ∙ k (g n) n t
+
+pub ends-after : {A B : Type 0} (a? : A → Bool) (b? : B → Bool) (f : ℕ → A → B) (g : ℕ → A) → Steady a? g → ((a : A) → Steady b? (λ n. f n a))
+    → (e : Ends a? g) → Ends b? (λ n. f n (g (e .0))) → Ends b? (λ n. f n (g n))
+ends-after a? b? f g s k (m, t) (n, u) = (m + n, subst (λ b. T (b? b)) (sym same) u)
+  where
+    same : f (m + n) (g (m + n)) ≡ f n (g m)
+    same = ap (f (m + n)) (steady-from a? g s m n t) ∙ ap (λ i. f i (g m)) (add-comm m n) ∙ steady-from b? (λ i. f i (g m)) (k (g m)) n m u
 
 -- ## Sequences of results and of optional values
 
@@ -56,6 +68,16 @@ module _ {A B : Type 0} where
   pub bind-fixed : (f : A → Result B) (g : ℕ → Result A) → Steady finished? g → Steady finished? (λ n. g n >>= f)
   bind-fixed f g s = bind-steady g (λ n. f) s (λ a. steady-fixed finished? (f a))
 
+  -- P is what is known of the values of the first part
+  pub bind-ends : (P : A → Type 0) (g : ℕ → Result A) (f : ℕ → A → Result B) → Steady finished? g → ((a : A) → Steady finished? (λ n. f n a))
+      → ((n : ℕ) → If-done P (g n)) → Ends finished? g → ((a : A) → P a → Ends finished? (λ n. f n a)) → Ends finished? (λ n. g n >>= f n)
+  bind-ends P g f s k h (m, t) e = ends-after finished? finished? (λ n x. x >>= f n) g s (bind-each f k) (m, t) (go (g m) (h m) t)
+    where
+      go : (x : Result A) → If-done P x → T (finished? x) → Ends finished? (λ n. x >>= f n)
+      go (done a) i t = e a i
+      go (refused number place value) i t = (0, tt)
+      go unfinished i t = absurd t
+
   then-strict : (f : A → Option B) (x : Option A) → T (answered? (x then f)) → T (answered? x)
   then-strict f none t = t
   then-strict f (some a) t = tt
@@ -66,6 +88,14 @@ module _ {A B : Type 0} where
 
   pub then-steady : (g : ℕ → Option A) (f : ℕ → A → Option B) → Steady answered? g → ((a : A) → Steady answered? (λ n. f n a)) → Steady answered? (λ n. g n then f n)
   then-steady g f s k = steady-after answered? answered? (λ n x. x then f n) (λ n. then-strict (f n)) g s (then-each f k)
+
+  pub then-ends : (g : ℕ → Option A) (f : ℕ → A → Option B) → Steady answered? g → ((a : A) → Steady answered? (λ n. f n a))
+      → Ends answered? g → ((a : A) → Ends answered? (λ n. f n a)) → Ends answered? (λ n. g n then f n)
+  then-ends g f s k (m, t) e = ends-after answered? answered? (λ n x. x then f n) g s (then-each f k) (m, t) (go (g m) t)
+    where
+      go : (x : Option A) → T (answered? x) → Ends answered? (λ n. x then f n)
+      go none t = absurd t
+      go (some a) t = e a
 
   pub then-fixed : (f : A → Option B) (g : ℕ → Option A) → Steady answered? g → Steady answered? (λ n. g n then f)
   then-fixed f g s = then-steady g (λ n. f) s (λ a. steady-fixed answered? (f a))
