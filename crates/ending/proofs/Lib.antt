@@ -4,3 +4,6 @@ pub mod Ranks
 pub mod Costs
 pub mod Leaving
 pub mod Falling
+pub mod Measure
+pub mod Picking
+pub mod Runs
