@@ -43,12 +43,16 @@ lift-one-steady S by-division cache m = bind-fixed (λ v. done (v, cache)) (λ n
 lift-one-steady S (by-hybrid pick) cache m = bind-fixed (λ v. done (v, cache)) (λ n. run S (hybrid-strategy S pick) n m) (run-steady S (hybrid-strategy S pick) m)
 lift-one-steady S (by-tree room) cache m = steady-fixed finished? (lift-one S (by-tree room) 0 cache m)
 
+-- what follows a lifted vector
+pub later-steady : (S : Stage) (way : Lifting) (l : Lifted) (s : Sum) (ms : List Monomial) → ((l′ : Lifted) → Steady finished? (λ n. lift-all S (lift-one S way n) l′ (s .1) ms))
+    → Steady finished? (λ n. with-vector S l s >>= λ l′. lift-all S (lift-one S way n) l′ (s .1) ms)
+later-steady S way l s ms k = bind-steady (λ n. with-vector S l s) (λ n l′. lift-all S (lift-one S way n) l′ (s .1) ms) (steady-fixed finished? (with-vector S l s)) k
+
 pub lift-all-steady : (S : Stage) (way : Lifting) (l : Lifted) (cache : Cache) (ms : List Monomial) → Steady finished? (λ n. lift-all S (lift-one S way n) l cache ms)
 lift-all-steady S way l cache [] = steady-fixed finished? (done (l .0))
 lift-all-steady S way l cache (m ∷ ms) =
     bind-steady (λ n. lift-one S way n cache m) (λ n s. with-vector S l s >>= λ l′. lift-all S (lift-one S way n) l′ (s .1) ms) (lift-one-steady S way cache m) λ s.
-    bind-steady (λ n. with-vector S l s) (λ n l′. lift-all S (lift-one S way n) l′ (s .1) ms) (steady-fixed finished? (with-vector S l s)) λ l′.
-    lift-all-steady S way l′ (s .1) ms
+    later-steady S way l s ms λ l′. lift-all-steady S way l′ (s .1) ms
 
 pub lift-level-steady : (lim : Limits) (p code : ℕ) (below : List Level) (way : Lifting) → Steady finished? (lift-level lim p code below way)
 lift-level-steady lim p code below way =

@@ -3,7 +3,7 @@
 -- vectors have as many exponents as the monomials compared.
 use mathlib.Core.Path.{_≡_, refl, sym, ap, _∙_, subst}
 use mathlib.Core.List.{List, [], _∷_}
-use Prim.Native.Nat.{ℕ, zero, suc}
+use Prim.Native.Nat.{ℕ, zero, suc, _≤_}
 use lib.ListN.{length}
 use Rattle.definitions.specs.Monomial.{Exponents, Monomial, Vector, Level, product, vector-of}
 use Rattle.definitions.specs.Order.{Comparison, equal, or-at-tie, numbers, exponents-by, image-by, image, compare-over}
@@ -15,6 +15,11 @@ use Rattle.definitions.proofs.Orders.{exponents-order}
 -- the monomial has n exponents
 abbrev pub Has : ℕ → Monomial → Type 0
 Has n m = length (m .0) ≡ n
+
+-- .. and a component, which counts from 1
+pub record Shaped (n : ℕ) (m : Monomial) : Type 0 where
+  pub long : Has n m
+  pub component : 1 ≤ m .1
 
 -- the monomial times q
 abbrev pub shifted : Exponents → Monomial → Monomial

@@ -7,6 +7,7 @@ pub mod Comparisons
 pub mod Products
 pub mod Orders
 pub mod Induced
+pub mod Frames
 pub mod Reducers
 pub mod Results
 pub mod Sums

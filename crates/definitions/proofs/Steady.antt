@@ -7,7 +7,7 @@ use native.Mathlib.Nat.{add-zero, add-suc, add-comm}
 use lib.Dec.{T}
 use Rattle.definitions.specs.Lists.{_then_}
 use Rattle.definitions.specs.Result.{Result, done, refused, unfinished, finished?, _>>=_}
-use Rattle.definitions.proofs.Results.{If-done}
+use Rattle.definitions.proofs.Results.{If-done, if-done-always, bind-finished}
 
 -- over? says that the bound sufficed
 module _ {A : Type 0} (over? : A → Bool) where
@@ -77,6 +77,13 @@ module _ {A B : Type 0} where
       go (done a) i t = e a i
       go (refused number place value) i t = (0, tt)
       go unfinished i t = absurd t
+
+  pub bind-ends-any : (g : ℕ → Result A) (f : ℕ → A → Result B) → Steady finished? g → ((a : A) → Steady finished? (λ n. f n a))
+      → Ends finished? g → ((a : A) → Ends finished? (λ n. f n a)) → Ends finished? (λ n. g n >>= f n)
+  bind-ends-any g f s k e h = bind-ends (λ a. Unit {0}) g f s k (λ n. if-done-always (λ a. Unit {0}) (λ a. tt) (g n)) e (λ a u. h a)
+
+  pub bind-fixed-ends : (f : A → Result B) (g : ℕ → Result A) → Ends finished? g → ((a : A) → T (finished? (f a))) → Ends finished? (λ n. g n >>= f)
+  bind-fixed-ends f g (n, t) k = (n, bind-finished (g n) f t k)
 
   then-strict : (f : A → Option B) (x : Option A) → T (answered? (x then f)) → T (answered? x)
   then-strict f none t = t
