@@ -17,6 +17,7 @@ use Rattle.definitions.specs.Stage.{Reduction}
 use Rattle.definitions.specs.Run.{multiple, dropped?, unless-dropped, if-fits, add-term, add-products}
 use Rattle.definitions.proofs.Tests.{All, and-both, every-all, all-every, all-map, all-append}
 use Rattle.definitions.proofs.Products.{length-product, same-monomial-shows}
+use Rattle.definitions.proofs.Induced.{Shaped, shifted}
 use Rattle.definitions.proofs.Results.{If-done, if-done-map, if-done-bind}
 use Rattle.ending.specs.Good.{good-monomial?}
 use Rattle.ending.specs.Spent.{total, total-products}
@@ -95,21 +96,16 @@ add-term-is R drops t v = go (fits? (R .limits .exponent) (t .1 .0)) (λ f. f)
     go false f = tt
     go true f = stays (f tt) (dropped? R drops (t .1))
 
--- eight exponents, the component counted from 1
-pub record Shaped (m : Monomial) : Type 0 where
-  pub eight : length (m .0) ≡ 8
-  pub component : 1 ≤ m .1
-
 fits-more : (a b : ℕ) → a ≤ b → (e : Exponents) → T (fits? a e) → T (fits? b e)
 fits-more a b l e t =
     all-every (λ x. leb x b) e (all-map (λ x. T (leb x a)) (λ x. T (leb x b)) (λ x h. le→leb x b (omega (arith, leb→le x a h))) e (every-all (λ x. leb x a) e t))
 
-pub shaped-good : (limit : ℕ) → limit ≤ 255 → (m : Monomial) → Shaped m → T (fits? limit (m .0)) → T (good-monomial? m)
+pub shaped-good : (limit : ℕ) → limit ≤ 255 → (m : Monomial) → Shaped 8 m → T (fits? limit (m .0)) → T (good-monomial? m)
 shaped-good limit l m s f =
-    and-both (eqb (length (m .0)) 8) (fits? 255 (m .0) and leb 1 (m .1)) (subst (λ n. T (eqb n 8)) (sym (s .eight)) tt)
+    and-both (eqb (length (m .0)) 8) (fits? 255 (m .0) and leb 1 (m .1)) (subst (λ n. T (eqb n 8)) (sym (s .long)) tt)
     (and-both (fits? 255 (m .0)) (leb 1 (m .1)) (fits-more limit 255 l (m .0) f) (le→leb 1 (m .1) (s .component)))
 
-pub add-term-good : (R : Reduction) → R .limits .exponent ≤ 255 → (drops : Bool) (t : Term) → Shaped (t .1) → (v : Vector) → Good v → If-done Good (add-term R drops t v)
+pub add-term-good : (R : Reduction) → R .limits .exponent ≤ 255 → (drops : Bool) (t : Term) → Shaped 8 (t .1) → (v : Vector) → Good v → If-done Good (add-term R drops t v)
 add-term-good R l drops t s v g =
     if-done-map (Added (R .limits .exponent) t v) Good (λ w a. stored-good t v (shaped-good (R .limits .exponent) l (t .1) s (a .fits)) g w (a .stored))
     (add-term R drops t v) (add-term-is R drops t v)
@@ -120,10 +116,10 @@ add-term-total h R drops t v =
 
 -- ## All products of a multiple
 
-pub product-shaped : (q : Exponents) → length q ≡ 8 → (m : Monomial) → Shaped m → Shaped (product q (m .0), m .1)
-product-shaped q l m s = record { eight = length-product 8 q (m .0) l (s .eight); component = s .component }
+pub product-shaped : (q : Exponents) → length q ≡ 8 → (m : Monomial) → Shaped 8 m → Shaped 8 (product q (m .0), m .1)
+product-shaped q l m s = record { long = length-product 8 q (m .0) l (s .long); component = s .component }
 
-pub add-products-good : (R : Reduction) → R .limits .exponent ≤ 255 → (drops : Bool) (c : ℕ) (q : Exponents) → length q ≡ 8 → (f : Vector) → All (λ t. Shaped (t .1)) f
+pub add-products-good : (R : Reduction) → R .limits .exponent ≤ 255 → (drops : Bool) (c : ℕ) (q : Exponents) → length q ≡ 8 → (f : Vector) → All (λ t. Shaped 8 (t .1)) f
     → (v : Vector) → Good v → If-done Good (add-products R drops c q f v)
 add-products-good R l drops c q k [] s v g = g
 add-products-good R l drops c q k (t ∷ f) s v g =

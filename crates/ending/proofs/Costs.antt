@@ -56,16 +56,16 @@ module _ (p : ℕ) (order : Monomial → Monomial → Comparison) (O : Module-or
   others-lower t c q h (l ∷ v) d k r = all-map₂ Below (λ u. Listed (all-monomials f) (u .1 .1)) (Lower order f q (rank order f (t .1))) one v belows (k .1)
     where
       led : Leading q (l .1) (t .1)
-      led = subst (λ x. Leading x (l .1) (t .1)) (sym (r .quotient-is)) (leading-product (l .1) (t .1) (d .proper .0 .eight) h (r .divides))
+      led = subst (λ x. Leading x (l .1) (t .1)) (sym (r .quotient-is)) (leading-product (l .1) (t .1) (d .proper .0 .shaped .long) h (r .divides))
 
       Below : Term → Type 0
       Below u = Has 8 (u .1) × (order (l .1) (u .1) ≡ greater)
 
       eights : All (λ u. Has 8 (u .1)) v
-      eights = all-map (Proper p) (λ u. Has 8 (u .1)) (λ u s. s .eight) v (d .proper .1)
+      eights = all-map (Proper p) (λ u. Has 8 (u .1)) (λ u s. s .shaped .long) v (d .proper .1)
 
       belows : All Below v
-      belows = all-map₂ (λ u. Has 8 (u .1)) (λ u. order (l .1) (u .1) ≡ greater) Below (λ u a b. (a, b)) v eights (descending-above (Has 8) order (O .orders) l v (d .proper .0 .eight) eights (d .strictly))
+      belows = all-map₂ (λ u. Has 8 (u .1)) (λ u. order (l .1) (u .1) ≡ greater) Below (λ u a b. (a, b)) v eights (descending-above (Has 8) order (O .orders) l v (d .proper .0 .shaped .long) eights (d .strictly))
 
       one : (u : Term) → Below u → Listed (all-monomials f) (u .1 .1) → Lower order f q (rank order f (t .1)) u
       one u b listed = record { eight = e; ranked = λ fits. rank-below order O f (t .1) (shifted q (u .1)) h e above (listed (product q (u .1 .0)) e fits) }
@@ -74,7 +74,7 @@ module _ (p : ℕ) (order : Monomial → Monomial → Comparison) (O : Module-or
           e = length-product 8 q (u .1 .0) (led .eight) (b .0)
 
           above : order (t .1) (shifted q (u .1)) ≡ greater
-          above = ap (λ m. order m (shifted q (u .1))) (sym (led .product-is)) ∙ O .multiplied q (led .eight) (l .1) (u .1) (d .proper .0 .eight) (b .0) ∙ b .1
+          above = ap (λ m. order m (shifted q (u .1))) (sym (led .product-is)) ∙ O .multiplied q (led .eight) (l .1) (u .1) (d .proper .0 .shaped .long) (b .0) ∙ b .1
 
   -- the other products of a term's reducer are lower than the term
   pub products-lower : (t : Term) (j c : ℕ) (q : Exponents) → Has 8 (t .1) → answer p (heads p f) t ≡ reducer j c q → All (Lower order f q (rank order f (t .1))) (rest (vector-of f j))

@@ -20,20 +20,20 @@ use Rattle.definitions.specs.Run.{Run, Strategy, Step, on, end, multiple, add-t
 use Rattle.definitions.proofs.Tests.{All, and-left, all-map, all-inside}
 use Rattle.definitions.proofs.Modular.{Prime}
 use Rattle.definitions.proofs.Coefficients.{coefficient-cancels}
-use Rattle.definitions.proofs.Induced.{Has, shifted}
+use Rattle.definitions.proofs.Induced.{Shaped}
 use Rattle.definitions.proofs.Reducers.{Reducing, answer-reducing}
 use Rattle.definitions.proofs.Results.{If-done, if-done-says, if-done-map, if-done-always, if-done-both, if-done-bind}
 use Rattle.ending.specs.Good.{good-monomial?, good?}
 use Rattle.ending.specs.Spent.{total, total-products, cost, many, spent}
 use Rattle.ending.specs.Well.{Proper, Descending, Well, Picks}
 use Rattle.ending.proofs.Values.{Good, good-says, good-shows, good-all, good-eight, good-fits, good-component, thinned-good, without-thinned, without-total}
-use Rattle.ending.proofs.Adding.{Shaped, add-products-good, add-products-total}
+use Rattle.ending.proofs.Adding.{add-products-good, add-products-total}
 use Rattle.ending.proofs.Costs.{descending-of, Leading, leading-product, cost-falls, cost-lower}
 use Rattle.ending.proofs.Leaving.{add-term-leaves}
 
 -- a term of the family is shaped
-shaped-terms : (p : ℕ) (v : Vector) → All (Proper p) v → All (λ t. Shaped (t .1)) v
-shaped-terms p v h = all-map (Proper p) (λ t. Shaped (t .1)) (λ t s. record { eight = s .eight; component = s .component }) v h
+shaped-terms : (p : ℕ) (v : Vector) → All (Proper p) v → All (λ t. Shaped 8 (t .1)) v
+shaped-terms p v h = all-map (Proper p) (λ t. Shaped 8 (t .1)) (λ t s. s .shaped) v h
 
 -- ## A reducer's products
 
@@ -55,7 +55,7 @@ module _ (R : Reduction) (P : Prime (R .p)) (small : R .limits .exponent ≤ 255
 
       led : Leading q (t .1) m
       led = subst (λ x. Leading x (t .1) m) (sym (r .quotient-is))
-          (leading-product (t .1) m (d .proper .0 .eight) (good-eight m (all-inside (λ u. T (good-monomial? (u .1))) no-term v i l (good-all v g))) (r .divides))
+          (leading-product (t .1) m (d .proper .0 .shaped .long) (good-eight m (all-inside (λ u. T (good-monomial? (u .1))) no-term v i l (good-all v g))) (r .divides))
 
       cancels : plus (R .p) (getD v i no-term .0) (times (R .p) (minus (R .p) c) (t .0)) ≡ 0
       cancels = ap (λ x. plus (R .p) (getD v i no-term .0) (times (R .p) (minus (R .p) x) (t .0))) (r .coefficient-is) ∙

@@ -7,3 +7,5 @@ pub mod Falling
 pub mod Measure
 pub mod Picking
 pub mod Runs
+pub mod Soundness
+pub mod Levels

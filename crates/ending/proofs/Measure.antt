@@ -13,11 +13,12 @@ use Rattle.definitions.specs.Vectors.{store}
 use Rattle.definitions.specs.Stage.{Reduction}
 use Rattle.definitions.specs.Run.{add-term, add-products}
 use Rattle.definitions.proofs.Tests.{All}
+use Rattle.definitions.proofs.Induced.{Shaped}
 use Rattle.definitions.proofs.Results.{If-done, if-done-says}
 use Rattle.ending.specs.Good.{good-monomial?, good?}
 use Rattle.ending.specs.Spent.{total, total-products, cost, many, spent}
 use Rattle.ending.proofs.Values.{Good, good-says, good-shows, thinned-good, without-thinned, without-total}
-use Rattle.ending.proofs.Adding.{Stored, store-is, stored-good, stored-total, Shaped, add-term-good, add-term-total, add-products-good, add-products-total}
+use Rattle.ending.proofs.Adding.{Stored, store-is, stored-good, stored-total, add-term-good, add-term-total, add-products-good, add-products-total}
 
 -- ## Good values
 
@@ -27,10 +28,10 @@ empty-good = good-shows [] tt
 pub store-keeps : (limit p : ℕ) (t : Term) → T (good-monomial? (t .1)) → (v w : Vector) → T (good? v) → store limit p t v ≡ done w → T (good? w)
 store-keeps limit p t m v w g e = good-shows w (stored-good t v m (good-says v g) w (if-done-says (Stored t v) (store limit p t v) (store-is limit p t v) w e))
 
-pub add-term-keeps : (R : Reduction) → R .limits .exponent ≤ 255 → (drops : Bool) (t : Term) → Shaped (t .1) → (v w : Vector) → T (good? v) → add-term R drops t v ≡ done w → T (good? w)
+pub add-term-keeps : (R : Reduction) → R .limits .exponent ≤ 255 → (drops : Bool) (t : Term) → Shaped 8 (t .1) → (v w : Vector) → T (good? v) → add-term R drops t v ≡ done w → T (good? w)
 add-term-keeps R l drops t s v w g e = good-shows w (if-done-says Good (add-term R drops t v) (add-term-good R l drops t s v (good-says v g)) w e)
 
-pub add-products-keeps : (R : Reduction) → R .limits .exponent ≤ 255 → (drops : Bool) (c : ℕ) (q : Exponents) → length q ≡ 8 → (f : Vector) → All (λ t. Shaped (t .1)) f
+pub add-products-keeps : (R : Reduction) → R .limits .exponent ≤ 255 → (drops : Bool) (c : ℕ) (q : Exponents) → length q ≡ 8 → (f : Vector) → All (λ t. Shaped 8 (t .1)) f
     → (v w : Vector) → T (good? v) → add-products R drops c q f v ≡ done w → T (good? w)
 add-products-keeps R l drops c q k f s v w g e = good-shows w (if-done-says Good (add-products R drops c q f v) (add-products-good R l drops c q k f s v (good-says v g)) w e)
 

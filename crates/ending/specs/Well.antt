@@ -14,12 +14,11 @@ use Rattle.definitions.specs.Vectors.{strictly-descending?}
 use Rattle.definitions.specs.Stage.{Stage}
 use Rattle.definitions.proofs.Modular.{Prime}
 use Rattle.definitions.proofs.Tests.{All}
-use Rattle.definitions.proofs.Induced.{Module-order}
+use Rattle.definitions.proofs.Induced.{Shaped, Module-order}
 
 -- a term with eight exponents, its component counted from 1, its coefficient not zero modulo p
 pub record Proper (p : ℕ) (t : Term) : Type 0 where
-  pub eight : length (t .1 .0) ≡ 8
-  pub component : 1 ≤ t .1 .1
+  pub shaped : Shaped 8 (t .1)
   pub coefficient : t .0 % p ≢ 0
 
 -- a vector of such terms, strictly descending; it may be empty
