@@ -9,3 +9,4 @@ pub mod Picking
 pub mod Runs
 pub mod Soundness
 pub mod Levels
+pub mod Lifted
