@@ -1,22 +1,22 @@
 -- More steps change nothing: what finished within a bound is the same within every larger one. So "for some bound" determines the result.
 use mathlib.Core.Path.{_≡_, refl}
-use mathlib.Core.Bool.{Bool, true, false}
+use mathlib.Core.Bool.{Bool, true, false, not}
 use mathlib.Core.Option.{Option, none, some}
 use mathlib.Core.List.{List, [], _∷_, _++_}
 use Prim.Native.Nat.{ℕ, zero, suc, _-_}
 use lib.Dec.{T}
 use Rattle.definitions.specs.Limits.{Limits}
-use Rattle.definitions.specs.Lists.{_then_, empty?}
-use Rattle.definitions.specs.Monomial.{Monomial, Vector, Level}
+use Rattle.definitions.specs.Lists.{_then_, choose, empty?}
+use Rattle.definitions.specs.Monomial.{Monomial, Level}
 use Rattle.definitions.specs.Result.{Result, done, refused, unfinished, finished?, at-level, _>>=_}
 use Rattle.definitions.specs.Stage.{Stage, highest, stage-over}
 use Rattle.definitions.specs.Run.{Run, Strategy, Step, on, end, start, step, continued, runs, run, division-strategy, hybrid-strategy, accepting-strategy}
 use Rattle.definitions.specs.Tree.{Cache, Sum}
 use Rattle.definitions.specs.Lifting.{Lifting, by-division, by-hybrid, by-tree, lift-one, Lifted, with-vector, lift-all, limited-frame, lift-level, at-frame-term, accept-from, accept}
-use Rattle.definitions.specs.Problem.{Bytes, Parameters, problem}
+use Rattle.definitions.specs.Problem.{Bytes, problem}
 use Rattle.definitions.specs.State.{State, up-to}
-use Rattle.definitions.specs.Calls.{Call, reading, lifting, fetching, Reply, refuse, settled, accepted, read, lift, eleven?, lifts?, read-reply, lift-reply, call, calls}
-use Rattle.definitions.specs.Layout.{Words, Lent, read-with, lift-with, fetch-with, Left, division, lifting-by, long-enough?, meant, read-left, lift-left, lent-call, lent-calls}
+use Rattle.definitions.specs.Calls.{Call, reading, lifting, fetching, refuse, settled, accepted, read, lift, eleven?, lifts?, read-reply, lift-reply, call, calls}
+use Rattle.definitions.specs.Layout.{Words, Lent, read-with, lift-with, fetch-with, division, lifting-by, long-enough?, meant, read-left, lift-left, lent-call, lent-calls}
 use Rattle.definitions.specs.Sheet.{level-lines, if-more, level-then, levels-from, variables-of, sheet-of, sheet}
 use Rattle.definitions.proofs.Steady.{Steady, steady-fixed, steady-after, answered?, bind-steady, bind-fixed, then-steady, then-fixed, result-steady}
 
@@ -97,13 +97,15 @@ read-reply-steady lim X true bytes = settled-steady (λ n. read lim n bytes) (re
 
 pub lift-reply-steady : (lim : Limits) (X : State) (long : Bool) (k : ℕ) (way : Lifting) → Steady answered? (λ n. lift-reply lim n X long k way)
 lift-reply-steady lim X false k way = steady-fixed answered? (some (refuse 16 X))
-lift-reply-steady lim X true k way = go (eleven? lim X k (k - 1)) (lifts? lim k way)
+lift-reply-steady lim X true k way = eleven (eleven? lim X k (k - 1))
   where
-    go : (eleven lifts : Bool)
-        → Steady (answered? {A = Reply}) (λ n. elim eleven [ true ↦ some (refuse 11 X) | false ↦ elim lifts [ false ↦ some (refuse 12 X) | true ↦ settled (lift lim n X k way) ] ])
-    go true lifts = steady-fixed answered? (some (refuse 11 X))
-    go false false = steady-fixed answered? (some (refuse 12 X))
-    go false true = settled-steady (λ n. lift lim n X k way) (lift-steady lim X k way)
+    twelve : (b : Bool) → Steady answered? (λ n. choose (not b) (some (refuse 12 X)) (settled (lift lim n X k way)))
+    twelve false = steady-fixed answered? (some (refuse 12 X))
+    twelve true = settled-steady (λ n. lift lim n X k way) (lift-steady lim X k way)
+
+    eleven : (b : Bool) → Steady answered? (λ n. choose b (some (refuse 11 X)) (choose (not (lifts? lim k way)) (some (refuse 12 X)) (settled (lift lim n X k way))))
+    eleven true = steady-fixed answered? (some (refuse 11 X))
+    eleven false = twelve (lifts? lim k way)
 
 pub call-steady : (lim : Limits) (X : State) (c : Call) → Steady answered? (λ n. call lim n X c)
 call-steady lim X (reading long bytes) = read-reply-steady lim X long bytes

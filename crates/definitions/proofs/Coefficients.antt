@@ -1,7 +1,7 @@
 -- Laws of coefficients modulo a prime: what is not zero stays so under products and negatives, and a reducer's multiple cancels a term.
-use mathlib.Core.Path.{_≡_, refl, sym, ap, _∙_, subst}
+use mathlib.Core.Path.{_≡_, sym, ap, _∙_}
 use mathlib.Core.Logic.{_≢_}
-use Prim.Native.Nat.{ℕ, zero, suc, _+_, _*_, _-_, _%_, _<_, _≤_}
+use Prim.Native.Nat.{ℕ, _+_, _*_, _-_, _%_, _<_, _≤_}
 use native.Mathlib.Nat.{mod-lt, mod-eq-of-lt, mod-mod, mod-add-mod, add-mod-mod, mul-add-mod-self-left, mul-assoc, mul-one, zero-mul}
 use native.Mathlib.Omega.{arith}
 use Rattle.definitions.specs.Field.{plus, times, minus, inverse}

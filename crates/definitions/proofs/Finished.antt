@@ -12,14 +12,14 @@ use Rattle.definitions.specs.Monomial.{Exponents, Monomial, Term, Vector
 use Rattle.definitions.specs.Order.{Comparison}
 use Rattle.definitions.specs.Reducer.{Answer, reducer, lower-order, answer}
 use Rattle.definitions.specs.Frame.{frame}
-use Rattle.definitions.specs.Result.{Result, done, refused, unfinished, unless-refused, refusal, finished?, _>>=_}
+use Rattle.definitions.specs.Result.{Result, done, unless-refused, refusal, finished?, _>>=_}
 use Rattle.definitions.specs.Vectors.{insert, combined, appended, or-last, store}
 use Rattle.definitions.specs.Stage.{Reduction, Stage}
-use Rattle.definitions.specs.Run.{Run, Strategy, Step, on, end, dropped?, unless-dropped, if-fits, multiple, add-term, add-products, start, reduced, without-reducer, by-answer, by-pick, step}
+use Rattle.definitions.specs.Run.{Run, Strategy, on, dropped?, unless-dropped, if-fits, multiple, add-term, add-products, start, without-reducer, by-answer, by-pick, step}
 use Rattle.definitions.specs.Tree.{Cache, Subtree, Sum, Lift-term, Lift-list, cached, finish, held-to, grow, add-result, add-subtree, if-product-fits, lift-product, lift-list}
 use Rattle.definitions.specs.Tree.{open-subtree, or-open, lift-by, lift-term, if-vector-product-fits, lift-vector-product, lift-vector, tree}
 use Rattle.definitions.specs.Lifting.{Lifted, add-vector, with-vector, if-few, limited-frame}
-use Rattle.definitions.specs.Problem.{Bytes, Line, Parameters, lines, shaped, letter-R, letter-T, letter-E, prime-in-range?, in-ranges?, parameters-of, r-line, term-of, next?, in-sequence?, term-in-range?, descends?, with-term, t-line, e-line, body, after-r, first-line, problem}
+use Rattle.definitions.specs.Problem.{Bytes, Line, Parameters, lines, shaped, letter-R, letter-T, letter-E, prime-in-range?, in-ranges?, parameters-of, r-line, term-of, next?, in-sequence?, term-in-range?, descends?, with-term, t-line, e-line, by-shape, body, after-r, first-line, problem}
 use Rattle.definitions.proofs.Results.{bind-finished, unless-refused-finished}
 
 -- ## A step
@@ -214,12 +214,11 @@ body-finished : (lim : Limits) (q : Parameters) (place count : ℕ) (elements : 
 body-finished lim q place count elements [] = tt
 body-finished lim q place count elements (line ∷ later) = go (shaped (lim .field) letter-T (3 + q .n) line) (λ grown. body-finished lim q (suc place) (suc count) grown later)
   where
-    go : (o : Option (List ℕ)) → ((grown : Level) → T (finished? (body lim q (suc place) (suc count) grown later)))
-        → T (finished? {A = Level} (elim o [
-          | some v ↦ t-line lim q place count elements v >>= λ grown. body lim q (suc place) (suc count) grown later
-          | none ↦ e-line place count later elements (shaped (lim .field) letter-E 1 line)
-        ]))
-    go (some v) k = bind-finished (t-line lim q place count elements v) (λ grown. body lim q (suc place) (suc count) grown later) (t-line-finished lim q place count elements v) k
+    more : Level → Result Level
+    more grown = body lim q (suc place) (suc count) grown later
+
+    go : (o : Option (List ℕ)) → ((grown : Level) → T (finished? (more grown))) → T (finished? (by-shape o lim q place count elements line later more))
+    go (some v) k = bind-finished (t-line lim q place count elements v) more (t-line-finished lim q place count elements v) k
     go none k = e-line-finished place count later elements (shaped (lim .field) letter-E 1 line)
 
 pub problem-finished : (lim : Limits) (bytes : Bytes) → T (finished? (problem lim bytes))

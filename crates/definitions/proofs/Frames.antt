@@ -1,16 +1,15 @@
 -- Laws of "Frame": frame terms have as many exponents as the leading monomials, and their components count from 1.
 use mathlib.Core.Bool.{Bool, true, false, not}
-use mathlib.Core.List.{List, [], _∷_, _++_}
+use mathlib.Core.List.{List, [], _∷_}
 use mathlib.Core.Path.{refl}
-use Prim.Native.Nat.{ℕ, zero, suc, _≤_}
+use Prim.Native.Nat.{ℕ, suc, _≤_}
 use native.Mathlib.Omega.{arith}
 use lib.Dec.{eqb}
-use lib.ListN.{length}
 use Rattle.definitions.specs.Lists.{any, those}
 use Rattle.definitions.specs.Monomial.{Exponents, Monomial, Vector, Level, quotient, lcm, leading, leading-monomials}
 use Rattle.definitions.specs.Order.{Comparison, greater, equal, smaller, exponents-by}
-use Rattle.definitions.specs.Frame.{into-ascending, with-generator, generators, properly-divides?, minimal, with-component, frame-of, frame-from, frame}
-use Rattle.definitions.proofs.Tests.{All, all-append}
+use Rattle.definitions.specs.Frame.{into-ascending, generators, properly-divides?, minimal, with-component, frame-of, frame-from, frame}
+use Rattle.definitions.proofs.Members.{All, all-append}
 use Rattle.definitions.proofs.Products.{length-quotient, length-lcm}
 use Rattle.definitions.proofs.Orders.{Long}
 use Rattle.definitions.proofs.Induced.{Has, Shaped, Led}

@@ -1,13 +1,13 @@
 -- Laws of the order of a module over the levels below it, by induction on these: it compares in three ways, equal only for equal monomials,
 -- is transitive, and does not change when both sides are multiplied. All that is asked of the levels is that the leading terms of their
 -- vectors have as many exponents as the monomials compared.
-use mathlib.Core.Path.{_≡_, refl, sym, ap, _∙_, subst}
+use mathlib.Core.Path.{_≡_, refl, sym, ap, _∙_}
 use mathlib.Core.List.{List, [], _∷_}
 use Prim.Native.Nat.{ℕ, zero, suc, _≤_}
 use lib.ListN.{length}
 use Rattle.definitions.specs.Monomial.{Exponents, Monomial, Vector, Level, product, vector-of}
 use Rattle.definitions.specs.Order.{Comparison, equal, or-at-tie, numbers, exponents-by, image-by, image, compare-over}
-use Rattle.definitions.proofs.Tests.{All, all-at}
+use Rattle.definitions.proofs.Members.{All, all-at}
 use Rattle.definitions.proofs.Comparisons.{Orders, tie-turns, tie-chains, tie-equal, numbers-turn, numbers-chain, numbers-equal}
 use Rattle.definitions.proofs.Products.{length-product, product-assoc, product-cancel-right}
 use Rattle.definitions.proofs.Orders.{exponents-order}

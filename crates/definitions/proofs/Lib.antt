@@ -1,8 +1,17 @@
 pub mod Text
 pub mod Instances
+pub mod Views
+pub mod Printed
+pub mod Edges
 pub mod Tests
+pub mod Members
 pub mod Modular
 pub mod Coefficients
+pub mod Rows
+pub mod Sound
+pub mod RoundTrip
+pub mod Numbers
+pub mod Refusals
 pub mod Comparisons
 pub mod Products
 pub mod Orders

@@ -1,8 +1,6 @@
 -- Laws of "Result": what holds of a value where there is one, and that a sequence of finished parts is finished.
-use mathlib.Core.Path.{_≡_, refl, sym, subst}
+use mathlib.Core.Path.{_≡_, refl, subst}
 use mathlib.Core.Bool.{Bool, true, false}
-use mathlib.Core.List.{List, [], _∷_}
-use mathlib.Core.Option.{Option, none, some}
 use Prim.Native.Nat.{ℕ}
 use lib.Dec.{T}
 use Rattle.definitions.specs.Result.{Result, done, refused, unfinished, unless-refused, finished?, _>>=_}

@@ -1,20 +1,19 @@
 -- Laws of "Vectors": what holds of all terms goes on to hold when terms are stored or inserted, and insertion keeps a vector strictly descending.
-use mathlib.Core.Path.{_≡_, refl, sym, ap, _∙_, subst}
+use mathlib.Core.Path.{_≡_, refl, sym, ap, subst}
 use mathlib.Core.Logic.{_≢_}
-use mathlib.Core.Bool.{Bool, true, false, not}
+use mathlib.Core.Bool.{Bool, true, false}
 use mathlib.Core.Option.{Option, none, some}
-use mathlib.Core.List.{List, [], _∷_, _++_}
-use Prim.Native.Nat.{ℕ, zero, suc, _%_}
+use mathlib.Core.List.{[], _∷_}
+use Prim.Native.Nat.{ℕ, _%_}
 use native.Mathlib.Nat.{add-comm}
 use lib.Dec.{T, eqb, ltb, eqb-refl}
 use lib.ListN.{length}
-use Rattle.definitions.specs.Lists.{_and_}
 use Rattle.definitions.specs.Field.{plus}
 use Rattle.definitions.specs.Monomial.{Monomial, Term, Vector, same-monomial?}
 use Rattle.definitions.specs.Order.{Comparison, greater, equal, smaller, greater?}
-use Rattle.definitions.specs.Result.{Result, done, refused, unfinished}
-use Rattle.definitions.specs.Vectors.{unless-zero, insert, inserted, descending, strictly-descending?, behind, combined, appended, or-last, store}
-use Rattle.definitions.proofs.Tests.{All, and-left, and-right, and-both, all-map₂, all-append}
+use Rattle.definitions.specs.Vectors.{unless-zero, insert, inserted, strictly-descending?, behind, combined, appended, or-last, store}
+use Rattle.definitions.proofs.Tests.{and-left, and-right, and-both}
+use Rattle.definitions.proofs.Members.{All, all-map₂, all-append}
 use Rattle.definitions.proofs.Comparisons.{Orders, greater-says, greater-shows, order-turned, order-greater}
 use Rattle.definitions.proofs.Results.{If-done}
 

@@ -10,7 +10,7 @@ use Rattle.definitions.specs.Lists.{_and_, _then_, every, empty?, last, 
 use Rattle.definitions.specs.Field.{prime?}
 use Rattle.definitions.specs.Monomial.{Term, Vector, Level, fits?}
 use Rattle.definitions.specs.Order.{compare-over, greater?}
-use Rattle.definitions.specs.Result.{Result, done, refused, unfinished, unless-refused, _>>=_}
+use Rattle.definitions.specs.Result.{Result, done, refused, unless-refused, _>>=_}
 
 abbrev pub Bytes : Type 0
 Bytes = List ℕ
@@ -172,13 +172,16 @@ e-line place count later elements (some v) =
     unless-refused (empty? later) 1 (suc place) >>= λ u₂.
     done elements
 
+-- a T line, after which the lines go on; no T line must be E
+abbrev pub by-shape : Option (List ℕ) → Limits → Parameters → ℕ → ℕ → Level → Line → List Line → (Level → Result Level) → Result Level
+by-shape (some v) lim q place count elements line later go = t-line lim q place count elements v >>= go
+by-shape none lim q place count elements line later go = e-line place count later elements (shaped (lim .field) letter-E 1 line)
+
 -- the lines from the place on, after so many T lines with these elements; "an absent line has the next number"
 abbrev pub body : Limits → Parameters → ℕ → ℕ → Level → List Line → Result Level
 body lim q place count elements [] = refused 1 place []
-body lim q place count elements (line ∷ later) = elim (shaped (lim .field) letter-T (3 + q .n) line) [
-  | some v ↦ t-line lim q place count elements v >>= λ grown. body lim q (suc place) (suc count) grown later
-  | none ↦ e-line place count later elements (shaped (lim .field) letter-E 1 line)
-]
+body lim q place count elements (line ∷ later) =
+    by-shape (shaped (lim .field) letter-T (3 + q .n) line) lim q place count elements line later (λ grown. body lim q (suc place) (suc count) grown later)
 
 abbrev pub after-r : Limits → List Line → Option (List ℕ) → Result (Parameters × Level)
 after-r lim later none = refused 1 1 []

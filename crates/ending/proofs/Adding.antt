@@ -1,27 +1,27 @@
 -- Sums of products: what storing a term, adding a product and adding all products of a multiple do to a good value, and to a sum over its terms.
-use mathlib.Core.Path.{_≡_, refl, sym, ap, _∙_, subst}
+use mathlib.Core.Path.{_≡_, refl, sym, subst}
 use mathlib.Core.Logic.{_≢_}
 use mathlib.Core.Bool.{Bool, true, false, not}
 use mathlib.Core.Option.{Option, none, some}
-use mathlib.Core.List.{List, [], _∷_, _++_}
-use Prim.Native.Nat.{ℕ, zero, suc, _+_, _≤_, _<_}
+use mathlib.Core.List.{[], _∷_, _++_}
+use Prim.Native.Nat.{ℕ, _+_, _≤_}
 use native.Mathlib.Omega.{arith}
 use lib.Dec.{T, T-not, eqb, leb, ltb, leb→le, le→leb}
 use lib.ListN.{length}
 use Rattle.definitions.specs.Lists.{_and_}
 use Rattle.definitions.specs.Field.{plus}
 use Rattle.definitions.specs.Monomial.{Exponents, Monomial, Term, Vector, fits?, same-monomial?, product}
-use Rattle.definitions.specs.Result.{Result, done, refused, unfinished}
 use Rattle.definitions.specs.Vectors.{unless-zero, behind, combined, appended, or-last, store}
 use Rattle.definitions.specs.Stage.{Reduction}
 use Rattle.definitions.specs.Run.{multiple, dropped?, unless-dropped, if-fits, add-term, add-products}
-use Rattle.definitions.proofs.Tests.{All, and-both, every-all, all-every, all-map, all-append}
+use Rattle.definitions.proofs.Tests.{and-both}
+use Rattle.definitions.proofs.Members.{All, every-all, all-every, all-map, all-append}
 use Rattle.definitions.proofs.Products.{length-product, same-monomial-shows}
-use Rattle.definitions.proofs.Induced.{Shaped, shifted}
+use Rattle.definitions.proofs.Induced.{Shaped}
 use Rattle.definitions.proofs.Results.{If-done, if-done-map, if-done-bind}
 use Rattle.ending.specs.Good.{good-monomial?}
 use Rattle.ending.specs.Spent.{total, total-products}
-use Rattle.ending.proofs.Values.{Fresh, Good, Thinned, nothing, kept, left, thinned-same, thinned-good, thinned-total}
+use Rattle.ending.proofs.Values.{Fresh, Good, Thinned, kept, left, thinned-same, thinned-good, thinned-total}
 
 -- ## A term stored
 

@@ -1,17 +1,17 @@
 -- The cost of a monomial: its depth does not matter from the rank on, and a monomial with a reducer costs more than the reducer's other products.
 use mathlib.Core.Path.{_≡_, refl, sym, ap, _∙_, subst}
 use mathlib.Core.Bool.{Bool, true, false}
-use mathlib.Core.List.{List, [], _∷_}
-use Prim.Native.Nat.{ℕ, zero, suc, _+_, _≤_, _<_}
+use mathlib.Core.List.{[], _∷_}
+use Prim.Native.Nat.{ℕ, zero, suc, _≤_, _<_}
 use native.Mathlib.Omega.{arith}
 use lib.Dec.{T, eqb, eqb→eq}
 use lib.ListN.{length}
-use Rattle.definitions.specs.Lists.{_and_, rest}
-use Rattle.definitions.specs.Monomial.{Exponents, Monomial, Term, Vector, Level, product, quotient, fits?, divides?, divides-monomial?, leading, vector-of}
+use Rattle.definitions.specs.Lists.{rest}
+use Rattle.definitions.specs.Monomial.{Exponents, Monomial, Term, Vector, Level, product, quotient, fits?, divides?, divides-monomial?, vector-of}
 use Rattle.definitions.specs.Order.{Comparison, greater}
 use Rattle.definitions.specs.Reducer.{Answer, reducer, lower-order, heads, answer}
-use Rattle.definitions.specs.Vectors.{strictly-descending?}
-use Rattle.definitions.proofs.Tests.{All, and-left, and-right, all-map, all-map₂, all-at, true-is, false-is}
+use Rattle.definitions.proofs.Tests.{and-left, and-right, true-is, false-is}
+use Rattle.definitions.proofs.Members.{All, all-map, all-map₂, all-at}
 use Rattle.definitions.proofs.Products.{length-product, length-quotient, product-quotient}
 use Rattle.definitions.proofs.Induced.{Has, shifted, Module-order}
 use Rattle.definitions.proofs.Reducers.{Alike, answer-alike, Reducing, answer-reducing}

@@ -3,21 +3,22 @@
 use mathlib.Core.Path.{_≡_, refl, sym, ap, _∙_, subst}
 use mathlib.Core.Bool.{Bool, true, false}
 use mathlib.Core.Option.{Option, none, some}
-use mathlib.Core.List.{List, [], _∷_}
-use Prim.Native.Nat.{ℕ, zero, suc, _+_, _≤_, _<_}
+use mathlib.Core.List.{[], _∷_}
+use Prim.Native.Nat.{ℕ, _+_, _≤_, _<_}
 use native.Mathlib.Omega.{arith}
 use lib.Dec.{T, eqb, eqb→eq}
 use lib.ListN.{length, getD}
 use Rattle.definitions.specs.Lists.{rest, without}
-use Rattle.definitions.specs.Field.{plus, times, minus, inverse}
-use Rattle.definitions.specs.Monomial.{Exponents, Monomial, Term, Vector, Level, unit, no-term, divides?, divides-monomial?, vector-of}
+use Rattle.definitions.specs.Field.{plus, times, minus}
+use Rattle.definitions.specs.Monomial.{Exponents, Monomial, Term, Vector, unit, no-term, divides?, vector-of}
 use Rattle.definitions.specs.Order.{Comparison}
 use Rattle.definitions.specs.Reducer.{Answer, reducer, lower-order, lower-order?, heads, answer}
-use Rattle.definitions.specs.Result.{Result, done, refused, unfinished, _>>=_}
+use Rattle.definitions.specs.Result.{Result, done, _>>=_}
 use Rattle.definitions.specs.Vectors.{store}
 use Rattle.definitions.specs.Stage.{Reduction, Stage}
 use Rattle.definitions.specs.Run.{Run, Strategy, Step, on, end, multiple, add-term, add-products, start, reduced, without-reducer, by-answer, by-pick, step}
-use Rattle.definitions.proofs.Tests.{All, and-left, all-map, all-inside}
+use Rattle.definitions.proofs.Tests.{and-left}
+use Rattle.definitions.proofs.Members.{All, all-map, all-inside}
 use Rattle.definitions.proofs.Modular.{Prime}
 use Rattle.definitions.proofs.Coefficients.{coefficient-cancels}
 use Rattle.definitions.proofs.Induced.{Shaped}

@@ -3,11 +3,10 @@
 use mathlib.Core.Path.{_≡_, refl, sym, ap, _∙_, subst}
 use mathlib.Core.Logic.{_≢_}
 use mathlib.Core.Bool.{Bool, true, false}
-use mathlib.Core.Option.{Option, none, some}
-use mathlib.Core.List.{List, [], _∷_}
+use mathlib.Core.Option.{some}
+use mathlib.Core.List.{[], _∷_}
 use Prim.Native.Nat.{ℕ, zero, suc, _<_}
 use native.Mathlib.Omega.{arith}
-use lib.Dec.{T, eqb}
 use lib.ListN.{length, getD}
 use borrow.Author.Tests.{eq-eqb}
 use Rattle.definitions.specs.Lists.{without}
@@ -17,7 +16,8 @@ use Rattle.definitions.specs.Reducer.{answer, lower-order?}
 use Rattle.definitions.specs.Vectors.{unless-zero, behind, combined, or-last, store}
 use Rattle.definitions.specs.Stage.{Reduction}
 use Rattle.definitions.specs.Run.{dropped?, unless-dropped, if-fits, add-term}
-use Rattle.definitions.proofs.Tests.{true-is, false-is, all-inside}
+use Rattle.definitions.proofs.Tests.{true-is, false-is}
+use Rattle.definitions.proofs.Members.{all-inside}
 use Rattle.definitions.proofs.Products.{same-monomial-says, same-monomial-shows}
 use Rattle.definitions.proofs.Reducers.{answer-alike, lower-order-alike}
 use Rattle.definitions.proofs.Results.{If-done}

@@ -1,29 +1,26 @@
 -- Lifting a level and acceptance end: some bound suffices for all frame terms together.
-use mathlib.Core.Path.{_≡_, refl}
 use mathlib.Core.Bool.{Bool, true, false}
 use mathlib.Core.List.{List, [], _∷_}
-use Prim.Native.Nat.{ℕ, zero, suc, _≤_}
+use Prim.Native.Nat.{ℕ, suc, _≤_}
 use lib.Dec.{T, leb}
 use lib.ListN.{length}
 use Rattle.definitions.specs.Limits.{Limits}
-use Rattle.definitions.specs.Lists.{rest}
 use Rattle.definitions.specs.Monomial.{Monomial, Vector, Level, leading-monomials}
-use Rattle.definitions.specs.Order.{compare-over}
 use Rattle.definitions.specs.Frame.{frame}
 use Rattle.definitions.specs.Result.{Result, done, refused, unfinished, finished?, _>>=_}
 use Rattle.definitions.specs.Stage.{Stage, highest, stage-over}
 use Rattle.definitions.specs.Run.{Strategy, run, division-strategy, hybrid-strategy, accepting-strategy}
 use Rattle.definitions.specs.Tree.{Cache}
 use Rattle.definitions.specs.Lifting.{Lifting, by-division, by-hybrid, by-tree, lift-one, Lifted, with-vector, lift-all, if-few, limited-frame, lift-level, at-frame-term, accept-from, accept}
-use Rattle.definitions.proofs.Tests.{All, all-map}
+use Rattle.definitions.proofs.Members.{All}
 use Rattle.definitions.proofs.Modular.{Prime}
-use Rattle.definitions.proofs.Induced.{Shaped, Leads, Led}
+use Rattle.definitions.proofs.Induced.{Shaped, Led}
 use Rattle.definitions.proofs.Frames.{frame-shaped, leading-monomials-eight}
 use Rattle.definitions.proofs.Results.{If-done}
 use Rattle.definitions.proofs.Finished.{tree-finished, limited-frame-finished, with-vector-finished}
 use Rattle.definitions.proofs.Steady.{Ends, steady-fixed, result-steady, bind-ends, bind-ends-any, bind-fixed-ends}
 use Rattle.definitions.proofs.Bound.{run-steady, lift-one-steady, later-steady, lift-all-steady, accept-from-steady}
-use Rattle.ending.specs.Well.{Descending, Descending-levels, Well}
+use Rattle.ending.specs.Well.{Descending-levels, Well}
 use Rattle.ending.proofs.Picking.{picks-by-code}
 use Rattle.ending.proofs.Runs.{run-ends}
 use Rattle.ending.proofs.Soundness.{descending-well, levels-lead}

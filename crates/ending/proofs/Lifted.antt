@@ -3,31 +3,31 @@ use mathlib.Core.Path.{_≡_, refl, sym, ap, _∙_, subst}
 use mathlib.Core.Logic.{_≢_}
 use mathlib.Core.Bool.{Bool, true, false}
 use mathlib.Core.Option.{Option, none, some}
-use mathlib.Core.List.{List, [], _∷_, _++_}
-use Prim.Native.Nat.{ℕ, zero, suc, _+_, _%_, _≤_, _<_}
+use mathlib.Core.List.{List, [], _∷_}
+use Prim.Native.Nat.{ℕ, zero, suc, _%_, _≤_, _<_}
 use native.Mathlib.Omega.{arith}
-use lib.Dec.{T, leb, eqb, eqb→eq}
+use lib.Dec.{eqb, eqb→eq}
 use lib.ListN.{length, getD}
-use Rattle.definitions.specs.Limits.{Limits}
 use Rattle.definitions.specs.Lists.{without}
-use Rattle.definitions.specs.Field.{times, minus, inverse}
-use Rattle.definitions.specs.Monomial.{Exponents, Monomial, Term, Vector, Level, unit, no-term, divides?, fits?, vector-of}
-use Rattle.definitions.specs.Order.{Comparison, compare-over}
+use Rattle.definitions.specs.Field.{minus}
+use Rattle.definitions.specs.Monomial.{Exponents, Monomial, Term, Vector, unit, no-term, divides?, fits?, vector-of}
+use Rattle.definitions.specs.Order.{Comparison}
 use Rattle.definitions.specs.Reducer.{Answer, reducer, lower-order, heads, answer}
 use Rattle.definitions.specs.Result.{Result, done, refused, unfinished, _>>=_}
 use Rattle.definitions.specs.Vectors.{descending, store}
-use Rattle.definitions.specs.Stage.{Reduction, Stage, highest, stage-over}
+use Rattle.definitions.specs.Stage.{Reduction, Stage}
 use Rattle.definitions.specs.Run.{Run, Strategy, Step, on, end, dropped?, unless-dropped, if-fits, multiple, add-term, add-products, start, reduced, without-reducer, by-answer, by-pick, step, continued, runs, run}
-use Rattle.definitions.proofs.Tests.{All, and-left, all-map, all-append, all-inside}
+use Rattle.definitions.proofs.Tests.{and-left}
+use Rattle.definitions.proofs.Members.{All, all-map, all-inside}
 use Rattle.definitions.proofs.Modular.{Prime}
 use Rattle.definitions.proofs.Coefficients.{times-nonzero, quotient-nonzero, minus-nonzero, plus-nonzero, one-nonzero}
 use Rattle.definitions.proofs.Comparisons.{Orders}
-use Rattle.definitions.proofs.Products.{length-product, length-quotient}
+use Rattle.definitions.proofs.Products.{length-quotient}
 use Rattle.definitions.proofs.Induced.{Has, Shaped}
 use Rattle.definitions.proofs.Reducers.{Reducing, answer-reducing, answer-number}
-use Rattle.definitions.proofs.Results.{If-done, if-done-map, if-done-bind}
+use Rattle.definitions.proofs.Results.{If-done, if-done-bind}
 use Rattle.definitions.proofs.Sums.{Joins, inserted-all, store-all, inserted-descends}
-use Rattle.ending.specs.Well.{Proper, Descending, Descending-levels, Well, Picks}
+use Rattle.ending.specs.Well.{Proper, Descending, Well, Picks}
 use Rattle.ending.proofs.Adding.{product-shaped}
 use Rattle.ending.proofs.Costs.{descending-of}
 

@@ -1,20 +1,19 @@
 -- The single sums of a step, for loops that go through them: what they do to a good value and to what it can cost.
-use mathlib.Core.Path.{_≡_, refl, sym, ap, _∙_, subst}
-use mathlib.Core.Bool.{Bool, true, false}
-use mathlib.Core.List.{List, [], _∷_}
-use Prim.Native.Nat.{ℕ, zero, suc, _+_, _≤_, _<_}
-use native.Mathlib.Omega.{arith}
+use mathlib.Core.Path.{_≡_}
+use mathlib.Core.Bool.{Bool}
+use mathlib.Core.List.{[]}
+use Prim.Native.Nat.{ℕ, _+_, _≤_, _<_}
 use lib.Dec.{T}
 use lib.ListN.{length, getD}
 use Rattle.definitions.specs.Lists.{without}
 use Rattle.definitions.specs.Monomial.{Exponents, Monomial, Term, Vector, Level, no-term}
-use Rattle.definitions.specs.Result.{Result, done}
+use Rattle.definitions.specs.Result.{done}
 use Rattle.definitions.specs.Vectors.{store}
 use Rattle.definitions.specs.Stage.{Reduction}
 use Rattle.definitions.specs.Run.{add-term, add-products}
-use Rattle.definitions.proofs.Tests.{All}
+use Rattle.definitions.proofs.Members.{All}
 use Rattle.definitions.proofs.Induced.{Shaped}
-use Rattle.definitions.proofs.Results.{If-done, if-done-says}
+use Rattle.definitions.proofs.Results.{if-done-says}
 use Rattle.ending.specs.Good.{good-monomial?, good?}
 use Rattle.ending.specs.Spent.{total, total-products, cost, many, spent}
 use Rattle.ending.proofs.Values.{Good, good-says, good-shows, thinned-good, without-thinned, without-total}

@@ -1,13 +1,13 @@
 -- Every pick code picks a place inside the value.
-use mathlib.Core.Path.{_≡_, subst}
+use mathlib.Core.Path.{subst}
 use mathlib.Core.Bool.{Bool, true, false}
 use mathlib.Core.Option.{Option, none, some}
-use mathlib.Core.List.{List, [], _∷_}
-use Prim.Native.Nat.{ℕ, zero, suc, _+_, _≤_, _<_}
+use mathlib.Core.List.{[], _∷_}
+use Prim.Native.Nat.{ℕ, suc, _+_, _<_}
 use native.Mathlib.Omega.{arith}
 use lib.Dec.{eqb}
 use lib.ListN.{length}
-use Rattle.definitions.specs.Monomial.{Monomial, Term, Vector}
+use Rattle.definitions.specs.Monomial.{Monomial, Vector}
 use Rattle.definitions.specs.Order.{Comparison, greater, equal, smaller}
 use Rattle.definitions.specs.Run.{Best, better, greatest-from, greatest, newest, oldest, by-code}
 use Rattle.ending.specs.Well.{Picks}

@@ -2,15 +2,15 @@
 use mathlib.Core.Path.{_≡_, refl, sym, ap, _∙_, subst}
 use mathlib.Core.Bool.{Bool, true, false}
 use mathlib.Core.List.{List, [], _∷_, _++_, map, List·Memᴰ, List·Memᴰ·head, List·Memᴰ·tail, Memᴰ·cast, Memᴰ·append-left, Memᴰ·append-right, Memᴰ·map}
-use Prim.Native.Nat.{ℕ, zero, suc, _+_, _≤_, _<_}
+use Prim.Native.Nat.{ℕ, zero, suc, _≤_, _<_}
 use native.Mathlib.Omega.{arith}
 use native.Mathlib.Decide.{ℕ-discrete}
 use lib.Dec.{T, leb, leb→le}
 use lib.ListN.{length}
-use Rattle.definitions.specs.Lists.{_and_, every}
-use Rattle.definitions.specs.Monomial.{Exponents, Monomial, Term, Vector, Level, fits?}
+use Rattle.definitions.specs.Monomial.{Exponents, Monomial, Vector, Level, fits?}
 use Rattle.definitions.specs.Order.{Comparison, greater, greater?}
-use Rattle.definitions.proofs.Tests.{All, and-left, and-right, all-map, all-append}
+use Rattle.definitions.proofs.Tests.{and-left, and-right}
+use Rattle.definitions.proofs.Members.{All, all-map, all-append}
 use Rattle.definitions.proofs.Comparisons.{order-same, order-greater, greater-says, greater-shows, greater≢equal}
 use Rattle.definitions.proofs.Orders.{Long}
 use Rattle.definitions.proofs.Induced.{Has, Module-order}

@@ -1,15 +1,14 @@
 -- Runs end: from a good value, and from every frame term with eight exponents, some bound suffices.
 use mathlib.Core.Path.{_≡_, refl, sym, subst}
-use mathlib.Core.List.{List, [], _∷_}
 use Prim.Native.Nat.{ℕ, zero, suc, _<_}
 use native.Mathlib.Omega.{arith}
 use lib.Dec.{T}
 use lib.ListN.{length}
-use Rattle.definitions.specs.Monomial.{Monomial, Vector}
+use Rattle.definitions.specs.Monomial.{Monomial}
 use Rattle.definitions.specs.Result.{Result, done, refused, unfinished, finished?}
 use Rattle.definitions.specs.Stage.{Stage}
 use Rattle.definitions.specs.Run.{Run, Strategy, Step, on, end, step, continued, start, runs, run}
-use Rattle.definitions.proofs.Results.{If-done, if-done-shows}
+use Rattle.definitions.proofs.Results.{if-done-shows}
 use Rattle.definitions.proofs.Finished.{step-finished, start-finished}
 use Rattle.definitions.proofs.Steady.{Ends, steady-fixed, bind-ends}
 use Rattle.definitions.proofs.Bound.{runs-steady}

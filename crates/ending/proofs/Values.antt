@@ -1,16 +1,16 @@
 -- Working values: what the test of good values says, and what happens to it and to a sum over the terms when terms leave or combine.
-use mathlib.Core.Path.{_≡_, refl, sym, ap, _∙_, subst}
+use mathlib.Core.Path.{_≡_, refl, sym, ap, subst}
 use mathlib.Core.Logic.{_≢_}
-use mathlib.Core.Bool.{Bool, true, false, not}
-use mathlib.Core.Option.{Option, none, some}
-use mathlib.Core.List.{List, [], _∷_, _++_}
+use mathlib.Core.Bool.{not}
+use mathlib.Core.List.{[], _∷_}
 use Prim.Native.Nat.{ℕ, zero, suc, _+_, _≤_, _<_}
 use native.Mathlib.Omega.{arith}
 use lib.Dec.{T, T-not, not-T, eqb, leb, eqb→eq, leb→le}
 use lib.ListN.{length, getD}
-use Rattle.definitions.specs.Lists.{_and_, every, without}
+use Rattle.definitions.specs.Lists.{_and_, without}
 use Rattle.definitions.specs.Monomial.{Monomial, Term, Vector, fits?, same-monomial?, no-term}
-use Rattle.definitions.proofs.Tests.{All, and-left, and-right, and-both, every-all, all-every, all-map, all-append, all-at}
+use Rattle.definitions.proofs.Tests.{and-left, and-right, and-both}
+use Rattle.definitions.proofs.Members.{All, every-all, all-every, all-map}
 use Rattle.definitions.proofs.Products.{same-monomial-says, same-monomial-shows}
 use Rattle.ending.specs.Good.{good-monomial?, fresh?, good?}
 use Rattle.ending.specs.Spent.{total}

@@ -1,11 +1,10 @@
 -- A test of working values that every step of a run keeps.
-use mathlib.Core.Bool.{Bool, true, false, not}
-use mathlib.Core.List.{List, [], _∷_}
-use Prim.Native.Nat.{ℕ}
+use mathlib.Core.Bool.{Bool, true, not}
+use mathlib.Core.List.{[], _∷_}
 use lib.Dec.{leb, eqb}
 use lib.ListN.{length}
 use Rattle.definitions.specs.Lists.{_and_, every}
-use Rattle.definitions.specs.Monomial.{Monomial, Term, Vector, fits?, same-monomial?}
+use Rattle.definitions.specs.Monomial.{Monomial, Vector, fits?, same-monomial?}
 
 -- eight exponents, none above 255; components count from 1
 abbrev pub good-monomial? : Monomial → Bool

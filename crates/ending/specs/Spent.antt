@@ -4,7 +4,7 @@ use mathlib.Core.List.{List, [], _∷_, _++_, map}
 use Prim.Native.Nat.{ℕ, zero, suc, _+_}
 use lib.ListN.{length}
 use Rattle.definitions.specs.Lists.{rest}
-use Rattle.definitions.specs.Monomial.{Exponents, Monomial, Term, Vector, Level, product, fits?, vector-of}
+use Rattle.definitions.specs.Monomial.{Exponents, Monomial, Vector, Level, product, fits?, vector-of}
 use Rattle.definitions.specs.Reducer.{Answer, reducer, lower-order, answer}
 
 -- ## Monomials, as many as matter

@@ -2,7 +2,7 @@
 -- asked for, so that it holds while accepting and in altered states too.
 use mathlib.Core.Path.{_≡_}
 use mathlib.Core.Logic.{_≢_}
-use mathlib.Core.Option.{Option, none, some}
+use mathlib.Core.Option.{Option, some}
 use mathlib.Core.List.{List, [], _∷_}
 use Prim.Native.Nat.{ℕ, _%_, _<_, _≤_}
 use lib.Dec.{T}
@@ -13,7 +13,7 @@ use Rattle.definitions.specs.Reducer.{heads}
 use Rattle.definitions.specs.Vectors.{strictly-descending?}
 use Rattle.definitions.specs.Stage.{Stage}
 use Rattle.definitions.proofs.Modular.{Prime}
-use Rattle.definitions.proofs.Tests.{All}
+use Rattle.definitions.proofs.Members.{All}
 use Rattle.definitions.proofs.Induced.{Shaped, Module-order}
 
 -- a term with eight exponents, its component counted from 1, its coefficient not zero modulo p

@@ -1,0 +1,357 @@
+-- What a call writes into the state's buffer is what the next call reads: `meant (encode X)` is X for every sound X.
+use mathlib.Core.Path.{_≡_, refl, sym, ap, _∙_, subst}
+use mathlib.Core.Bool.{Bool, true, false}
+use mathlib.Core.Option.{Option, none, some}
+use mathlib.Core.List.{List, [], _∷_, _++_, append-assoc, append-nil, reverse, reverse-cons}
+use Prim.Native.Nat.{ℕ, zero, suc, _+_, _-_, _*_, _<_, _≤_}
+use native.Mathlib.Omega.{arith}
+use native.Mathlib.Nat.{mul-le-mul-right}
+use lib.Dec.{T, leb, ltb, leb→le, le→leb, lt→ltb}
+use lib.ListN.{length, take, drop, getD, replicate, length-append, length-drop, length-replicate}
+use lib.Seq.{take-at, drop-drop, getD-drop, drop-append-seam}
+use Rattle.definitions.specs.Limits.{Limits}
+use Rattle.definitions.specs.Lists.{_and_, every, last}
+use Rattle.definitions.specs.Monomial.{Exponents, Vector, Level, fits?}
+use Rattle.definitions.specs.Problem.{Parameters}
+use Rattle.definitions.specs.State.{State, empty, sound?, levels-sound?, vector-sound?, term-sound?, terms-of}
+use Rattle.definitions.specs.Layout
+use Rattle.definitions.specs.Layout.{
+  Words,
+  rows,
+  row-of,
+  rows-of,
+  padded,
+  level-vectors,
+  level-rows,
+  count-place,
+  rows-place,
+  state-words,
+  ends-from,
+  counts-of,
+  joined,
+  all-counts,
+  all-rows,
+  header-of,
+  encode,
+  vectors-at,
+  ends-at,
+  level-at,
+  levels-at,
+  decode,
+  ascending?,
+  last-end,
+  exponents-fit?,
+  words-sound?,
+  all-words-sound?,
+  holds-state?,
+  meant,
+}
+use Rattle.definitions.proofs.Tests.{and-left, and-right, and-both}
+use Rattle.definitions.proofs.Rows.{Eights, no-terms, one-more, length-row, length-rows-of, rows-of-append, drop-behind, rows-spelled}
+use Rattle.definitions.proofs.Sound.{term-says, vector-says, basis-says, level-says, sound-says}
+
+-- ## What soundness says of a level's size and exponents
+
+-- vectors that are not empty, with eight exponents in range in each term
+pub data Filled : Level → Type 0 where
+  no-vectors : Filled []
+  one-vector : {v : Vector} {f : Level} → 1 ≤ length v → Eights v → Filled f → Filled (v ∷ f)
+
+-- a level that its places can hold
+pub record Housed (lim : Limits) (f : Level) : Type 0 where
+  pub few : length f ≤ level-vectors lim
+  pub short : terms-of f ≤ level-rows lim
+  pub filled : Filled f
+
+pub data All-housed (lim : Limits) : List Level → Type 0 where
+  no-level : All-housed lim []
+  one-level : (f : Level) (below : List Level) → Housed lim f → All-housed lim below → All-housed lim (f ∷ below)
+
+fits-more : (n : ℕ) (e : Exponents) → n ≤ 255 → T (fits? n e) → T (fits? 255 e)
+fits-more n [] h t = tt
+fits-more n (x ∷ e) h t =
+    and-both (leb x 255) (fits? 255 e)
+    (le→leb x 255 (let l : x ≤ n = leb→le x n (and-left (leb x n) (fits? n e) t) in omega arith))
+    (fits-more n e h (and-right (leb x n) (fits? n e) t))
+
+module _ (lim : Limits) (q : Parameters) (small : lim .exponent ≤ 255) where
+  pub eights : (c : ℕ) (v : Vector) → T (every (term-sound? lim q c) v) → Eights v
+  eights c [] h = no-terms
+  eights c (t ∷ v) h =
+      let s = term-says lim q c t (and-left (term-sound? lim q c t) (every (term-sound? lim q c) v) h) in
+      one-more (record { eight = s .eight; small = fits-more (lim .exponent) (t .1 .0) small (s .fits) }) (eights c v (and-right (term-sound? lim q c t) (every (term-sound? lim q c) v) h))
+
+  filled : (c most : ℕ) (below : List Level) (f : Level) → T (every (vector-sound? lim q c most below) f) → Filled f
+  filled c most below [] h = no-vectors
+  filled c most below (v ∷ f) h =
+      let s = vector-says lim q c most below v (and-left (vector-sound? lim q c most below v) (every (vector-sound? lim q c most below) f) h) in
+      one-vector (s .filled) (eights c v (s .terms)) (filled c most below f (and-right (vector-sound? lim q c most below v) (every (vector-sound? lim q c most below) f) h))
+
+  pub all-housed : (ls : List Level) → T (levels-sound? lim q ls) → All-housed lim ls
+  all-housed [] h = no-level
+  all-housed (f ∷ []) h =
+      let s = basis-says lim q f h in
+      one-level f [] (record { few = omega arith; short = omega arith; filled = filled (q .s) (lim .t-lines) [] f (s .vectors) }) no-level
+  all-housed (f ∷ g ∷ below) h =
+      let s = level-says lim q f g below h in
+      one-level f (g ∷ below) (record { few = omega arith; short = omega arith; filled = filled (length g) (lim .vector) (g ∷ below) f (s .vectors) }) (all-housed (g ∷ below) (s .under))
+
+-- ## Lengths
+
+pub length-padded : (n : ℕ) (s : Words) → length s ≤ n → length (padded n s) ≡ n
+length-padded n s h = length-append s (replicate (n - length s) 0) ∙ omega (arith, length-replicate {A = ℕ} (n - length s) 0)
+
+length-ends : (a : ℕ) (f : Level) → length (ends-from a f) ≡ length f
+length-ends a [] = refl
+length-ends a (v ∷ f) = ap suc (length-ends (a + length v) f)
+
+pub length-joined : (f : Level) → length (joined f) ≡ terms-of f
+length-joined [] = refl
+length-joined (v ∷ f) = length-append v (joined f) ∙ ap (λ n. length v + n) (length-joined f)
+
+length-counts : (lim : Limits) (f : Level) → length f ≤ level-vectors lim → length (counts-of lim f) ≡ suc (level-vectors lim)
+length-counts lim f h = ap suc (length-padded (level-vectors lim) (ends-from 0 f) (omega (arith, length-ends 0 f)))
+
+eights-append : {v w : Vector} → Eights v → Eights w → Eights (v ++ w)
+eights-append no-terms w = w
+eights-append (one-more h v) w = one-more h (eights-append v w)
+
+eights-joined : {f : Level} → Filled f → Eights (joined f)
+eights-joined no-vectors = no-terms
+eights-joined (one-vector l v f) = eights-append v (eights-joined f)
+
+length-level-rows : (lim : Limits) (f : Level) → Housed lim f → length (padded (level-rows lim * 10) (rows-of (joined f))) ≡ level-rows lim * 10
+length-level-rows lim f h =
+    length-padded (level-rows lim * 10) (rows-of (joined f)) (omega (arith, length-rows-of (joined f) (eights-joined (h .filled)), length-joined f, h .short))
+
+-- ## A level among others
+
+-- the levels below come first, then this one
+counts-last : (lim : Limits) (ls : List Level) (f : Level) → all-counts lim (ls ++ f ∷ []) ≡ all-counts lim ls ++ counts-of lim f
+counts-last lim [] f = append-nil (counts-of lim f)
+counts-last lim (g ∷ ls) f = ap (λ l. counts-of lim g ++ l) (counts-last lim ls f) ∙ sym (append-assoc (counts-of lim g) (all-counts lim ls) (counts-of lim f))
+
+rows-last : (lim : Limits) (ls : List Level) (f : Level) → all-rows lim (ls ++ f ∷ []) ≡ all-rows lim ls ++ padded (level-rows lim * 10) (rows-of (joined f))
+rows-last lim [] f = append-nil (padded (level-rows lim * 10) (rows-of (joined f)))
+rows-last lim (g ∷ ls) f =
+    ap (λ l. padded (level-rows lim * 10) (rows-of (joined g)) ++ l) (rows-last lim ls f)
+    ∙ sym (append-assoc (padded (level-rows lim * 10) (rows-of (joined g))) (all-rows lim ls) (padded (level-rows lim * 10) (rows-of (joined f))))
+
+length-all-counts : (lim : Limits) (ls : List Level) → All-housed lim ls → length (all-counts lim (reverse ls)) ≡ length ls * suc (level-vectors lim)
+length-all-counts lim ls no-level = omega arith
+length-all-counts lim ls (one-level f below h hs) =
+    ap (λ l. length (all-counts lim l)) (reverse-cons f below) ∙ ap length (counts-last lim (reverse below) f)
+    ∙ length-append (all-counts lim (reverse below)) (counts-of lim f) ∙ omega (arith, length-all-counts lim below hs, length-counts lim f (h .few))
+
+length-all-rows : (lim : Limits) (ls : List Level) → All-housed lim ls → length (all-rows lim (reverse ls)) ≡ length ls * (level-rows lim * 10)
+length-all-rows lim ls no-level = omega arith
+length-all-rows lim ls (one-level f below h hs) =
+    ap (λ l. length (all-rows lim l)) (reverse-cons f below) ∙ ap length (rows-last lim (reverse below) f)
+    ∙ length-append (all-rows lim (reverse below)) (padded (level-rows lim * 10) (rows-of (joined f))) ∙ omega (arith, length-all-rows lim below hs, length-level-rows lim f h)
+
+-- ## A level read from its words
+
+vectors-spelled : (s : Words) (a : ℕ) (f : Level) (z : Words) → Filled f → drop (a * 10) s ≡ rows-of (joined f) ++ z → vectors-at s a (ends-from a f) ≡ f
+vectors-spelled s a f z no-vectors d = refl
+vectors-spelled s a f z (one-vector {v} {f = g} l h hs) d =
+    let e : a + length v - a ≡ length v = omega arith in
+    λ i. (ap (rows s a) e ∙ rows-spelled s a v (rows-of (joined g) ++ z) h here) i ∷ vectors-spelled s (a + length v) g z hs behind i
+  where
+    here : drop (a * 10) s ≡ rows-of v ++ (rows-of (joined g) ++ z)
+    here = d ∙ ap (λ w. w ++ z) (rows-of-append v (joined g)) ∙ append-assoc (rows-of v) (rows-of (joined g)) z
+
+    behind : drop ((a + length v) * 10) s ≡ rows-of (joined g) ++ z
+    behind = drop-behind s (rows-of v) (rows-of (joined g) ++ z) (a * 10) (length v * 10) ((a + length v) * 10) here (length-rows-of v h) (omega arith)
+
+ends-ascend : (limit a : ℕ) (f : Level) → Filled f → a + terms-of f ≤ limit → T (ascending? limit a (ends-from a f))
+ends-ascend limit a f no-vectors h = tt
+ends-ascend limit a f (one-vector {v} {f = g} l e hs) h =
+    and-both (ltb a (a + length v)) (leb (a + length v) limit and ascending? limit (a + length v) (ends-from (a + length v) g)) (lt→ltb a (a + length v) (omega arith))
+    (and-both (leb (a + length v) limit) (ascending? limit (a + length v) (ends-from (a + length v) g)) (le→leb (a + length v) limit (omega arith))
+    (ends-ascend limit (a + length v) g hs (omega arith)))
+
+last-end-is : (a : ℕ) (f : Level) → last-end (last (ends-from a f)) ≤ a + terms-of f
+last-end-is a [] = omega arith
+last-end-is a (v ∷ f) = go (last (ends-from (a + length v) f)) (last-end-is (a + length v) f)
+  where
+    go : (l : Option ℕ) → last-end l ≤ a + length v + terms-of f → last-end (elim l [ none ↦ some (a + length v) | some b ↦ some b ]) ≤ a + (length v + terms-of f)
+    go none h = omega arith
+    go (some b) h = omega arith
+
+-- the rows from row n on
+rows-behind : (v : Vector) (n : ℕ) (z : Words) → Eights v → n ≤ length v → drop (n * 10) (rows-of v ++ z) ≡ rows-of (drop n v) ++ z
+rows-behind v zero z h l = refl
+rows-behind v (suc n) z no-terms l = absurd (omega arith)
+rows-behind v (suc n) z (one-more {t} {v = w} h hs) l =
+    let e : suc n * 10 ≡ 10 + n * 10 = omega arith in
+    ap (λ j. drop j ((row-of t ++ rows-of w) ++ z)) e ∙ sym (drop-drop (n * 10) 10 ((row-of t ++ rows-of w) ++ z))
+    ∙ ap (λ x. drop (n * 10) (drop 10 x)) (append-assoc (row-of t) (rows-of w) z)
+    ∙ ap (drop (n * 10)) (ap (λ j. drop j (row-of t ++ (rows-of w ++ z))) (sym (length-row t h)) ∙ drop-append-seam (row-of t) (rows-of w ++ z))
+    ∙ rows-behind w n z hs (omega arith)
+
+eights-drop : (v : Vector) (n : ℕ) → Eights v → Eights (drop n v)
+eights-drop v zero h = h
+eights-drop v (suc n) no-terms = no-terms
+eights-drop v (suc n) (one-more {t} {v = w} h hs) = eights-drop w n hs
+
+exponents-fit : (s : Words) (v : Vector) (z : Words) (n : ℕ) → Eights v → s ≡ rows-of v ++ z → n ≤ length v → T (exponents-fit? s n)
+exponents-fit s v z zero h e l = tt
+exponents-fit s v z (suc n) h e l =
+    and-both (exponents-fit? s n) (fits? 255 (take 8 (drop (n * 10 + 2) s))) (exponents-fit s v z n h e (omega arith))
+    (go (drop n v) (eights-drop v n h) (ap (drop (n * 10)) e ∙ rows-behind v n z h (omega arith)) (omega (arith, length-drop n v)))
+  where
+    go : (w : Vector) → Eights w → drop (n * 10) s ≡ rows-of w ++ z → 0 < length w → T (fits? 255 (take 8 (drop (n * 10 + 2) s)))
+    go w no-terms d l = absurd (omega arith)
+    go w (one-more {t} {v = u} k ks) d l =
+        let b : drop (n * 10 + 2) s ≡ t .1 .0 ++ (rows-of u ++ z) = sym (drop-drop 2 (n * 10) s) ∙ ap (drop 2) (d ∙ append-assoc (row-of t) (rows-of u) z) in
+        subst (λ x. T (fits? 255 x)) (sym (ap (take 8) b ∙ take-at (t .1 .0) (rows-of u ++ z) 8 (k .eight))) (k .small)
+
+-- level k's words
+record Written (lim : Limits) (s : Words) (k : ℕ) (f : Level) : Type 0 where
+  counts-behind : Words
+  counts : drop (count-place lim k) s ≡ counts-of lim f ++ counts-behind
+  rows-behind : Words
+  terms : drop (rows-place lim k) s ≡ padded (level-rows lim * 10) (rows-of (joined f)) ++ rows-behind
+
+module _ (lim : Limits) (s : Words) (k : ℕ) (f : Level) (w : Written lim s k f) (h : Housed lim f) where
+  count-read : getD s (count-place lim k) 0 ≡ length f
+  count-read =
+      let e : count-place lim k ≡ count-place lim k + 0 = omega arith in
+      ap (λ j. getD s j 0) e ∙ sym (getD-drop (count-place lim k) s 0 0) ∙ ap (λ (l : Words). getD l 0 0) (w .counts)
+
+  ends-read : ends-at lim s k ≡ ends-from 0 f
+  ends-read =
+      (λ i. take (count-read i) (behind i))
+      ∙ take-at (ends-from 0 f) (replicate (level-vectors lim - length (ends-from 0 f)) 0 ++ w .counts-behind) (length f) (length-ends 0 f)
+    where
+      behind : drop (suc (count-place lim k)) s ≡ ends-from 0 f ++ (replicate (level-vectors lim - length (ends-from 0 f)) 0 ++ w .counts-behind)
+      behind =
+          let e : suc (count-place lim k) ≡ count-place lim k + 1 = omega arith in
+          ap (λ j. drop j s) e ∙ sym (drop-drop 1 (count-place lim k) s) ∙ ap (drop 1) (w .counts)
+          ∙ append-assoc (ends-from 0 f) (replicate (level-vectors lim - length (ends-from 0 f)) 0) (w .counts-behind)
+
+  terms-read : drop (rows-place lim k) s ≡ rows-of (joined f) ++ (replicate (level-rows lim * 10 - length (rows-of (joined f))) 0 ++ w .rows-behind)
+  terms-read = w .terms ∙ append-assoc (rows-of (joined f)) (replicate (level-rows lim * 10 - length (rows-of (joined f))) 0) (w .rows-behind)
+
+  level-read : level-at lim s k ≡ f
+  level-read =
+      ap (vectors-at (drop (rows-place lim k) s) 0) ends-read
+      ∙ vectors-spelled (drop (rows-place lim k) s) 0 f (replicate (level-rows lim * 10 - length (rows-of (joined f))) 0 ++ w .rows-behind) (h .filled) terms-read
+
+  words-read : T (words-sound? lim s k)
+  words-read =
+      and-both (leb (getD s (count-place lim k) 0) (level-vectors lim)) (ascending? (level-rows lim) 0 (ends-at lim s k) and exponents-fit? (drop (rows-place lim k) s) (last-end (last (ends-at lim s k))))
+      (le→leb (getD s (count-place lim k) 0) (level-vectors lim) (omega (arith, count-read, h .few)))
+      (and-both (ascending? (level-rows lim) 0 (ends-at lim s k)) (exponents-fit? (drop (rows-place lim k) s) (last-end (last (ends-at lim s k))))
+      (subst (λ e. T (ascending? (level-rows lim) 0 e)) (sym ends-read) (ends-ascend (level-rows lim) 0 f (h .filled) (omega (arith, h .short))))
+      (subst (λ e. T (exponents-fit? (drop (rows-place lim k) s) (last-end (last e)))) (sym ends-read)
+      (exponents-fit (drop (rows-place lim k) s) (joined f) (replicate (level-rows lim * 10 - length (rows-of (joined f))) 0 ++ w .rows-behind) (last-end (last (ends-from 0 f))) (eights-joined (h .filled)) terms-read
+      (omega (arith, last-end-is 0 f, length-joined f)))))
+
+-- ## All levels
+
+-- the words of level 0, of level 1, .. one after the other
+record All-written (lim : Limits) (s : Words) (ls : List Level) : Type 0 where
+  counts-behind : Words
+  counts : drop (count-place lim 0) s ≡ all-counts lim (reverse ls) ++ counts-behind
+  rows-behind : Words
+  terms : drop (rows-place lim 0) s ≡ all-rows lim (reverse ls) ++ rows-behind
+
+module _ (lim : Limits) (s : Words) (f : Level) (below : List Level) (w : All-written lim s (f ∷ below)) where
+  counts-split : drop (count-place lim 0) s ≡ all-counts lim (reverse below) ++ (counts-of lim f ++ w .counts-behind)
+  counts-split =
+      w .counts ∙ ap (λ l. all-counts lim l ++ w .counts-behind) (reverse-cons f below) ∙ ap (λ l. l ++ w .counts-behind) (counts-last lim (reverse below) f)
+      ∙ append-assoc (all-counts lim (reverse below)) (counts-of lim f) (w .counts-behind)
+
+  terms-split : drop (rows-place lim 0) s ≡ all-rows lim (reverse below) ++ (padded (level-rows lim * 10) (rows-of (joined f)) ++ w .rows-behind)
+  terms-split =
+      w .terms ∙ ap (λ l. all-rows lim l ++ w .rows-behind) (reverse-cons f below) ∙ ap (λ l. l ++ w .rows-behind) (rows-last lim (reverse below) f)
+      ∙ append-assoc (all-rows lim (reverse below)) (padded (level-rows lim * 10) (rows-of (joined f))) (w .rows-behind)
+
+  written-below : All-written lim s below
+  written-below = record { counts-behind = counts-of lim f ++ w .counts-behind; counts = counts-split; rows-behind = padded (level-rows lim * 10) (rows-of (joined f)) ++ w .rows-behind; terms = terms-split }
+
+  written-here : All-housed lim below → Written lim s (length below) f
+  written-here h = record {
+    counts-behind = w .counts-behind;
+    counts = drop-behind s (all-counts lim (reverse below)) (counts-of lim f ++ w .counts-behind) (count-place lim 0) (length below * suc (level-vectors lim)) (count-place lim (length below)) counts-split (length-all-counts lim below h) (omega arith);
+    rows-behind = w .rows-behind;
+    terms = drop-behind s (all-rows lim (reverse below)) (padded (level-rows lim * 10) (rows-of (joined f)) ++ w .rows-behind) (rows-place lim 0) (length below * (level-rows lim * 10)) (rows-place lim (length below)) terms-split (length-all-rows lim below h) (omega arith);
+  }
+
+levels-read : (lim : Limits) (s : Words) (ls : List Level) → All-housed lim ls → All-written lim s ls → levels-at lim s (length ls) ≡ ls
+levels-read lim s ls no-level w = refl
+levels-read lim s ls (one-level f below h hs) w =
+    λ i. level-read lim s (length below) f (written-here lim s f below w hs) h i ∷ levels-read lim s below hs (written-below lim s f below w) i
+
+all-words-read : (lim : Limits) (s : Words) (ls : List Level) → All-housed lim ls → All-written lim s ls → T (all-words-sound? lim s (length ls))
+all-words-read lim s ls no-level w = tt
+all-words-read lim s ls (one-level f below h hs) w =
+    and-both (words-sound? lim s (length below)) (all-words-sound? lim s (length below))
+    (words-read lim s (length below) f (written-here lim s f below w hs) h) (all-words-read lim s below hs (written-below lim s f below w))
+
+-- ## The state
+
+module _ (lim : Limits) (small : lim .exponent ≤ 255) (size : ℕ) (X : State) (h : T (sound? lim X)) where
+  housed : All-housed lim (X .levels)
+  housed = all-housed lim (X .parameters) small (X .levels) (sound-says lim X h .levels)
+
+  header-fits : length (header-of lim X) ≤ rows-place lim 0
+  header-fits =
+      let l : length (X .levels) ≤ suc (lim .levels) = sound-says lim X h .height in
+      omega (arith, length-all-counts lim (X .levels) housed, mul-le-mul-right (suc (level-vectors lim)) l)
+
+  written : All-written lim (encode lim size X) (X .levels)
+  unfolding header-fits
+  written = record {
+    counts-behind = zeros₁ ++ (terms ++ zeros₂);
+    counts = ap (λ j. drop j (encode lim size X)) five ∙ append-assoc (counts ++ zeros₁) terms zeros₂ ∙ append-assoc counts zeros₁ (terms ++ zeros₂);
+    rows-behind = zeros₂;
+    terms =
+        ap (drop (rows-place lim 0)) (append-assoc (padded (rows-place lim 0) (header-of lim X)) terms zeros₂)
+        ∙ ap (λ j. drop j (padded (rows-place lim 0) (header-of lim X) ++ (terms ++ zeros₂))) (sym (length-padded (rows-place lim 0) (header-of lim X) header-fits))
+        ∙ drop-append-seam (padded (rows-place lim 0) (header-of lim X)) (terms ++ zeros₂);
+  }
+    where
+      counts : Words
+      counts = all-counts lim (reverse (X .levels))
+
+      terms : Words
+      terms = all-rows lim (reverse (X .levels))
+
+      zeros₁ : Words
+      zeros₁ = replicate (rows-place lim 0 - length (header-of lim X)) 0
+
+      zeros₂ : Words
+      zeros₂ = replicate (size - length (padded (rows-place lim 0) (header-of lim X) ++ terms)) 0
+
+      five : count-place lim 0 ≡ 5
+      five = omega arith
+
+  pub decode-encode : decode lim (encode lim size X) ≡ X
+  decode-encode = λ i. record { parameters = X .parameters; levels = levels-read lim (encode lim size X) (X .levels) housed written i }
+
+  pub holds-encode : T (holds-state? lim (encode lim size X))
+  holds-encode =
+      and-both (leb (length (X .levels)) (suc (lim .levels))) (all-words-sound? lim (encode lim size X) (length (X .levels)) and sound? lim (decode lim (encode lim size X)))
+      (le→leb (length (X .levels)) (suc (lim .levels)) (sound-says lim X h .height))
+      (and-both (all-words-sound? lim (encode lim size X) (length (X .levels))) (sound? lim (decode lim (encode lim size X)))
+      (all-words-read lim (encode lim size X) (X .levels) housed written)
+      (subst (λ Y. T (sound? lim Y)) (sym decode-encode) h))
+
+  -- what is written is what is read
+  pub meant-encode : meant lim (encode lim size X) ≡ X
+  meant-encode = go (holds-state? lim (encode lim size X)) holds-encode
+    where
+      go : (b : Bool) → T b → _≡_ {A = State} (elim b [ true ↦ decode lim (encode lim size X) | false ↦ empty ]) X
+      go true t = decode-encode
+      go false t = absurd t
+
+  pub length-encode : state-words lim ≤ size → length (encode lim size X) ≡ size
+  length-encode l = length-padded size (padded (rows-place lim 0) (header-of lim X) ++ all-rows lim (reverse (X .levels))) whole
+    where
+      whole : length (padded (rows-place lim 0) (header-of lim X) ++ all-rows lim (reverse (X .levels))) ≤ size
+      whole =
+          let k : length (X .levels) ≤ suc (lim .levels) = sound-says lim X h .height in
+          subst (λ n. n ≤ size) (sym (length-append (padded (rows-place lim 0) (header-of lim X)) (all-rows lim (reverse (X .levels)))))
+          (omega (arith, length-padded (rows-place lim 0) (header-of lim X) header-fits, length-all-rows lim (X .levels) housed, mul-le-mul-right (level-rows lim * 10) k))
