@@ -21,5 +21,6 @@ pub mod Reducers
 pub mod Results
 pub mod Sums
 pub mod Finished
+pub mod Reading
 pub mod Steady
 pub mod Bound

@@ -1,8 +1,10 @@
 -- Laws of "Result": what holds of a value where there is one, and that a sequence of finished parts is finished.
 use mathlib.Core.Path.{_≡_, refl, subst}
 use mathlib.Core.Bool.{Bool, true, false}
+use mathlib.Core.Option.{Option, none, some}
 use Prim.Native.Nat.{ℕ}
 use lib.Dec.{T}
+use Rattle.definitions.specs.Lists.{_then_}
 use Rattle.definitions.specs.Result.{Result, done, refused, unfinished, unless-refused, finished?, _>>=_}
 
 -- the value, if there is one, has the property
@@ -46,10 +48,25 @@ module _ {A : Type 0} where
   bind-finished (refused number place value) f t k = tt
   bind-finished unfinished f t k = t
 
--- a test that refuses
-pub unless-refused-done : (b : Bool) (number place : ℕ) → If-done (λ u. T b) (unless-refused b number place)
-unless-refused-done true number place = tt
-unless-refused-done false number place = tt
+-- ## Optional values
+
+abbrev pub If-some : {A : Type 0} → (A → Type 0) → Option A → Type 0
+If-some P none = Unit {0}
+If-some P (some a) = P a
+
+pub if-some-then : {A B : Type 0} (P : A → Type 0) (Q : B → Type 0) (x : Option A) (f : A → Option B) → If-some P x → ((a : A) → P a → If-some Q (f a)) → If-some Q (x then f)
+if-some-then P Q none f h k = tt
+if-some-then P Q (some a) f h k = k a h
+
+pub if-some-always : {A : Type 0} (P : A → Type 0) → ((a : A) → P a) → (x : Option A) → If-some P x
+if-some-always P f none = tt
+if-some-always P f (some a) = f a
+
+-- ## A test that refuses
+
+pub guard-done : {B : Type 0} (Q : B → Type 0) (b : Bool) (number place : ℕ) (f : Unit {0} → Result B) → (T b → If-done Q (f tt)) → If-done Q (unless-refused b number place >>= f)
+guard-done Q true number place f k = k tt
+guard-done Q false number place f k = tt
 
 pub unless-refused-finished : (b : Bool) (number place : ℕ) → T (finished? (unless-refused b number place))
 unless-refused-finished true number place = tt

@@ -15,7 +15,7 @@ use Rattle.definitions.specs.Vectors.{unless-zero, insert, inserted, str
 use Rattle.definitions.proofs.Tests.{and-left, and-right, and-both}
 use Rattle.definitions.proofs.Members.{All, all-map₂, all-append}
 use Rattle.definitions.proofs.Comparisons.{Orders, greater-says, greater-shows, order-turned, order-greater}
-use Rattle.definitions.proofs.Results.{If-done}
+use Rattle.definitions.proofs.Results.{If-done, If-some}
 
 -- ## What holds of all terms
 
@@ -45,15 +45,11 @@ module _ (p : ℕ) (P : Term → Type 0) where
   inserted-all j order w [] h k = h
   inserted-all j order w (t ∷ v) h k = inserted-all j order (insert order p t w) v (insert-all j order t (k .0) w h) (k .1)
 
-  abbrev If-some : Option Vector → Type 0
-  If-some none = Unit {0}
-  If-some (some w) = All P w
-
-  combined-all : Joins p P → (t : Term) → P t → (v : Vector) → All P v → If-some (combined p t v)
+  combined-all : Joins p P → (t : Term) → P t → (v : Vector) → All P v → If-some (All P) (combined p t v)
   combined-all j t h [] k = tt
   combined-all j t h (u ∷ v) k = go (same-monomial? (t .1) (u .1)) (combined p t v) (combined-all j t h v (k .1))
     where
-      go : (b : Bool) (o : Option Vector) → If-some o → If-some (elim b [ true ↦ some (unless-zero (plus p (u .0) (t .0), u .1) v) | false ↦ behind u o ])
+      go : (b : Bool) (o : Option Vector) → If-some (All P) o → If-some (All P) (elim b [ true ↦ some (unless-zero (plus p (u .0) (t .0), u .1) v) | false ↦ behind u o ])
       go true o i = unless-zero-all (plus p (u .0) (t .0), u .1) v (subst (λ x. x ≢ 0 → P (x, u .1)) (ap (λ x. x % p) (add-comm (t .0) (u .0))) (j t u h (k .0))) (k .1)
       go false none i = tt
       go false (some w) i = (k .0, i)
@@ -65,7 +61,7 @@ module _ (p : ℕ) (P : Term → Type 0) where
       last true = all-append P v (t ∷ []) k (h, tt)
       last false = tt
 
-      go : (o : Option Vector) → If-some o → If-done (All P) (or-last limit t v o)
+      go : (o : Option Vector) → If-some (All P) o → If-done (All P) (or-last limit t v o)
       go none i = last (ltb (length v) limit)
       go (some w) i = i
 
