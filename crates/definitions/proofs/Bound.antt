@@ -13,7 +13,7 @@ use Rattle.definitions.specs.Stage.{Stage, highest, stage-over}
 use Rattle.definitions.specs.Run.{Run, Strategy, Step, on, end, start, step, continued, runs, run, division-strategy, hybrid-strategy, accepting-strategy}
 use Rattle.definitions.specs.Tree.{Cache, Sum}
 use Rattle.definitions.specs.Lifting.{Lifting, by-division, by-hybrid, by-tree, lift-one, Lifted, with-vector, lift-all, limited-frame, lift-level, at-frame-term, accept-from, accept}
-use Rattle.definitions.specs.Problem.{Bytes, problem}
+use Rattle.definitions.specs.Problem.{Bytes, Parameters, problem}
 use Rattle.definitions.specs.State.{State, up-to}
 use Rattle.definitions.specs.Calls.{Call, reading, lifting, fetching, refuse, settled, accepted, read, lift, eleven?, lifts?, read-reply, lift-reply, call, calls}
 use Rattle.definitions.specs.Layout.{Words, Lent, read-with, lift-with, fetch-with, division, lifting-by, long-enough?, meant, read-left, lift-left, lent-call, lent-calls}
@@ -76,10 +76,12 @@ accept-steady lim p code f =
 
 -- ## Calls
 
-pub read-steady : (lim : Limits) (bytes : Bytes) → Steady finished? (λ n. read lim n bytes)
-read-steady lim bytes =
-    bind-steady (λ n. problem lim bytes) (accepted lim) (steady-fixed finished? (problem lim bytes)) λ f.
+pub accepted-steady : (lim : Limits) (f : Parameters × Level) → Steady finished? (λ n. accepted lim n f)
+accepted-steady lim f =
     bind-fixed (λ u. done (record { parameters = f .0; levels = f .1 ∷ [] })) (accept lim (f .0 .p) (f .0 .code) (f .1)) (accept-steady lim (f .0 .p) (f .0 .code) (f .1))
+
+pub read-steady : (lim : Limits) (bytes : Bytes) → Steady finished? (λ n. read lim n bytes)
+read-steady lim bytes = bind-steady (λ n. problem lim bytes) (accepted lim) (steady-fixed finished? (problem lim bytes)) (accepted-steady lim)
 
 pub lift-steady : (lim : Limits) (X : State) (k : ℕ) (way : Lifting) → Steady finished? (λ n. lift lim n X k way)
 lift-steady lim X k way =
@@ -120,32 +122,38 @@ calls-steady lim X (c ∷ cs) =
 
 -- ## The sheet
 
--- a result handed to a function that reads the bound for a done one only
-level-steady : (n k : ℕ) (more : ℕ → State → Option Bytes) → ((Y : State) → Steady answered? (λ b. more b Y)) → (g : ℕ → Result State) → Steady finished? g
-    → Steady answered? (λ b. level-then n k (more b) (g b))
-level-steady n k more m g s = steady-after finished? answered? (λ b x. level-then n k (more b) x) strict g s each
-  where
-    strict : (b : ℕ) (x : Result State) → T (answered? (level-then n k (more b) x)) → T (finished? x)
-    strict b (done Y) t = tt
-    strict b (refused number place value) t = tt
-    strict b unfinished t = t
+module _ (n k : ℕ) (more : ℕ → State → Option Bytes) (m : (Y : State) → Steady answered? (λ b. more b Y)) where
+  if-more-steady : (f : Level) (last : Bool) (Y : State) → Steady answered? (λ b. if-more last n k f (λ u. more b Y))
+  if-more-steady f true Y = steady-fixed answered? (some (level-lines n k f))
+  if-more-steady f false Y = then-fixed (λ bytes. some (level-lines n k f ++ bytes)) (λ b. more b Y) (m Y)
 
-    go : (f : Level) (last : Bool) (Y : State) → Steady answered? (λ b. if-more last n k f (λ u. more b Y))
-    go f true Y = steady-fixed answered? (some (level-lines n k f))
-    go f false Y = then-fixed (λ bytes. some (level-lines n k f ++ bytes)) (λ b. more b Y) (m Y)
+  -- the level's result is given
+  pub level-then-steady : (x : Result State) → Steady answered? (λ b. level-then n k (more b) x)
+  level-then-steady (done Y) = if-more-steady (highest (Y .levels)) (empty? (highest (Y .levels))) Y
+  level-then-steady (refused number place value) = steady-fixed answered? (level-then n k (more 0) (refused number place value))
+  level-then-steady unfinished = steady-fixed answered? none
 
-    each : (x : Result State) → Steady answered? (λ b. level-then n k (more b) x)
-    each (done Y) = go (highest (Y .levels)) (empty? (highest (Y .levels))) Y
-    each (refused number place value) = steady-fixed answered? (level-then n k (more 0) (refused number place value))
-    each unfinished = steady-fixed answered? none
+  level-then-strict : (b : ℕ) (x : Result State) → T (answered? (level-then n k (more b) x)) → T (finished? x)
+  level-then-strict b (done Y) t = tt
+  level-then-strict b (refused number place value) t = tt
+  level-then-strict b unfinished t = t
+
+  level-steady : (g : ℕ → Result State) → Steady finished? g → Steady answered? (λ b. level-then n k (more b) (g b))
+  level-steady g s = steady-after finished? answered? (λ b x. level-then n k (more b) x) level-then-strict g s level-then-steady
 
 pub levels-from-steady : (lim : Limits) (left k : ℕ) (X : State) → Steady answered? (λ b. levels-from lim b left k X)
 levels-from-steady lim zero k X = steady-fixed answered? (some [])
 levels-from-steady lim (suc left) k X =
     level-steady (X .parameters .n) k (λ b Y. levels-from lim b left (suc k) Y) (levels-from-steady lim left (suc k)) (λ b. lift lim b X k (by-hybrid 2)) (lift-steady lim X k (by-hybrid 2))
 
+-- what reading gave is given
+pub sheet-of-steady : (lim : Limits) (n : ℕ) (x : Result State) → Steady answered? (λ b. sheet-of lim b n x)
+sheet-of-steady lim n (done X) = levels-from-steady lim (lim .levels) 1 X
+sheet-of-steady lim n (refused number place value) = steady-fixed answered? (sheet-of lim 0 n (refused number place value))
+sheet-of-steady lim n unfinished = steady-fixed answered? none
+
 pub sheet-steady : (lim : Limits) (bytes : Bytes) → Steady answered? (λ b. sheet lim b bytes)
-sheet-steady lim bytes = steady-after finished? answered? (λ b x. sheet-of lim b n x) strict (λ b. read lim b bytes) (read-steady lim bytes) each
+sheet-steady lim bytes = steady-after finished? answered? (λ b x. sheet-of lim b n x) strict (λ b. read lim b bytes) (read-steady lim bytes) (sheet-of-steady lim n)
   where
     n : ℕ
     n = variables-of (problem lim bytes)
@@ -154,11 +162,6 @@ sheet-steady lim bytes = steady-after finished? answered? (λ b x. sheet-of lim 
     strict b (done Y) t = tt
     strict b (refused number place value) t = tt
     strict b unfinished t = t
-
-    each : (x : Result State) → Steady answered? (λ b. sheet-of lim b n x)
-    each (done X) = levels-from-steady lim (lim .levels) 1 X
-    each (refused number place value) = steady-fixed answered? (sheet-of lim 0 n (refused number place value))
-    each unfinished = steady-fixed answered? none
 
 -- ## Calls over lent buffers
 

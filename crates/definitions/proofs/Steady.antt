@@ -104,6 +104,14 @@ module _ {A B : Type 0} where
       go none t = absurd t
       go (some a) t = e a
 
+  -- .. where the second part always answers
+  pub then-fixed-ends : (f : A → B) (g : ℕ → Option A) → Ends answered? g → Ends answered? (λ n. g n then λ a. some (f a))
+  then-fixed-ends f g (n, t) = (n, go (g n) t)
+    where
+      go : (x : Option A) → T (answered? x) → T (answered? (x then λ a. some (f a)))
+      go none t = t
+      go (some a) t = tt
+
   pub then-fixed : (f : A → Option B) (g : ℕ → Option A) → Steady answered? g → Steady answered? (λ n. g n then f)
   then-fixed f g s = then-steady g (λ n. f) s (λ a. steady-fixed answered? (f a))
 
