@@ -10,3 +10,5 @@ pub mod Runs
 pub mod Soundness
 pub mod Levels
 pub mod Lifted
+pub mod Calls
+pub mod Sheets
