@@ -10,13 +10,17 @@ use Rattle.definitions.specs.Lists.{_then_, choose, empty?}
 use Rattle.definitions.specs.Monomial.{Monomial, Level}
 use Rattle.definitions.specs.Result.{Result, done, refused, unfinished, finished?, at-level, _>>=_}
 use Rattle.definitions.specs.Stage.{Stage, highest, stage-over}
-use Rattle.definitions.specs.Run.{Run, Strategy, Step, on, end, start, step, continued, runs, run, division-strategy, hybrid-strategy, accepting-strategy}
+use Rattle.definitions.specs.Run.{Run, Strategy, Step, on, end, start, step, continued, runs, run, division-strategy, hybrid-strategy}
+use Rattle.definitions.specs.Run.{accepting-strategy}
 use Rattle.definitions.specs.Tree.{Cache, Sum}
-use Rattle.definitions.specs.Lifting.{Lifting, by-division, by-hybrid, by-tree, lift-one, Lifted, with-vector, lift-all, limited-frame, lift-level, at-frame-term, accept-from, accept}
+use Rattle.definitions.specs.Lifting.{Lifting, by-division, by-hybrid, by-tree, lift-one, Lifted, with-vector, lift-all, limited-frame}
+use Rattle.definitions.specs.Lifting.{lift-level, at-frame-term, accept-from, accept}
 use Rattle.definitions.specs.Problem.{Bytes, Parameters, problem}
 use Rattle.definitions.specs.State.{State, up-to}
-use Rattle.definitions.specs.Calls.{Call, reading, lifting, fetching, refuse, settled, accepted, read, lift, eleven?, lifts?, read-reply, lift-reply, call, calls}
-use Rattle.definitions.specs.Layout.{Words, Lent, read-with, lift-with, fetch-with, division, lifting-by, long-enough?, meant, read-left, lift-left, lent-call, lent-calls}
+use Rattle.definitions.specs.Calls.{Call, reading, lifting, fetching, refuse, settled, accepted, read, lift, eleven?, lifts?, read-reply}
+use Rattle.definitions.specs.Calls.{lift-reply, call, calls}
+use Rattle.definitions.specs.Layout.{Words, Lent, read-with, lift-with, fetch-with, division, lifting-by, long-enough?, meant, read-left}
+use Rattle.definitions.specs.Layout.{lift-left, lent-call, lent-calls}
 use Rattle.definitions.specs.Sheet.{level-lines, if-more, level-then, levels-from, variables-of, sheet-of, sheet}
 use Rattle.definitions.proofs.Steady.{Steady, steady-fixed, steady-after, answered?, bind-steady, bind-fixed, then-steady, then-fixed, result-steady}
 
@@ -40,24 +44,30 @@ run-steady S W m = bind-steady (λ n. start S W m) (λ n r. runs S W n r) (stead
 
 pub lift-one-steady : (S : Stage) (way : Lifting) (cache : Cache) (m : Monomial) → Steady finished? (λ n. lift-one S way n cache m)
 lift-one-steady S by-division cache m = bind-fixed (λ v. done (v, cache)) (λ n. run S (division-strategy S) n m) (run-steady S (division-strategy S) m)
-lift-one-steady S (by-hybrid pick) cache m = bind-fixed (λ v. done (v, cache)) (λ n. run S (hybrid-strategy S pick) n m) (run-steady S (hybrid-strategy S pick) m)
+lift-one-steady S (by-hybrid pick) cache m =
+    bind-fixed (λ v. done (v, cache)) (λ n. run S (hybrid-strategy S pick) n m) (run-steady S (hybrid-strategy S pick) m)
 lift-one-steady S (by-tree room) cache m = steady-fixed finished? (lift-one S (by-tree room) 0 cache m)
 
 -- what follows a lifted vector
-pub later-steady : (S : Stage) (way : Lifting) (l : Lifted) (s : Sum) (ms : List Monomial) → ((l′ : Lifted) → Steady finished? (λ n. lift-all S (lift-one S way n) l′ (s .1) ms))
+pub later-steady : (S : Stage) (way : Lifting) (l : Lifted) (s : Sum) (ms : List Monomial)
+    → ((l′ : Lifted) → Steady finished? (λ n. lift-all S (lift-one S way n) l′ (s .1) ms))
     → Steady finished? (λ n. with-vector S l s >>= λ l′. lift-all S (lift-one S way n) l′ (s .1) ms)
-later-steady S way l s ms k = bind-steady (λ n. with-vector S l s) (λ n l′. lift-all S (lift-one S way n) l′ (s .1) ms) (steady-fixed finished? (with-vector S l s)) k
+later-steady S way l s ms k =
+    bind-steady (λ n. with-vector S l s) (λ n l′. lift-all S (lift-one S way n) l′ (s .1) ms) (steady-fixed finished? (with-vector S l s)) k
 
-pub lift-all-steady : (S : Stage) (way : Lifting) (l : Lifted) (cache : Cache) (ms : List Monomial) → Steady finished? (λ n. lift-all S (lift-one S way n) l cache ms)
+pub lift-all-steady : (S : Stage) (way : Lifting) (l : Lifted) (cache : Cache) (ms : List Monomial)
+    → Steady finished? (λ n. lift-all S (lift-one S way n) l cache ms)
 lift-all-steady S way l cache [] = steady-fixed finished? (done (l .0))
 lift-all-steady S way l cache (m ∷ ms) =
-    bind-steady (λ n. lift-one S way n cache m) (λ n s. with-vector S l s >>= λ l′. lift-all S (lift-one S way n) l′ (s .1) ms) (lift-one-steady S way cache m) λ s.
+    bind-steady (λ n. lift-one S way n cache m) (λ n s. with-vector S l s >>= λ l′. lift-all S (lift-one S way n) l′ (s .1) ms)
+    (lift-one-steady S way cache m) λ s.
     later-steady S way l s ms λ l′. lift-all-steady S way l′ (s .1) ms
 
 pub lift-level-steady : (lim : Limits) (p code : ℕ) (below : List Level) (way : Lifting) → Steady finished? (lift-level lim p code below way)
 lift-level-steady lim p code below way =
     let S = stage-over lim p code below in
-    bind-steady (λ n. limited-frame lim code (highest below)) (λ n ms. lift-all S (lift-one S way n) ([], 0) [] ms) (steady-fixed finished? (limited-frame lim code (highest below))) λ ms.
+    bind-steady (λ n. limited-frame lim code (highest below)) (λ n ms. lift-all S (lift-one S way n) ([], 0) [] ms)
+    (steady-fixed finished? (limited-frame lim code (highest below))) λ ms.
     lift-all-steady S way ([], 0) [] ms
 
 -- ## Acceptance
@@ -78,7 +88,8 @@ accept-steady lim p code f =
 
 pub accepted-steady : (lim : Limits) (f : Parameters × Level) → Steady finished? (λ n. accepted lim n f)
 accepted-steady lim f =
-    bind-fixed (λ u. done (record { parameters = f .0; levels = f .1 ∷ [] })) (accept lim (f .0 .p) (f .0 .code) (f .1)) (accept-steady lim (f .0 .p) (f .0 .code) (f .1))
+    bind-fixed (λ u. done (record { parameters = f .0; levels = f .1 ∷ [] })) (accept lim (f .0 .p) (f .0 .code) (f .1))
+    (accept-steady lim (f .0 .p) (f .0 .code) (f .1))
 
 pub read-steady : (lim : Limits) (bytes : Bytes) → Steady finished? (λ n. read lim n bytes)
 read-steady lim bytes = bind-steady (λ n. problem lim bytes) (accepted lim) (steady-fixed finished? (problem lim bytes)) (accepted-steady lim)
@@ -105,7 +116,8 @@ lift-reply-steady lim X true k way = eleven (eleven? lim X k (k - 1))
     twelve false = steady-fixed answered? (some (refuse 12 X))
     twelve true = settled-steady (λ n. lift lim n X k way) (lift-steady lim X k way)
 
-    eleven : (b : Bool) → Steady answered? (λ n. choose b (some (refuse 11 X)) (choose (not (lifts? lim k way)) (some (refuse 12 X)) (settled (lift lim n X k way))))
+    eleven : (b : Bool)
+        → Steady answered? (λ n. choose b (some (refuse 11 X)) (choose (not (lifts? lim k way)) (some (refuse 12 X)) (settled (lift lim n X k way))))
     eleven true = steady-fixed answered? (some (refuse 11 X))
     eleven false = twelve (lifts? lim k way)
 
@@ -144,7 +156,8 @@ module _ (n k : ℕ) (more : ℕ → State → Option Bytes) (m : (Y : State) �
 pub levels-from-steady : (lim : Limits) (left k : ℕ) (X : State) → Steady answered? (λ b. levels-from lim b left k X)
 levels-from-steady lim zero k X = steady-fixed answered? (some [])
 levels-from-steady lim (suc left) k X =
-    level-steady (X .parameters .n) k (λ b Y. levels-from lim b left (suc k) Y) (levels-from-steady lim left (suc k)) (λ b. lift lim b X k (by-hybrid 2)) (lift-steady lim X k (by-hybrid 2))
+    level-steady (X .parameters .n) k (λ b Y. levels-from lim b left (suc k) Y) (levels-from-steady lim left (suc k))
+    (λ b. lift lim b X k (by-hybrid 2)) (lift-steady lim X k (by-hybrid 2))
 
 -- what reading gave is given
 pub sheet-of-steady : (lim : Limits) (n : ℕ) (x : Result State) → Steady answered? (λ b. sheet-of lim b n x)
@@ -153,7 +166,8 @@ sheet-of-steady lim n (refused number place value) = steady-fixed answered? (she
 sheet-of-steady lim n unfinished = steady-fixed answered? none
 
 pub sheet-steady : (lim : Limits) (bytes : Bytes) → Steady answered? (λ b. sheet lim b bytes)
-sheet-steady lim bytes = steady-after finished? answered? (λ b x. sheet-of lim b n x) strict (λ b. read lim b bytes) (read-steady lim bytes) (sheet-of-steady lim n)
+sheet-steady lim bytes =
+    steady-after finished? answered? (λ b x. sheet-of lim b n x) strict (λ b. read lim b bytes) (read-steady lim bytes) (sheet-of-steady lim n)
   where
     n : ℕ
     n = variables-of (problem lim bytes)
@@ -168,13 +182,17 @@ sheet-steady lim bytes = steady-after finished? answered? (λ b x. sheet-of lim 
 pub lent-call-steady : (lim : Limits) (state : Words) (c : Lent) → Steady answered? (λ n. lent-call lim n state c)
 lent-call-steady lim state (read-with file work) =
     let long = long-enough? lim division state work in
-    then-fixed (λ a. some (record { number = a .0; place = a .1; state = a .2; out = [] })) (λ n. read-reply lim n (meant lim state) long file then λ a. some (read-left lim state work a))
-    (then-fixed (λ a. some (read-left lim state work a)) (λ n. read-reply lim n (meant lim state) long file) (read-reply-steady lim (meant lim state) long file))
+    then-fixed (λ a. some (record { number = a .0; place = a .1; state = a .2; out = [] }))
+    (λ n. read-reply lim n (meant lim state) long file then λ a. some (read-left lim state work a))
+    (then-fixed (λ a. some (read-left lim state work a)) (λ n. read-reply lim n (meant lim state) long file)
+    (read-reply-steady lim (meant lim state) long file))
 lent-call-steady lim state (lift-with k way work cache) =
     let long = long-enough? lim way state work in
     let by = lifting-by way cache in
-    then-fixed (λ a. some (record { number = a .0; place = a .1; state = a .2; out = [] })) (λ n. lift-reply lim n (meant lim state) long k by then λ a. some (lift-left lim state work cache a))
-    (then-fixed (λ a. some (lift-left lim state work cache a)) (λ n. lift-reply lim n (meant lim state) long k by) (lift-reply-steady lim (meant lim state) long k by))
+    then-fixed (λ a. some (record { number = a .0; place = a .1; state = a .2; out = [] }))
+    (λ n. lift-reply lim n (meant lim state) long k by then λ a. some (lift-left lim state work cache a))
+    (then-fixed (λ a. some (lift-left lim state work cache a)) (λ n. lift-reply lim n (meant lim state) long k by)
+    (lift-reply-steady lim (meant lim state) long k by))
 lent-call-steady lim state (fetch-with k v out) = steady-fixed answered? (lent-call lim 0 state (fetch-with k v out))
 
 pub lent-calls-steady : (lim : Limits) (state : Words) (cs : List Lent) → Steady answered? (λ n. lent-calls lim n state cs)

@@ -14,8 +14,11 @@ use Rattle.definitions.specs.Monomial.{Monomial, Term, Vector, Level, fi
 use Rattle.definitions.specs.Order.{Comparison, compare-over, greater?}
 use Rattle.definitions.specs.Result.{Result, done, unless-refused, _>>=_}
 use Rattle.definitions.specs.Vectors.{strictly-descending?}
-use Rattle.definitions.specs.Problem.{Bytes, Line, Parameters, number, all-numbers, letter?, shaped-fields, shaped, split, comma, lines, letter-R, letter-T, letter-E}
-use Rattle.definitions.specs.Problem.{prime-in-range?, in-ranges?, parameters-of, r-line, term-of, next?, same?, in-sequence?, term-in-range?, below?, last-term, descends?, extend, with-term, t-line, e-line, by-shape, body, after-r, first-line, problem}
+use Rattle.definitions.specs.Problem.{Bytes, Line, Parameters, number, all-numbers, letter?, shaped-fields, shaped, split, comma, lines}
+use Rattle.definitions.specs.Problem.{letter-R, letter-T, letter-E}
+use Rattle.definitions.specs.Problem.{prime-in-range?, in-ranges?, parameters-of, r-line, term-of, next?, same?, in-sequence?, term-in-range?}
+use Rattle.definitions.specs.Problem.{below?, last-term, descends?, extend, with-term, t-line, e-line, by-shape, body, after-r, first-line}
+use Rattle.definitions.specs.Problem.{problem}
 use Rattle.definitions.specs.State.{State, term-sound?, vector-sound?, terms-of, levels-sound?, sound?}
 use Rattle.definitions.proofs.Tests.{and-left, and-right, and-both, between-high}
 use Rattle.definitions.proofs.Members.{All, all-every, all-map, all-map₂, all-append}
@@ -30,21 +33,25 @@ Counts n v = length v ≡ n
 all-numbers-length : (limit : ℕ) (fields : List Bytes) → If-some (Counts (length fields)) (all-numbers limit fields)
 all-numbers-length limit [] = refl
 all-numbers-length limit (field ∷ fields) =
-    if-some-then (λ x. Unit {0}) (Counts (suc (length fields))) (number limit field) (λ x. all-numbers limit fields then λ v. some (x ∷ v)) (if-some-always (λ x. Unit {0}) (λ x. tt) (number limit field)) λ x u.
-    if-some-then (Counts (length fields)) (Counts (suc (length fields))) (all-numbers limit fields) (λ v. some (x ∷ v)) (all-numbers-length limit fields) (λ v e. ap suc e)
+    if-some-then (λ x. Unit {0}) (Counts (suc (length fields))) (number limit field) (λ x. all-numbers limit fields then λ v. some (x ∷ v))
+    (if-some-always (λ x. Unit {0}) (λ x. tt) (number limit field)) λ x u.
+    if-some-then (Counts (length fields)) (Counts (suc (length fields))) (all-numbers limit fields) (λ v. some (x ∷ v))
+    (all-numbers-length limit fields) (λ v e. ap suc e)
 
 -- a line has as many numbers as its shape asks for
 shaped-length : (limit letter count : ℕ) (line : Line) → If-some (Counts count) (shaped limit letter count line)
 shaped-length limit letter count line = go (line .1)
   where
-    test : (head : Bytes) (fields : List Bytes) (b : Bool) → (T b → length fields ≡ count) → If-some (Counts count) (elim b [ true ↦ all-numbers limit fields | false ↦ none ])
+    test : (head : Bytes) (fields : List Bytes) (b : Bool) → (T b → length fields ≡ count)
+        → If-some (Counts count) (elim b [ true ↦ all-numbers limit fields | false ↦ none ])
     test head fields false e = tt
     test head fields true e = subst (λ n. If-some (Counts n) (all-numbers limit fields)) (e tt) (all-numbers-length limit fields)
 
     fields-length : (fields : List Bytes) → If-some (Counts count) (shaped-fields limit letter count fields)
     fields-length [] = tt
     fields-length (head ∷ fields) =
-        test head fields (letter? letter head and eqb (length fields) count) (λ t. eqb→eq (length fields) count (and-right (letter? letter head) (eqb (length fields) count) t))
+        test head fields (letter? letter head and eqb (length fields) count)
+        (λ t. eqb→eq (length fields) count (and-right (letter? letter head) (eqb (length fields) count) t))
 
     go : (b : Bool) → If-some (Counts count) (elim b [ true ↦ shaped-fields limit letter count (split comma (line .0)) | false ↦ none ])
     go true = fields-length (split comma (line .0))
@@ -111,8 +118,10 @@ module _ (lim : Limits) (q : Parameters) where
   descends-last [] t d b = tt
   descends-last (u ∷ []) t d b = and-both (greater? (order (u .1) (t .1))) true b tt
   descends-last (u ∷ w ∷ v) t d b =
-      and-both (greater? (order (u .1) (w .1))) (strictly-descending? order (w ∷ v ++ t ∷ [])) (and-left (greater? (order (u .1) (w .1))) (strictly-descending? order (w ∷ v)) d)
-      (descends-last (w ∷ v) t (and-right (greater? (order (u .1) (w .1))) (strictly-descending? order (w ∷ v)) d) (subst (λ o. T (below? (q .code) o t)) (last-later u w v) b))
+      and-both (greater? (order (u .1) (w .1))) (strictly-descending? order (w ∷ v ++ t ∷ []))
+      (and-left (greater? (order (u .1) (w .1))) (strictly-descending? order (w ∷ v)) d)
+      (descends-last (w ∷ v) t (and-right (greater? (order (u .1) (w .1))) (strictly-descending? order (w ∷ v)) d)
+      (subst (λ o. T (below? (q .code) o t)) (last-later u w v) b))
 
   element-more : (v : Vector) (t : Term) → Element v → Sound-term t → T (below? (q .code) (last v) t) → Element (v ++ t ∷ [])
   element-more v t e s b = record {
@@ -147,13 +156,15 @@ module _ (lim : Limits) (q : Parameters) where
   append-terms [] t = refl
   append-terms (v ∷ f) t = omega (arith, append-terms f t)
 
-  with-term-elements : (count : ℕ) (f : Level) → Elements count f → count < lim .t-lines → (element : ℕ) → T (in-sequence? lim f element) → (t : Term) → Sound-term t → T (descends? (q .code) f element t)
+  with-term-elements : (count : ℕ) (f : Level) → Elements count f → count < lim .t-lines → (element : ℕ) → T (in-sequence? lim f element) → (t : Term)
+      → Sound-term t → T (descends? (q .code) f element t)
       → Elements (suc count) (with-term (next? f element) f t)
   with-term-elements count f h l element n t s d = go (next? f element) (eqb→eq element (suc (length f))) d
       (and-left (next? f element || same? f element) (leb element (lim .elements)) n)
       (leb→le element (lim .elements) (and-right (next? f element || same? f element) (leb element (lim .elements)) n))
     where
-      go : (b : Bool) → (T b → element ≡ suc (length f)) → T (b || below? (q .code) (last-term (last f)) t) → T (b || same? f element) → element ≤ lim .elements → Elements (suc count) (with-term b f t)
+      go : (b : Bool) → (T b → element ≡ suc (length f)) → T (b || below? (q .code) (last-term (last f)) t) → T (b || same? f element)
+          → element ≤ lim .elements → Elements (suc count) (with-term b f t)
       go true e d i k = record {
         few = omega (arith, e tt, length-append f ((t ∷ []) ∷ []));
         short = l;
@@ -199,7 +210,8 @@ module _ (lim : Limits) (q : Parameters) where
   abbrev Sound-basis : Level → Type 0
   Sound-basis f = T (levels-sound? lim q (f ∷ []))
 
-  t-line-elements : (few : q .n ≤ 8) (place count : ℕ) (f : Level) → Elements count f → (v : List ℕ) → length v ≡ 3 + q .n → If-done (Elements (suc count)) (t-line lim q place count f v)
+  t-line-elements : (few : q .n ≤ 8) (place count : ℕ) (f : Level) → Elements count f → (v : List ℕ) → length v ≡ 3 + q .n
+      → If-done (Elements (suc count)) (t-line lim q place count f v)
   t-line-elements few place count f h v l =
       guard-done (Elements (suc count)) (ltb count (lim .t-lines)) 8 place (λ u₁. after-8) λ t₁.
       guard-done (Elements (suc count)) (in-sequence? lim f (getD v 0 0)) 5 place (λ u₂. after-5) λ t₂.
@@ -223,12 +235,15 @@ module _ (lim : Limits) (q : Parameters) where
       after-8 = unless-refused (in-sequence? lim f (getD v 0 0)) 5 place >>= λ u₂. after-5
 
   -- E's count is not 0 and that of the T lines
-  e-line-basis : (place count : ℕ) (later : List Line) (f : Level) → Elements count f → (o : Option (List ℕ)) → If-done Sound-basis (e-line place count later f o)
+  e-line-basis : (place count : ℕ) (later : List Line) (f : Level) → Elements count f → (o : Option (List ℕ))
+      → If-done Sound-basis (e-line place count later f o)
   e-line-basis place count later f h none = tt
   e-line-basis place count later f h (some v) =
       guard-done Sound-basis (not (eqb x 0) and eqb x count) 7 place (λ u₁. unless-refused (empty? later) 1 (suc place) >>= λ u₂. done f) λ t₁.
       guard-done Sound-basis (empty? later) 1 (suc place) (λ u₂. done f) λ t₂.
-      basis-sound count f h (counted (eqb→eq x count (and-right (not (eqb x 0)) (eqb x count) t₁)) (λ e. T-not (eqb x 0) (and-left (not (eqb x 0)) (eqb x count) t₁) (subst (λ y. T (eqb y 0)) (sym e) (eqb-refl 0))))
+      basis-sound count f h
+      (counted (eqb→eq x count (and-right (not (eqb x 0)) (eqb x count) t₁))
+      (λ e. T-not (eqb x 0) (and-left (not (eqb x 0)) (eqb x count) t₁) (subst (λ y. T (eqb y 0)) (sym e) (eqb-refl 0))))
     where
       x : ℕ
       x = getD v 0 0
@@ -239,7 +254,8 @@ module _ (lim : Limits) (q : Parameters) where
   body-basis : (few : q .n ≤ 8) (place count : ℕ) (f : Level) → Elements count f → (later : List Line) → If-done Sound-basis (body lim q place count f later)
   body-basis few place count f h [] = tt
   body-basis few place count f h (line ∷ later) =
-      go (shaped (lim .field) letter-T (3 + q .n) line) (shaped-length (lim .field) letter-T (3 + q .n) line) (λ grown k. body-basis few (suc place) (suc count) grown k later)
+      go (shaped (lim .field) letter-T (3 + q .n) line) (shaped-length (lim .field) letter-T (3 + q .n) line)
+      (λ grown k. body-basis few (suc place) (suc count) grown k later)
     where
       more : Level → Result Level
       more grown = body lim q (suc place) (suc count) grown later
@@ -262,10 +278,16 @@ problem-sound lim v bytes = guard-done Sound (leb (length bytes) (lim .file)) 1 
     Sound f = T (sound? lim (basis-state f))
 
     -- the parameters passed their tests
-    read : (later : List Line) (q : Parameters) → T (prime-in-range? lim (q .p)) → T (in-ranges? lim q) → If-done Sound (body lim q 2 0 [] later >>= λ f. done (q, f))
+    read : (later : List Line) (q : Parameters) → T (prime-in-range? lim (q .p)) → T (in-ranges? lim q)
+        → If-done Sound (body lim q 2 0 [] later >>= λ f. done (q, f))
     read later q p r =
         if-done-bind (λ f. T (levels-sound? lim q (f ∷ []))) Sound (body lim q 2 0 [] later) (λ f. done (q, f))
-        (body-basis lim q (omega (arith, v, between-high 1 (q .n) (lim .variables) (and-left (between 1 (q .n) (lim .variables)) (between 1 (q .code) 3 and between 1 (q .s) (lim .components)) r)))
+        (body-basis lim q (omega (
+          arith,
+          v,
+          between-high 1 (q .n) (lim .variables)
+              (and-left (between 1 (q .n) (lim .variables)) (between 1 (q .code) 3 and between 1 (q .s) (lim .components)) r),
+        ))
         2 0 [] (record { few = omega arith; short = omega arith; terms = refl; elements = tt }) later)
         (λ f s. sound-shown lim (basis-state (q, f)) (record { prime = p; ranges = r; height = omega arith; levels = s }))
 
@@ -275,7 +297,8 @@ problem-sound lim v bytes = guard-done Sound (leb (length bytes) (lim .file)) 1 
         if-done-bind (λ q. T (prime-in-range? lim (q .p)) × T (in-ranges? lim q)) Sound (r-line lim v) (λ q. body lim q 2 0 [] later >>= λ f. done (q, f))
         (guard-done (λ q. T (prime-in-range? lim (q .p)) × T (in-ranges? lim q)) (prime-in-range? lim (parameters-of v .p)) 2 1
         (λ u. unless-refused (in-ranges? lim (parameters-of v)) 3 1 >>= λ u′. done (parameters-of v)) λ t₁.
-        guard-done (λ q. T (prime-in-range? lim (q .p)) × T (in-ranges? lim q)) (in-ranges? lim (parameters-of v)) 3 1 (λ u′. done (parameters-of v)) (λ t₂. (t₁, t₂)))
+        guard-done (λ q. T (prime-in-range? lim (q .p)) × T (in-ranges? lim q)) (in-ranges? lim (parameters-of v)) 3 1 (λ u′. done (parameters-of v))
+        (λ t₂. (t₁, t₂)))
         (λ q h. read later q (h .0) (h .1))
 
     first : (ls : List Line) → If-done Sound (first-line lim ls)

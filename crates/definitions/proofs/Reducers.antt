@@ -64,7 +64,8 @@ answer-from-placed p k (v ∷ f) t j c q e = go (divides-monomial? (leading v) (
     go true d later e =
         let same : k ≡ j = cc in
         record { place = 0; place-is = omega arith; inside = omega arith; reducing = record { divides = d tt; coefficient-is = cc; quotient-is = cc } }
-    go false d later e = let r = later e in record { place = suc (r .place); place-is = omega (arith, r .place-is); inside = omega (arith, r .inside); reducing = r .reducing }
+    go false d later e =
+        let r = later e in record { place = suc (r .place); place-is = omega (arith, r .place-is); inside = omega (arith, r .inside); reducing = r .reducing }
 
 pub answer-reducing : (p : ℕ) (f : Level) (t : Term) (j c : ℕ) (q : Exponents) → answer p (heads p f) t ≡ reducer j c q → Reducing p (vector-of f j) t c q
 answer-reducing p f t j c q e =

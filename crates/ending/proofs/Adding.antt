@@ -44,7 +44,9 @@ unless-zero-thinned x u v = go (eqb x 0)
 
 combined-is : (p : ℕ) (t : Term) (v : Vector) → Combines t v (combined p t v)
 combined-is p t [] = tt
-combined-is p t (u ∷ v) = go (same-monomial? (t .1) (u .1)) (λ n e. T-not (same-monomial? (t .1) (u .1)) n (same-monomial-shows (t .1) (u .1) e)) (combined p t v) (combined-is p t v)
+combined-is p t (u ∷ v) =
+    go (same-monomial? (t .1) (u .1)) (λ n e. T-not (same-monomial? (t .1) (u .1)) n (same-monomial-shows (t .1) (u .1) e)) (combined p t v)
+    (combined-is p t v)
   where
     go : (b : Bool) → (T (not b) → t .1 ≢ u .1) → (o : Option Vector) → Combines t v o
         → Combines t (u ∷ v) (elim b [ true ↦ some (unless-zero (plus p (u .0) (t .0), u .1) v) | false ↦ behind u o ])
@@ -90,7 +92,9 @@ add-term-is R drops t v = go (fits? (R .limits .exponent) (t .1 .0)) (λ f. f)
   where
     stays : T (fits? (R .limits .exponent) (t .1 .0)) → (b : Bool) → If-done (Added (R .limits .exponent) t v) (unless-dropped b R t v)
     stays f true = record { fits = f; stored = inside (thinned-same v) }
-    stays f false = if-done-map (Stored t v) (Added (R .limits .exponent) t v) (λ w k. record { fits = f; stored = k }) (store (R .limits .working) (R .p) t v) (store-is (R .limits .working) (R .p) t v)
+    stays f false =
+        if-done-map (Stored t v) (Added (R .limits .exponent) t v) (λ w k. record { fits = f; stored = k }) (store (R .limits .working) (R .p) t v)
+        (store-is (R .limits .working) (R .p) t v)
 
     go : (b : Bool) → (T b → T (fits? (R .limits .exponent) (t .1 .0))) → If-done (Added (R .limits .exponent) t v) (if-fits b R drops t v)
     go false f = tt
@@ -98,28 +102,33 @@ add-term-is R drops t v = go (fits? (R .limits .exponent) (t .1 .0)) (λ f. f)
 
 fits-more : (a b : ℕ) → a ≤ b → (e : Exponents) → T (fits? a e) → T (fits? b e)
 fits-more a b l e t =
-    all-every (λ x. leb x b) e (all-map (λ x. T (leb x a)) (λ x. T (leb x b)) (λ x h. le→leb x b (omega (arith, leb→le x a h))) e (every-all (λ x. leb x a) e t))
+    all-every (λ x. leb x b) e
+    (all-map (λ x. T (leb x a)) (λ x. T (leb x b)) (λ x h. le→leb x b (omega (arith, leb→le x a h))) e (every-all (λ x. leb x a) e t))
 
 pub shaped-good : (limit : ℕ) → limit ≤ 255 → (m : Monomial) → Shaped 8 m → T (fits? limit (m .0)) → T (good-monomial? m)
 shaped-good limit l m s f =
     and-both (eqb (length (m .0)) 8) (fits? 255 (m .0) and leb 1 (m .1)) (subst (λ n. T (eqb n 8)) (sym (s .long)) tt)
     (and-both (fits? 255 (m .0)) (leb 1 (m .1)) (fits-more limit 255 l (m .0) f) (le→leb 1 (m .1) (s .component)))
 
-pub add-term-good : (R : Reduction) → R .limits .exponent ≤ 255 → (drops : Bool) (t : Term) → Shaped 8 (t .1) → (v : Vector) → Good v → If-done Good (add-term R drops t v)
+pub add-term-good : (R : Reduction) → R .limits .exponent ≤ 255 → (drops : Bool) (t : Term) → Shaped 8 (t .1) → (v : Vector) → Good v
+    → If-done Good (add-term R drops t v)
 add-term-good R l drops t s v g =
     if-done-map (Added (R .limits .exponent) t v) Good (λ w a. stored-good t v (shaped-good (R .limits .exponent) l (t .1) s (a .fits)) g w (a .stored))
     (add-term R drops t v) (add-term-is R drops t v)
 
-pub add-term-total : (h : Monomial → ℕ) (R : Reduction) (drops : Bool) (t : Term) (v : Vector) → If-done (λ w. total h w ≤ h (t .1) + total h v) (add-term R drops t v)
+pub add-term-total : (h : Monomial → ℕ) (R : Reduction) (drops : Bool) (t : Term) (v : Vector)
+    → If-done (λ w. total h w ≤ h (t .1) + total h v) (add-term R drops t v)
 add-term-total h R drops t v =
-    if-done-map (Added (R .limits .exponent) t v) (λ w. total h w ≤ h (t .1) + total h v) (λ w a. stored-total h t v w (a .stored)) (add-term R drops t v) (add-term-is R drops t v)
+    if-done-map (Added (R .limits .exponent) t v) (λ w. total h w ≤ h (t .1) + total h v) (λ w a. stored-total h t v w (a .stored))
+    (add-term R drops t v) (add-term-is R drops t v)
 
 -- ## All products of a multiple
 
 pub product-shaped : (q : Exponents) → length q ≡ 8 → (m : Monomial) → Shaped 8 m → Shaped 8 (product q (m .0), m .1)
 product-shaped q l m s = record { long = length-product 8 q (m .0) l (s .long); component = s .component }
 
-pub add-products-good : (R : Reduction) → R .limits .exponent ≤ 255 → (drops : Bool) (c : ℕ) (q : Exponents) → length q ≡ 8 → (f : Vector) → All (λ t. Shaped 8 (t .1)) f
+pub add-products-good : (R : Reduction) → R .limits .exponent ≤ 255 → (drops : Bool) (c : ℕ) (q : Exponents) → length q ≡ 8 → (f : Vector)
+    → All (λ t. Shaped 8 (t .1)) f
     → (v : Vector) → Good v → If-done Good (add-products R drops c q f v)
 add-products-good R l drops c q k [] s v g = g
 add-products-good R l drops c q k (t ∷ f) s v g =

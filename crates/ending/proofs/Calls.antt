@@ -14,7 +14,8 @@ use Rattle.definitions.specs.Lifting.{Lifting, lift-level, accept}
 use Rattle.definitions.specs.Problem.{Bytes, problem}
 use Rattle.definitions.specs.State.{State, has-level?, up-to, sound?}
 use Rattle.definitions.specs.Calls.{Call, reading, lifting, fetching, refuse, settled, accepted, read, lift, lifts?, read-reply, lift-reply, call, calls}
-use Rattle.definitions.specs.Layout.{Words, Lent, read-with, lift-with, fetch-with, division, lifting-by, long-enough?, meant, read-left, lift-left, lent-call, lent-calls}
+use Rattle.definitions.specs.Layout.{Words, Lent, read-with, lift-with, fetch-with, division, lifting-by, long-enough?, meant, read-left, lift-left}
+use Rattle.definitions.specs.Layout.{lent-call, lent-calls}
 use Rattle.definitions.proofs.Modular.{Prime}
 use Rattle.definitions.proofs.Reading.{basis-state, problem-sound}
 use Rattle.definitions.proofs.Finished.{problem-finished}
@@ -36,7 +37,8 @@ module _ (lim : Limits) (B : Bytewise lim) where
 
   pub read-ends : (bytes : Bytes) → Ends finished? (λ n. read lim n bytes)
   read-ends bytes =
-      bind-ends (λ f. T (sound? lim (basis-state f))) (λ n. problem lim bytes) (accepted lim) (steady-fixed finished? (problem lim bytes)) (accepted-steady lim)
+      bind-ends (λ f. T (sound? lim (basis-state f))) (λ n. problem lim bytes) (accepted lim) (steady-fixed finished? (problem lim bytes))
+      (accepted-steady lim)
       (λ n. problem-sound lim (B .variables) bytes) (0, problem-finished lim bytes) λ f s.
       bind-fixed-ends (λ u. done (basis-state f)) (accept lim (f .0 .p) (f .0 .code) (f .1))
       (accept-ends lim (f .0 .p) (f .0 .code) (f .1) (sound-prime lim (basis-state f) s) (B .exponents) (sound-levels lim (basis-state f) s)) (λ u. tt)
@@ -44,9 +46,11 @@ module _ (lim : Limits) (B : Bytewise lim) where
   -- ## Lifting
 
   -- a prime and descending levels, as the next levels of a sheet have them
-  pub lift-ends : (X : State) → Prime (X .parameters .p) → Descending-levels (X .parameters .p) (X .parameters .code) (X .levels) → (k : ℕ) (way : Lifting) → Ends finished? (λ n. lift lim n X k way)
+  pub lift-ends : (X : State) → Prime (X .parameters .p) → Descending-levels (X .parameters .p) (X .parameters .code) (X .levels)
+      → (k : ℕ) (way : Lifting) → Ends finished? (λ n. lift lim n X k way)
   lift-ends X P d k way =
-      bind-fixed-ends (λ f. done (record { parameters = X .parameters; levels = f ∷ below })) (λ n. at-level k (g n)) (ends .0, kept (g (ends .0)) (ends .1)) (λ f. tt)
+      bind-fixed-ends (λ f. done (record { parameters = X .parameters; levels = f ∷ below })) (λ n. at-level k (g n))
+      (ends .0, kept (g (ends .0)) (ends .1)) (λ f. tt)
     where
       below : List Level
       below = up-to X (k - 1)
@@ -90,7 +94,8 @@ module _ (lim : Limits) (B : Bytewise lim) where
       twelve s true = settled-ends (λ n. lift lim n X k way) (sound-lift-ends X s k way)
 
       eleven : (sound : Bool) → (T sound → T (sound? lim X)) → (missing : Bool)
-          → Ends answered? (λ n. choose (not sound || missing) (some (refuse 11 X)) (choose (not (lifts? lim k way)) (some (refuse 12 X)) (settled (lift lim n X k way))))
+          → Ends answered? (λ n. choose (not sound || missing) (some (refuse 11 X))
+          (choose (not (lifts? lim k way)) (some (refuse 12 X)) (settled (lift lim n X k way))))
       eleven false s missing = (0, tt)
       eleven true s true = (0, tt)
       eleven true s false = twelve (s tt) (lifts? lim k way)
@@ -112,13 +117,16 @@ module _ (lim : Limits) (B : Bytewise lim) where
   pub lent-call-ends : (state : Words) (c : Lent) → Ends answered? (λ n. lent-call lim n state c)
   lent-call-ends state (read-with file work) =
       let long = long-enough? lim division state work in
-      then-fixed-ends (λ a. record { number = a .0; place = a .1; state = a .2; out = [] }) (λ n. read-reply lim n (meant lim state) long file then λ a. some (read-left lim state work a))
+      then-fixed-ends (λ a. record { number = a .0; place = a .1; state = a .2; out = [] })
+      (λ n. read-reply lim n (meant lim state) long file then λ a. some (read-left lim state work a))
       (then-fixed-ends (λ a. read-left lim state work a) (λ n. read-reply lim n (meant lim state) long file) (read-reply-ends (meant lim state) long file))
   lent-call-ends state (lift-with k way work cache) =
       let long = long-enough? lim way state work in
       let by = lifting-by way cache in
-      then-fixed-ends (λ a. record { number = a .0; place = a .1; state = a .2; out = [] }) (λ n. lift-reply lim n (meant lim state) long k by then λ a. some (lift-left lim state work cache a))
-      (then-fixed-ends (λ a. lift-left lim state work cache a) (λ n. lift-reply lim n (meant lim state) long k by) (lift-reply-ends (meant lim state) long k by))
+      then-fixed-ends (λ a. record { number = a .0; place = a .1; state = a .2; out = [] })
+      (λ n. lift-reply lim n (meant lim state) long k by then λ a. some (lift-left lim state work cache a))
+      (then-fixed-ends (λ a. lift-left lim state work cache a) (λ n. lift-reply lim n (meant lim state) long k by)
+      (lift-reply-ends (meant lim state) long k by))
   lent-call-ends state (fetch-with k v out) = (0, tt)
 
   pub lent-calls-end : (state : Words) (cs : List Lent) → Ends answered? (λ n. lent-calls lim n state cs)

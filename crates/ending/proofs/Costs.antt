@@ -50,7 +50,8 @@ pub record Lower (order : Monomial → Monomial → Comparison) (f : Level) (q :
   pub ranked : T (fits? 255 (product q (u .1 .0))) → rank order f (shifted q (u .1)) < n
 
 module _ (p : ℕ) (order : Monomial → Monomial → Comparison) (O : Module-order 8 order) (f : Level) (D : All (Descending p order) f) where
-  others-lower : (t : Term) (c : ℕ) (q : Exponents) → Has 8 (t .1) → (v : Vector) → Descending p order v → All (λ u. Listed (all-monomials f) (u .1 .1)) v → Reducing p v t c q
+  others-lower : (t : Term) (c : ℕ) (q : Exponents) → Has 8 (t .1) → (v : Vector) → Descending p order v
+      → All (λ u. Listed (all-monomials f) (u .1 .1)) v → Reducing p v t c q
       → All (Lower order f q (rank order f (t .1))) (rest v)
   others-lower t c q h [] d k r = tt
   others-lower t c q h (l ∷ v) d k r = all-map₂ Below (λ u. Listed (all-monomials f) (u .1 .1)) (Lower order f q (rank order f (t .1))) one v belows (k .1)
@@ -65,7 +66,9 @@ module _ (p : ℕ) (order : Monomial → Monomial → Comparison) (O : Module-or
       eights = all-map (Proper p) (λ u. Has 8 (u .1)) (λ u s. s .shaped .long) v (d .proper .1)
 
       belows : All Below v
-      belows = all-map₂ (λ u. Has 8 (u .1)) (λ u. order (l .1) (u .1) ≡ greater) Below (λ u a b. (a, b)) v eights (descending-above (Has 8) order (O .orders) l v (d .proper .0 .shaped .long) eights (d .strictly))
+      belows =
+          all-map₂ (λ u. Has 8 (u .1)) (λ u. order (l .1) (u .1) ≡ greater) Below (λ u a b. (a, b)) v eights
+          (descending-above (Has 8) order (O .orders) l v (d .proper .0 .shaped .long) eights (d .strictly))
 
       one : (u : Term) → Below u → Listed (all-monomials f) (u .1 .1) → Lower order f q (rank order f (t .1)) u
       one u b listed = record { eight = e; ranked = λ fits. rank-below order O f (t .1) (shifted q (u .1)) h e above (listed (product q (u .1 .0)) e fits) }
@@ -74,10 +77,13 @@ module _ (p : ℕ) (order : Monomial → Monomial → Comparison) (O : Module-or
           e = length-product 8 q (u .1 .0) (led .eight) (b .0)
 
           above : order (t .1) (shifted q (u .1)) ≡ greater
-          above = ap (λ m. order m (shifted q (u .1))) (sym (led .product-is)) ∙ O .multiplied q (led .eight) (l .1) (u .1) (d .proper .0 .shaped .long) (b .0) ∙ b .1
+          above =
+              ap (λ m. order m (shifted q (u .1))) (sym (led .product-is)) ∙ O .multiplied q (led .eight) (l .1) (u .1) (d .proper .0 .shaped .long)
+              (b .0) ∙ b .1
 
   -- the other products of a term's reducer are lower than the term
-  pub products-lower : (t : Term) (j c : ℕ) (q : Exponents) → Has 8 (t .1) → answer p (heads p f) t ≡ reducer j c q → All (Lower order f q (rank order f (t .1))) (rest (vector-of f j))
+  pub products-lower : (t : Term) (j c : ℕ) (q : Exponents) → Has 8 (t .1) → answer p (heads p f) t ≡ reducer j c q
+      → All (Lower order f q (rank order f (t .1))) (rest (vector-of f j))
   products-lower t j c q h e = others-lower t c q h (vector-of f j) (descending-of p order f D j) (listed-of f j) (answer-reducing p f t j c q e)
 
   -- ## The depth does not matter
@@ -92,10 +98,15 @@ module _ (p : ℕ) (order : Monomial → Monomial → Comparison) (O : Module-or
   abbrev Same : ℕ → ℕ → Type 0
   Same k k′ = (m : Monomial) → Has 8 m → Deep k m → Deep k′ m → at k m ≡ at k′ m
 
-  products-same : (k k′ : ℕ) → Same k k′ → (n : ℕ) → n ≤ k → n ≤ k′ → (q : Exponents) (v : Vector) → All (Lower order f q n) v → total-products (at k) q v ≡ total-products (at k′) q v
+  products-same : (k k′ : ℕ) → Same k k′ → (n : ℕ) → n ≤ k → n ≤ k′ → (q : Exponents) (v : Vector) → All (Lower order f q n) v
+      → total-products (at k) q v ≡ total-products (at k′) q v
   products-same k k′ same n h h′ q [] w = refl
   products-same k k′ same n h h′ q (u ∷ v) w =
-      omega (arith, same (shifted q (u .1)) (w .0 .eight) (λ t. omega (arith, w .0 .ranked t)) (λ t. omega (arith, w .0 .ranked t)), products-same k k′ same n h h′ q v (w .1))
+      omega (
+        arith,
+        same (shifted q (u .1)) (w .0 .eight) (λ t. omega (arith, w .0 .ranked t)) (λ t. omega (arith, w .0 .ranked t)),
+        products-same k k′ same n h h′ q v (w .1),
+      )
 
   unfitting-free : (k : ℕ) (m : Monomial) → (T (fits? 255 (m .0)) → ⊥) → at k m ≡ 0
   unfolding cost
@@ -109,7 +120,8 @@ module _ (p : ℕ) (order : Monomial → Monomial → Comparison) (O : Module-or
   cost-same (suc k) zero m h d d′ = unfitting-free (suc k) m (λ t. omega (arith, d′ t))
   cost-same (suc k) (suc k′) m h d d′ = go (fits? 255 (m .0)) d d′ (answer p (heads p f) (1, m)) refl (cost-same k k′)
     where
-      go : (b : Bool) → (T b → rank order f m < suc k) → (T b → rank order f m < suc k′) → (a : Answer) → answer p (heads p f) (1, m) ≡ a → Same k k′ → worth (at k) f b a ≡ worth (at k′) f b a
+      go : (b : Bool) → (T b → rank order f m < suc k) → (T b → rank order f m < suc k′) → (a : Answer) → answer p (heads p f) (1, m) ≡ a → Same k k′
+          → worth (at k) f b a ≡ worth (at k′) f b a
       go false l l′ a e same = refl
       go true l l′ lower-order e same = refl
       go true l l′ (reducer j c q) e same =
@@ -133,7 +145,8 @@ module _ (p : ℕ) (order : Monomial → Monomial → Comparison) (O : Module-or
       worth-alike (at k) (fits? 255 (t .1 .0)) (answer p (heads p f) (1, t .1)) (answer p (heads p f) t) (answer-alike p 1 (heads p f) (t .1) 1 (t .0)) ∙
       (λ i. worth (at k) f (true-is (fits? 255 (t .1 .0)) h i) (e i))
 
-  falls-at : (k : ℕ) (t : Term) (j c : ℕ) (q : Exponents) → rank order f (t .1) < suc k → Has 8 (t .1) → T (fits? 255 (t .1 .0)) → answer p (heads p f) t ≡ reducer j c q
+  falls-at : (k : ℕ) (t : Term) (j c : ℕ) (q : Exponents) → rank order f (t .1) < suc k → Has 8 (t .1) → T (fits? 255 (t .1 .0))
+      → answer p (heads p f) t ≡ reducer j c q
       → total-products (at (suc k)) q (rest (vector-of f j)) < at (suc k) (t .1)
   falls-at k t j c q l h fits e =
       omega (

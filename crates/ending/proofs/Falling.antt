@@ -27,7 +27,8 @@ use Rattle.definitions.proofs.Results.{If-done, if-done-says, if-done-map, if-d
 use Rattle.ending.specs.Good.{good-monomial?, good?}
 use Rattle.ending.specs.Spent.{total, total-products, cost, many, spent}
 use Rattle.ending.specs.Well.{Proper, Descending, Well, Picks}
-use Rattle.ending.proofs.Values.{Good, good-says, good-shows, good-all, good-eight, good-fits, good-component, thinned-good, without-thinned, without-total}
+use Rattle.ending.proofs.Values.{Good, good-says, good-shows, good-all, good-eight, good-fits, good-component, thinned-good, without-thinned}
+use Rattle.ending.proofs.Values.{without-total}
 use Rattle.ending.proofs.Adding.{add-products-good, add-products-total}
 use Rattle.ending.proofs.Costs.{descending-of, Leading, leading-product, cost-falls, cost-lower}
 use Rattle.ending.proofs.Leaving.{add-term-leaves}
@@ -38,12 +39,19 @@ shaped-terms p v h = all-map (Proper p) (λ t. Shaped 8 (t .1)) (λ t s. s .shap
 
 -- ## A reducer's products
 
-module _ (R : Reduction) (P : Prime (R .p)) (small : R .limits .exponent ≤ 255) (order : Monomial → Monomial → Comparison) (drops : Bool) (h : Monomial → ℕ) where
+module _ (R : Reduction) (P : Prime (R .p)) (small : R .limits .exponent ≤ 255) (order : Monomial → Monomial → Comparison) (drops : Bool)
+    (h : Monomial → ℕ) where
   -- if the other products cost less than the picked term, the value costs less after all of them
   products-fall : (v : Vector) (i : ℕ) → Good v → i < length v → (c : ℕ) (q : Exponents) → lower-order? (answer (R .p) (R .heads) (getD v i no-term)) ≡ false
       → (f : Vector) → Descending (R .p) order f → Reducing (R .p) f (getD v i no-term) c q → total-products h q (rest f) < h (getD v i no-term .1)
       → If-done (λ w. Good w × (total h w < total h v)) (add-products R drops (minus (R .p) c) q f v)
-  products-fall v i g l c q a [] d r k = absurd (omega (arith, eqb→eq 0 (m .1) (and-left (eqb 0 (m .1)) (divides? unit (m .0)) (r .divides)), good-component m (all-inside (λ u. T (good-monomial? (u .1))) no-term v i l (good-all v g))))
+  products-fall v i g l c q a [] d r k =
+      absurd (omega (
+        arith,
+        eqb→eq 0 (m .1) (and-left (eqb 0 (m .1)) (divides? unit (m .0)) (r .divides)),
+        good-component m
+            (all-inside (λ u. T (good-monomial? (u .1))) no-term v i l (good-all v g)),
+      ))
     where
       m : Monomial
       m = getD v i no-term .1
@@ -56,7 +64,8 @@ module _ (R : Reduction) (P : Prime (R .p)) (small : R .limits .exponent ≤ 255
 
       led : Leading q (t .1) m
       led = subst (λ x. Leading x (t .1) m) (sym (r .quotient-is))
-          (leading-product (t .1) m (d .proper .0 .shaped .long) (good-eight m (all-inside (λ u. T (good-monomial? (u .1))) no-term v i l (good-all v g))) (r .divides))
+          (leading-product (t .1) m (d .proper .0 .shaped .long)
+          (good-eight m (all-inside (λ u. T (good-monomial? (u .1))) no-term v i l (good-all v g))) (r .divides))
 
       cancels : plus (R .p) (getD v i no-term .0) (times (R .p) (minus (R .p) c) (t .0)) ≡ 0
       cancels = ap (λ x. plus (R .p) (getD v i no-term .0) (times (R .p) (minus (R .p) x) (t .0))) (r .coefficient-is) ∙
@@ -70,7 +79,8 @@ module _ (R : Reduction) (P : Prime (R .p)) (small : R .limits .exponent ≤ 255
       later u e = if-done-map (λ w. Good w × (total h w ≤ total-products h q f + total h u)) (λ w. Good w × (total h w < total h v))
           (λ w b. (b .0, omega (arith, b .1, k, ap (total h) e, without-total h v i l))) (add-products R drops (minus (R .p) c) q f u)
           (if-done-both Good (λ w. total h w ≤ total-products h q f + total h u) (add-products R drops (minus (R .p) c) q f u)
-          (add-products-good R small drops (minus (R .p) c) q (led .eight) f (shaped-terms (R .p) f (d .proper .1)) u (subst Good (sym e) (thinned-good (without-thinned v i) g)))
+          (add-products-good R small drops (minus (R .p) c) q (led .eight) f (shaped-terms (R .p) f (d .proper .1)) u
+          (subst Good (sym e) (thinned-good (without-thinned v i) g)))
           (add-products-total h R drops (minus (R .p) c) q f u))
 
 -- ## A step
@@ -103,7 +113,8 @@ module _ (S : Stage) (X : Well S) (W : Strategy) where
 
     reduced-falls : (j c : ℕ) (q : Exponents) → answer (R .p) (R .heads) t ≡ reducer j c q → If-done Next (reduced S W r j (minus (R .p) c) q)
     reduced-falls j c q e =
-        if-done-bind (λ v. Unit {0}) Next stored (λ v. added >>= λ w. done (on (record { value = w; vector = v }))) (if-done-always (λ v. Unit {0}) (λ v. tt) stored) λ v u.
+        if-done-bind (λ v. Unit {0}) Next stored (λ v. added >>= λ w. done (on (record { value = w; vector = v })))
+        (if-done-always (λ v. Unit {0}) (λ v. tt) stored) λ v u.
         if-done-bind (λ w. Good w × (total h w < total h (r .value))) Next added (λ w. done (on (record { value = w; vector = v }))) fall (λ w k. k)
       where
         stored : Result Vector
@@ -115,13 +126,19 @@ module _ (S : Stage) (X : Well S) (W : Strategy) where
         fall : If-done (λ w. Good w × (total h w < total h (r .value))) added
         fall = products-fall R (X .prime) (X .small) (S .below) (W .drops) h (r .value) i g l c q (ap lower-order? e) (vector-of (S .family) j)
             (descending-of (R .p) (S .below) (S .family) (X .family) j) (answer-reducing (R .p) (S .family) t j c q (by-family (reducer j c q) e))
-            (cost-falls (R .p) (S .below) (X .order) (S .family) (X .family) t j c q (good-eight (t .1) good-t) (good-fits (t .1) good-t) (by-family (reducer j c q) e))
+            (cost-falls (R .p) (S .below) (X .order) (S .family) (X .family) t j c q (good-eight (t .1) good-t) (good-fits (t .1) good-t)
+            (by-family (reducer j c q) e))
 
     dropped-falls : answer (R .p) (R .heads) t ≡ lower-order → (stops : Bool) → If-done Next (without-reducer stops S r i)
     dropped-falls e true = tt
     dropped-falls e false = (
       thinned-good (without-thinned (r .value) i) g,
-      omega (arith, without-total h (r .value) i l, cost-lower (R .p) (S .below) (X .order) (S .family) (X .family) t (good-fits (t .1) good-t) (by-family lower-order e)),
+      omega (
+        arith,
+        without-total h (r .value) i l,
+        cost-lower (R .p) (S .below) (X .order) (S .family) (X .family) t (good-fits (t .1) good-t)
+            (by-family lower-order e),
+      ),
     )
 
     answer-falls : (a : Answer) → answer (R .p) (R .heads) t ≡ a → If-done Next (by-answer S W r i a)
@@ -145,7 +162,8 @@ module _ (S : Stage) (X : Well S) (W : Strategy) where
       → spent (R .p) (R .heads) (S .family) (r′ .value) < spent (R .p) (R .heads) (S .family) (r .value)
   unfolding spent
   step-falls k r r′ g e =
-      subst (λ hs. total (cost (many (S .family)) (R .p) hs (S .family)) (r′ .value) < total (cost (many (S .family)) (R .p) hs (S .family)) (r .value)) (sym (X .heads-are))
+      subst (λ hs. total (cost (many (S .family)) (R .p) hs (S .family)) (r′ .value) < total (cost (many (S .family)) (R .p) hs (S .family))
+      (r .value)) (sym (X .heads-are))
       (if-done-says (Falls (total h (r .value)) (total h)) (step S W r) (next-falls k r (good-says (r .value) g)) (on r′) e .1)
 
 -- ## The start
@@ -153,6 +171,8 @@ module _ (S : Stage) (X : Well S) (W : Strategy) where
 -- the products of a frame term with eight exponents
 pub start-good : (S : Stage) → Well S → (W : Strategy) (m : Monomial) → length (m .0) ≡ 8 → (r : Run) → start S W m ≡ done r → T (good? (r .value))
 start-good S X W m l r e = good-shows (r .value) (if-done-says (λ r′. Good (r′ .value)) (start S W m)
-    (if-done-bind Good (λ r′. Good (r′ .value)) (add-products (S .reduction) (W .drops) 1 (m .0) (vector-of (S .family) (m .1)) []) (λ v. done (record { value = v; vector = (1, m) ∷ [] }))
+    (if-done-bind Good (λ r′. Good (r′ .value)) (add-products (S .reduction) (W .drops) 1 (m .0) (vector-of (S .family) (m .1)) [])
+    (λ v. done (record { value = v; vector = (1, m) ∷ [] }))
     (add-products-good (S .reduction) (X .small) (W .drops) 1 (m .0) l (vector-of (S .family) (m .1))
-    (shaped-terms (S .reduction .p) (vector-of (S .family) (m .1)) (descending-of (S .reduction .p) (S .below) (S .family) (X .family) (m .1) .proper)) [] tt) (λ v k. k)) r e)
+    (shaped-terms (S .reduction .p) (vector-of (S .family) (m .1))
+    (descending-of (S .reduction .p) (S .below) (S .family) (X .family) (m .1) .proper)) [] tt) (λ v k. k)) r e)

@@ -24,7 +24,8 @@ use Rattle.definitions.proofs.Results.{If-done}
 use Rattle.ending.proofs.Values.{Good}
 
 -- a negative in place
-combined-leaves : (p x : ℕ) (v : Vector) (i : ℕ) → Good v → i < length v → plus p (getD v i no-term .0) x ≡ 0 → combined p (x, getD v i no-term .1) v ≡ some (without i v)
+combined-leaves : (p x : ℕ) (v : Vector) (i : ℕ) → Good v → i < length v → plus p (getD v i no-term .0) x ≡ 0
+    → combined p (x, getD v i no-term .1) v ≡ some (without i v)
 combined-leaves p x [] i g l e = absurd (omega arith)
 combined-leaves p x (u ∷ v) zero g l e =
     (λ i. elim (same i) [ true ↦ some (unless-zero (plus p (u .0) x, u .1) v) | false ↦ behind u (combined p (x, u .1) v) ]) ∙
@@ -47,10 +48,12 @@ combined-leaves p x (u ∷ v) (suc i) g l e =
 
 -- a term with a reducer is not dropped
 kept-if-reduced : (R : Reduction) (drops : Bool) (t : Term) → lower-order? (answer (R .p) (R .heads) t) ≡ false → dropped? R drops (t .1) ≡ false
-kept-if-reduced R true t e = lower-order-alike (answer (R .p) (R .heads) (1, t .1)) (answer (R .p) (R .heads) t) (answer-alike (R .p) 1 (R .heads) (t .1) 1 (t .0)) ∙ e
+kept-if-reduced R true t e =
+    lower-order-alike (answer (R .p) (R .heads) (1, t .1)) (answer (R .p) (R .heads) t) (answer-alike (R .p) 1 (R .heads) (t .1) 1 (t .0)) ∙ e
 kept-if-reduced R false t e = refl
 
-pub add-term-leaves : (R : Reduction) (drops : Bool) (x : ℕ) (v : Vector) (i : ℕ) → Good v → i < length v → lower-order? (answer (R .p) (R .heads) (getD v i no-term)) ≡ false
+pub add-term-leaves : (R : Reduction) (drops : Bool) (x : ℕ) (v : Vector) (i : ℕ) → Good v → i < length v
+    → lower-order? (answer (R .p) (R .heads) (getD v i no-term)) ≡ false
     → plus (R .p) (getD v i no-term .0) x ≡ 0 → If-done (λ u. u ≡ without i v) (add-term R drops (x, getD v i no-term .1) v)
 add-term-leaves R drops x v i g l a e = go (fits? (R .limits .exponent) (m .0))
   where

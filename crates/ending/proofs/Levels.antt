@@ -11,7 +11,8 @@ use Rattle.definitions.specs.Result.{Result, done, refused, unfinished, finishe
 use Rattle.definitions.specs.Stage.{Stage, highest, stage-over}
 use Rattle.definitions.specs.Run.{Strategy, run, division-strategy, hybrid-strategy, accepting-strategy}
 use Rattle.definitions.specs.Tree.{Cache}
-use Rattle.definitions.specs.Lifting.{Lifting, by-division, by-hybrid, by-tree, lift-one, Lifted, with-vector, lift-all, if-few, limited-frame, lift-level, at-frame-term, accept-from, accept}
+use Rattle.definitions.specs.Lifting.{Lifting, by-division, by-hybrid, by-tree, lift-one, Lifted, with-vector, lift-all, if-few, limited-frame}
+use Rattle.definitions.specs.Lifting.{lift-level, at-frame-term, accept-from, accept}
 use Rattle.definitions.proofs.Members.{All}
 use Rattle.definitions.proofs.Modular.{Prime}
 use Rattle.definitions.proofs.Induced.{Shaped, Led}
@@ -31,10 +32,12 @@ few-shaped : (b : Bool) (ms : List Monomial) → All (Shaped 8) ms → If-done (
 few-shaped true ms h = h
 few-shaped false ms h = tt
 
-pub limited-frame-shaped : (lim : Limits) (p code : ℕ) (below : List Level) → Descending-levels p code below → If-done (All (Shaped 8)) (limited-frame lim code (highest below))
+pub limited-frame-shaped : (lim : Limits) (p code : ℕ) (below : List Level) → Descending-levels p code below
+    → If-done (All (Shaped 8)) (limited-frame lim code (highest below))
 limited-frame-shaped lim p code below d =
     let ms = frame (lim .numbering code) (leading-monomials (highest below)) in
-    few-shaped (leb (length ms) (lim .vectors)) ms (frame-shaped 8 (lim .numbering code) (leading-monomials (highest below)) (leading-monomials-eight (highest below) (led below d)))
+    few-shaped (leb (length ms) (lim .vectors)) ms
+    (frame-shaped 8 (lim .numbering code) (leading-monomials (highest below)) (leading-monomials-eight (highest below) (led below d)))
   where
     led : (below : List Level) → Descending-levels p code below → All (Led 8) (highest below)
     led [] d = tt
@@ -45,12 +48,15 @@ limited-frame-shaped lim p code below d =
 module _ (S : Stage) (X : Well S) where
   lift-one-ends : (way : Lifting) (cache : Cache) (m : Monomial) → Shaped 8 m → Ends finished? (λ n. lift-one S way n cache m)
   lift-one-ends by-division cache m s =
-      bind-fixed-ends (λ v. done (v, cache)) (λ n. run S (division-strategy S) n m) (run-ends S X (division-strategy S) (picks-by-code (S .below) 1) m (s .long)) (λ v. tt)
+      bind-fixed-ends (λ v. done (v, cache)) (λ n. run S (division-strategy S) n m)
+      (run-ends S X (division-strategy S) (picks-by-code (S .below) 1) m (s .long)) (λ v. tt)
   lift-one-ends (by-hybrid pick) cache m s =
-      bind-fixed-ends (λ v. done (v, cache)) (λ n. run S (hybrid-strategy S pick) n m) (run-ends S X (hybrid-strategy S pick) (picks-by-code (S .below) pick) m (s .long)) (λ v. tt)
+      bind-fixed-ends (λ v. done (v, cache)) (λ n. run S (hybrid-strategy S pick) n m)
+      (run-ends S X (hybrid-strategy S pick) (picks-by-code (S .below) pick) m (s .long)) (λ v. tt)
   lift-one-ends (by-tree room) cache m s = (0, tree-finished S room cache m)
 
-  lift-all-ends : (way : Lifting) (l : Lifted) (cache : Cache) (ms : List Monomial) → All (Shaped 8) ms → Ends finished? (λ n. lift-all S (lift-one S way n) l cache ms)
+  lift-all-ends : (way : Lifting) (l : Lifted) (cache : Cache) (ms : List Monomial) → All (Shaped 8) ms
+      → Ends finished? (λ n. lift-all S (lift-one S way n) l cache ms)
   lift-all-ends way l cache [] s = (0, tt)
   lift-all-ends way l cache (m ∷ ms) s =
       bind-ends-any (λ n. lift-one S way n cache m) (λ n v. with-vector S l v >>= λ l′. lift-all S (lift-one S way n) l′ (v .1) ms)
@@ -62,7 +68,8 @@ module _ (S : Stage) (X : Well S) where
   accept-from-ends : (i : ℕ) (ms : List Monomial) → All (Shaped 8) ms → Ends finished? (λ n. accept-from S n i ms)
   accept-from-ends i [] s = (0, tt)
   accept-from-ends i (m ∷ ms) s =
-      bind-ends-any (λ n. at-frame-term i (run S W n m)) (λ n v. accept-from S n (suc i) ms) (result-steady finished? (at-frame-term i) (λ t. t) (λ n. run S W n m) (run-steady S W m))
+      bind-ends-any (λ n. at-frame-term i (run S W n m)) (λ n v. accept-from S n (suc i) ms)
+      (result-steady finished? (at-frame-term i) (λ t. t) (λ n. run S W n m) (run-steady S W m))
       (λ v. accept-from-steady S (suc i) ms) placed (λ v. accept-from-ends (suc i) ms (s .1))
     where
       W : Strategy
@@ -86,8 +93,11 @@ lift-level-ends lim p code below P l d way =
     (steady-fixed finished? (limited-frame lim code (highest below))) (lift-all-steady S way ([], 0) []) (λ n. limited-frame-shaped lim p code below d)
     (0, limited-frame-finished lim code (highest below)) (lift-all-ends S (descending-well lim p code below P l d) way ([], 0) [])
 
-pub accept-ends : (lim : Limits) (p code : ℕ) (f : Level) → Prime p → lim .exponent ≤ 255 → Descending-levels p code (f ∷ []) → Ends finished? (accept lim p code f)
+pub accept-ends : (lim : Limits) (p code : ℕ) (f : Level) → Prime p → lim .exponent ≤ 255 → Descending-levels p code (f ∷ [])
+    → Ends finished? (accept lim p code f)
 accept-ends lim p code f P l d =
     let S = stage-over lim p code (f ∷ []) in
-    bind-ends (All (Shaped 8)) (λ n. limited-frame lim code f) (λ n ms. accept-from S n 1 ms) (steady-fixed finished? (limited-frame lim code f)) (accept-from-steady S 1)
-    (λ n. limited-frame-shaped lim p code (f ∷ []) d) (0, limited-frame-finished lim code f) (accept-from-ends S (descending-well lim p code (f ∷ []) P l d) 1)
+    bind-ends (All (Shaped 8)) (λ n. limited-frame lim code f) (λ n ms. accept-from S n 1 ms) (steady-fixed finished? (limited-frame lim code f))
+    (accept-from-steady S 1)
+    (λ n. limited-frame-shaped lim p code (f ∷ []) d) (0, limited-frame-finished lim code f)
+    (accept-from-ends S (descending-well lim p code (f ∷ []) P l d) 1)

@@ -16,7 +16,8 @@ use Rattle.definitions.specs.Reducer.{Answer, reducer, lower-order, heads, answ
 use Rattle.definitions.specs.Result.{Result, done, refused, unfinished, _>>=_}
 use Rattle.definitions.specs.Vectors.{descending, store}
 use Rattle.definitions.specs.Stage.{Reduction, Stage}
-use Rattle.definitions.specs.Run.{Run, Strategy, Step, on, end, dropped?, unless-dropped, if-fits, multiple, add-term, add-products, start, reduced, without-reducer, by-answer, by-pick, step, continued, runs, run}
+use Rattle.definitions.specs.Run.{Run, Strategy, Step, on, end, dropped?, unless-dropped, if-fits, multiple, add-term, add-products, start, reduced}
+use Rattle.definitions.specs.Run.{without-reducer, by-answer, by-pick, step, continued, runs, run}
 use Rattle.definitions.proofs.Tests.{and-left}
 use Rattle.definitions.proofs.Members.{All, all-map, all-inside}
 use Rattle.definitions.proofs.Modular.{Prime}
@@ -46,7 +47,8 @@ module _ (p : ℕ) (P : Prime p) where
   multiple-proper : (c : ℕ) (q : Exponents) (t : Term) → c % p ≢ 0 → length q ≡ 8 → Proper p t → Proper p (multiple p c q t)
   multiple-proper c q t h l k = record { shaped = product-shaped q l (t .1) (k .shaped); coefficient = times-nonzero p P c (t .0) h (k .coefficient) }
 
-add-term-proper : (R : Reduction) → Prime (R .p) → (drops : Bool) (t : Term) → Proper (R .p) t → (v : Vector) → All (Proper (R .p)) v → If-done (All (Proper (R .p))) (add-term R drops t v)
+add-term-proper : (R : Reduction) → Prime (R .p) → (drops : Bool) (t : Term) → Proper (R .p) t → (v : Vector) → All (Proper (R .p)) v
+    → If-done (All (Proper (R .p))) (add-term R drops t v)
 add-term-proper R P drops t h v k = go (fits? (R .limits .exponent) (t .1 .0))
   where
     stays : (b : Bool) → If-done (All (Proper (R .p))) (unless-dropped b R t v)
@@ -57,7 +59,8 @@ add-term-proper R P drops t h v k = go (fits? (R .limits .exponent) (t .1 .0))
     go false = tt
     go true = stays (dropped? R drops (t .1))
 
-add-products-proper : (R : Reduction) → Prime (R .p) → (drops : Bool) (c : ℕ) (q : Exponents) → c % R .p ≢ 0 → length q ≡ 8 → (f : Vector) → All (Proper (R .p)) f
+add-products-proper : (R : Reduction) → Prime (R .p) → (drops : Bool) (c : ℕ) (q : Exponents) → c % R .p ≢ 0 → length q ≡ 8 → (f : Vector)
+    → All (Proper (R .p)) f
     → (v : Vector) → All (Proper (R .p)) v → If-done (All (Proper (R .p))) (add-products R drops c q f v)
 add-products-proper R P drops c q h l [] s v k = k
 add-products-proper R P drops c q h l (t ∷ f) s v k =
@@ -71,8 +74,10 @@ pub record Multiple (p c : ℕ) (q : Exponents) : Type 0 where
   pub nonzero : c % p ≢ 0
   pub eight : length q ≡ 8
 
-reducing-multiple : (p : ℕ) → Prime p → (order : Monomial → Monomial → Comparison) (f : Vector) → Descending p order f → (t : Term) → Proper p t → (c : ℕ) (q : Exponents) → Reducing p f t c q → Multiple p c q
-reducing-multiple p P order [] d t h c q r = absurd (omega (arith, eqb→eq 0 (t .1 .1) (and-left (eqb 0 (t .1 .1)) (divides? unit (t .1 .0)) (r .divides)), h .shaped .component))
+reducing-multiple : (p : ℕ) → Prime p → (order : Monomial → Monomial → Comparison) (f : Vector) → Descending p order f → (t : Term) → Proper p t
+    → (c : ℕ) (q : Exponents) → Reducing p f t c q → Multiple p c q
+reducing-multiple p P order [] d t h c q r =
+    absurd (omega (arith, eqb→eq 0 (t .1 .1) (and-left (eqb 0 (t .1 .1)) (divides? unit (t .1 .0)) (r .divides)), h .shaped .component))
 reducing-multiple p P order (l ∷ f) d t h c q r = record {
   nonzero = subst (λ x. x % p ≢ 0) (sym (r .coefficient-is)) (quotient-nonzero p P (t .0) (l .0) (h .coefficient) (d .proper .0 .coefficient));
   eight = ap length (r .quotient-is) ∙ length-quotient 8 (t .1 .0) (l .1 .0) (h .shaped .long) (d .proper .0 .shaped .long);
@@ -89,7 +94,8 @@ module _ (S : Stage) (X : Well S) (O : Orders (Has 8) (S .above)) (W : Strategy)
   abbrev Terms : Vector → Type 0
   Terms v = All (Proper (R .p)) v
 
-  reduced-proper : (r : Run) → Terms (r .value) → Terms (r .vector) → (j c : ℕ) (q : Exponents) → 1 ≤ j → Multiple (R .p) c q → If-done (Proper-step (R .p)) (reduced S W r j (minus (R .p) c) q)
+  reduced-proper : (r : Run) → Terms (r .value) → Terms (r .vector) → (j c : ℕ) (q : Exponents) → 1 ≤ j → Multiple (R .p) c q
+      → If-done (Proper-step (R .p)) (reduced S W r j (minus (R .p) c) q)
   reduced-proper r a b j c q n m =
       if-done-bind Terms (Proper-step (R .p)) (store (R .limits .vector) (R .p) (minus (R .p) c, (q, j)) (r .vector))
       (λ v. added >>= λ w. done (on (record { value = w; vector = v })))
@@ -116,14 +122,16 @@ module _ (S : Stage) (X : Well S) (O : Orders (Has 8) (S .above)) (W : Strategy)
       let t = getD (r .value) i no-term in
       let k : answer (R .p) (heads (R .p) (S .family)) t ≡ reducer j c q = ap (λ hs. answer (R .p) hs t) (sym (X .heads-are)) ∙ e in
       reduced-proper r a b j c q (answer-number (R .p) (S .family) t j c q k .0)
-      (reducing-multiple (R .p) (X .prime) (S .below) (vector-of (S .family) j) (descending-of (R .p) (S .below) (S .family) (X .family) j) t h c q (answer-reducing (R .p) (S .family) t j c q k))
+      (reducing-multiple (R .p) (X .prime) (S .below) (vector-of (S .family) j) (descending-of (R .p) (S .below) (S .family) (X .family) j) t h c q
+      (answer-reducing (R .p) (S .family) t j c q k))
 
   step-proper : (r : Run) → Terms (r .value) → Terms (r .vector) → If-done (Proper-step (R .p)) (step S W r)
   step-proper r a b = go (W .pick (r .value)) (K (r .value))
     where
       go : (o : Option ℕ) → ((i : ℕ) → o ≡ some i → i < length (r .value)) → If-done (Proper-step (R .p)) (by-pick S W r o)
       go none l = b
-      go (some i) l = answer-proper r a b i (all-inside (Proper (R .p)) no-term (r .value) i (l i refl) a) (answer (R .p) (R .heads) (getD (r .value) i no-term)) refl
+      go (some i) l =
+          answer-proper r a b i (all-inside (Proper (R .p)) no-term (r .value) i (l i refl) a) (answer (R .p) (R .heads) (getD (r .value) i no-term)) refl
 
   abbrev Listed : Vector → Type 0
   Listed v = Descending (R .p) (S .above) v
@@ -138,7 +146,8 @@ module _ (S : Stage) (X : Well S) (O : Orders (Has 8) (S .above)) (W : Strategy)
   runs-listed zero r a b = tt
   runs-listed (suc n) r a b = go (step S W r) (step-proper r a b) (runs-listed n)
     where
-      go : (s : Result Step) → If-done (Proper-step (R .p)) s → ((r′ : Run) → Terms (r′ .value) → Terms (r′ .vector) → If-done Listed (runs S W n r′)) → If-done Listed (continued S (λ r′. runs S W n r′) s)
+      go : (s : Result Step) → If-done (Proper-step (R .p)) s → ((r′ : Run) → Terms (r′ .value) → Terms (r′ .vector) → If-done Listed (runs S W n r′))
+          → If-done Listed (continued S (λ r′. runs S W n r′) s)
       go (done (on r′)) h ih = ih r′ (h .0) (h .1)
       go (done (end v)) h ih = sorted v h
       go (refused number place value) h ih = tt

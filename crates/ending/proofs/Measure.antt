@@ -25,14 +25,18 @@ pub empty-good : T (good? [])
 empty-good = good-shows [] tt
 
 pub store-keeps : (limit p : ℕ) (t : Term) → T (good-monomial? (t .1)) → (v w : Vector) → T (good? v) → store limit p t v ≡ done w → T (good? w)
-store-keeps limit p t m v w g e = good-shows w (stored-good t v m (good-says v g) w (if-done-says (Stored t v) (store limit p t v) (store-is limit p t v) w e))
+store-keeps limit p t m v w g e =
+    good-shows w (stored-good t v m (good-says v g) w (if-done-says (Stored t v) (store limit p t v) (store-is limit p t v) w e))
 
-pub add-term-keeps : (R : Reduction) → R .limits .exponent ≤ 255 → (drops : Bool) (t : Term) → Shaped 8 (t .1) → (v w : Vector) → T (good? v) → add-term R drops t v ≡ done w → T (good? w)
+pub add-term-keeps : (R : Reduction) → R .limits .exponent ≤ 255 → (drops : Bool) (t : Term) → Shaped 8 (t .1) → (v w : Vector) → T (good? v)
+    → add-term R drops t v ≡ done w → T (good? w)
 add-term-keeps R l drops t s v w g e = good-shows w (if-done-says Good (add-term R drops t v) (add-term-good R l drops t s v (good-says v g)) w e)
 
-pub add-products-keeps : (R : Reduction) → R .limits .exponent ≤ 255 → (drops : Bool) (c : ℕ) (q : Exponents) → length q ≡ 8 → (f : Vector) → All (λ t. Shaped 8 (t .1)) f
+pub add-products-keeps : (R : Reduction) → R .limits .exponent ≤ 255 → (drops : Bool) (c : ℕ) (q : Exponents) → length q ≡ 8 → (f : Vector)
+    → All (λ t. Shaped 8 (t .1)) f
     → (v w : Vector) → T (good? v) → add-products R drops c q f v ≡ done w → T (good? w)
-add-products-keeps R l drops c q k f s v w g e = good-shows w (if-done-says Good (add-products R drops c q f v) (add-products-good R l drops c q k f s v (good-says v g)) w e)
+add-products-keeps R l drops c q k f s v w g e =
+    good-shows w (if-done-says Good (add-products R drops c q f v) (add-products-good R l drops c q k f s v (good-says v g)) w e)
 
 pub without-keeps : (v : Vector) (i : ℕ) → T (good? v) → T (good? (without i v))
 without-keeps v i g = good-shows (without i v) (thinned-good (without-thinned v i) (good-says v g))
@@ -47,15 +51,18 @@ module _ (p : ℕ) (heads : Vector) (f : Level) where
   unfolding spent
   store-spends limit p′ t v w e = stored-total costs t v w (if-done-says (Stored t v) (store limit p′ t v) (store-is limit p′ t v) w e)
 
-  pub add-term-spends : (R : Reduction) (drops : Bool) (t : Term) (v w : Vector) → add-term R drops t v ≡ done w → spent p heads f w ≤ costs (t .1) + spent p heads f v
+  pub add-term-spends : (R : Reduction) (drops : Bool) (t : Term) (v w : Vector) → add-term R drops t v ≡ done w
+      → spent p heads f w ≤ costs (t .1) + spent p heads f v
   unfolding spent
-  add-term-spends R drops t v w e = if-done-says (λ w. total costs w ≤ costs (t .1) + total costs v) (add-term R drops t v) (add-term-total costs R drops t v) w e
+  add-term-spends R drops t v w e =
+      if-done-says (λ w. total costs w ≤ costs (t .1) + total costs v) (add-term R drops t v) (add-term-total costs R drops t v) w e
 
   pub add-products-spends : (R : Reduction) (drops : Bool) (c : ℕ) (q : Exponents) (g v w : Vector) → add-products R drops c q g v ≡ done w
       → spent p heads f w ≤ total-products costs q g + spent p heads f v
   unfolding spent
   add-products-spends R drops c q g v w e =
-      if-done-says (λ w. total costs w ≤ total-products costs q g + total costs v) (add-products R drops c q g v) (add-products-total costs R drops c q g v) w e
+      if-done-says (λ w. total costs w ≤ total-products costs q g + total costs v) (add-products R drops c q g v)
+      (add-products-total costs R drops c q g v) w e
 
   pub without-spends : (v : Vector) (i : ℕ) → i < length v → costs (getD v i no-term .1) + spent p heads f (without i v) ≡ spent p heads f v
   unfolding spent

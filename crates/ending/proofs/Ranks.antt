@@ -40,7 +40,8 @@ module _ {A : Type 0} where
     count-more [] h = omega arith
     count-more (a ∷ l) h = go (f a) (g a) (h .0) (count-more l (h .1))
       where
-        go : (x y : Bool) → (T x → T y) → count f l ≤ count g l → elim x [ true ↦ suc (count f l) | false ↦ count f l ] ≤ elim y [ true ↦ suc (count g l) | false ↦ count g l ]
+        go : (x y : Bool) → (T x → T y) → count f l ≤ count g l
+            → elim x [ true ↦ suc (count f l) | false ↦ count f l ] ≤ elim y [ true ↦ suc (count g l) | false ↦ count g l ]
         go true true i k = omega arith
         go true false i k = absurd (i tt)
         go false true i k = omega arith
@@ -49,15 +50,18 @@ module _ {A : Type 0} where
     -- .. and a member passes g only
     count-less : {a : A} {l : List A} → List·Memᴰ a l → T (g a) → (T (f a) → ⊥) → All (λ x. T (f x) → T (g x)) l → count f l < count g l
     unfolding count
-    count-less {a} (List·Memᴰ·head {x} {xs} e) p n h = go (f x) (g x) (λ t. n (subst (λ y. T (f y)) (sym e) t)) (subst (λ y. T (g y)) e p) (count-more xs (h .1))
+    count-less {a} (List·Memᴰ·head {x} {xs} e) p n h =
+        go (f x) (g x) (λ t. n (subst (λ y. T (f y)) (sym e) t)) (subst (λ y. T (g y)) e p) (count-more xs (h .1))
       where
-        go : (s t : Bool) → (T s → ⊥) → T t → count f xs ≤ count g xs → elim s [ true ↦ suc (count f xs) | false ↦ count f xs ] < elim t [ true ↦ suc (count g xs) | false ↦ count g xs ]
+        go : (s t : Bool) → (T s → ⊥) → T t → count f xs ≤ count g xs
+            → elim s [ true ↦ suc (count f xs) | false ↦ count f xs ] < elim t [ true ↦ suc (count g xs) | false ↦ count g xs ]
         go true t i j k = absurd (i tt)
         go false true i j k = omega arith
         go false false i j k = absurd j
     count-less {a} (List·Memᴰ·tail {x} {xs} m) p n h = go (f x) (g x) (h .0) (count-less m p n (h .1))
       where
-        go : (s t : Bool) → (T s → T t) → count f xs < count g xs → elim s [ true ↦ suc (count f xs) | false ↦ count f xs ] < elim t [ true ↦ suc (count g xs) | false ↦ count g xs ]
+        go : (s t : Bool) → (T s → T t) → count f xs < count g xs
+            → elim s [ true ↦ suc (count f xs) | false ↦ count f xs ] < elim t [ true ↦ suc (count g xs) | false ↦ count g xs ]
         go true true i k = omega arith
         go true false i k = absurd (i tt)
         go false true i k = omega arith
@@ -73,7 +77,8 @@ with-first-long : (n b : ℕ) (l : List Exponents) → All (Long n) l → All (L
 unfolding with-first
 with-first-long n zero l h = tt
 with-first-long n (suc b) l h =
-    all-append (Long (suc n)) (map (λ e. b ∷ e) l) (with-first b l) (all-mapped (λ e. b ∷ e) (Long n) (Long (suc n)) (λ e k. ap suc k) l h) (with-first-long n b l h)
+    all-append (Long (suc n)) (map (λ e. b ∷ e) l) (with-first b l) (all-mapped (λ e. b ∷ e) (Long n) (Long (suc n)) (λ e k. ap suc k) l h)
+    (with-first-long n b l h)
 
 exponents-to-long : (b n : ℕ) → All (Long n) (exponents-to b n)
 unfolding exponents-to
@@ -110,7 +115,8 @@ all-of-eight : (v : Vector) → All (Has 8) (all-of v)
 unfolding all-of
 all-of-eight [] = tt
 all-of-eight (t ∷ v) =
-    all-append (Has 8) (map (λ e. (e, t .1 .1)) all-exponents) (all-of v) (all-mapped (λ e. (e, t .1 .1)) (Long 8) (Has 8) (λ e k. k) all-exponents all-exponents-long) (all-of-eight v)
+    all-append (Has 8) (map (λ e. (e, t .1 .1)) all-exponents) (all-of v)
+    (all-mapped (λ e. (e, t .1 .1)) (Long 8) (Has 8) (λ e k. k) all-exponents all-exponents-long) (all-of-eight v)
 
 -- with this component all eight exponents that fit are listed
 abbrev pub Listed : List Monomial → ℕ → Type 0
@@ -121,7 +127,8 @@ unfolding all-of
 all-of-listed [] = tt
 all-of-listed (t ∷ v) = (
   (λ e h k. Memᴰ·append-left (all-of v) (Memᴰ·map (λ e. (e, t .1 .1)) (all-exponents-has e h k))),
-  all-map (λ u. Listed (all-of v) (u .1 .1)) (λ u. Listed (all-of (t ∷ v)) (u .1 .1)) (λ u l e h k. Memᴰ·append-right (map (λ e. (e, t .1 .1)) all-exponents) (l e h k)) v
+  all-map (λ u. Listed (all-of v) (u .1 .1)) (λ u. Listed (all-of (t ∷ v)) (u .1 .1))
+      (λ u l e h k. Memᴰ·append-right (map (λ e. (e, t .1 .1)) all-exponents) (l e h k)) v
       (all-of-listed v),
 )
 
@@ -134,14 +141,20 @@ all-monomials-eight (v ∷ f) = all-append (Has 8) (all-of v) (all-monomials f) 
 pub all-monomials-listed : (f : Level) → All (All (λ t. Listed (all-monomials f) (t .1 .1))) f
 unfolding all-monomials
 all-monomials-listed [] = tt
-all-monomials-listed (v ∷ f) =
-    (first v (all-of-listed v), all-map (All (λ t. Listed (all-monomials f) (t .1 .1))) (All (λ t. Listed (all-monomials (v ∷ f)) (t .1 .1))) later f (all-monomials-listed f))
+all-monomials-listed (v ∷ f) = (
+  first v (all-of-listed v),
+  all-map (All (λ t. Listed (all-monomials f) (t .1 .1))) (All (λ t. Listed (all-monomials (v ∷ f)) (t .1 .1))) later f
+      (all-monomials-listed f),
+)
   where
     first : (u : Vector) → All (λ t. Listed (all-of v) (t .1 .1)) u → All (λ t. Listed (all-monomials (v ∷ f)) (t .1 .1)) u
-    first = all-map (λ t. Listed (all-of v) (t .1 .1)) (λ t. Listed (all-monomials (v ∷ f)) (t .1 .1)) (λ t l e h k. Memᴰ·append-left (all-monomials f) (l e h k))
+    first =
+        all-map (λ t. Listed (all-of v) (t .1 .1)) (λ t. Listed (all-monomials (v ∷ f)) (t .1 .1)) (λ t l e h k. Memᴰ·append-left (all-monomials f) (l e h k))
 
     later : (u : Vector) → All (λ t. Listed (all-monomials f) (t .1 .1)) u → All (λ t. Listed (all-monomials (v ∷ f)) (t .1 .1)) u
-    later = all-map (λ t. Listed (all-monomials f) (t .1 .1)) (λ t. Listed (all-monomials (v ∷ f)) (t .1 .1)) (λ t l e h k. Memᴰ·append-right (all-of v) (l e h k))
+    later =
+        all-map (λ t. Listed (all-monomials f) (t .1 .1)) (λ t. Listed (all-monomials (v ∷ f)) (t .1 .1))
+        (λ t l e h k. Memᴰ·append-right (all-of v) (l e h k))
 
 -- ## The rank
 

@@ -29,7 +29,8 @@ module _ (S : Stage) (X : Well S) (W : Strategy) (K : Picks (W .pick)) where
       after : (n : ℕ) (s : Result Step) → step S W r ≡ s → T (finished? (continued S (λ r′. runs S W n r′) s)) → Ends finished? (λ n. runs S W n r)
       after n s e t = (suc n, subst (λ z. T (finished? (continued S (λ r′. runs S W n r′) z))) (sym e) t)
 
-      go : (s : Result Step) → step S W r ≡ s → ((r′ : Run) → T (good? (r′ .value)) → costs r′ < k → Ends finished? (λ n. runs S W n r′)) → Ends finished? (λ n. runs S W n r)
+      go : (s : Result Step) → step S W r ≡ s → ((r′ : Run) → T (good? (r′ .value)) → costs r′ < k → Ends finished? (λ n. runs S W n r′))
+          → Ends finished? (λ n. runs S W n r)
       go (done (on r′)) e ih =
           let later = ih r′ (step-keeps S X W K r r′ g e) (omega (arith, step-falls S X W K r r′ g e)) in
           after (later .0) (done (on r′)) e (later .1)

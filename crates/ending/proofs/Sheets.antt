@@ -35,7 +35,8 @@ use Rattle.ending.proofs.Calls.{Bytewise, read-ends, lift-ends}
 -- ## A lifted level
 
 -- a way whose vectors have a property lifts a level of such vectors
-module _ (S : Stage) (D : Vector → Type 0) (lift : Cache → Monomial → Result Sum) (h : (cache : Cache) (m : Monomial) → Shaped 8 m → If-done (λ s. D (s .0)) (lift cache m)) where
+module _ (S : Stage) (D : Vector → Type 0) (lift : Cache → Monomial → Result Sum)
+    (h : (cache : Cache) (m : Monomial) → Shaped 8 m → If-done (λ s. D (s .0)) (lift cache m)) where
   with-vector-all : (l : Lifted) → All D (l .0) → (s : Sum) → D (s .0) → If-done (λ l′. All D (l′ .0)) (with-vector S l s)
   with-vector-all l a s d = go (leb (l .1 + length (s .0)) (S .reduction .limits .level-terms))
     where
@@ -66,7 +67,8 @@ hybrid-descending lim p code below P l d pick n =
     one : (cache : Cache) (m : Monomial) → Shaped 8 m → If-done (λ s. D (s .0)) (lift-one S (by-hybrid pick) n cache m)
     one cache m s =
         if-done-bind D (λ s. D (s .0)) (run S (hybrid-strategy S pick) n m) (λ v. done (v, cache))
-        (run-listed S (descending-well lim p code below P l d) (compare-order 8 code below (levels-lead p code below d) .orders) (hybrid-strategy S pick) (picks-by-code (S .below) pick) m s n) (λ v k. k)
+        (run-listed S (descending-well lim p code below P l d) (compare-order 8 code below (levels-lead p code below d) .orders)
+        (hybrid-strategy S pick) (picks-by-code (S .below) pick) m s n) (λ v k. k)
 
 -- ## The next state
 
@@ -112,7 +114,8 @@ module _ (lim : Limits) (B : Bytewise lim) where
   levels-end : (left k : ℕ) (X : State) → Descending-state X → Ends answered? (λ b. levels-from lim b left k X)
   levels-end zero k X d = (0, tt)
   levels-end (suc left) k X d =
-      ends-after finished? answered? (λ b x. level-then n k (more b) x) g (lift-steady lim X k (by-hybrid 2)) (level-then-steady n k more (levels-from-steady lim left (suc k)))
+      ends-after finished? answered? (λ b x. level-then n k (more b) x) g (lift-steady lim X k (by-hybrid 2))
+      (level-then-steady n k more (levels-from-steady lim left (suc k)))
       ends (go (g (ends .0)) (lift-descending X d k 2 (ends .0)) (ends .1) (levels-end left (suc k)))
     where
       n : ℕ
@@ -131,7 +134,8 @@ module _ (lim : Limits) (B : Bytewise lim) where
       last f true Y e = (0, tt)
       last f false Y e = then-fixed-ends (λ bytes. level-lines n k f ++ bytes) (λ b. more b Y) e
 
-      go : (x : Result State) → If-done Descending-state x → T (finished? x) → ((Y : State) → Descending-state Y → Ends answered? (λ b. more b Y)) → Ends answered? (λ b. level-then n k (more b) x)
+      go : (x : Result State) → If-done Descending-state x → T (finished? x) → ((Y : State) → Descending-state Y → Ends answered? (λ b. more b Y))
+          → Ends answered? (λ b. level-then n k (more b) x)
       go (done Y) h t ih = last (highest (Y .levels)) (empty? (highest (Y .levels))) Y (ih Y h)
       go (refused number place value) h t ih = (0, tt)
       go unfinished h t ih = absurd t
@@ -139,7 +143,8 @@ module _ (lim : Limits) (B : Bytewise lim) where
   -- for every file some bound makes the sheet answer
   pub sheet-ends : (bytes : Bytes) → Ends answered? (λ b. sheet lim b bytes)
   sheet-ends bytes =
-      ends-after finished? answered? (λ b x. sheet-of lim b n x) g (read-steady lim bytes) (sheet-of-steady lim n) ends (go (g (ends .0)) (read-descending bytes (ends .0)) (ends .1))
+      ends-after finished? answered? (λ b x. sheet-of lim b n x) g (read-steady lim bytes) (sheet-of-steady lim n) ends
+      (go (g (ends .0)) (read-descending bytes (ends .0)) (ends .1))
     where
       n : ℕ
       n = variables-of (problem lim bytes)

@@ -45,7 +45,8 @@ drop-descending p code zero below d = d
 drop-descending p code (suc n) [] d = tt
 drop-descending p code (suc n) (f ∷ below) d = drop-descending p code n below (d .1)
 
-pub descending-well : (lim : Limits) (p code : ℕ) (below : List Level) → Prime p → lim .exponent ≤ 255 → Descending-levels p code below → Well (stage-over lim p code below)
+pub descending-well : (lim : Limits) (p code : ℕ) (below : List Level) → Prime p → lim .exponent ≤ 255 → Descending-levels p code below
+    → Well (stage-over lim p code below)
 descending-well lim p code below P l d = record {
   prime = P;
   small = l;
@@ -65,18 +66,22 @@ module _ (lim : Limits) (q : Parameters) (P : Prime (q .p)) where
         coefficient = range-nonzero (q .p) P (t .0) (between-low 1 (t .0) (q .p - 1) (s .coefficient)) (between-high 1 (t .0) (q .p - 1) (s .coefficient));
       }
 
-  vector-descending : (components most : ℕ) (below : List Level) (v : Vector) → T (vector-sound? lim q components most below v) → Descending (q .p) (compare-over (q .code) below) v
+  vector-descending : (components most : ℕ) (below : List Level) (v : Vector) → T (vector-sound? lim q components most below v)
+      → Descending (q .p) (compare-over (q .code) below) v
   vector-descending components most below v h =
       let s = vector-says lim q components most below v h in
       record {
-        proper = all-map (λ t. T (term-sound? lim q components t)) (Proper (q .p)) (term-proper components) v (every-all (term-sound? lim q components) v (s .terms));
+        proper =
+            all-map (λ t. T (term-sound? lim q components t)) (Proper (q .p)) (term-proper components) v
+            (every-all (term-sound? lim q components) v (s .terms));
         strictly = s .descends;
       }
 
   level-descending : (components most : ℕ) (below : List Level) (f : Level) → T (every (vector-sound? lim q components most below) f)
       → All (Descending (q .p) (compare-over (q .code) below)) f
   level-descending components most below f h =
-      all-map (λ v. T (vector-sound? lim q components most below v)) (Descending (q .p) (compare-over (q .code) below)) (vector-descending components most below) f
+      all-map (λ v. T (vector-sound? lim q components most below v)) (Descending (q .p) (compare-over (q .code) below))
+      (vector-descending components most below) f
       (every-all (vector-sound? lim q components most below) f h)
 
   pub levels-descending : (below : List Level) → T (levels-sound? lim q below) → Descending-levels (q .p) (q .code) below
@@ -87,7 +92,8 @@ module _ (lim : Limits) (q : Parameters) (P : Prime (q .p)) where
       (level-descending (length g) (lim .vector) (g ∷ below) f (s .vectors), levels-descending (g ∷ below) (s .under))
 
 -- sound levels make a stage well
-pub sound-well : (lim : Limits) (q : Parameters) (below : List Level) → T (prime? (q .p)) → lim .exponent ≤ 255 → T (levels-sound? lim q below) → Well (stage-over lim (q .p) (q .code) below)
+pub sound-well : (lim : Limits) (q : Parameters) (below : List Level) → T (prime? (q .p)) → lim .exponent ≤ 255 → T (levels-sound? lim q below)
+    → Well (stage-over lim (q .p) (q .code) below)
 sound-well lim q below t l s =
     let P = prime-says (q .p) t in
     descending-well lim (q .p) (q .code) below P l (levels-descending lim q P below s)

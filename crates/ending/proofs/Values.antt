@@ -39,13 +39,19 @@ pub good-says : (v : Vector) → T (good? v) → Good v
 unfolding good?
 good-says [] t = tt
 good-says (u ∷ v) t =
-    let l = and-right (good-monomial? (u .1)) (fresh? (u .1) v and good? v) t in
-    (and-left (good-monomial? (u .1)) (fresh? (u .1) v and good? v) t, fresh-says (u .1) v (and-left (fresh? (u .1) v) (good? v) l), good-says v (and-right (fresh? (u .1) v) (good? v) l))
+    let l = and-right (good-monomial? (u .1)) (fresh? (u .1) v and good? v) t in (
+      and-left (good-monomial? (u .1)) (fresh? (u .1) v and good? v) t,
+      fresh-says (u .1) v (and-left (fresh? (u .1) v) (good? v) l),
+      good-says v
+          (and-right (fresh? (u .1) v) (good? v) l),
+    )
 
 pub good-shows : (v : Vector) → Good v → T (good? v)
 unfolding good?
 good-shows [] h = tt
-good-shows (u ∷ v) h = and-both (good-monomial? (u .1)) (fresh? (u .1) v and good? v) (h .0) (and-both (fresh? (u .1) v) (good? v) (fresh-shows (u .1) v (h .1)) (good-shows v (h .2)))
+good-shows (u ∷ v) h =
+    and-both (good-monomial? (u .1)) (fresh? (u .1) v and good? v) (h .0)
+    (and-both (fresh? (u .1) v) (good? v) (fresh-shows (u .1) v (h .1)) (good-shows v (h .2)))
 
 pub good-all : (v : Vector) → Good v → All (λ u. T (good-monomial? (u .1))) v
 good-all [] g = tt
