@@ -1,20 +1,20 @@
 -- The cost of a monomial: its depth does not matter from the rank on, and a monomial with a reducer costs more than the reducer's other products.
-use mathlib.Core.Path.{_≡_, refl, sym, ap, _∙_, subst}
+use mathlib.Core.Path.{_≡_, refl, sym, ap, _∙_}
 use mathlib.Core.Bool.{Bool, true, false}
 use mathlib.Core.List.{[], _∷_}
 use Prim.Native.Nat.{ℕ, zero, suc, _≤_, _<_}
 use native.Mathlib.Omega.{arith}
-use lib.Dec.{T, eqb, eqb→eq}
+use lib.Dec.{T}
 use lib.ListN.{length}
 use Rattle.definitions.specs.Lists.{rest}
-use Rattle.definitions.specs.Monomial.{Exponents, Monomial, Term, Vector, Level, product, quotient, fits?, divides?, divides-monomial?, vector-of}
+use Rattle.definitions.specs.Monomial.{Exponents, Monomial, Term, Vector, Level, product, fits?, vector-of}
 use Rattle.definitions.specs.Order.{Comparison, greater}
 use Rattle.definitions.specs.Reducer.{Answer, reducer, lower-order, heads, answer}
-use Rattle.definitions.proofs.Tests.{and-left, and-right, true-is, false-is}
+use Rattle.definitions.proofs.Tests.{true-is, false-is}
 use Rattle.definitions.proofs.Members.{All, all-map, all-map₂, all-at}
-use Rattle.definitions.proofs.Products.{length-product, length-quotient, product-quotient}
+use Rattle.definitions.proofs.Products.{length-product}
 use Rattle.definitions.proofs.Induced.{Has, shifted, Module-order}
-use Rattle.definitions.proofs.Reducers.{Alike, answer-alike, Reducing, answer-reducing}
+use Rattle.definitions.proofs.Reducers.{Alike, answer-alike, Reducing, answer-reducing, Leading, reducing-leads}
 use Rattle.definitions.proofs.Sums.{descending-above}
 use Rattle.ending.specs.Spent.{all-monomials, total-products, worth, cost, many}
 use Rattle.ending.specs.Well.{Proper, Descending}
@@ -31,19 +31,6 @@ listed-of : (f : Level) (j : ℕ) → All (λ t. Listed (all-monomials f) (t .1 
 listed-of f zero = tt
 listed-of f (suc j) = all-at (All (λ t. Listed (all-monomials f) (t .1 .1))) [] tt f j (all-monomials-listed f)
 
--- the quotient of a monomial and a leading one that divides it, and the leading product
-pub record Leading (q : Exponents) (l m : Monomial) : Type 0 where
-  pub eight : length q ≡ 8
-  pub product-is : shifted q l ≡ m
-
-pub leading-product : (l m : Monomial) → Has 8 l → Has 8 m → T (divides-monomial? l m) → Leading (quotient (m .0) (l .0)) l m
-leading-product l m h k d =
-    let c : l .1 ≡ m .1 = eqb→eq (l .1) (m .1) (and-left (eqb (l .1) (m .1)) (divides? (l .0) (m .0)) d) in
-    record {
-      eight = length-quotient 8 (m .0) (l .0) k h;
-      product-is = λ i. (product-quotient (m .0) (l .0) (h ∙ sym k) (and-right (eqb (l .1) (m .1)) (divides? (l .0) (m .0)) d) i, c i);
-    }
-
 -- a product with eight exponents that, if it fits, has a rank below n
 pub record Lower (order : Monomial → Monomial → Comparison) (f : Level) (q : Exponents) (n : ℕ) (u : Term) : Type 0 where
   pub eight : Has 8 (shifted q (u .1))
@@ -56,8 +43,8 @@ module _ (p : ℕ) (order : Monomial → Monomial → Comparison) (O : Module-or
   others-lower t c q h [] d k r = tt
   others-lower t c q h (l ∷ v) d k r = all-map₂ Below (λ u. Listed (all-monomials f) (u .1 .1)) (Lower order f q (rank order f (t .1))) one v belows (k .1)
     where
-      led : Leading q (l .1) (t .1)
-      led = subst (λ x. Leading x (l .1) (t .1)) (sym (r .quotient-is)) (leading-product (l .1) (t .1) (d .proper .0 .shaped .long) h (r .divides))
+      led : Leading 8 q (l .1) (t .1)
+      led = reducing-leads p t c q l v r 8 (d .proper .0 .shaped .long) h
 
       Below : Term → Type 0
       Below u = Has 8 (u .1) × (order (l .1) (u .1) ≡ greater)
@@ -74,12 +61,12 @@ module _ (p : ℕ) (order : Monomial → Monomial → Comparison) (O : Module-or
       one u b listed = record { eight = e; ranked = λ fits. rank-below order O f (t .1) (shifted q (u .1)) h e above (listed (product q (u .1 .0)) e fits) }
         where
           e : length (product q (u .1 .0)) ≡ 8
-          e = length-product 8 q (u .1 .0) (led .eight) (b .0)
+          e = length-product 8 q (u .1 .0) (led .long) (b .0)
 
           above : order (t .1) (shifted q (u .1)) ≡ greater
           above =
-              ap (λ m. order m (shifted q (u .1))) (sym (led .product-is)) ∙ O .multiplied q (led .eight) (l .1) (u .1) (d .proper .0 .shaped .long)
-              (b .0) ∙ b .1
+              ap (λ m. order m (shifted q (u .1))) (sym (led .product-is)) ∙
+              O .multiplied q (led .long) (l .1) (u .1) (d .proper .0 .shaped .long) (b .0) ∙ b .1
 
   -- the other products of a term's reducer are lower than the term
   pub products-lower : (t : Term) (j c : ℕ) (q : Exponents) → Has 8 (t .1) → answer p (heads p f) t ≡ reducer j c q

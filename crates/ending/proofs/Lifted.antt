@@ -1,16 +1,14 @@
 -- What division and hybrid leave is strictly descending, with proper terms: so the next level's stage is well again.
-use mathlib.Core.Path.{_≡_, refl, sym, ap, _∙_, subst}
+use mathlib.Core.Path.{_≡_, refl, sym, ap, _∙_}
 use mathlib.Core.Logic.{_≢_}
 use mathlib.Core.Bool.{Bool, true, false}
 use mathlib.Core.Option.{Option, none, some}
 use mathlib.Core.List.{List, [], _∷_}
 use Prim.Native.Nat.{ℕ, zero, suc, _%_, _≤_, _<_}
-use native.Mathlib.Omega.{arith}
-use lib.Dec.{eqb, eqb→eq}
 use lib.ListN.{length, getD}
 use Rattle.definitions.specs.Lists.{without}
 use Rattle.definitions.specs.Field.{minus}
-use Rattle.definitions.specs.Monomial.{Exponents, Monomial, Term, Vector, unit, no-term, divides?, fits?, vector-of}
+use Rattle.definitions.specs.Monomial.{Exponents, Monomial, Term, Vector, no-term, fits?, vector-of}
 use Rattle.definitions.specs.Order.{Comparison}
 use Rattle.definitions.specs.Reducer.{Answer, reducer, lower-order, heads, answer}
 use Rattle.definitions.specs.Result.{Result, done, refused, unfinished, _>>=_}
@@ -18,14 +16,12 @@ use Rattle.definitions.specs.Vectors.{descending, store}
 use Rattle.definitions.specs.Stage.{Reduction, Stage}
 use Rattle.definitions.specs.Run.{Run, Strategy, Step, on, end, dropped?, unless-dropped, if-fits, multiple, add-term, add-products, start, reduced}
 use Rattle.definitions.specs.Run.{without-reducer, by-answer, by-pick, step, continued, runs, run}
-use Rattle.definitions.proofs.Tests.{and-left}
 use Rattle.definitions.proofs.Members.{All, all-map, all-inside}
 use Rattle.definitions.proofs.Modular.{Prime}
-use Rattle.definitions.proofs.Coefficients.{times-nonzero, quotient-nonzero, minus-nonzero, plus-nonzero, one-nonzero}
+use Rattle.definitions.proofs.Coefficients.{times-nonzero, minus-nonzero, plus-nonzero, one-nonzero}
 use Rattle.definitions.proofs.Comparisons.{Orders}
-use Rattle.definitions.proofs.Products.{length-quotient}
 use Rattle.definitions.proofs.Induced.{Has, Shaped}
-use Rattle.definitions.proofs.Reducers.{Reducing, answer-reducing, answer-number}
+use Rattle.definitions.proofs.Reducers.{Reducing, answer-reducing, answer-number, reducing-some, reducing-leads, reducing-nonzero}
 use Rattle.definitions.proofs.Results.{If-done, if-done-bind}
 use Rattle.definitions.proofs.Sums.{Joins, inserted-all, store-all, inserted-descends}
 use Rattle.ending.specs.Well.{Proper, Descending, Well, Picks}
@@ -70,17 +66,16 @@ add-products-proper R P drops c q h l (t ∷ f) s v k =
 -- ## Runs
 
 -- the multiple that a reducer gives
-pub record Multiple (p c : ℕ) (q : Exponents) : Type 0 where
-  pub nonzero : c % p ≢ 0
-  pub eight : length q ≡ 8
+record Multiple (p c : ℕ) (q : Exponents) : Type 0 where
+  nonzero : c % p ≢ 0
+  eight : length q ≡ 8
 
 reducing-multiple : (p : ℕ) → Prime p → (order : Monomial → Monomial → Comparison) (f : Vector) → Descending p order f → (t : Term) → Proper p t
     → (c : ℕ) (q : Exponents) → Reducing p f t c q → Multiple p c q
-reducing-multiple p P order [] d t h c q r =
-    absurd (omega (arith, eqb→eq 0 (t .1 .1) (and-left (eqb 0 (t .1 .1)) (divides? unit (t .1 .0)) (r .divides)), h .shaped .component))
-reducing-multiple p P order (l ∷ f) d t h c q r = record {
-  nonzero = subst (λ x. x % p ≢ 0) (sym (r .coefficient-is)) (quotient-nonzero p P (t .0) (l .0) (h .coefficient) (d .proper .0 .coefficient));
-  eight = ap length (r .quotient-is) ∙ length-quotient 8 (t .1 .0) (l .1 .0) (h .shaped .long) (d .proper .0 .shaped .long);
+reducing-multiple p P order [] d t h c q r = absurd (reducing-some p t c q r (h .shaped .component))
+reducing-multiple p P order (u ∷ f) d t h c q r = record {
+  nonzero = reducing-nonzero p t c q u f r P (h .coefficient) (d .proper .0 .coefficient);
+  eight = reducing-leads p t c q u f r 8 (d .proper .0 .shaped .long) (h .shaped .long) .long;
 }
 
 abbrev Proper-step : ℕ → Step → Type 0

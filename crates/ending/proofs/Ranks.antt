@@ -18,54 +18,56 @@ use Rattle.ending.specs.Spent.{with-first, exponents-to, all-exponents, 
 
 -- ## Counting
 
+-- one more if the test holds
+abbrev tally : Bool → ℕ → ℕ
+tally true n = suc n
+tally false n = n
+
+tally-most : (b : Bool) (m n : ℕ) → m ≤ n → tally b m ≤ suc n
+tally-most true m n h = omega arith
+tally-most false m n h = omega arith
+
+tally-more : (a b : Bool) → (T a → T b) → (m n : ℕ) → m ≤ n → tally a m ≤ tally b n
+tally-more true true i m n h = omega arith
+tally-more true false i m n h = absurd (i tt)
+tally-more false true i m n h = omega arith
+tally-more false false i m n h = h
+
+tally-more-strictly : (a b : Bool) → (T a → T b) → (m n : ℕ) → m < n → tally a m < tally b n
+tally-more-strictly true true i m n h = omega arith
+tally-more-strictly true false i m n h = absurd (i tt)
+tally-more-strictly false true i m n h = omega arith
+tally-more-strictly false false i m n h = h
+
+tally-less : (a b : Bool) → (T a → ⊥) → T b → (m n : ℕ) → m ≤ n → tally a m < tally b n
+tally-less true b i t m n h = absurd (i tt)
+tally-less false true i t m n h = omega arith
+tally-less false false i t m n h = absurd t
+
 module _ {A : Type 0} where
   -- how many members pass the test
   pub count : (A → Bool) → List A → ℕ
   count f [] = 0
-  count f (a ∷ l) = elim (f a) [ true ↦ suc (count f l) | false ↦ count f l ]
+  count f (a ∷ l) = tally (f a) (count f l)
 
   count-length : (f : A → Bool) (l : List A) → count f l ≤ length l
   unfolding count
   count-length f [] = omega arith
-  count-length f (a ∷ l) = go (f a) (count-length f l)
-    where
-      go : (b : Bool) → count f l ≤ length l → elim b [ true ↦ suc (count f l) | false ↦ count f l ] ≤ suc (length l)
-      go true k = omega arith
-      go false k = omega arith
+  count-length f (a ∷ l) = tally-most (f a) (count f l) (length l) (count-length f l)
 
   module _ (f g : A → Bool) where
     -- what passes f passes g
     count-more : (l : List A) → All (λ a. T (f a) → T (g a)) l → count f l ≤ count g l
     unfolding count
     count-more [] h = omega arith
-    count-more (a ∷ l) h = go (f a) (g a) (h .0) (count-more l (h .1))
-      where
-        go : (x y : Bool) → (T x → T y) → count f l ≤ count g l
-            → elim x [ true ↦ suc (count f l) | false ↦ count f l ] ≤ elim y [ true ↦ suc (count g l) | false ↦ count g l ]
-        go true true i k = omega arith
-        go true false i k = absurd (i tt)
-        go false true i k = omega arith
-        go false false i k = k
+    count-more (a ∷ l) h = tally-more (f a) (g a) (h .0) (count f l) (count g l) (count-more l (h .1))
 
     -- .. and a member passes g only
     count-less : {a : A} {l : List A} → List·Memᴰ a l → T (g a) → (T (f a) → ⊥) → All (λ x. T (f x) → T (g x)) l → count f l < count g l
     unfolding count
-    count-less {a} (List·Memᴰ·head {x} {xs} e) p n h =
-        go (f x) (g x) (λ t. n (subst (λ y. T (f y)) (sym e) t)) (subst (λ y. T (g y)) e p) (count-more xs (h .1))
-      where
-        go : (s t : Bool) → (T s → ⊥) → T t → count f xs ≤ count g xs
-            → elim s [ true ↦ suc (count f xs) | false ↦ count f xs ] < elim t [ true ↦ suc (count g xs) | false ↦ count g xs ]
-        go true t i j k = absurd (i tt)
-        go false true i j k = omega arith
-        go false false i j k = absurd j
-    count-less {a} (List·Memᴰ·tail {x} {xs} m) p n h = go (f x) (g x) (h .0) (count-less m p n (h .1))
-      where
-        go : (s t : Bool) → (T s → T t) → count f xs < count g xs
-            → elim s [ true ↦ suc (count f xs) | false ↦ count f xs ] < elim t [ true ↦ suc (count g xs) | false ↦ count g xs ]
-        go true true i k = omega arith
-        go true false i k = absurd (i tt)
-        go false true i k = omega arith
-        go false false i k = k
+    count-less (List·Memᴰ·head {x} {xs} e) t n h =
+        tally-less (f x) (g x) (λ s. n (subst (λ y. T (f y)) (sym e) s)) (subst (λ y. T (g y)) e t) (count f xs) (count g xs) (count-more xs (h .1))
+    count-less (List·Memᴰ·tail {x} {xs} m) t n h = tally-more-strictly (f x) (g x) (h .0) (count f xs) (count g xs) (count-less m t n (h .1))
 
 -- ## The monomials that matter
 

@@ -10,7 +10,7 @@ use lib.ListN.{length, getD}
 use Rattle.definitions.specs.Lists.{_and_, without}
 use Rattle.definitions.specs.Monomial.{Monomial, Term, Vector, fits?, same-monomial?, no-term}
 use Rattle.definitions.proofs.Tests.{and-left, and-right, and-both}
-use Rattle.definitions.proofs.Members.{All, every-all, all-every, all-map}
+use Rattle.definitions.proofs.Members.{All, every-all, all-every, all-map, all-inside}
 use Rattle.definitions.proofs.Products.{same-monomial-says, same-monomial-shows}
 use Rattle.ending.specs.Good.{good-monomial?, fresh?, good?}
 use Rattle.ending.specs.Spent.{total}
@@ -39,12 +39,10 @@ pub good-says : (v : Vector) → T (good? v) → Good v
 unfolding good?
 good-says [] t = tt
 good-says (u ∷ v) t =
-    let l = and-right (good-monomial? (u .1)) (fresh? (u .1) v and good? v) t in (
-      and-left (good-monomial? (u .1)) (fresh? (u .1) v and good? v) t,
-      fresh-says (u .1) v (and-left (fresh? (u .1) v) (good? v) l),
-      good-says v
-          (and-right (fresh? (u .1) v) (good? v) l),
-    )
+    let m = good-monomial? (u .1) in
+    let f = fresh? (u .1) v in
+    let l = and-right m (f and good? v) t in
+    (and-left m (f and good? v) t, fresh-says (u .1) v (and-left f (good? v) l), good-says v (and-right f (good? v) l))
 
 pub good-shows : (v : Vector) → Good v → T (good? v)
 unfolding good?
@@ -53,9 +51,12 @@ good-shows (u ∷ v) h =
     and-both (good-monomial? (u .1)) (fresh? (u .1) v and good? v) (h .0)
     (and-both (fresh? (u .1) v) (good? v) (fresh-shows (u .1) v (h .1)) (good-shows v (h .2)))
 
-pub good-all : (v : Vector) → Good v → All (λ u. T (good-monomial? (u .1))) v
+good-all : (v : Vector) → Good v → All (λ u. T (good-monomial? (u .1))) v
 good-all [] g = tt
 good-all (u ∷ v) g = (g .0, good-all v (g .2))
+
+pub good-at : (v : Vector) → Good v → (i : ℕ) → i < length v → T (good-monomial? (getD v i no-term .1))
+good-at v g i l = all-inside (λ u. T (good-monomial? (u .1))) no-term v i l (good-all v g)
 
 pub good-eight : (m : Monomial) → T (good-monomial? m) → length (m .0) ≡ 8
 good-eight m t = eqb→eq (length (m .0)) 8 (and-left (eqb (length (m .0)) 8) (fits? 255 (m .0) and leb 1 (m .1)) t)
