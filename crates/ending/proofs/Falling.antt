@@ -41,7 +41,8 @@ shaped-terms p v h = all-map (Proper p) (λ t. Shaped 8 (t .1)) (λ t s. s .shap
 abbrev Below : ℕ → (Monomial → ℕ) → Vector → Type 0
 Below n h w = Good w × (total h w < n)
 
-module _ (R : Reduction) (P : Prime (R .p)) (small : R .limits .exponent ≤ 255) (drops : Bool) (h : Monomial → ℕ) (v : Vector) (i : ℕ) (g : Good v) (l : i < length v) where
+module _ (R : Reduction) (P : Prime (R .p)) (small : R .limits .exponent ≤ 255) (drops : Bool) (h : Monomial → ℕ)
+    (v : Vector) (i : ℕ) (g : Good v) (l : i < length v) where
   abbrev picked : Term
   picked = getD v i no-term
 

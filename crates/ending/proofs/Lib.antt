@@ -12,3 +12,4 @@ pub mod Levels
 pub mod Lifted
 pub mod Calls
 pub mod Sheets
+pub mod Examples
