@@ -21,6 +21,7 @@ pub mod Reducers
 pub mod Results
 pub mod Sums
 pub mod Finished
+pub mod Elements
 pub mod Reading
 pub mod Steady
 pub mod Bound
