@@ -3,7 +3,7 @@
 use mathlib.Core.Bool.{Bool, true, false, not, _||_}
 use mathlib.Core.Option.{some}
 use mathlib.Core.List.{List, [], _∷_}
-use Prim.Native.Nat.{ℕ, suc, _-_, _≤_}
+use Prim.Native.Nat.{ℕ, suc, _-_}
 use lib.Dec.{T, lit≤}
 use lib.ListN.{length}
 use Rattle.definitions.specs.Limits.{Limits, document-01}
@@ -21,13 +21,9 @@ use Rattle.definitions.proofs.Reading.{basis-state, problem-sound}
 use Rattle.definitions.proofs.Finished.{problem-finished}
 use Rattle.definitions.proofs.Steady.{Ends, steady-fixed, answered?, bind-ends, bind-fixed-ends, then-fixed, then-ends, then-fixed-ends}
 use Rattle.definitions.proofs.Bound.{accepted-steady, call-steady, calls-steady, lent-call-steady, lent-calls-steady}
-use Rattle.ending.specs.Well.{Descending-levels}
+use Rattle.ending.specs.Well.{Descending-levels, Bytewise}
 use Rattle.ending.proofs.Soundness.{drop-descending, sound-prime, sound-levels}
 use Rattle.ending.proofs.Levels.{lift-level-ends, accept-ends}
-
-pub record Bytewise (lim : Limits) : Type 0 where
-  pub exponents : lim .exponent ≤ 255
-  pub variables : lim .variables ≤ 8
 
 pub document-01-bytewise : Bytewise document-01
 document-01-bytewise = record { exponents = lit≤ tt; variables = lit≤ tt }

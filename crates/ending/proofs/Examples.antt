@@ -1,7 +1,6 @@
 -- The hypotheses can be met: document 01's first instance, x + y and y² + 1 modulo 7, is well, and a cost there is what one expects.
 use mathlib.Core.Path.{_≡_, refl}
 use mathlib.Core.List.{[], _∷_}
-use Prim.Native.Nat.{ℕ}
 use lib.Dec.{T, lit≤}
 use Rattle.definitions.specs.Limits.{document-01}
 use Rattle.definitions.specs.Reducer.{heads}

@@ -1,6 +1,6 @@
 -- A step keeps a good value good and makes the number of what it can cost fall, whichever place is picked, whether lower order terms are dropped or
 -- not, while lifting and while accepting.
-use mathlib.Core.Path.{_≡_, refl, sym, ap, _∙_, subst}
+use mathlib.Core.Path.{_≡_, refl, sym, ap, _∙_, subst, subst₃}
 use mathlib.Core.Bool.{Bool, true, false}
 use mathlib.Core.Option.{Option, none, some}
 use mathlib.Core.List.{[], _∷_}
@@ -10,7 +10,7 @@ use lib.Dec.{T}
 use lib.ListN.{length, getD}
 use Rattle.definitions.specs.Lists.{rest, without}
 use Rattle.definitions.specs.Field.{minus}
-use Rattle.definitions.specs.Monomial.{Exponents, Monomial, Term, Vector, no-term, vector-of}
+use Rattle.definitions.specs.Monomial.{Exponents, Monomial, Term, Vector, Level, no-term, vector-of}
 use Rattle.definitions.specs.Order.{Comparison}
 use Rattle.definitions.specs.Reducer.{Answer, reducer, lower-order, lower-order?, heads, answer}
 use Rattle.definitions.specs.Result.{Result, done, _>>=_}
@@ -152,6 +152,11 @@ module _ (S : Stage) (X : Well S) (W : Strategy) where
     where
       by : Vector → Vector → ℕ
       by hs v = total (cost (many (S .family)) (R .p) hs (S .family)) v
+
+  -- the same over a prime, heads and a family that are known to be the stage's, as a loop has them
+  pub step-falls-as : {p : ℕ} {hs : Vector} {f : Level} → R .p ≡ p → R .heads ≡ hs → S .family ≡ f → Picks (W .pick) → (r r′ : Run) → T (good? (r .value))
+      → step S W r ≡ done (on r′) → spent p hs f (r′ .value) < spent p hs f (r .value)
+  step-falls-as a b c k r r′ g e = subst₃ (λ p hs f. spent p hs f (r′ .value) < spent p hs f (r .value)) a b c (step-falls k r r′ g e)
 
 -- ## The start
 

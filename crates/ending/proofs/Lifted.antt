@@ -3,10 +3,9 @@ use mathlib.Core.Path.{_≡_, refl, sym, ap, _∙_}
 use mathlib.Core.Logic.{_≢_}
 use mathlib.Core.Bool.{Bool, true, false}
 use mathlib.Core.Option.{Option, none, some}
-use mathlib.Core.List.{List, [], _∷_}
+use mathlib.Core.List.{[], _∷_}
 use Prim.Native.Nat.{ℕ, zero, suc, _%_, _≤_, _<_}
 use lib.ListN.{length, getD}
-use Rattle.definitions.specs.Lists.{without}
 use Rattle.definitions.specs.Field.{minus}
 use Rattle.definitions.specs.Monomial.{Exponents, Monomial, Term, Vector, no-term, fits?, vector-of}
 use Rattle.definitions.specs.Order.{Comparison}
@@ -16,7 +15,7 @@ use Rattle.definitions.specs.Vectors.{descending, store}
 use Rattle.definitions.specs.Stage.{Reduction, Stage}
 use Rattle.definitions.specs.Run.{Run, Strategy, Step, on, end, dropped?, unless-dropped, if-fits, multiple, add-term, add-products, start, reduced}
 use Rattle.definitions.specs.Run.{without-reducer, by-answer, by-pick, step, continued, runs, run}
-use Rattle.definitions.proofs.Members.{All, all-map, all-inside}
+use Rattle.definitions.proofs.Members.{All, all-map, all-inside, all-without}
 use Rattle.definitions.proofs.Modular.{Prime}
 use Rattle.definitions.proofs.Coefficients.{times-nonzero, minus-nonzero, plus-nonzero, one-nonzero}
 use Rattle.definitions.proofs.Comparisons.{Orders}
@@ -27,12 +26,6 @@ use Rattle.definitions.proofs.Sums.{Joins, inserted-all, store-all, inserted-de
 use Rattle.ending.specs.Well.{Proper, Descending, Well, Picks}
 use Rattle.ending.proofs.Adding.{product-shaped}
 use Rattle.ending.proofs.Costs.{descending-of}
-
-all-without : {A : Type 0} (P : A → Type 0) (l : List A) (i : ℕ) → All P l → All P (without i l)
-all-without P [] zero h = tt
-all-without P [] (suc i) h = tt
-all-without P (a ∷ l) zero h = h .1
-all-without P (a ∷ l) (suc i) h = (h .0, all-without P l i (h .1))
 
 -- ## Sums of proper terms
 
@@ -128,34 +121,35 @@ module _ (S : Stage) (X : Well S) (O : Orders (Has 8) (S .above)) (W : Strategy)
       go (some i) l =
           answer-proper r a b i (all-inside (Proper (R .p)) no-term (r .value) i (l i refl) a) (answer (R .p) (R .heads) (getD (r .value) i no-term)) refl
 
-  abbrev Listed : Vector → Type 0
-  Listed v = Descending (R .p) (S .above) v
+  -- what a run ends with
+  abbrev Sorted : Vector → Type 0
+  Sorted v = Descending (R .p) (S .above) v
 
-  sorted : (v : Vector) → Terms v → Listed (descending (S .above) (R .p) v)
-  sorted v h = record {
+  sorted-terms : (v : Vector) → Terms v → Sorted (descending (S .above) (R .p) v)
+  sorted-terms v h = record {
     proper = inserted-all (R .p) (Proper (R .p)) (proper-joins (R .p) (X .prime)) (S .above) [] v tt h;
     strictly = inserted-descends (Has 8) (S .above) O (R .p) [] v tt (all-map (Proper (R .p)) (λ u. Has 8 (u .1)) (λ u k. k .shaped .long) v h) tt;
   }
 
-  runs-listed : (n : ℕ) (r : Run) → Terms (r .value) → Terms (r .vector) → If-done Listed (runs S W n r)
-  runs-listed zero r a b = tt
-  runs-listed (suc n) r a b = go (step S W r) (step-proper r a b) (runs-listed n)
+  runs-sorted : (n : ℕ) (r : Run) → Terms (r .value) → Terms (r .vector) → If-done Sorted (runs S W n r)
+  runs-sorted zero r a b = tt
+  runs-sorted (suc n) r a b = go (step S W r) (step-proper r a b) (runs-sorted n)
     where
-      go : (s : Result Step) → If-done (Proper-step (R .p)) s → ((r′ : Run) → Terms (r′ .value) → Terms (r′ .vector) → If-done Listed (runs S W n r′))
-          → If-done Listed (continued S (λ r′. runs S W n r′) s)
+      go : (s : Result Step) → If-done (Proper-step (R .p)) s → ((r′ : Run) → Terms (r′ .value) → Terms (r′ .vector) → If-done Sorted (runs S W n r′))
+          → If-done Sorted (continued S (λ r′. runs S W n r′) s)
       go (done (on r′)) h ih = ih r′ (h .0) (h .1)
-      go (done (end v)) h ih = sorted v h
+      go (done (end v)) h ih = sorted-terms v h
       go (refused number place value) h ih = tt
       go unfinished h ih = tt
 
-  pub run-listed : (m : Monomial) → Shaped 8 m → (n : ℕ) → If-done Listed (run S W n m)
-  run-listed m s n =
-      if-done-bind (λ r. Terms (r .value) × Terms (r .vector)) Listed (start S W m) (λ r. runs S W n r)
+  pub run-descending : (m : Monomial) → Shaped 8 m → (n : ℕ) → If-done Sorted (run S W n m)
+  run-descending m s n =
+      if-done-bind (λ r. Terms (r .value) × Terms (r .vector)) Sorted (start S W m) (λ r. runs S W n r)
       (if-done-bind Terms (λ r. Terms (r .value) × Terms (r .vector)) products (λ v. done (record { value = v; vector = (1, m) ∷ [] }))
       (add-products-proper R (X .prime) (W .drops) 1 (m .0) (one-nonzero (R .p) (X .prime)) (s .long) (vector-of (S .family) (m .1))
       (descending-of (R .p) (S .below) (S .family) (X .family) (m .1) .proper) [] tt)
       (λ v h. (h, (record { shaped = s; coefficient = one-nonzero (R .p) (X .prime) }, tt))))
-      (λ r h. runs-listed n r (h .0) (h .1))
+      (λ r h. runs-sorted n r (h .0) (h .1))
     where
       products : Result Vector
       products = add-products R (W .drops) 1 (m .0) (vector-of (S .family) (m .1)) []

@@ -25,12 +25,12 @@ use Rattle.definitions.proofs.Results.{If-done, if-done-bind, if-done-always}
 use Rattle.definitions.proofs.Reading.{basis-state, problem-sound}
 use Rattle.definitions.proofs.Steady.{Ends, answered?, ends-after, then-fixed-ends}
 use Rattle.definitions.proofs.Bound.{read-steady, lift-steady, level-then-steady, levels-from-steady, sheet-of-steady}
-use Rattle.ending.specs.Well.{Descending, Descending-levels}
+use Rattle.ending.specs.Well.{Descending, Descending-levels, Bytewise}
 use Rattle.ending.proofs.Picking.{picks-by-code}
 use Rattle.ending.proofs.Soundness.{levels-lead, drop-descending, descending-well, sound-prime, sound-levels}
-use Rattle.ending.proofs.Lifted.{run-listed}
+use Rattle.ending.proofs.Lifted.{run-descending}
 use Rattle.ending.proofs.Levels.{limited-frame-shaped}
-use Rattle.ending.proofs.Calls.{Bytewise, read-ends, lift-ends}
+use Rattle.ending.proofs.Calls.{read-ends, lift-ends}
 
 -- ## A lifted level
 
@@ -67,7 +67,7 @@ hybrid-descending lim p code below P l d pick n =
     one : (cache : Cache) (m : Monomial) → Shaped 8 m → If-done (λ s. D (s .0)) (lift-one S (by-hybrid pick) n cache m)
     one cache m s =
         if-done-bind D (λ s. D (s .0)) (run S (hybrid-strategy S pick) n m) (λ v. done (v, cache))
-        (run-listed S (descending-well lim p code below P l d) (compare-order 8 code below (levels-lead p code below d) .orders)
+        (run-descending S (descending-well lim p code below P l d) (compare-order 8 code below (levels-lead p code below d) .orders)
         (hybrid-strategy S pick) (picks-by-code (S .below) pick) m s n) (λ v k. k)
 
 -- ## The next state

@@ -7,6 +7,7 @@ use mathlib.Core.List.{List, [], _∷_}
 use Prim.Native.Nat.{ℕ, _%_, _<_, _≤_}
 use lib.Dec.{T}
 use lib.ListN.{length}
+use Rattle.definitions.specs.Limits.{Limits}
 use Rattle.definitions.specs.Monomial.{Monomial, Term, Vector, Level}
 use Rattle.definitions.specs.Order.{Comparison, compare-over}
 use Rattle.definitions.specs.Reducer.{heads}
@@ -41,3 +42,8 @@ pub record Well (S : Stage) : Type 0 where
 -- a pick answers a place inside the value
 abbrev pub Picks : (Vector → Option ℕ) → Type 0
 Picks pick = (v : Vector) (i : ℕ) → pick v ≡ some i → i < length v
+
+-- what the argument asks of the limits, to read a file and to run
+pub record Bytewise (lim : Limits) : Type 0 where
+  pub exponents : lim .exponent ≤ 255
+  pub variables : lim .variables ≤ 8
