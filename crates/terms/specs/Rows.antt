@@ -1,16 +1,12 @@
 -- The code's term as the definitions' one, and what the functions on rows leave in a slice.
-use mathlib.Core.Bool.{Bool, true, false}
-use mathlib.Core.List.{List, [], _∷_, _++_}
-use Prim.Native.Nat.{ℕ, zero, suc, _+_, _-_, _*_}
+use mathlib.Core.List.{_∷_, _++_}
+use Prim.Native.Nat.{ℕ, _+_, _-_, _*_}
 use lib.ListN.{length, take, drop, replicate}
 use lib.Seq.{paste}
 use Rattle.definitions.specs.Monomial as definition
-use Rattle.definitions.specs.Monomial.{Monomial, Vector, same-monomial?}
 use Rattle.definitions.specs.Layout.{Words, row-of}
 use Rattle.monomial.specs.Values.{monomial-of}
 use Rattle.terms.specs.declared.Term.{Term}
-use Rattle.terms.specs.declared.Place.{Place}
-use Rattle.terms.specs.declared.Place.the-variants.{At, Nowhere}
 
 abbrev pub term-of : Term → definition.Term
 term-of t = (t .coefficient, monomial-of (t .monomial))
@@ -31,7 +27,6 @@ opened s a end = paste s (a + 10) (drop a s) (end - a)
 abbrev pub cleared : Words → ℕ → Words
 cleared s a = take a s ++ replicate (length s - a) 0
 
--- the first place with the monomial, counted from i
-abbrev pub seek : Monomial → Vector → ℕ → Place
-seek m [] i = Nowhere
-seek m (u ∷ v) i = elim (same-monomial? m (u .1)) [ true ↦ At i | false ↦ seek m v (suc i) ]
+-- a term let in at place i
+abbrev pub let-in : ℕ → definition.Term → definition.Vector → definition.Vector
+let-in i t v = take i v ++ t ∷ drop i v

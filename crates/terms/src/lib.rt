@@ -8,22 +8,16 @@ ghost use lib.Dec.{eqb};
 ghost use lib.ListN.{length, set};
 ghost use lib.Seq.{paste};
 ghost use Rattle.lists.specs.Marking.{mark-by};
-ghost use Rattle.definitions.specs.Lists.{without};
 ghost use Rattle.definitions.specs.Monomial.{same-exponents?, same-monomial?};
-ghost use Rattle.definitions.specs.Layout.{byte, exponents-at, row-at, rows};
+ghost use Rattle.definitions.specs.Layout.{byte, exponents-at, row-at};
 ghost use Rattle.definitions.proofs.Rows.{Eight};
 ghost use Rattle.monomial.specs.Values.{monomial-of};
-ghost use Rattle.terms.specs.Rows.{term-of, written, closed, opened, cleared, seek};
+ghost use Rattle.terms.specs.Rows.{term-of, written, closed, opened, cleared};
 use monomial::{Monomial};
 
 pub struct Term {
     pub coefficient: u16,
     pub monomial: Monomial,
-}
-
-pub enum Place {
-    At(usize),
-    Nowhere,
 }
 
 // An exponent's word, read.
@@ -141,21 +135,6 @@ pub fn same_row(s: &[u16], i: usize, m: Monomial) -> bool
     same_words(s, at + 2, e)
 }
 
-// The first of the n rows with the monomial.
-pub fn find(s: &[u16], n: usize, m: Monomial) -> Place
-    requires { ⌜ n * 10 ≤ length (now s) ⌝ }
-    ensures { λ r. ⌜ r ≡ seek (monomial-of m) (rows (now (s .entry)) 0 n) 0 ⌝ }
-{
-    let mut i: usize = 0;
-    while i < n {
-        if same_row(s, i, m) {
-            return Place::At(i);
-        }
-        i += 1;
-    }
-    Place::Nowhere
-}
-
 // Row i leaves the first n rows; those above it close up.
 pub fn remove(s: &mut [u16], n: usize, i: usize)
     requires { ⌜ (i < n) × (n * 10 ≤ length (now s)) ⌝ }
@@ -190,5 +169,17 @@ pub fn clear(s: &mut [u16], a: usize)
     while k < s.len() {
         s[k] = 0;
         k += 1;
+    }
+}
+
+// The first n words of another slice, from word at on.
+pub fn copy(d: &mut [u16], at: usize, s: &[u16], n: usize)
+    requires { ⌜ (at + n ≤ length (now d)) × (n ≤ length (now s)) ⌝ }
+    ensures { λ _. ⌜ now (d .exit) ≡ paste (now (d .entry)) at (now (s .entry)) n ⌝ }
+{
+    let mut j = 0;
+    while j < n {
+        d[at + j] = s[j];
+        j += 1;
     }
 }

@@ -1,26 +1,27 @@
 use borrow.Author.Needs.{needs}
-use native.Mathlib.Omega.{arith}
-use mathlib.Core.Path.{_≡_, refl, sym, ap, _∙_, subst}
-use mathlib.Core.List.{List, [], _∷_, _++_}
-use Prim.Native.Nat.{ℕ, suc, _+_, _-_, _*_, _<_, _≤_}
-use lib.ListN.{length, take, drop, getD, set, length-set}
+use mathlib.Core.Path.{_≡_, sym, ap, _∙_}
+use Rattle.lists.specs.Marking.{mark-by}
+use lib.Dec.{eqb}
+use mathlib.Core.Bool.{not, true, false}
+use borrow.Author.Tests.{eq-eqb, ne-eqb}
+use Rattle.definitions.specs.Layout.{byte}
 use Rattle.terms.proofs.mark_other.Statement.{statement}
 use Rattle.terms.proofs.mark_other.Tie as tie
-use Rattle.terms.proofs.mark_other.Reads as reads
-use Rattle.terms.proofs.mark_other.Lts as lts
-use Rattle.terms.proofs.narrow.Reads as narrow-reads
 
--- src/lib.rt:109:8
 narrow-requires : tie.Need-narrow-requires
 narrow-requires c κs = search needs
 
--- src/lib.rt:110:9
 returns : tie.Need-returns
-returns c = omega arith
+returns c =
+    let a = c .before .before .args in
+    let e : eqb (a .x) (byte (a .word)) ≡ false = ne-eqb (a .x) (byte (a .word)) (λ q. c .if1 .taken (c .before .narrow .ensures ∙ sym q)) in
+    sym (ap (λ b. mark-by (not b) (a .mark)) e)
 
--- src/lib.rt:106:1
 returns-2 : tie.Need-returns-2
-returns-2 c = omega arith
+returns-2 c =
+    let a = c .before .before .args in
+    let e : eqb (a .x) (byte (a .word)) ≡ true = eq-eqb (a .x) (byte (a .word)) (sym (c .if1 .left) ∙ c .before .narrow .ensures) in
+    sym (ap (λ b. mark-by (not b) (a .mark)) e)
 
 pub mark-other-spec : {M : Type 1} → statement M
 mark-other-spec = tie.close (tie.spec narrow-requires returns returns-2)
