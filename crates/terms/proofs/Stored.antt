@@ -110,7 +110,7 @@ getD-without-over v i k d h l =
     let f : suc i + (k - i) ≡ k + 1 = omega arith in
     ap (λ j. getD (without i v) j d) e ∙ getD-append-add (take i v) (drop (suc i) v) (k - i) d ∙ getD-drop (suc i) v (k - i) d ∙ ap (λ j. getD v j d) f
 
-length-without : (v : Vector) (i : ℕ) → i < length v → length (without i v) ≡ length v - 1
+pub length-without : (v : Vector) (i : ℕ) → i < length v → length (without i v) ≡ length v - 1
 length-without v i h = length-append (take i v) (drop (suc i) v) ∙ omega (arith, length-take-le i v (omega arith), length-drop (suc i) v)
 
 pub rows-closed : (s : Words) (n i : ℕ) → i < n → n * 10 ≤ length s → rows (closed s (i * 10) (n * 10 - 10)) 0 (n - 1) ≡ without i (rows s 0 n)

@@ -13,7 +13,7 @@ ghost use Rattle.definitions.specs.Layout.{byte, exponents-at, row-at};
 ghost use Rattle.definitions.proofs.Rows.{Eight};
 ghost use Rattle.monomial.specs.Values.{monomial-of};
 ghost use Rattle.terms.specs.Rows.{term-of, written, closed, opened, cleared};
-use monomial::{Monomial};
+use monomial::Monomial;
 
 pub struct Term {
     pub coefficient: u16,
@@ -50,7 +50,13 @@ pub fn row(s: &[u16], i: usize) -> Term
 {
     let at = i * 10;
     let e = exponents(s, at + 2);
-    Term { coefficient: s[at], monomial: Monomial { exponents: e, component: s[at + 1] } }
+    Term {
+        coefficient: s[at],
+        monomial: Monomial {
+            exponents: e,
+            component: s[at + 1],
+        },
+    }
 }
 
 fn words(c: u16, m: u16, e: [u8; 8]) -> [u16; 10]

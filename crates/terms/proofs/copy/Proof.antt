@@ -42,9 +42,11 @@ loop-again c =
     let d = c .before .before .before .args .d .now in
     let s = c .before .before .before .args .s .now in
     let at = c .before .before .before .args .at in
-    let e : suc (l .j) ≡ l .j + 1 = omega arith in
-    (omega arith, omega (arith, length-set (l .d) (at + l .j) (getD s (l .j) 0)),
-    ap (λ u. set u (at + l .j) (getD s (l .j) 0)) (l .inv .2) ∙ paste-suc d at s (l .j) 0 (omega arith) (omega arith) ∙ ap (paste d at s) e)
+    let e : suc (l .j) ≡ l .j + 1 = omega arith in (
+      omega arith,
+      omega (arith, length-set (l .d) (at + l .j) (getD s (l .j) 0)),
+      ap (λ u. set u (at + l .j) (getD s (l .j) 0)) (l .inv .2) ∙ paste-suc d at s (l .j) 0 (omega arith) (omega arith) ∙ ap (paste d at s) e,
+    )
 
 same-length : tie.Need-same-length Inv-loop μ-loop
 same-length c = omega arith

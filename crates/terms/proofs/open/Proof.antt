@@ -49,10 +49,14 @@ loop-again c =
     let s = c .before .before .before .args .s .now in
     let b = c .before .before .before .args .n * 10 in
     let m = l .k - 1 in
-    let e : l .k ≡ m + 1 = omega arith in
-    (refl, omega arith, omega arith, omega (arith, length-set (l .s) (m + 10) (getD (l .s) m 0)),
-    ap (λ u. set u (m + 10) (getD u m 0)) (l .inv .4 ∙ ap (λ k. opened s k b) e)
-    ∙ ap (set (opened s (m + 1) b) (m + 10)) (opened-below s (m + 1) b m (omega arith) (omega arith) (omega arith)) ∙ opened-more s m b (omega arith) (omega arith))
+    let e : l .k ≡ m + 1 = omega arith in (
+      refl,
+      omega arith,
+      omega arith,
+      omega (arith, length-set (l .s) (m + 10) (getD (l .s) m 0)),
+      ap (λ u. set u (m + 10) (getD u m 0)) (l .inv .4 ∙ ap (λ k. opened s k b) e)
+          ∙ ap (set (opened s (m + 1) b) (m + 10)) (opened-below s (m + 1) b m (omega arith) (omega arith) (omega arith)) ∙ opened-more s m b (omega arith) (omega arith),
+    )
 
 same-length : tie.Need-same-length Inv-loop μ-loop
 same-length c = omega arith

@@ -50,9 +50,13 @@ loop-again : tie.Need-loop-again Inv-loop μ-loop
 loop-again c =
     let l = c .before .before .loop in
     let s = c .before .before .before .args .s .now in
-    let a = c .before .before .before .args .i * 10 in
-    (refl, omega arith, omega arith, omega (arith, length-set (l .s) (l .k) (getD (l .s) (l .k + 10) 0)),
-    ap (λ u. set u (l .k) (getD u (l .k + 10) 0)) (l .inv .4) ∙ ap (set (closed s a (l .k)) (l .k)) (closed-ahead s a (l .k) (omega arith) (omega arith)) ∙ closed-more s a (l .k) (omega arith) (omega arith))
+    let a = c .before .before .before .args .i * 10 in (
+      refl,
+      omega arith,
+      omega arith,
+      omega (arith, length-set (l .s) (l .k) (getD (l .s) (l .k + 10) 0)),
+      ap (λ u. set u (l .k) (getD u (l .k + 10) 0)) (l .inv .4) ∙ ap (set (closed s a (l .k)) (l .k)) (closed-ahead s a (l .k) (omega arith) (omega arith)) ∙ closed-more s a (l .k) (omega arith) (omega arith),
+    )
 
 same-length : tie.Need-same-length Inv-loop μ-loop
 same-length c = omega arith

@@ -42,9 +42,12 @@ loop-again c =
     let d = c .before .before .args .s .now in
     let w = c .before .before .args .t3 in
     let at = c .before .before .args .at in
-    let e : suc (l .j) ≡ l .j + 1 = omega arith in
-    (omega arith, l .inv .1, omega (arith, length-set (l .s) (at + l .j) (getD w (l .j) 0)),
-    ap (λ u. set u (at + l .j) (getD w (l .j) 0)) (l .inv .3) ∙ paste-suc d at w (l .j) 0 (omega arith) (omega arith) ∙ ap (paste d at w) e)
+    let e : suc (l .j) ≡ l .j + 1 = omega arith in (
+      omega arith,
+      l .inv .1,
+      omega (arith, length-set (l .s) (at + l .j) (getD w (l .j) 0)),
+      ap (λ u. set u (at + l .j) (getD w (l .j) 0)) (l .inv .3) ∙ paste-suc d at w (l .j) 0 (omega arith) (omega arith) ∙ ap (paste d at w) e,
+    )
 
 same-length : tie.Need-same-length Inv-loop μ-loop
 same-length c = omega arith

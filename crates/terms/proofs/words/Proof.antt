@@ -47,9 +47,13 @@ loop-again c =
     let a = c .before .before .before .args in
     let g : ℕ → ℕ = λ k. getD (a .c ∷ a .m ∷ a .t3) k 0 in
     let e : 2 + l .j + 1 ≡ 2 + (l .j + 1) = omega arith in
-    let f : 2 + l .j ≡ l .j + 2 = omega arith in
-    (omega arith, l .inv .1, simp length-set (l .inv .2), small-more (a .t3) (l .j) (c .wide .result) (c .wide .ensures .0) (c .wide .ensures .1) (l .inv .3),
-    subst (λ n. Filled g n (set (l .w) (l .j + 2) (c .wide .result))) e (subst (λ n. Filled g (2 + l .j + 1) (set (l .w) n (c .wide .result))) f (filled-more g (2 + l .j) (c .wide .result) (l .w) (omega arith) (c .wide .ensures .0 ∙ sym (past-two (a .c) (a .m) (a .t3) (l .j))) (l .inv .4))))
+    let f : 2 + l .j ≡ l .j + 2 = omega arith in (
+      omega arith,
+      l .inv .1,
+      simp length-set (l .inv .2),
+      small-more (a .t3) (l .j) (c .wide .result) (c .wide .ensures .0) (c .wide .ensures .1) (l .inv .3),
+      subst (λ n. Filled g n (set (l .w) (l .j + 2) (c .wide .result))) e (subst (λ n. Filled g (2 + l .j + 1) (set (l .w) n (c .wide .result))) f (filled-more g (2 + l .j) (c .wide .result) (l .w) (omega arith) (c .wide .ensures .0 ∙ sym (past-two (a .c) (a .m) (a .t3) (l .j))) (l .inv .4))),
+    )
 
 returns : tie.Need-returns Inv-loop μ-loop
 returns c =
