@@ -11,9 +11,6 @@ use crate::monomial::{Exponents, Level, Monomial, Parameters, Term, Vector};
 /// "A term is a row of ten words: the coefficient, the component, the eight exponents".
 pub const ROW: usize = 10;
 
-/// Rows of the work buffer that hold tables and no terms of a working value or tree.
-pub const TABLE_ROWS: usize = 512 + 768;
-
 /// Words before the first level's count.
 const HEAD: usize = 5;
 
@@ -64,10 +61,10 @@ pub fn state_words(limits: &Limits) -> usize {
 /// The words a work buffer needs for reading (no way) or for lifting by that way.
 pub fn work_words(limits: &Limits, way: Option<Way>) -> usize {
     let rows = match way {
-        Some(Way::Tree) => limits.tree as usize + limits.vector as usize,
+        Some(Way::Tree) => limits.tree as usize,
         _ => limits.working as usize,
     };
-    ROW * (TABLE_ROWS + rows)
+    ROW * (limits.vector as usize + rows)
 }
 
 /// The words a buffer for a fetched vector needs.

@@ -172,11 +172,11 @@ lifting-by division cache = by-division
 lifting-by (hybrid pick) cache = by-hybrid pick
 lifting-by tree cache = by-tree (length cache / 10)
 
--- the work area has the vector, tables of 768 rows, and last the working value or the tree's area with 512 rows of its index
+-- the work area has the vector, then the working value or the tree's area
 abbrev pub work-words : Limits → Way → ℕ
-work-words lim division = (lim .vector + 768 + lim .working) * 10
-work-words lim (hybrid pick) = (lim .vector + 768 + lim .working) * 10
-work-words lim tree = (lim .vector + 768 + lim .tree + 512) * 10
+work-words lim division = (lim .vector + lim .working) * 10
+work-words lim (hybrid pick) = (lim .vector + lim .working) * 10
+work-words lim tree = (lim .vector + lim .tree) * 10
 
 abbrev pub out-words : Limits → ℕ
 out-words lim = lim .vector * 10
