@@ -7,7 +7,7 @@ use Prim.Native.Nat.{ℕ}
 use Rattle.theory.specs.Laws.{Scalars, Monoid, Level}
 use Rattle.theory.specs.Vec.{Vec, ev, Same, scale, mapB, lin, All, times, ψ, Lead}
 use Rattle.theory.specs.Syzygy.{Family, In}
-use Rattle.theory.specs.Reckon.{Lower, Reducers, turned, others, lift, lift-as, lift-eq, reckon}
+use Rattle.theory.specs.Reckon.{Reducer, Lower, Reducers, turned, others, lift, lift-as, lift-eq, reckon}
 use Rattle.theory.specs.Runs.{Step, Drop, Run, stop, turn, drop, Whole}
 use Rattle.theory.proofs.Vec
 use Rattle.theory.proofs.Lift
@@ -96,6 +96,27 @@ module _ (S : Scalars) {M : Monoid} (L : Level M) (F : Family S L) (reducer : Re
   pub run-reckons : (x : E × ℕ) (w : Vec S (E × ℕ)) → Run S L F reducer ((𝟙, x) ∷ []) (times S L f x) w [] → Same S w (reckon S L F reducer x)
   run-reckons x w r = Vec.same-trans S (Vec.same-nil S w) (Vec.same-sym S (run-keeps r))
 
+  -- ## What a step does to the value
+
+  -- subtracting the multiple of its reducer cancels the picked term
+  pub step-cancels : (g kept : Vec S B) (c : K) (b : B) (r : Reducer S L F b) → Same S g ((c, b) ∷ kept)
+      → Same S (g ++ scale S (mul c (turned S L F r)) (times S L f (r .at))) (kept ++ scale S c (others S L F r))
+  step-cancels g kept c b r e = record {
+    at = λ φ.
+        Vec.ev-append S φ g (scale S (mul c (turned S L F r)) (times S L f (r .at))) ∙ add-comm _ _
+        ∙ ap₂ (λ x y. add x y) (Vec.ev-scale S φ (mul c (turned S L F r)) (times S L f (r .at)) ∙ ap (mul (mul c (turned S L F r)))
+        (Vec.ev-map S φ m (f (r .at .1)) ∙ l .split .at (λ x. φ (m x)) ∙ ap (λ z. add (mul (l .coef) (φ z)) (ev S (λ x. φ (m x)) (l .rest))) (r .hits))) (e .at φ)
+        ∙ even S c (l .coef) (φ b) (ev S (λ x. φ (m x)) (l .rest)) (ev S φ kept) (l .nonzero)
+        ∙ sym (Vec.ev-append S φ kept (scale S c (others S L F r)) ∙ ap (add (ev S φ kept)) (Vec.ev-scale S φ c (others S L F r) ∙ ap (mul c)
+        (Vec.ev-scale S φ (turned S L F r) (mapB S m (l .rest)) ∙ ap (mul (turned S L F r)) (Vec.ev-map S φ m (l .rest)))));
+  }
+    where
+      l : Lead S L (f (r .at .1)) (lm (r .at .1))
+      l = lead (r .at .1) (r .dom)
+
+      m : B → B
+      m = act (r .at .0)
+
   -- ## Where nothing is dropped, ψ of the vector is what is left of the value
 
   step-even : {v v′ : Vec S (E × ℕ)} {g g′ : Vec S B} (s : Step S L F reducer v g v′ g′) → s .low ≡ []
@@ -103,21 +124,12 @@ module _ (S : Scalars) {M : Monoid} (L : Level M) (F : Family S L) (reducer : Re
   step-even {v} {v′} {g} {g′} s e k = record {
     at = λ φ.
         Vec.same-lin S (times S L f) (s .recorded) .at φ
-        ∙ Vec.ev-term S φ (mul (s .c) (turned S L F (s .r))) m (f (s .r .at .1)) (ψ S L f v)
-        ∙ ap₂ (λ x y. add (mul (mul (s .c) (turned S L F (s .r))) x) y)
-        (l .split .at (λ b. φ (m b)) ∙ ap (λ z. add (mul (l .coef) (φ z)) (ev S (λ b. φ (m b)) (l .rest))) (s .r .hits)) (k .at φ ∙ s .picked .at φ)
-        ∙ even S (s .c) (l .coef) (φ (s .b)) (ev S (λ b. φ (m b)) (l .rest)) (ev S φ (s .kept)) (l .nonzero)
-        ∙ sym (Vec.same-nil S g′ .at φ ∙ ap (λ z. ev S φ (g′ ++ z)) (sym e) ∙ s .products .at φ
-        ∙ Vec.ev-append S φ (s .kept) (scale S (s .c) (others S L F (s .r)))
-        ∙ ap (add (ev S φ (s .kept))) (Vec.ev-scale S φ (s .c) (others S L F (s .r)) ∙ ap (mul (s .c))
-        (Vec.ev-scale S φ (turned S L F (s .r)) (mapB S m (l .rest)) ∙ ap (mul (turned S L F (s .r))) (Vec.ev-map S φ m (l .rest)))));
+        ∙ Vec.ev-append S φ (scale S (mul (s .c) (turned S L F (s .r))) (times S L f (s .r .at))) (ψ S L f v) ∙ add-comm _ _
+        ∙ ap (λ z. add z (ev S φ (scale S (mul (s .c) (turned S L F (s .r))) (times S L f (s .r .at))))) (k .at φ)
+        ∙ sym (Vec.ev-append S φ g (scale S (mul (s .c) (turned S L F (s .r))) (times S L f (s .r .at))))
+        ∙ step-cancels g (s .kept) (s .c) (s .b) (s .r) (s .picked) .at φ
+        ∙ sym (Vec.same-nil S g′ .at φ ∙ ap (λ z. ev S φ (g′ ++ z)) (sym e) ∙ s .products .at φ);
   }
-    where
-      l : Lead S L (f (s .r .at .1)) (lm (s .r .at .1))
-      l = lead (s .r .at .1) (s .r .dom)
-
-      m : B → B
-      m = act (s .r .at .0)
 
   drop-even : {g g′ : Vec S B} (d : Drop S L F reducer g g′) → d .low ≡ [] → Same S g g′
   drop-even {g} {g′} d e = record { at = λ φ. sym (Vec.same-nil S g′ .at φ ∙ ap (λ z. ev S φ (g′ ++ z)) (sym e) ∙ d .split .at φ) }

@@ -1,6 +1,6 @@
 -- The algebra of vectors.
 use mathlib.Core.Path.{_≡_, refl, sym, ap, ap₂, _∙_, fun-ext}
-use mathlib.Core.List.{List, [], _∷_, _++_}
+use mathlib.Core.List.{List, [], _∷_, _++_, append-assoc}
 use Rattle.theory.specs.Laws.{Scalars, Monoid, Level}
 use Rattle.theory.specs.Vec.{Vec, ev, Same, scale, mapB, lin, All}
 
@@ -121,6 +121,16 @@ module _ (S : Scalars) where
       at = λ φ. ap (add (mul (t .0) (φ (t .1)))) (ev-append φ v w) ∙ add-left-comm _ (ev S φ v) (ev S φ w) ∙ sym (ev-append φ v (t ∷ w));
     }
 
+    pub same-assoc : (u v w : Vec S B) → Same S ((u ++ v) ++ w) (u ++ (v ++ w))
+    same-assoc u v w = record { at = λ φ. ap (ev S φ) (append-assoc u v w) }
+
+    pub same-shift : (u v w : Vec S B) → Same S ((u ++ v) ++ w) ((u ++ w) ++ v)
+    same-shift u v w = record {
+      at = λ φ.
+          ev-append φ (u ++ v) w ∙ ap (λ z. add z (ev S φ w)) (ev-append φ u v) ∙ add-assoc _ _ _ ∙ ap (add (ev S φ u)) (add-comm _ _) ∙ sym (add-assoc _ _ _)
+          ∙ sym (ev-append φ (u ++ w) v ∙ ap (λ z. add z (ev S φ v)) (ev-append φ u w));
+    }
+
     -- a term with coefficient zero goes
     pub same-drop : {v : Vec S B} (c : K) (b : B) (r : Vec S B) → mul 𝟙 c ≡ 𝟘 → Same S v ((c, b) ∷ r) → Same S v r
     same-drop c b r z e = record { at = λ φ. e .at φ ∙ ap (λ x. add x (ev S φ r)) (zero-term c (φ b) z) ∙ ev-red φ r }
@@ -150,6 +160,13 @@ module _ (S : Scalars) where
     pub all-append : (P : B → Type 0) (v w : Vec S B) → All S P v → All S P w → All S P (v ++ w)
     all-append P [] w p q = q
     all-append P (t ∷ v) w p q = (p .0, all-append P v w (p .1) q)
+
+    pub all-middle : (P : B → Type 0) (t : K × B) (v w : Vec S B) → All S P (t ∷ (v ++ w)) → All S P (v ++ t ∷ w)
+    all-middle P t [] w p = p
+    all-middle P t (u ∷ v) w p = (p .1 .0, all-middle P t v w (p .0, p .1 .1))
+
+    pub all-nil : (P : B → Type 0) (v : Vec S B) → All S P v → All S P (v ++ [])
+    all-nil P v p = all-append P v [] p tt
 
     pub all-scale : (P : B → Type 0) (c : K) (v : Vec S B) → All S P v → All S P (scale S c v)
     all-scale P c [] p = tt

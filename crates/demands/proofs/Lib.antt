@@ -1,0 +1,9 @@
+pub mod Exponents
+pub mod Comparisons
+pub mod Levels
+pub mod Results
+pub mod Coefficients
+pub mod Setting
+pub mod Sums
+pub mod Sorting
+pub mod Runs
