@@ -7,3 +7,4 @@ pub mod Setting
 pub mod Sums
 pub mod Sorting
 pub mod Runs
+pub mod Reckoned

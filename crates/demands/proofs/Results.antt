@@ -1,8 +1,9 @@
 -- What a result says of its value, and of its refusal. Steps one after the other pass it on, with no equation carried along.
-use mathlib.Core.Path.{_≡_, subst}
-use mathlib.Core.Option.{Option, none, some}
+use mathlib.Core.Path.{_≡_, refl, sym, ap, _∙_, subst}
+use mathlib.Core.Option.{Option, none, some, Option·some-injective, Option·none-ne-some}
 use mathlib.Core.List.{List, []}
-use Prim.Native.Nat.{ℕ}
+use Prim.Native.Nat.{ℕ, zero, suc, _+_, _≤_}
+use native.Mathlib.Omega.{arith}
 use Rattle.definitions.specs.Lists.{_then_}
 use Rattle.definitions.specs.Monomial.{Vector}
 use Rattle.definitions.specs.Result.{Result, done, refused, unfinished, _>>=_}
@@ -64,3 +65,72 @@ holds-some (holds p) = p
 
 pub holds-at : {A : Type 0} {P : A → Type 0} {x : Option A} {a : A} → x ≡ some a → Holds P x → P a
 holds-at {P = P} e h = holds-some (subst (Holds P) e h)
+
+-- ## Bounded functions: a larger bound changes no value, and some bound is enough
+
+-- y has the value of x, if x has one
+pub data Upto {A : Type 0} : Option A → Option A → Type 0 where
+  unknown : {y : Option A} → Upto none y
+  known : {a : A} → Upto (some a) (some a)
+
+pub upto-refl : {A : Type 0} (x : Option A) → Upto x x
+upto-refl none = unknown
+upto-refl (some a) = known
+
+pub upto-then : {A B : Type 0} {x y : Option A} {f g : A → Option B} → Upto x y → ((a : A) → Upto (f a) (g a)) → Upto (x then f) (y then g)
+upto-then unknown k = unknown
+upto-then (known {a}) k = k a
+
+pub upto-trans : {A : Type 0} {x y z : Option A} → Upto x y → Upto y z → Upto x z
+upto-trans unknown h = unknown
+upto-trans known h = h
+
+upto-some : {A : Type 0} {x y : Option A} → Upto x y → (a : A) → x ≡ some a → y ≡ some a
+upto-some unknown a e = absurd (Option·none-ne-some a e)
+upto-some known a e = e
+
+pub upto-at : {A : Type 0} {x y : Option A} {a : A} → Upto x y → x ≡ some a → y ≡ some a
+upto-at {a = a} h e = upto-some h a e
+
+-- one more step for each bound: any larger bound
+pub upto-more : {A : Type 0} (F : ℕ → Option A) → ((n : ℕ) → Upto (F n) (F (suc n))) → (k n : ℕ) → Upto (F n) (F (k + n))
+upto-more F h zero n = let e : n ≡ 0 + n = omega arith in subst (λ z. Upto (F n) (F z)) e (upto-refl (F n))
+upto-more F h (suc k) n = let e : suc (k + n) ≡ suc k + n = omega arith in subst (λ z. Upto (F n) (F z)) e (upto-trans (upto-more F h k n) (h (k + n)))
+
+pub some-is : {A : Type 0} {a b : A} → some a ≡ some b → a ≡ b
+some-is e = Option·some-injective _ _ e
+
+-- two bounds that are enough give one value
+pub upto-one : {A : Type 0} (F : ℕ → Option A) → ((n : ℕ) → Upto (F n) (F (suc n))) → (n m : ℕ) (a b : A) → F n ≡ some a → F m ≡ some b → a ≡ b
+upto-one F h n m a b x y =
+    let c : n + m ≡ m + n = omega arith in
+    some-is (sym (upto-at (upto-more F h m n) x) ∙ ap F (sym c) ∙ upto-at (upto-more F h n m) y)
+
+-- from some bound on the value is there
+pub record Reached {A : Type 0} (F : ℕ → Option A) : Type 0 where
+  pub bound : ℕ
+  pub value : A
+  pub from : (k : ℕ) → bound ≤ k → F k ≡ some value
+
+pub reached-at : {A : Type 0} (F : ℕ → Option A) → (r : Reached F) → F (r .bound) ≡ some (r .value)
+reached-at F r = r .from (r .bound) (omega arith)
+
+pub reached-some : {A : Type 0} (a : A) → Reached (λ k. some a)
+reached-some a = record { bound = 0; value = a; from = λ k l. refl }
+
+pub reached-then : {A B : Type 0} (F : ℕ → Option A) (G : ℕ → A → Option B) → Reached F → ((a : A) → Reached (λ k. G k a)) → Reached (λ k. F k then G k)
+reached-then F G r h =
+    let s = h (r .value) in
+    record {
+      bound = r .bound + s .bound;
+      value = s .value;
+      from = λ k l. ap (λ x. x then G k) (r .from k (omega arith)) ∙ s .from k (omega arith);
+    }
+
+-- a function that goes one deeper
+pub reached-deeper : {A : Type 0} (F : ℕ → Option A) → Reached (λ k. F (suc k)) → Reached F
+reached-deeper F r = record { bound = suc (r .bound); value = r .value; from = go }
+  where
+    go : (k : ℕ) → suc (r .bound) ≤ k → F k ≡ some (r .value)
+    go zero l = absurd (omega arith)
+    go (suc k) l = r .from k (omega arith)

@@ -31,14 +31,10 @@ use Rattle.demands.proofs.Exponents.{E, out, factor-fits}
 use Rattle.demands.proofs.Levels.{Mono, TVec, mono, term, vec, flat, flats, flat-at, vec-empty, vec-length, lm, module-over, Has, has-act}
 use Rattle.demands.proofs.Coefficients.{Good, good-mul, good-one, good-turned, minus-times, times-one-right}
 use Rattle.demands.proofs.Setting.{Setting, S, L, F, hs, red, red-by, Answered, hit, miss, answered, is-lower, answer-rescaled, rescaled}
-use Rattle.demands.proofs.Sums.{true-not-false, Goods, Distinct, Like, like-stored, Left, products-added}
+use Rattle.demands.proofs.Sums.{true-not-false, Goods, canonical-good, Distinct, Like, like-stored, Left, products-added}
 use Rattle.demands.proofs.Sorting.{Form, sorted}
 
 module _ (Z : Setting) (lim : Limits) where
-  pub canonical-good : (v : TVec (Z .n)) → Canonical (S Z) (L Z) v → Goods (Z .n) (Z .p) (Z .P) v
-  canonical-good [] k = tt
-  canonical-good (t ∷ v) k = ((k .0, k .1), canonical-good v (k .3))
-
   -- the stage over these levels
   abbrev pub stage : Stage
   stage = stage-over lim (Z .p) (Z .code) (flat (Z .n) (Z .f) ∷ flats (Z .n) (Z .b))
@@ -212,7 +208,7 @@ module _ (Z : Setting) (lim : Limits) where
           done (on (record { value = w; vector = vs })))) (sym (flat-at (Z .n) (Z .f) (a .at .1)))
           (ends-then (products-added (Z .n) (Z .p) (Z .P) lim (hs Z) (W .drops) (Lower (S Z) (L Z) (F Z)) InValue R (λ e. absurd (omega arith))
           (λ e. absurd (omega arith)) (is-lower Z) (Has (Z .n) (Z .b)) c′ recorded-good (a .at .0) (λ x h k. (has-act (Z .n) (Z .b) (a .at .0) x h, k)) f′ g
-          (canonical-good f′ (Z .canons (a .at .1) (a .dom))) (Z .inside (a .at .1) (a .dom)) (sg .good) (sg .ok) (sg .apart))
+          (canonical-good (Z .n) (Z .p) (Z .P) (Z .code) (Z .b) f′ (Z .canons (a .at .1) (a .dom))) (Z .inside (a .at .1) (a .dom)) (sg .good) (sg .ok) (sg .apart))
           (λ gs k. gives (step-of l k))))
 
     stuck-ends : (i : ℕ) → W .pick (vec (Z .n) g) ≡ some i → (t : Taken g i) → Lower (S Z) (L Z) (F Z) (t .x) → (b : Bool) → W .stops ≡ b
@@ -370,7 +366,7 @@ module _ (Z : Setting) (lim : Limits) where
         done (record { value = v; vector = (1, mono (Z .n) x) ∷ [] }))) (sym (flat-at (Z .n) (Z .f) (x .1)))
         (ends-then (products-added (Z .n) (Z .p) (Z .P) lim (hs Z) (W .drops) (Lower (S Z) (L Z) (F Z)) InValue R at-13 at-14 (is-lower Z) (Has (Z .n) (Z .b)) 1
         (good-one (Z .p) (Z .P)) (x .0) (λ y h k. (has-act (Z .n) (Z .b) (x .0) y h, k)) (getD (Z .f) (x .1) []) []
-        (canonical-good (getD (Z .f) (x .1) []) (Z .canons (x .1) l)) (Z .inside (x .1) l) tt tt tt)
+        (canonical-good (Z .n) (Z .p) (Z .P) (Z .code) (Z .b) (getD (Z .f) (x .1) []) (Z .canons (x .1) l)) (Z .inside (x .1) l) tt tt tt)
         (λ w k. gives (record {
           g = k .form;
           stands = record {

@@ -11,6 +11,7 @@ use Rattle.theory.specs.Laws.{Scalars}
 use Rattle.theory.specs.Vec.{ev, Same, scale, mapB, All}
 use Rattle.theory.specs.Orders.{ExpM}
 use Rattle.theory.specs.Modular.{ModP}
+use Rattle.theory.specs.Canon.{Canonical}
 use Rattle.theory.proofs.Vec
 use Rattle.definitions.specs.Limits.{Limits}
 use Rattle.definitions.specs.Field.{plus, times}
@@ -23,7 +24,7 @@ use Rattle.definitions.specs.Run.{dropped?, unless-dropped, if-fits, multiple, 
 use Rattle.definitions.proofs.Modular.{Prime}
 use Rattle.demands.proofs.Results.{Ends, gives, refuses, ends-then, ends-map}
 use Rattle.demands.proofs.Exponents.{E, out, product-out}
-use Rattle.demands.proofs.Levels.{Mono, TVec, mono, term, vec, vec-append, same-mono, mono-same}
+use Rattle.demands.proofs.Levels.{Mono, TVec, TLevel, module-over, mono, term, vec, vec-append, same-mono, mono-same}
 use Rattle.demands.proofs.Coefficients.{Good, good-mul, good-plus}
 
 pub nonzero-test : (a : ℕ) → T (not (eqb a 0)) → a ≢ 0
@@ -44,6 +45,10 @@ module _ (n p : ℕ) (P : Prime p) where
   pub goods-append : (v w : TVec n) → Goods v → Goods w → Goods (v ++ w)
   goods-append [] w g h = h
   goods-append (t ∷ v) w g h = (g .0, goods-append v w (g .1) h)
+
+  pub canonical-good : (code : ℕ) (b : List (TLevel n)) (v : TVec n) → Canonical S (module-over n code b) v → Goods v
+  canonical-good code b [] k = tt
+  canonical-good code b (t ∷ v) k = ((k .0, k .1), canonical-good code b v (k .3))
 
   -- no monomial stands twice
   abbrev pub Distinct : TVec n → Type 0
