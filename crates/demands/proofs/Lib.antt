@@ -8,3 +8,4 @@ pub mod Sums
 pub mod Sorting
 pub mod Runs
 pub mod Reckoned
+pub mod Trees

@@ -124,12 +124,12 @@ module _ (S : Scalars) where
     pub same-assoc : (u v w : Vec S B) → Same S ((u ++ v) ++ w) (u ++ (v ++ w))
     same-assoc u v w = record { at = λ φ. ap (ev S φ) (append-assoc u v w) }
 
+    pub same-comm : (u v : Vec S B) → Same S (u ++ v) (v ++ u)
+    same-comm u v = record { at = λ φ. ev-append φ u v ∙ add-comm _ _ ∙ sym (ev-append φ v u) }
+
     pub same-shift : (u v w : Vec S B) → Same S ((u ++ v) ++ w) ((u ++ w) ++ v)
-    same-shift u v w = record {
-      at = λ φ.
-          ev-append φ (u ++ v) w ∙ ap (λ z. add z (ev S φ w)) (ev-append φ u v) ∙ add-assoc _ _ _ ∙ ap (add (ev S φ u)) (add-comm _ _) ∙ sym (add-assoc _ _ _)
-          ∙ sym (ev-append φ (u ++ w) v ∙ ap (λ z. add z (ev S φ v)) (ev-append φ u w));
-    }
+    same-shift u v w =
+        same-trans (same-assoc u v w) (same-trans (same-append (same-refl {v = u}) (same-comm v w)) (same-sym (same-assoc u w v)))
 
     -- a term with coefficient zero goes
     pub same-drop : {v : Vec S B} (c : K) (b : B) (r : Vec S B) → mul 𝟙 c ≡ 𝟘 → Same S v ((c, b) ∷ r) → Same S v r
