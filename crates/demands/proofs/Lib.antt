@@ -9,3 +9,4 @@ pub mod Sorting
 pub mod Runs
 pub mod Reckoned
 pub mod Trees
+pub mod Soundness
