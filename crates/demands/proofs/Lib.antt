@@ -10,3 +10,6 @@ pub mod Runs
 pub mod Reckoned
 pub mod Trees
 pub mod Soundness
+pub mod Members
+pub mod Generators
+pub mod Frames

@@ -1,2 +1,3 @@
 pub mod Notions
 pub mod Picks
+pub mod Frames
