@@ -2,14 +2,14 @@
 use mathlib.Core.Path.{_≡_, refl, sym, ap, ap₂, _∙_, subst}
 use mathlib.Core.Bool.{Bool, true, false}
 use mathlib.Core.List.{List, [], _∷_}
-use Prim.Native.Nat.{ℕ, zero, suc, _+_, _-_, _≤_, _<_}
+use Prim.Native.Nat.{ℕ, zero, suc, _+_, _-_, _≤_, _<_, max}
 use native.Mathlib.Omega.{arith}
 use lib.Dec.{T, leb, eqb, leb→le, le→leb, eqb→eq, eqb-refl}
 use lib.ListN.{length, drop, replicate, length-replicate}
 use Rattle.theory.specs.Laws.{Monoid}
 use Rattle.theory.specs.Orders.{ExpM, deg}
 use Rattle.definitions.specs.Lists.{_and_, sum, every}
-use Rattle.definitions.specs.Monomial.{Exponents, product, quotient, divides?, fits?, same-exponents?}
+use Rattle.definitions.specs.Monomial.{Exponents, product, quotient, lcm, divides?, fits?, same-exponents?}
 use Rattle.definitions.proofs.Tests.{and-left, and-right, and-both}
 
 abbrev pub E : ℕ → Type 0
@@ -108,6 +108,32 @@ onto-fits limit (suc n) q a z t =
 pub factor-fits : (limit n : ℕ) (q a : E n) → T (fits? limit (out n (ExpM n .mulE q a))) → T (fits? limit (out n q))
 factor-fits limit n q a t = onto-fits limit n q a (zeros (8 - n)) t
 
+-- lcm(a, b) / b
+abbrev pub colon : (n : ℕ) → E n → E n → E n
+colon zero a b = tt
+colon (suc n) a b = (max (a .0) (b .0) - b .0, colon n (a .1) (b .1))
+
+zeros-colon : (k : ℕ) → quotient (lcm (zeros k) (zeros k)) (zeros k) ≡ zeros k
+zeros-colon zero = refl
+zeros-colon (suc k) = ap (λ z. 0 ∷ z) (zeros-colon k)
+
+onto-colon : (n : ℕ) (a b : E n) (z : Exponents) → quotient (lcm (onto n a z) (onto n b z)) (onto n b z) ≡ onto n (colon n a b) (quotient (lcm z z) z)
+onto-colon zero a b z = refl
+onto-colon (suc n) a b z = ap (λ y. (max (a .0) (b .0) - b .0) ∷ y) (onto-colon n (a .1) (b .1) z)
+
+pub colon-out : (n : ℕ) (a b : E n) → quotient (lcm (out n a) (out n b)) (out n b) ≡ out n (colon n a b)
+colon-out n a b = onto-colon n a b (zeros (8 - n)) ∙ ap (onto n (colon n a b)) (zeros-colon (8 - n))
+
+onto-colon-fits : (limit n : ℕ) (a b : E n) (z : Exponents) → T (fits? limit (onto n a z)) → T (fits? limit (onto n (colon n a b) z))
+onto-colon-fits limit zero a b z t = t
+onto-colon-fits limit (suc n) a b z t =
+    let l : a .0 ≤ limit = leb→le (a .0) limit (and-left (leb (a .0) limit) (fits? limit (onto n (a .1) z)) t) in
+    and-both (leb (max (a .0) (b .0) - b .0) limit) (fits? limit (onto n (colon n (a .1) (b .1)) z)) (le→leb (max (a .0) (b .0) - b .0) limit (omega arith))
+    (onto-colon-fits limit n (a .1) (b .1) z (and-right (leb (a .0) limit) (fits? limit (onto n (a .1) z)) t))
+
+pub colon-fits : (limit n : ℕ) (a b : E n) → T (fits? limit (out n a)) → T (fits? limit (out n (colon n a b)))
+colon-fits limit n a b t = onto-colon-fits limit n a b (zeros (8 - n)) t
+
 -- ## Equality
 
 pub same-refl : (z : Exponents) → T (same-exponents? z z)
@@ -132,8 +158,11 @@ into-onto : (n : ℕ) (a : E n) (z : Exponents) → into n (onto n a z) ≡ a
 into-onto zero a z = refl
 into-onto (suc n) a z = λ i. (a .0, into-onto n (a .1) z i)
 
+pub into-out : (n : ℕ) (a : E n) → into n (out n a) ≡ a
+into-out n a = into-onto n a (zeros (8 - n))
+
 pub out-injective : (n : ℕ) (a b : E n) → out n a ≡ out n b → a ≡ b
-out-injective n a b e = sym (into-onto n a (zeros (8 - n))) ∙ ap (into n) e ∙ into-onto n b (zeros (8 - n))
+out-injective n a b e = sym (into-out n a) ∙ ap (into n) e ∙ into-out n b
 
 -- all zero
 abbrev pub none : Exponents → Bool

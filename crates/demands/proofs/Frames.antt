@@ -23,7 +23,7 @@ use Rattle.demands.proofs.Generators.{Below-all, Sorted, Eights, Minima
 
 -- ## Terms of one number
 
-tagged-either : (i : ℕ) (gs : List Exponents) (t : Monomial) → Member t (with-component i gs) → (t .1 ≡ i) × Member (t .0) gs
+pub tagged-either : (i : ℕ) (gs : List Exponents) (t : Monomial) → Member t (with-component i gs) → (t .1 ≡ i) × Member (t .0) gs
 tagged-either i (g ∷ gs) t (inl e) = (ap (λ z. z .1) e, inl (ap (λ z. z .0) e))
 tagged-either i (g ∷ gs) t (inr m) = let (a, b) = tagged-either i gs t m in (a, inr b)
 

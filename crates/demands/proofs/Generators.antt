@@ -83,7 +83,7 @@ module _ (code : ℕ) where
       go (more u) r = (s .0, into-below h g u l (s .1), r)
 
   -- what is there afterwards was there, or is g; and the other way round
-  into-either : (g : Exponents) (l : List Exponents) (x : Exponents) → Member x (into-ascending code g l) → (x ≡ g) ⊎ Member x l
+  pub into-either : (g : Exponents) (l : List Exponents) (x : Exponents) → Member x (into-ascending code g l) → (x ≡ g) ⊎ Member x l
   into-either g [] x m = m
   into-either g (h ∷ l) x m = go (exponents-by code g h) m (into-either g l x)
     where

@@ -13,3 +13,4 @@ pub mod Soundness
 pub mod Members
 pub mod Generators
 pub mod Frames
+pub mod Stages

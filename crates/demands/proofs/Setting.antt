@@ -33,25 +33,25 @@ pub data Quotient (n : ℕ) (l x : Mono n) : Bool → Type 0 where
   divides : (q : E n) → quotient (out n (x .0)) (out n (l .0)) ≡ out n q → (ExpM n .mulE q (l .0), l .1) ≡ x → Quotient n l x true
   parts : ((q : E n) → (ExpM n .mulE q (l .0), l .1) ≡ x → ⊥) → Quotient n l x false
 
+-- a monomial that divides
+pub divided-by : (n : ℕ) (l x : Mono n) → T (divides-monomial? (mono n l) (mono n x)) → (ExpM n .mulE (over n (x .0) (l .0)) (l .0), l .1) ≡ x
+divided-by n l x t =
+    let c : suc (l .1) ≡ suc (x .1) = eqb→eq (suc (l .1)) (suc (x .1)) (and-left (eqb (suc (l .1)) (suc (x .1))) (divides? (out n (l .0)) (out n (x .0))) t) in
+    let e : l .1 ≡ x .1 = omega arith in
+    λ i. (divides-out n (l .0) (x .0) (and-right (eqb (suc (l .1)) (suc (x .1))) (divides? (out n (l .0)) (out n (x .0))) t) i, e i)
+
+-- its multiples are divided
+pub divides-multiple : (n : ℕ) (l x : Mono n) (q : E n) → (ExpM n .mulE q (l .0), l .1) ≡ x → T (divides-monomial? (mono n l) (mono n x))
+divides-multiple n l x q e =
+    and-both (eqb (suc (l .1)) (suc (x .1))) (divides? (out n (l .0)) (out n (x .0)))
+    (subst (λ z. T (eqb (suc (l .1)) (suc z))) (ap (λ z. z .1) e) (eqb-refl (suc (l .1)))) (multiple-out n q (l .0) (x .0) (ap (λ z. z .0) e))
+
 pub divides-says : (n : ℕ) (l x : Mono n) → Quotient n l x (divides-monomial? (mono n l) (mono n x))
-divides-says n l x = go (divides-monomial? (mono n l) (mono n x)) (λ t. t) (λ t. t)
+divides-says n l x = go (divides-monomial? (mono n l) (mono n x)) (divided-by n l x) (divides-multiple n l x)
   where
-    test : Bool
-    test = divides-monomial? (mono n l) (mono n x)
-
-    whole : T (divides-monomial? (mono n l) (mono n x)) → (ExpM n .mulE (over n (x .0) (l .0)) (l .0), l .1) ≡ x
-    whole t =
-        let c : suc (l .1) ≡ suc (x .1) = eqb→eq (suc (l .1)) (suc (x .1)) (and-left (eqb (suc (l .1)) (suc (x .1))) (divides? (out n (l .0)) (out n (x .0))) t) in
-        let e : l .1 ≡ x .1 = omega arith in
-        λ i. (divides-out n (l .0) (x .0) (and-right (eqb (suc (l .1)) (suc (x .1))) (divides? (out n (l .0)) (out n (x .0))) t) i, e i)
-
-    shown : (q : E n) → (ExpM n .mulE q (l .0), l .1) ≡ x → T (divides-monomial? (mono n l) (mono n x))
-    shown q e = and-both (eqb (suc (l .1)) (suc (x .1))) (divides? (out n (l .0)) (out n (x .0)))
-        (subst (λ z. T (eqb (suc (l .1)) (suc z))) (ap (λ z. z .1) e) (eqb-refl (suc (l .1)))) (multiple-out n q (l .0) (x .0) (ap (λ z. z .0) e))
-
-    go : (s : Bool) → (T s → T (divides-monomial? (mono n l) (mono n x))) → (T (divides-monomial? (mono n l) (mono n x)) → T s) → Quotient n l x s
-    go true h k = divides (over n (x .0) (l .0)) (quotient-out n (x .0) (l .0)) (whole (h tt))
-    go false h k = parts (λ q e. k (shown q e))
+    go : (s : Bool) → (T s → (ExpM n .mulE (over n (x .0) (l .0)) (l .0), l .1) ≡ x) → ((q : E n) → (ExpM n .mulE q (l .0), l .1) ≡ x → T s) → Quotient n l x s
+    go true h k = divides (over n (x .0) (l .0)) (quotient-out n (x .0) (l .0)) (h tt)
+    go false h k = parts (λ q e. k q e)
 
 -- ## What an answer says
 

@@ -22,7 +22,7 @@ use Rattle.definitions.specs.State.{term-sound?, vector-sound?, levels-sound?}
 use Rattle.definitions.proofs.Modular.{Prime}
 use Rattle.definitions.proofs.Tests.{and-left, and-right, between-low, between-high}
 use Rattle.definitions.proofs.Sound.{Sound-term, term-says, Sound-vector, vector-says, basis-says, level-says}
-use Rattle.demands.proofs.Exponents.{E, out, into, out-into}
+use Rattle.demands.proofs.Exponents.{E, out, into, into-out, out-into}
 use Rattle.demands.proofs.Comparisons.{Says, less, level, more}
 use Rattle.demands.proofs.Levels.{Mono, TVec, TLevel, mono, term, vec, flat, flats, flat-length, cons?, head, lm, module-over, Has, Grounded, over-says}
 use Rattle.demands.proofs.Coefficients.{Good, good-range}
@@ -33,6 +33,9 @@ use Rattle.demands.proofs.Setting.{Setting, Somes}
 module _ (n : ℕ) where
   abbrev pub tmono : Monomial → Mono n
   tmono m = (into n (m .0), m .1 - 1)
+
+  pub tmono-mono : (x : Mono n) → tmono (mono n x) ≡ x
+  tmono-mono x = let e : suc (x .1) - 1 ≡ x .1 = omega arith in λ i. (into-out n (x .0) i, e i)
 
   abbrev pub tvec : Vector → TVec n
   tvec [] = []
