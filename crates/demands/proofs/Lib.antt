@@ -14,3 +14,4 @@ pub mod Members
 pub mod Generators
 pub mod Frames
 pub mod Stages
+pub mod Picking
