@@ -46,6 +46,10 @@ module _ (n : ℕ) where
   vec [] = []
   vec (t ∷ v) = term t ∷ vec v
 
+  abbrev pub monos : List (Mono n) → List Monomial
+  monos [] = []
+  monos (x ∷ xs) = mono x ∷ monos xs
+
   abbrev pub flat : TLevel n → Monomial.Level
   flat [] = []
   flat (v ∷ f) = vec v ∷ flat f

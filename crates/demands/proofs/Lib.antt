@@ -15,3 +15,4 @@ pub mod Generators
 pub mod Frames
 pub mod Stages
 pub mod Picking
+pub mod Ways

@@ -22,7 +22,7 @@ use Rattle.definitions.proofs.Tests.{and-left, and-right, and-both, between-low
 use Rattle.demands.specs.Notions.{Member}
 use Rattle.demands.specs.Frames.{times-leading, Leading-syzygy, Is-frame}
 use Rattle.demands.proofs.Exponents.{E, out, over, product-out, out-length, colon, colon-out, colon-fits}
-use Rattle.demands.proofs.Levels.{Mono, TVec, TLevel, mono, mono-injective, vec, flat, flat-at, flat-length, lm, leading-vec, module-over}
+use Rattle.demands.proofs.Levels.{Mono, TVec, TLevel, mono, monos, vec, flat, flat-at, flat-length, lm, leading-vec, module-over}
 use Rattle.demands.proofs.Setting.{Setting, S, L, A, F, red, divided-by, divides-multiple}
 use Rattle.demands.proofs.Soundness.{tmono, tmono-mono}
 use Rattle.demands.proofs.Members.{member-either, any-says, any-shown, those-says, monomial-divides}
@@ -140,15 +140,11 @@ module _ (Z : Setting) (eight : Z .n ≤ 8) (code : ℕ) where
 
   -- ## As a list of the theory
 
-  abbrev pub monos : List (Mono (Z .n)) → List Monomial
-  monos [] = []
-  monos (x ∷ xs) = mono (Z .n) x ∷ monos xs
-
   abbrev pub tmonos : List Monomial → List (Mono (Z .n))
   tmonos [] = []
   tmonos (t ∷ ts) = tmono (Z .n) t ∷ tmonos ts
 
-  monos-back : (ts : List Monomial) → ((t : Monomial) → Member t ts → Written t) → monos (tmonos ts) ≡ ts
+  monos-back : (ts : List Monomial) → ((t : Monomial) → Member t ts → Written t) → monos (Z .n) (tmonos ts) ≡ ts
   monos-back [] h = refl
   monos-back (t ∷ ts) h = ap₂ (λ x y. x ∷ y) (back (h t (inl refl))) (monos-back ts (λ u i. h u (inr i)))
     where
@@ -159,10 +155,10 @@ module _ (Z : Setting) (eight : Z .n ≤ 8) (code : ℕ) where
   abbrev pub terms : List (Mono (Z .n))
   terms = tmonos frame-terms
 
-  pub terms-back : monos terms ≡ frame-terms
+  pub terms-back : monos (Z .n) terms ≡ frame-terms
   terms-back = monos-back frame-terms written
 
-  monos-at : (xs : List (Mono (Z .n))) (k : ℕ) → k < length xs → Member (mono (Z .n) (term-at (ExpM (Z .n)) xs k)) (monos xs)
+  monos-at : (xs : List (Mono (Z .n))) (k : ℕ) → k < length xs → Member (mono (Z .n) (term-at (ExpM (Z .n)) xs k)) (monos (Z .n) xs)
   monos-at [] k l = absurd (omega arith)
   monos-at (x ∷ xs) zero l = inl refl
   monos-at (x ∷ xs) (suc k) l = inr (monos-at xs k (omega arith))
@@ -170,7 +166,7 @@ module _ (Z : Setting) (eight : Z .n ≤ 8) (code : ℕ) where
   pub term-in : (k : ℕ) → k < length terms → Member (mono (Z .n) (term-at (ExpM (Z .n)) terms k)) frame-terms
   term-in k l = subst (Member (mono (Z .n) (term-at (ExpM (Z .n)) terms k))) terms-back (monos-at terms k l)
 
-  monos-find : (xs : List (Mono (Z .n))) (t : Monomial) → Member t (monos xs) → (k : ℕ) × (k < length xs) × (t ≡ mono (Z .n) (term-at (ExpM (Z .n)) xs k))
+  monos-find : (xs : List (Mono (Z .n))) (t : Monomial) → Member t (monos (Z .n) xs) → (k : ℕ) × (k < length xs) × (t ≡ mono (Z .n) (term-at (ExpM (Z .n)) xs k))
   monos-find (x ∷ xs) t (inl e) = (0, omega arith, e)
   monos-find (x ∷ xs) t (inr m) = let (k, l, e) = monos-find xs t m in (suc k, omega arith, e)
 
