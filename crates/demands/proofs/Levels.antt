@@ -99,6 +99,10 @@ module _ (n : ℕ) where
   vec-length [] = refl
   vec-length (t ∷ v) = ap suc (vec-length v)
 
+  pub monos-length : (xs : List (Mono n)) → length (monos xs) ≡ length xs
+  monos-length [] = refl
+  monos-length (x ∷ xs) = ap suc (monos-length xs)
+
   pub flat-at : (f : TLevel n) (j : ℕ) → getD (flat f) j [] ≡ vec (getD f j [])
   flat-at [] j = refl
   flat-at (v ∷ f) zero = refl

@@ -16,3 +16,4 @@ pub mod Frames
 pub mod Stages
 pub mod Picking
 pub mod Ways
+pub mod Lifted

@@ -13,7 +13,7 @@ use Rattle.theory.proofs.Canon.{all-lower}
 use Rattle.definitions.specs.Limits.{Limits}
 use Rattle.definitions.specs.Lists.{_and_, every}
 use Rattle.definitions.specs.Monomial
-use Rattle.definitions.specs.Monomial.{Monomial, Term, Vector}
+use Rattle.definitions.specs.Monomial.{Monomial, Term, Vector, fits?}
 use Rattle.definitions.specs.Order.{Comparison, compare-over, greater?}
 use Rattle.definitions.specs.Vectors.{strictly-descending?}
 use Rattle.definitions.specs.Stage.{highest}
@@ -93,6 +93,13 @@ module _ (n p : ℕ) (P : Prime p) (code : ℕ) where
     grounded = deep-grounded (f ∷ b) d;
   }
 
+-- the exponents are within the limit
+abbrev pub Within : Limits → (n : ℕ) → Mono n → Type 0
+Within lim n x = T (fits? (lim .exponent) (out n (x .0)))
+
+abbrev pub All-within : Limits → (n p : ℕ) → Prime p → TLevel n → Type 0
+All-within lim n p P f = (j : ℕ) → j < length f → All (ModP p P) (Within lim n) (getD f j [])
+
 -- ## One level over regular levels
 
 module _ (lim : Limits) (q : Parameters) (P : Prime (q .p)) (eight : q .n ≤ 8) (b : List (TLevel (q .n))) (G : Grounded (q .n) b)
@@ -104,12 +111,14 @@ module _ (lim : Limits) (q : Parameters) (P : Prime (q .p)) (eight : q .n ≤ 8)
     pub back : term (q .n) (t .0, tmono (q .n) (t .1)) ≡ t
     pub good : Good (q .p) (t .0)
     pub has : Has (q .n) b (tmono (q .n) (t .1))
+    pub fits : T (fits? (lim .exponent) (out (q .n) (into (q .n) (t .1 .0))))
 
   term-right : (t : Term) → T (term-sound? lim q count t) → Term-right t
   term-right t s = record {
     back = λ i. (t .0, (out-into n eight (t .1 .0) (h .eight) (h .past) i, component i));
     good = good-range (q .p) P (t .0) (between-low 1 (t .0) (q .p - 1) (h .coefficient)) (between-high 1 (t .0) (q .p - 1) (h .coefficient));
     has = ranged (tmono n (t .1)) (omega (arith, low, high));
+    fits = subst (λ e. T (fits? (lim .exponent) e)) (sym (out-into n eight (t .1 .0) (h .eight) (h .past))) (h .fits);
   }
     where
       h : Sound-term lim q count t
@@ -136,13 +145,14 @@ module _ (lim : Limits) (q : Parameters) (P : Prime (q .p)) (eight : q .n ≤ 8)
   pub record Vector-right (v : Vector) : Type 0 where
     pub back : vec (q .n) (tvec (q .n) v) ≡ v
     pub inside : All (ModP (q .p) P) (Has (q .n) b) (tvec (q .n) v)
+    pub fits : All (ModP (q .p) P) (Within lim (q .n)) (tvec (q .n) v)
 
   pub vector-right : (v : Vector) → T (every (term-sound? lim q count) v) → Vector-right v
-  vector-right [] s = record { back = refl; inside = tt }
+  vector-right [] s = record { back = refl; inside = tt; fits = tt }
   vector-right (t ∷ v) s =
       let h : Term-right t = term-right t (and-left (term-sound? lim q count t) (every (term-sound? lim q count) v) s) in
       let r : Vector-right v = vector-right v (and-right (term-sound? lim q count t) (every (term-sound? lim q count) v) s) in
-      record { back = ap₂ (λ x y. x ∷ y) (h .back) (r .back); inside = (h .has, r .inside) }
+      record { back = ap₂ (λ x y. x ∷ y) (h .back) (r .back); inside = (h .has, r .inside); fits = (h .fits, r .fits) }
 
   -- strictly descending: canonical
   vector-canonical : (v : Vector) → T (every (term-sound? lim q count) v) → T (strictly-descending? (compare-over (q .code) (flats n b)) v)
@@ -179,9 +189,10 @@ module _ (lim : Limits) (q : Parameters) (P : Prime (q .p)) (eight : q .n ≤ 8)
   pub record Level-right (f : Monomial.Level) : Type 0 where
     pub back : flat (q .n) (tlevel (q .n) f) ≡ f
     pub regular : Regulars (q .n) (q .p) P (q .code) b (tlevel (q .n) f)
+    pub fits : All-within lim (q .n) (q .p) P (tlevel (q .n) f)
 
   pub level-right : (most : ℕ) (f : Monomial.Level) → T (every (vector-sound? lim q count most (flats (q .n) b)) f) → Level-right f
-  level-right most [] s = record { back = refl; regular = λ j l. absurd (omega arith) }
+  level-right most [] s = record { back = refl; regular = λ j l. absurd (omega arith); fits = λ j l. absurd (omega arith) }
   level-right most (v ∷ f) s = go (level-right most f (and-right (vector-sound? lim q count most (flats n b) v) (every (vector-sound? lim q count most (flats n b)) f) s))
     where
       h : Sound-vector lim q count most (flats n b) v
@@ -194,8 +205,12 @@ module _ (lim : Limits) (q : Parameters) (P : Prime (q .p)) (eight : q .n ≤ 8)
       first = record { has-one = some-one v (h .filled); canonical = vector-canonical v (h .terms) (h .descends); inside = w .inside }
 
       go : Level-right f → Level-right (v ∷ f)
-      go r = record { back = ap₂ (λ x y. x ∷ y) (w .back) (r .back); regular = all }
+      go r = record { back = ap₂ (λ x y. x ∷ y) (w .back) (r .back); regular = all; fits = fits }
         where
+          fits : (j : ℕ) → j < suc (length (tlevel n f)) → All (ModP (q .p) P) (Within lim n) (getD (tvec n v ∷ tlevel n f) j [])
+          fits zero l = w .fits
+          fits (suc j) l = r .fits j (omega arith)
+
           all : (j : ℕ) → j < suc (length (tlevel n f)) → Regular n (q .p) P (q .code) b (getD (tvec n v ∷ tlevel n f) j [])
           all zero l = first
           all (suc j) l = r .regular j (omega arith)
@@ -206,6 +221,8 @@ module _ (lim : Limits) (q : Parameters) (P : Prime (q .p)) (eight : q .n ≤ 8)
   pub record Levels-right (ls : List Monomial.Level) : Type 0 where
     pub back : flats (q .n) (tlevels (q .n) ls) ≡ ls
     pub deep : Deep (q .n) (q .p) P (q .code) (tlevels (q .n) ls)
+    -- the highest level
+    pub fits : All-within lim (q .n) (q .p) P (tlevel (q .n) (highest ls))
 
   -- the level above sound levels
   module _ (g : Monomial.Level) (below : List Monomial.Level) (w : Levels-right (g ∷ below)) where
@@ -222,11 +239,11 @@ module _ (lim : Limits) (q : Parameters) (P : Prime (q .p)) (eight : q .n ≤ 8)
   levels-right [] s = absurd s
   levels-right (f ∷ []) s =
       let r : Level-right lim q P eight [] tt (q .s) (λ x h. tt) f = level-right lim q P eight [] tt (q .s) (λ x h. tt) (lim .t-lines) f (basis-says lim q f s .vectors) in
-      record { back = ap (λ z. z ∷ []) (r .back); deep = (r .regular, tt) }
+      record { back = ap (λ z. z ∷ []) (r .back); deep = (r .regular, tt); fits = r .fits }
   levels-right (f ∷ g ∷ below) s = go (levels-right (g ∷ below) (level-says lim q f g below s .under))
     where
       go : Levels-right (g ∷ below) → Levels-right (f ∷ g ∷ below)
-      go w = record { back = ap₂ (λ x y. x ∷ y) (r .back) (w .back); deep = (r .regular, w .deep) }
+      go w = record { back = ap₂ (λ x y. x ∷ y) (r .back) (w .back); deep = (r .regular, w .deep); fits = r .fits }
         where
           r : Level-right lim q P eight (tlevels (q .n) (g ∷ below)) (grounded-above g below w) (length g) (ranged-above g below w) f
           r = level-right lim q P eight (tlevels (q .n) (g ∷ below)) (grounded-above g below w) (length g) (ranged-above g below w) (lim .vector) f

@@ -235,8 +235,12 @@ module _ (Z : Setting) (eight : Z .n ≤ 8) (code : ℕ) where
           let (u, m, d) = is-frame-here .covers (mono (Z .n) b) (out-length (Z .n) eight (b .0)) (real-syzygy b z l i e) in
           k u m d)
 
+  -- a frame term has the image of a module monomial with a lower number
+  pub term-real : (x : Mono (Z .n)) → Member (mono (Z .n) x) frame-terms → Real (S Z) (L Z) (A Z) x
+  term-real x m = syzygy-real x (is-frame-here .only (mono (Z .n) x) m .1)
+
   pub framed : Framed (S Z) (L Z) (A Z)
-  framed = record { terms = terms; covers = covered; real = λ k l. syzygy-real (term-at (ExpM (Z .n)) terms k) (is-frame-here .only _ (term-in k l) .1) }
+  framed = record { terms = terms; covers = covered; real = λ k l. term-real (term-at (ExpM (Z .n)) terms k) (term-in k l) }
 
   abbrev pub theory-stage : Stage.Stage (S Z) (ExpM (Z .n))
   theory-stage = record { L = L Z; A = A Z; reducer = red Z; framed = framed }
