@@ -26,6 +26,11 @@ says-map f g h (less s) = less (f s)
 says-map f g h (level s) = level (g s)
 says-map f g h (more s) = more (h s)
 
+pub says-less : {A B C : Type 0} {c : Comparison} → Says A B C c → c ≡ smaller → A
+says-less (less s) e = s
+says-less (level s) e = let z : _≡_ {A = ℕ} 0 1 = cc in absurd (omega arith)
+says-less (more s) e = let z : _≡_ {A = ℕ} 0 1 = cc in absurd (omega arith)
+
 -- the first decides, at a tie the second; a tie in both is P
 pub says-tie : {A C A′ B′ C′ P X : Type 0} {x y : X} {c d : Comparison} → (x ≡ y → B′ → P) → Says A (x ≡ y) C c → Says A′ B′ C′ d
     → Says (A ⊎ ((x ≡ y) × A′)) P (C ⊎ ((y ≡ x) × C′)) (or-at-tie c d)

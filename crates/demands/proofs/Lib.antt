@@ -17,3 +17,4 @@ pub mod Stages
 pub mod Picking
 pub mod Ways
 pub mod Lifted
+pub mod Notions

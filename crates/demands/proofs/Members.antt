@@ -15,7 +15,7 @@ use Rattle.definitions.specs.Order.{Comparison, greater, equal, smaller, expone
 use Rattle.definitions.proofs.Tests.{and-left, and-right, and-both}
 use Rattle.demands.specs.Notions.{Member}
 use Rattle.demands.proofs.Exponents.{E, out, into, out-into, none}
-use Rattle.demands.proofs.Comparisons.{Says, less, level, more, order, exponents-says}
+use Rattle.demands.proofs.Comparisons.{Says, less, level, more, says-less, order, exponents-says}
 
 -- ## Members
 
@@ -139,12 +139,7 @@ module _ (code : ℕ) where
       turn (more s) = more s
 
   pub says-under : (a b : Exponents) → length a ≡ 8 → length b ≡ 8 → exponents-by code a b ≡ smaller → Under a b
-  says-under a b ha hb e = go (eight-says a b ha hb) e
-    where
-      go : {c : Comparison} → Says (Under a b) (a ≡ b) (Under b a) c → c ≡ smaller → Under a b
-      go (less s) e = s
-      go (level s) e = let z : _≡_ {A = ℕ} 0 1 = cc in absurd (omega arith)
-      go (more s) e = let z : _≡_ {A = ℕ} 0 1 = cc in absurd (omega arith)
+  says-under a b ha hb e = says-less (eight-says a b ha hb) e
 
   pub under-says : (a b : Exponents) → length a ≡ 8 → length b ≡ 8 → Under a b → exponents-by code a b ≡ smaller
   under-says a b ha hb h = go (eight-says a b ha hb)
