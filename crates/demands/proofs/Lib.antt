@@ -18,3 +18,4 @@ pub mod Picking
 pub mod Ways
 pub mod Lifted
 pub mod Notions
+pub mod Bases
