@@ -1,3 +1,4 @@
 pub mod Notions
 pub mod Picks
 pub mod Frames
+pub mod Demands

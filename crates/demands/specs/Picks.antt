@@ -1,6 +1,5 @@
 -- "Whichever term each hybrid step picks, codes or not": runs in which each step has its own strategy, so that a pick may depend on all that went before.
 use mathlib.Core.Path.{_≡_}
-use mathlib.Core.Bool.{false}
 use mathlib.Core.Option.{Option, none, some}
 use mathlib.Core.List.{List, [], _∷_}
 use Prim.Native.Nat.{ℕ, _<_}
@@ -15,10 +14,9 @@ pub record Picks (W : Strategy) : Type 0 where
   pub inside : (v : Vector) (i : ℕ) → W .pick v ≡ some i → i < length v
   pub to-zero : (v : Vector) → W .pick v ≡ none → v ≡ []
 
--- .. and does not stop at a term without a reducer, as acceptance does
 abbrev pub All-pick : List Strategy → Type 0
 All-pick [] = Unit {0}
-All-pick (W ∷ Ws) = Picks W × (W .stops ≡ false) × All-pick Ws
+All-pick (W ∷ Ws) = Picks W × All-pick Ws
 
 -- one strategy for each step
 abbrev pub runs-by : Stage → List Strategy → Run → Result Vector
