@@ -2,7 +2,7 @@
 use mathlib.Core.Path.{_≡_, sym, subst}
 use mathlib.Core.Bool.{Bool, true, false, not, _||_}
 use mathlib.Core.Option.{Option, none, some}
-use mathlib.Core.List.{List, [], _∷_, _++_}
+use mathlib.Core.List.{List, [], _∷_}
 use Prim.Native.Nat.{ℕ, zero, suc, _+_, _-_, _≤_}
 use native.Mathlib.Omega.{arith}
 use lib.Dec.{T, leb, ltb, eqb, eqb→eq}
@@ -18,61 +18,12 @@ use Rattle.definitions.specs.Result.{Result, done, refused, unfinished, 
 use Rattle.definitions.specs.Vectors.{insert, combined, appended, or-last, store}
 use Rattle.definitions.specs.Stage.{Reduction, Stage, highest, stage-over}
 use Rattle.definitions.specs.Run
-use Rattle.definitions.specs.Run.{Strategy, Step, on, end, dropped?, unless-dropped, if-fits, multiple, add-term, add-products, start, reduced, without-reducer, by-answer, by-pick, step, continued, runs, run, hybrid-strategy, division-strategy, accepting-strategy}
-use Rattle.definitions.specs.Tree.{
-  Cache,
-  Sum,
-  Subtree,
-  cached,
-  finish,
-  held-to,
-  grow,
-  add-result,
-  add-subtree,
-  Lift-term,
-  Lift-list,
-  if-product-fits,
-  lift-product,
-  lift-list,
-  open-subtree,
-  or-open,
-  lift-by,
-  lift-term,
-  if-vector-product-fits,
-  lift-vector-product,
-  lift-vector,
-  tree,
-}
-use Rattle.definitions.specs.Lifting.{Lifting, by-division, by-hybrid, by-tree, lift-one, Lifted, add-vector, with-vector, lift-all, if-few, limited-frame, lift-level, accepting-place, at-frame-term, accept-from, accept}
-use Rattle.definitions.specs.Problem.{
-  Bytes,
-  Line,
-  Parameters,
-  shaped,
-  letter-R,
-  letter-T,
-  letter-E,
-  prime-in-range?,
-  in-ranges?,
-  parameters-of,
-  r-line,
-  term-of,
-  next?,
-  in-sequence?,
-  term-in-range?,
-  descends?,
-  with-term,
-  t-line,
-  e-line,
-  by-shape,
-  body,
-  after-r,
-  first-line,
-  lines,
-  problem,
-}
+use Rattle.definitions.specs.Run.{Strategy, Step, on, end, dropped?, unless-dropped, if-fits, multiple, add-products, start, reduced, without-reducer, by-answer, by-pick, continued, runs, run, hybrid-strategy, division-strategy, accepting-strategy}
+use Rattle.definitions.specs.Tree.{Cache, Sum, cached, held-to, add-result, Lift-term, Lift-list, if-product-fits, lift-list, open-subtree, or-open, lift-by, lift-term, if-vector-product-fits, lift-vector, tree}
+use Rattle.definitions.specs.Lifting.{Lifting, by-division, by-hybrid, by-tree, lift-one, Lifted, add-vector, lift-all, if-few, limited-frame, lift-level, at-frame-term, accept-from, accept}
+use Rattle.definitions.specs.Problem.{Bytes, Line, Parameters, shaped, letter-R, letter-T, letter-E, prime-in-range?, in-ranges?, parameters-of, r-line, term-of, in-sequence?, term-in-range?, descends?, t-line, e-line, by-shape, body, after-r, first-line, lines, problem}
 use Rattle.definitions.specs.State.{State, up-to}
-use Rattle.definitions.specs.Calls.{accepted, read, lift}
+use Rattle.definitions.specs.Calls.{read, lift}
 use Rattle.definitions.proofs.Tests.{between-low, between-high, between-shown}
 
 -- a refusal's number passes the test

@@ -1,50 +1,22 @@
 -- "11, 12, 16 change no buffer and no state. After 1 to 9 and 13 to 15 the state is empty": of the calls on buffers.
 use mathlib.Core.Path.{_≡_, refl, sym, ap, _∙_, subst}
-use mathlib.Core.Bool.{Bool, true, false, _||_}
+use mathlib.Core.Bool.{Bool, true, false, not, _||_}
 use mathlib.Core.Option.{Option, none, some, Option·some-injective}
-use mathlib.Core.List.{List, [], _∷_, _++_, append-nil}
-use Prim.Native.Nat.{ℕ, zero, suc, _+_, _-_, _*_, _≤_}
+use mathlib.Core.List.{_++_, append-nil}
+use Prim.Native.Nat.{ℕ, zero, _+_, _-_, _≤_}
 use native.Mathlib.Omega.{arith}
 use lib.Dec.{T, leb, eqb, leb→le, eqb→eq}
 use lib.ListN.{length, replicate, length-replicate, replicate-append-replicate}
 use Rattle.definitions.specs.Limits.{Limits}
-use Rattle.definitions.specs.Lists.{_and_, _then_, between}
+use Rattle.definitions.specs.Lists.{_and_, _then_, choose, between}
 use Rattle.definitions.specs.Monomial.{Vector}
-use Rattle.definitions.specs.Result.{Result, done, refused, unfinished}
+use Rattle.definitions.specs.Result.{Result}
 use Rattle.definitions.specs.Lifting.{Lifting}
 use Rattle.definitions.specs.Problem.{Bytes}
 use Rattle.definitions.specs.State.{State, empty}
 use Rattle.definitions.specs.Calls.{Reply, refuse, settled, read, lift, fetch, eleven?, lifts?, fetches?, read-reply, lift-reply, fetch-reply}
-use Rattle.definitions.specs.Layout.{
-  Words,
-  padded,
-  zeros,
-  count-place,
-  rows-place,
-  state-words,
-  level-rows,
-  encode,
-  state-after,
-  rows-after,
-  cache-after,
-  meant,
-  Way,
-  division,
-  lifting-by,
-  work-words,
-  out-words,
-  long-enough?,
-  Read,
-  read-left,
-  read-call,
-  Lift,
-  lift-left,
-  lift-call,
-  Fetch,
-  fetch-left,
-  fetch-call,
-}
-use Rattle.definitions.proofs.Tests.{and-left, between-low, between-high}
+use Rattle.definitions.specs.Layout.{Words, padded, zeros, rows-place, state-words, encode, state-after, rows-after, cache-after, meant, Way, division, lifting-by, work-words, out-words, long-enough?, Read, read-left, read-call, Lift, lift-left, lift-call, fetch-call}
+use Rattle.definitions.proofs.Tests.{and-left}
 use Rattle.definitions.proofs.Numbers.{Numbered, gives, refuses, open-yet, limit-number?, read-number?, numbered-more, read-number, lift-number}
 
 -- the numbers after which nothing has changed
@@ -108,11 +80,11 @@ lift-fair : (lim : Limits) (n : ℕ) (X : State) (long : Bool) (k : ℕ) (way : 
 lift-fair lim n X false k way = refuse-fair lim 16 X tt
 lift-fair lim n X true k way = eleven (eleven? lim X k (k - 1))
   where
-    twelve : (b : Bool) → Fair-or-none lim (elim b [ false ↦ some (refuse 12 X) | true ↦ settled (lift lim n X k way) ])
+    twelve : (b : Bool) → Fair-or-none lim (choose (not b) (some (refuse 12 X)) (settled (lift lim n X k way)))
     twelve false = refuse-fair lim 12 X tt
     twelve true = settled-fair lim (lift lim n X k way) (numbered-more limit-read (lift-number lim n X k way))
 
-    eleven : (b : Bool) → Fair-or-none lim (elim b [ true ↦ some (refuse 11 X) | false ↦ elim (lifts? lim k way) [ false ↦ some (refuse 12 X) | true ↦ settled (lift lim n X k way) ] ])
+    eleven : (b : Bool) → Fair-or-none lim (choose b (some (refuse 11 X)) (choose (not (lifts? lim k way)) (some (refuse 12 X)) (settled (lift lim n X k way))))
     eleven true = refuse-fair lim 11 X tt
     eleven false = twelve (lifts? lim k way)
 
@@ -120,11 +92,11 @@ fetch-fair : (lim : Limits) (X : State) (long : Bool) (k v : ℕ) → Fair lim (
 fetch-fair lim X false k v = refuse-fair lim 16 X tt
 fetch-fair lim X true k v = eleven (eleven? lim X k k)
   where
-    twelve : (b : Bool) → Fair lim (elim b [ false ↦ refuse 12 X | true ↦ fetch X k v ])
+    twelve : (b : Bool) → Fair lim (choose (not b) (refuse 12 X) (fetch X k v))
     twelve false = refuse-fair lim 12 X tt
     twelve true = record { kept = λ h. absurd h; emptied = λ h. absurd h }
 
-    eleven : (b : Bool) → Fair lim (elim b [ true ↦ refuse 11 X | false ↦ elim (fetches? lim X k v) [ false ↦ refuse 12 X | true ↦ fetch X k v ] ])
+    eleven : (b : Bool) → Fair lim (choose b (refuse 11 X) (choose (not (fetches? lim X k v)) (refuse 12 X) (fetch X k v)))
     eleven true = refuse-fair lim 11 X tt
     eleven false = twelve (fetches? lim X k v)
 

@@ -3,15 +3,15 @@ use mathlib.Core.Path.{_≡_, refl, sym, ap, _∙_, subst}
 use mathlib.Core.Bool.{Bool, true, false}
 use mathlib.Core.Option.{Option, none, some}
 use mathlib.Core.List.{List, [], _∷_, _++_, append-assoc, append-nil, reverse, reverse-cons}
-use Prim.Native.Nat.{ℕ, zero, suc, _+_, _-_, _*_, _<_, _≤_, max}
+use Prim.Native.Nat.{ℕ, zero, suc, _+_, _-_, _*_, _<_, _≤_}
 use native.Mathlib.Omega.{arith}
 use native.Mathlib.Nat.{mul-le-mul-right}
 use lib.Dec.{T, leb, ltb, leb→le, le→leb, lt→ltb}
-use lib.ListN.{length, take, drop, getD, replicate, length-append, length-drop, length-replicate, length-reverse}
-use lib.Seq.{take-at, drop-drop, getD-drop, drop-append-seam, take-all, take-append-le, drop-append-le}
+use lib.ListN.{length, take, drop, getD, replicate, length-append, length-drop, length-replicate}
+use lib.Seq.{take-at, drop-drop, getD-drop, drop-append-seam}
 use Rattle.definitions.specs.Limits.{Limits}
-use Rattle.definitions.specs.Lists.{_and_, every, last, sum}
-use Rattle.definitions.specs.Monomial.{Exponents, Term, Vector, Level, fits?}
+use Rattle.definitions.specs.Lists.{_and_, every, last}
+use Rattle.definitions.specs.Monomial.{Exponents, Vector, Level, fits?}
 use Rattle.definitions.specs.Problem.{Parameters}
 use Rattle.definitions.specs.State.{State, empty, sound?, levels-sound?, vector-sound?, term-sound?, terms-of}
 use Rattle.definitions.specs.Layout
@@ -46,9 +46,9 @@ use Rattle.definitions.specs.Layout.{
   holds-state?,
   meant,
 }
-use Rattle.definitions.proofs.Tests.{true-is, and-left, and-right, and-both}
-use Rattle.definitions.proofs.Rows.{Eight, Eights, no-terms, one-more, length-row, length-rows-of, rows-of-append, drop-behind, rows-spelled}
-use Rattle.definitions.proofs.Sound.{Sound, Sound-term, Sound-vector, Sound-basis, Sound-level, term-says, vector-says, basis-says, level-says, sound-says}
+use Rattle.definitions.proofs.Tests.{and-left, and-right, and-both}
+use Rattle.definitions.proofs.Rows.{Eights, no-terms, one-more, length-row, length-rows-of, rows-of-append, drop-behind, rows-spelled}
+use Rattle.definitions.proofs.Sound.{term-says, vector-says, basis-says, level-says, sound-says}
 
 -- ## What soundness says of a level's size and exponents
 

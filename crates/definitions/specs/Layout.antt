@@ -6,10 +6,10 @@ use Prim.Native.Nat.{ℕ, zero, suc, _+_, _-_, _*_, _/_, max}
 use lib.Dec.{leb, ltb}
 use lib.ListN.{length, getD, take, drop, replicate}
 use Rattle.definitions.specs.Limits.{Limits}
-use Rattle.definitions.specs.Lists.{_and_, _then_, every, last, between}
+use Rattle.definitions.specs.Lists.{_and_, _then_, every, last}
 use Rattle.definitions.specs.Monomial.{Exponents, Term, Vector, Level, fits?}
 use Rattle.definitions.specs.Lifting.{Lifting, by-division, by-hybrid, by-tree}
-use Rattle.definitions.specs.Problem.{Bytes, Parameters}
+use Rattle.definitions.specs.Problem.{Bytes}
 use Rattle.definitions.specs.State.{State, empty, sound?}
 use Rattle.definitions.specs.Calls.{Reply, read-reply, lift-reply, fetch-reply}
 

@@ -2,7 +2,7 @@
 use mathlib.Core.Bool.{Bool, true, false}
 use mathlib.Core.Option.{Option, none, some}
 use mathlib.Core.List.{List, [], _∷_, _++_}
-use Prim.Native.Nat.{ℕ, zero, suc, _+_}
+use Prim.Native.Nat.{ℕ, suc, _+_}
 use lib.Dec.{leb}
 use lib.ListN.{take, drop}
 
@@ -48,6 +48,11 @@ module _ {A : Type 0} where
   -- the list without its member at place i, counted from 0
   abbrev pub without : ℕ → List A → List A
   without i l = take i l ++ drop (suc i) l
+
+-- the first where the test holds, else the second
+abbrev pub choose : {A : Type 0} → Bool → A → A → A
+choose true a b = a
+choose false a b = b
 
 -- an optional value handed on; none stays none
 abbrev pub _then_ : {A B : Type 0} → Option A → (A → Option B) → Option B

@@ -10,7 +10,7 @@ use Rattle.definitions.specs.Lists.{_and_, _then_, every, empty?, last, 
 use Rattle.definitions.specs.Field.{prime?}
 use Rattle.definitions.specs.Monomial.{Term, Vector, Level, fits?}
 use Rattle.definitions.specs.Order.{compare-over, greater?}
-use Rattle.definitions.specs.Result.{Result, done, refused, unfinished, unless-refused, _>>=_}
+use Rattle.definitions.specs.Result.{Result, done, refused, unless-refused, _>>=_}
 
 abbrev pub Bytes : Type 0
 Bytes = List ℕ

@@ -1,12 +1,12 @@
 -- The state between calls.
-use mathlib.Core.Bool.{Bool, true, false}
-use mathlib.Core.List.{List, [], _∷_, _++_}
-use Prim.Native.Nat.{ℕ, zero, suc, _+_, _-_}
+use mathlib.Core.Bool.{Bool, false}
+use mathlib.Core.List.{List, [], _∷_}
+use Prim.Native.Nat.{ℕ, suc, _-_}
 use lib.Dec.{leb, ltb, eqb}
 use lib.ListN.{length, drop}
 use Rattle.definitions.specs.Limits.{Limits}
 use Rattle.definitions.specs.Lists.{_and_, every, sum, between}
-use Rattle.definitions.specs.Monomial.{Exponents, Monomial, Term, Vector, Level, fits?}
+use Rattle.definitions.specs.Monomial.{Exponents, Term, Vector, Level, fits?}
 use Rattle.definitions.specs.Order.{compare-over}
 use Rattle.definitions.specs.Vectors.{strictly-descending?}
 use Rattle.definitions.specs.Problem.{Parameters, in-ranges?, prime-in-range?}

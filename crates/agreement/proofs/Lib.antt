@@ -1,0 +1,12 @@
+pub mod Sheets1
+pub mod Sheets2
+pub mod Sheets3
+pub mod Sheets4
+pub mod Sheets5
+pub mod Sheets6
+pub mod Sheets7
+pub mod Sheets8
+pub mod Calls1
+pub mod Calls2
+pub mod Calls3
+pub mod Calls4

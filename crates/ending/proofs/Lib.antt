@@ -1,0 +1,15 @@
+pub mod Values
+pub mod Adding
+pub mod Ranks
+pub mod Costs
+pub mod Leaving
+pub mod Falling
+pub mod Measure
+pub mod Picking
+pub mod Runs
+pub mod Soundness
+pub mod Levels
+pub mod Lifted
+pub mod Calls
+pub mod Sheets
+pub mod Examples

@@ -1,0 +1,70 @@
+-- The code's comparisons as the definitions' ones; images on level 0 and the table that gives them.
+use mathlib.Core.Path.{_≡_}
+use mathlib.Core.Option.{Option, none, some}
+use mathlib.Core.List.{List, [], _∷_, _++_}
+use Prim.Native.Nat.{ℕ, zero, suc, _+_, _*_, _<_, _≤_}
+use lib.ListN.{getD, getElem?}
+use Rattle.definitions.specs.Monomial.{Exponents, Monomial, product}
+use Rattle.definitions.specs.Order as definition
+use Rattle.definitions.specs.Order.{greater, equal, smaller, or-at-tie, numbers, exponents-by}
+use Rattle.definitions.specs.Layout.{Words}
+use Rattle.orders.specs.declared.Comparison.{Comparison}
+use Rattle.orders.specs.declared.Comparison.the-variants.{Greater, Equal, Smaller}
+use Rattle.orders.specs.declared.Image.{Image}
+
+abbrev pub comparison-of : Comparison → definition.Comparison
+comparison-of Greater = greater
+comparison-of Equal = equal
+comparison-of Smaller = smaller
+
+-- ## Keys
+
+-- what a module monomial is compared by: its image's exponents on level 0, the rank of its component's image, its own component
+abbrev pub Key : Type 0
+Key = Exponents × (ℕ × ℕ)
+
+abbrev pub compare-keys : ℕ → Key → Key → definition.Comparison
+compare-keys code a b = or-at-tie (exponents-by code (a .0) (b .0)) (or-at-tie (numbers (a .1 .0) (b .1 .0)) (numbers (a .1 .1) (b .1 .1)))
+
+-- for each component the exponents of its image on level 0, and that image's rank
+abbrev pub Table : Type 0
+Table = List (Exponents × ℕ)
+
+-- components count from 1
+abbrev pub looked-up : Table → ℕ → Option (Exponents × ℕ)
+looked-up T zero = none
+looked-up T (suc i) = getElem? T i
+
+-- a component that the table lacks has itself for an image, and the lowest rank
+abbrev pub key-by : Option (Exponents × ℕ) → Monomial → Key
+key-by none m = (m .0, (0, m .1))
+key-by (some e) m = (product (m .0) (e .0), (e .1, m .1))
+
+abbrev pub key : Table → Monomial → Key
+key T m = key-by (looked-up T (m .1)) m
+
+abbrev pub table-order : ℕ → Table → Monomial → Monomial → definition.Comparison
+table-order code T m m′ = compare-keys code (key T m) (key T m′)
+
+abbrev pub key-of : Image → Key
+key-of k = (k .exponents, (k .rank, k .component))
+
+-- ## The table's words: rows of ten, the rank second, the image's exponents from the third on
+
+abbrev pub exponents-raw : Words → ℕ → Exponents
+exponents-raw s a =
+    getD s a 0 ∷ getD s (a + 1) 0 ∷ getD s (a + 2) 0 ∷ getD s (a + 3) 0 ∷ getD s (a + 4) 0 ∷ getD s (a + 5) 0 ∷ getD s (a + 6) 0 ∷ getD s (a + 7) 0 ∷ []
+
+abbrev pub entry-at : Words → ℕ → Exponents × ℕ
+entry-at s i = (exponents-raw s (i * 10 + 2), getD s (i * 10 + 1) 0)
+
+unfoldable pub table-of : ℕ → Words → Table
+table-of zero s = []
+table-of (suc r) s = table-of r s ++ entry-at s r ∷ []
+
+-- the sum with an exponent of eight bits fits sixteen bits
+abbrev pub Bounded : Words → ℕ → Type 0
+Bounded s a = (j : ℕ) → j < 8 → getD s (a + j) 0 ≤ 65280
+
+abbrev pub Tabled : ℕ → Words → Type 0
+Tabled r s = (i : ℕ) → i < r → Bounded s (i * 10 + 2)

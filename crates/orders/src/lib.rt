@@ -1,0 +1,191 @@
+// Comparing: the three orders, images on level 0, and through them the order of every level.
+// Knows: crate definitions' Order. An image is a monomial of level 0 whose exponents may pass 255: level k's are at most 255 · (k + 1), so 16 bits hold them.
+ghost use mathlib.Core.Path.{_≡_};
+ghost use mathlib.Core.List.{[]};
+ghost use Prim.Native.Nat.{_+_, _*_, _≤_};
+ghost use lib.ListN.{length};
+ghost use Rattle.definitions.specs.Monomial.{degree, product};
+ghost use Rattle.definitions.specs.Order.{numbers as numbers-definition, lexicographic as lexicographic-definition, last-differing as last-differing-definition, exponents-by, compare-over};
+ghost use Rattle.monomial.specs.Values.{monomial-of};
+ghost use Rattle.orders.specs.Images.{comparison-of, exponents-raw, table-of, Bounded, Tabled, key, key-of, compare-keys};
+use monomial::{Monomial};
+
+pub enum Comparison {
+    Greater,
+    Equal,
+    Smaller,
+}
+
+// The image of a module monomial on level 0; the rank of its component's image decides ties, then its own component.
+pub struct Image {
+    pub exponents: [u16; 8],
+    pub rank: u16,
+    pub component: u16,
+}
+
+fn numbers(x: u32, y: u32) -> Comparison
+    ensures { λ r. ⌜ comparison-of r ≡ numbers-definition x y ⌝ }
+{
+    if y < x {
+        return Comparison::Greater;
+    }
+    if x < y {
+        return Comparison::Smaller;
+    }
+    Comparison::Equal
+}
+
+fn lexicographic(x: [u16; 8], y: [u16; 8]) -> Comparison
+    ensures { λ r. ⌜ comparison-of r ≡ lexicographic-definition x y ⌝ }
+{
+    let mut j = 0;
+    while j < 8 {
+        if y[j] < x[j] {
+            return Comparison::Greater;
+        }
+        if x[j] < y[j] {
+            return Comparison::Smaller;
+        }
+        j += 1;
+    }
+    Comparison::Equal
+}
+
+// From the last exponent down; the smaller one is greater.
+fn last_differing(x: [u16; 8], y: [u16; 8]) -> Comparison
+    ensures { λ r. ⌜ comparison-of r ≡ last-differing-definition x y ⌝ }
+{
+    let mut j = 8;
+    while 0 < j {
+        j -= 1;
+        if x[j] < y[j] {
+            return Comparison::Greater;
+        }
+        if y[j] < x[j] {
+            return Comparison::Smaller;
+        }
+    }
+    Comparison::Equal
+}
+
+fn wider(x: u16) -> u32
+    ensures { λ r. ⌜ (r ≡ x) × (r ≤ 65535) ⌝ }
+{
+    x as u32
+}
+
+fn total(x: [u16; 8]) -> u32
+    ensures { λ r. ⌜ r ≡ degree x ⌝ }
+{
+    let mut d: u32 = 0;
+    let mut j = 0;
+    while j < 8 {
+        d += wider(x[j]);
+        j += 1;
+    }
+    d
+}
+
+// The order code decides.
+pub fn by_code(code: u16, x: [u16; 8], y: [u16; 8]) -> Comparison
+    ensures { λ r. ⌜ comparison-of r ≡ exponents-by code x y ⌝ }
+{
+    match code {
+        1 => lexicographic(x, y),
+        2 => {
+            let d = numbers(total(x), total(y));
+            let Comparison::Equal = d else {
+                return d;
+            };
+            lexicographic(x, y)
+        }
+        _ => {
+            let d = numbers(total(x), total(y));
+            let Comparison::Equal = d else {
+                return d;
+            };
+            last_differing(x, y)
+        }
+    }
+}
+
+fn widened(e: [u8; 8]) -> [u16; 8]
+    ensures { λ r. ⌜ r ≡ e ⌝ }
+{
+    let mut w = [0u16; 8];
+    let mut j = 0;
+    while j < 8 {
+        w[j] = monomial::wide(e[j]);
+        j += 1;
+    }
+    w
+}
+
+// On level 0: exponents first, then the larger component.
+pub fn compare(code: u16, a: Monomial, b: Monomial) -> Comparison
+    ensures { λ r. ⌜ comparison-of r ≡ compare-over code [] (monomial-of a) (monomial-of b) ⌝ }
+{
+    let x = a.exponents;
+    let y = b.exponents;
+    let d = by_code(code, widened(x), widened(y));
+    let Comparison::Equal = d else {
+        return d;
+    };
+    numbers(wider(a.component), wider(b.component))
+}
+
+// Exponents alone.
+pub fn compare_exponents(code: u16, x: [u8; 8], y: [u8; 8]) -> Comparison
+    ensures { λ r. ⌜ comparison-of r ≡ exponents-by code x y ⌝ }
+{
+    by_code(code, widened(x), widened(y))
+}
+
+// Eight exponents times those from word at on.
+fn shifted(e: [u8; 8], table: &[u16], at: usize) -> [u16; 8]
+    requires { ⌜ (at + 8 ≤ length (now table)) × Bounded (now table) at ⌝ }
+    ensures { λ r. ⌜ r ≡ product e (exponents-raw (now (table .entry)) at) ⌝ }
+{
+    let mut w = [0u16; 8];
+    let mut j = 0;
+    while j < 8 {
+        w[j] = monomial::wide(e[j]) + table[at + j];
+        j += 1;
+    }
+    w
+}
+
+// The image of a monomial through a table with a row for each component: its image's rank and exponents.
+pub fn image_of(table: &[u16], r: usize, m: Monomial) -> Image
+    requires { ⌜ (r * 10 ≤ length (now table)) × Tabled r (now table) ⌝ }
+    ensures { λ k. ⌜ key-of k ≡ key (table-of r (now (table .entry))) (monomial-of m) ⌝ }
+{
+    let component = m.component;
+    let i = component as usize;
+    let e = m.exponents;
+    if i == 0 {
+        return Image { exponents: widened(e), rank: 0, component };
+    }
+    if r < i {
+        return Image { exponents: widened(e), rank: 0, component };
+    }
+    let at = i * 10 - 10;
+    let w = shifted(e, table, at + 2);
+    Image { exponents: w, rank: table[at + 1], component }
+}
+
+pub fn compare_images(code: u16, a: Image, b: Image) -> Comparison
+    ensures { λ r. ⌜ comparison-of r ≡ compare-keys code (key-of a) (key-of b) ⌝ }
+{
+    let x = a.exponents;
+    let y = b.exponents;
+    let d = by_code(code, x, y);
+    let Comparison::Equal = d else {
+        return d;
+    };
+    let t = numbers(wider(a.rank), wider(b.rank));
+    let Comparison::Equal = t else {
+        return t;
+    };
+    numbers(wider(a.component), wider(b.component))
+}

@@ -1,0 +1,267 @@
+//! The calls on lent buffers, as `docs/BUFFERS.md` lays them out.
+//!
+//! All buffers but the file hold 16-bit words. Offsets and lengths are functions of the limits;
+//! with the limits of document 01 they are the numbers of that page.
+
+use crate::engine::{Answer, Basis, Outcome, State};
+use crate::lifting::Way;
+use crate::limits::Limits;
+use crate::monomial::{Exponents, Level, Monomial, Parameters, Term, Vector};
+
+/// "A term is a row of ten words: the coefficient, the component, the eight exponents".
+pub const ROW: usize = 10;
+
+/// Rows of the work buffer that hold tables and no terms of a working value or tree.
+pub const TABLE_ROWS: usize = 512 + 768;
+
+/// Words before the first level's count.
+const HEAD: usize = 5;
+
+/// Where things stand in the state.
+#[derive(Clone, Copy, Debug)]
+pub struct Layout {
+    levels: usize,
+    ends: usize,
+    rows: usize,
+}
+
+impl Layout {
+    /// The layout under these limits.
+    pub fn new(limits: &Limits) -> Layout {
+        Layout {
+            levels: limits.levels as usize + 1,
+            ends: limits.elements.max(limits.vectors) as usize,
+            rows: limits.t_lines.max(limits.level_terms) as usize,
+        }
+    }
+
+    /// The word that holds how many vectors level k has.
+    pub fn count(&self, k: usize) -> usize {
+        HEAD + (self.ends + 1) * k
+    }
+
+    /// The word that holds the end of the first vector of level k.
+    pub fn first_end(&self, k: usize) -> usize {
+        self.count(k) + 1
+    }
+
+    /// The first word of the rows of level k.
+    pub fn first_row(&self, k: usize) -> usize {
+        HEAD + (self.ends + 1) * self.levels + ROW * self.rows * k
+    }
+
+    /// The length of the state.
+    pub fn words(&self) -> usize {
+        self.first_row(self.levels)
+    }
+}
+
+/// The words a state needs.
+pub fn state_words(limits: &Limits) -> usize {
+    Layout::new(limits).words()
+}
+
+/// The words a work buffer needs for reading (no way) or for lifting by that way.
+pub fn work_words(limits: &Limits, way: Option<Way>) -> usize {
+    let rows = match way {
+        Some(Way::Tree) => limits.tree as usize + limits.vector as usize,
+        _ => limits.working as usize,
+    };
+    ROW * (TABLE_ROWS + rows)
+}
+
+/// The words a buffer for a fetched vector needs.
+pub fn out_words(limits: &Limits) -> usize {
+    ROW * limits.vector as usize
+}
+
+/// Reads a file and accepts or refuses its basis. Gives the number and the place.
+pub fn read_call(limits: &Limits, file: &[u8], state: &mut [u16], work: &mut [u16]) -> (u64, u64) {
+    read_call_within(limits, file, state, work, None).expect("there is no budget")
+}
+
+/// As `read_call`, but gives up (`None`, no buffer changed) when the products are used up.
+pub fn read_call_within(
+    limits: &Limits,
+    file: &[u8],
+    state: &mut [u16],
+    work: &mut [u16],
+    budget: Option<u64>,
+) -> Option<(u64, u64)> {
+    // "Order 16 (before 1 too)"
+    if state.len() < state_words(limits) || work.len() < work_words(limits, None) {
+        return Some((16, 0));
+    }
+    let mut held = State::new();
+    let answer = held.read(limits, file, budget).answer()?;
+    write_state(limits, &held, state);
+    work.fill(0);
+    write_rows(&answer.vector, work);
+    Some((answer.number, answer.place))
+}
+
+/// Lifts level k. Gives the number and the place.
+pub fn lift_call(
+    limits: &Limits,
+    state: &mut [u16],
+    level: u64,
+    way: Way,
+    work: &mut [u16],
+    cache: &mut [u16],
+) -> (u64, u64) {
+    lift_call_within(limits, state, level, way, work, cache, None).expect("there is no budget")
+}
+
+/// As `lift_call`, but gives up (`None`, no buffer changed) when the products are used up.
+pub fn lift_call_within(
+    limits: &Limits,
+    state: &mut [u16],
+    level: u64,
+    way: Way,
+    work: &mut [u16],
+    cache: &mut [u16],
+    budget: Option<u64>,
+) -> Option<(u64, u64)> {
+    if state.len() < state_words(limits) || work.len() < work_words(limits, Some(way)) {
+        return Some((16, 0));
+    }
+    let mut held = read_state(limits, state);
+    // "The cache's length in terms is the number of whole rows in it"
+    let cache_terms = (cache.len() / ROW) as u64;
+    let outcome = held.lift(limits, level, way, cache_terms, budget);
+    let Outcome::Answered(Answer { number, place, .. }) = outcome else {
+        return None;
+    };
+    // "11, 12 and 16 change nothing in any buffer."
+    if !matches!(number, 11 | 12) {
+        write_state(limits, &held, state);
+        work.fill(0);
+        cache.fill(0);
+    }
+    Some((number, place))
+}
+
+/// Fetches vector v of level k. Gives the number and the place.
+pub fn fetch_call(
+    limits: &Limits,
+    state: &[u16],
+    level: u64,
+    vector: u64,
+    out: &mut [u16],
+) -> (u64, u64) {
+    if state.len() < state_words(limits) || out.len() < out_words(limits) {
+        return (16, 0);
+    }
+    let answer = read_state(limits, state).fetch(limits, level, vector);
+    // "A refused fetch leaves out as it was"
+    if answer.number == 0 {
+        out.fill(0);
+        write_rows(&answer.vector, out);
+    }
+    (answer.number, answer.place)
+}
+
+/// What the words of a state say. The counts and ends are tested as far as finding the rows
+/// needs it; `engine::sound` tests the rest. The buffer has to have its length.
+pub fn read_state(limits: &Limits, state: &[u16]) -> State {
+    State {
+        basis: read_basis(limits, state),
+    }
+}
+
+fn read_basis(limits: &Limits, state: &[u16]) -> Option<Basis> {
+    let layout = Layout::new(limits);
+    // "how many levels are complete: 0 none (no accepted basis), 1 level 0 alone, .."
+    let complete = usize::from(state[4]);
+    if !(1..=layout.levels).contains(&complete) {
+        return None;
+    }
+    let levels = (0..complete)
+        .map(|k| read_level(&layout, state, k))
+        .collect::<Option<Vec<Level>>>()?;
+    Some(Basis {
+        parameters: Parameters {
+            p: u64::from(state[0]),
+            n: u64::from(state[1]),
+            order: u64::from(state[2]),
+            s: u64::from(state[3]),
+        },
+        levels,
+    })
+}
+
+fn read_level(layout: &Layout, state: &[u16], k: usize) -> Option<Level> {
+    let count = usize::from(state[layout.count(k)]);
+    if count > layout.ends {
+        return None;
+    }
+    let ends = &state[layout.first_end(k)..][..count];
+    let rows = &state[layout.first_row(k)..layout.first_row(k + 1)];
+    let mut start = 0;
+    let mut level = Level::new();
+    for end in ends {
+        let end = usize::from(*end);
+        // "the ends ascend strictly from at least 1"
+        if end <= start || end > layout.rows {
+            return None;
+        }
+        level.push(read_rows(&rows[ROW * start..ROW * end]));
+        start = end;
+    }
+    Some(level)
+}
+
+/// The terms in these rows.
+pub fn read_rows(words: &[u16]) -> Vector {
+    words
+        .chunks_exact(ROW)
+        .map(|row| {
+            let exponents: Exponents = std::array::from_fn(|x| u64::from(row[2 + x]));
+            Term {
+                coefficient: u64::from(row[0]),
+                monomial: Monomial {
+                    component: u64::from(row[1]),
+                    exponents,
+                },
+            }
+        })
+        .collect()
+}
+
+/// Writes a state; all words that its counts do not name become zero.
+pub fn write_state(limits: &Limits, held: &State, state: &mut [u16]) {
+    state.fill(0);
+    let Some(basis) = &held.basis else {
+        return;
+    };
+    let layout = Layout::new(limits);
+    let parameters = &basis.parameters;
+    let head = [parameters.p, parameters.n, parameters.order, parameters.s];
+    for (word, number) in state.iter_mut().zip(head) {
+        *word = to_word(number);
+    }
+    state[4] = to_word(basis.levels.len() as u64);
+    for (k, level) in basis.levels.iter().enumerate() {
+        state[layout.count(k)] = to_word(level.len() as u64);
+        let mut end = 0;
+        for (v, vector) in level.iter().enumerate() {
+            write_rows(vector, &mut state[layout.first_row(k) + ROW * end..]);
+            end += vector.len();
+            state[layout.first_end(k) + v] = to_word(end as u64);
+        }
+    }
+}
+
+fn write_rows(vector: &[Term], words: &mut [u16]) {
+    for (row, term) in words.chunks_exact_mut(ROW).zip(vector) {
+        row[0] = to_word(term.coefficient);
+        row[1] = to_word(term.monomial.component);
+        for (word, exponent) in row[2..].iter_mut().zip(term.monomial.exponents) {
+            *word = to_word(exponent);
+        }
+    }
+}
+
+fn to_word(number: u64) -> u16 {
+    u16::try_from(number).expect("every number of a state is below 65,536")
+}

@@ -1,0 +1,83 @@
+//! The kinds of `reference generate`.
+
+use crate::generate::files::{damaged_file, limit_file, plain_file};
+use crate::generate::problems::{problem_file, random_basis, Size};
+use crate::generate::scripts::{random_script, with_small_limits, Reach};
+use crate::limits::Limits;
+use crate::random::Random;
+use crate::script::{Run, Script};
+use crate::sheet::sheet;
+
+/// The kinds of problem files.
+pub const FILE_KINDS: [&str; 4] = ["small", "bases", "damaged", "limits"];
+
+/// Products that the sheet of a generated file may take.
+pub const SHEET_PRODUCTS: u64 = 300_000;
+
+/// A problem file and its sheet.
+#[derive(Clone, Debug)]
+pub struct FileCase {
+    /// the file's bytes
+    pub file: Vec<u8>,
+    /// the sheet's bytes
+    pub sheet: Vec<u8>,
+}
+
+/// The problem file of a kind for a case of a seed; `None` if there is no such kind.
+pub fn file_case(kind: &str, seed: u64, case: u64) -> Option<FileCase> {
+    let mut random = Random::for_case(seed, case);
+    loop {
+        let (file, products) = match kind {
+            "small" => (plain_file(&mut random, &Size::small()), 20_000),
+            "bases" => (
+                problem_file(&random_basis(&mut random, &Size::medium())),
+                SHEET_PRODUCTS,
+            ),
+            "damaged" => (damaged_file(&mut random), SHEET_PRODUCTS),
+            "limits" => (limit_file(&mut random), SHEET_PRODUCTS),
+            _ => return None,
+        };
+        let (Some(sheet), _) = sheet(&Limits::document_01(), &file, Some(products)) else {
+            continue;
+        };
+        let too_long = kind == "small" && (lines(&file) > 25 || lines(&sheet) > 120);
+        if !too_long {
+            return Some(FileCase { file, sheet });
+        }
+    }
+}
+
+fn lines(text: &[u8]) -> usize {
+    text.iter().filter(|byte| **byte == 10).count()
+}
+
+/// A list of calls for a case of a seed, with its run. About half have small limits, and of these
+/// most are refused by 13, 14 or 15 while lifting.
+pub fn calls_case(seed: u64, case: u64, reach: &Reach) -> (Script, Run) {
+    let mut random = Random::for_case(seed, case);
+    if random.chance(50) {
+        return random_script(&mut random, reach);
+    }
+    let wanted = random.chance(75).then(|| {
+        let number = random.between(13, 15);
+        (number, *random.pick(&[1, 1, 2, 2, 3]))
+    });
+    let mut tries = 0;
+    loop {
+        let (script, run) = random_script(&mut random, reach);
+        let number = wanted.map(|(number, _)| number);
+        let script = with_small_limits(&mut random, &script, &run, number);
+        let Some(run) = script.run(Some(reach.products)) else {
+            continue;
+        };
+        tries += 1;
+        let as_wanted = wanted.is_none_or(|wanted| {
+            run.answers
+                .iter()
+                .any(|answer| (answer.number, answer.place) == wanted)
+        });
+        if as_wanted || tries == 200 {
+            return (script, run);
+        }
+    }
+}

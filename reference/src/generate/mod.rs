@@ -1,0 +1,11 @@
+//! Seeded problem files and lists of calls.
+//!
+//! - [`problems`]: random Gröbner bases and random sets of elements.
+//! - [`files`]: files at and past the limits, and damaged files.
+//! - [`scripts`]: lists of calls, also with limits close to what a run needs.
+//! - [`cases`]: the kinds of `reference generate`.
+
+pub mod cases;
+pub mod files;
+pub mod problems;
+pub mod scripts;

@@ -1,0 +1,171 @@
+//! The program `reference`; `reference help` tells its commands.
+
+#![forbid(unsafe_code)]
+
+use reference::generate::cases::{calls_case, file_case, FILE_KINDS};
+use reference::generate::scripts::Reach;
+use reference::script::Script;
+use reference::sheet::sheet;
+use reference::Limits;
+use std::io::{Read, Write};
+use std::path::Path;
+use std::process::ExitCode;
+
+const HELP: &str = "\
+reference: a plain implementation of document 01
+
+reference sheet [FILE] [--budget N]
+    Prints the sheet for the problem file FILE (or standard input). With a budget it gives up,
+    with exit code 3 and nothing printed, when more than N products would be formed.
+
+reference calls [--budget N]
+    Reads a list of calls from standard input, one in a line:
+        limits name=value ..    (optional, first) limits other than document 01's
+        read HEXBYTES           a file's bytes, two hexadecimal digits each; `read -`: no bytes
+        lift K division
+        lift K hybrid P         P is the pick code
+        lift K tree C           C is the cache's length in terms
+        fetch K V
+    Prints for each call `number place vector`, where the number is 0 if the call succeeded and
+    the vector is the fetched one or the value that 9 leaves: terms c:component:e1.e2...e8 joined
+    by `;`, or `-` if there is none. Then come two lines:
+        levels N LEVEL ..       the N levels held at the end, level 0 first
+        reckoned N LEVEL ..     the levels by the plain reckoning of the list
+    A LEVEL is its vectors joined by `/`, or `-` if it has none. Without a basis N is 0.
+    With a budget it gives up, with exit code 3 and nothing printed, when the calls together
+    would form more than N products, or when a level's reckoning takes more than 100 N steps.
+    Limits: prime_bound variables components elements exponent t_lines file field vectors
+    level_terms levels working vector tree.
+
+reference generate KIND SEED COUNT DIR
+    Writes COUNT cases to the directory DIR, which is made if it is missing; the same seed gives
+    the same cases.
+    small, bases, damaged, limits: problem files KIND-SEED-NUMBER.in with the sheets .out
+    calls: lists of calls calls-SEED-NUMBER.calls with what they print, .answers
+
+reference help
+    Prints this.
+";
+
+/// Exit code for a budget used up.
+const GAVE_UP: u8 = 3;
+
+fn main() -> ExitCode {
+    let arguments: Vec<String> = std::env::args().skip(1).collect();
+    let words: Vec<&str> = arguments.iter().map(String::as_str).collect();
+    match run(&words) {
+        Ok(code) => code,
+        Err(mistake) => {
+            eprintln!("reference: {mistake}");
+            ExitCode::from(2)
+        }
+    }
+}
+
+fn run(words: &[&str]) -> Result<ExitCode, String> {
+    let (words, budget) = split_budget(words)?;
+    match words.as_slice() {
+        ["sheet"] => print_sheet(&read_input()?, budget),
+        ["sheet", name] => {
+            let file = std::fs::read(name).map_err(|error| format!("{name}: {error}"))?;
+            print_sheet(&file, budget)
+        }
+        ["calls"] => print_calls(&read_input()?, budget),
+        ["generate", kind, seed, count, directory] => {
+            let number = |word: &str| {
+                word.parse::<u64>()
+                    .map_err(|_| format!("{word} is not a number"))
+            };
+            generate(kind, number(seed)?, number(count)?, Path::new(directory))
+        }
+        ["help"] | ["--help"] | ["-h"] | [] => print(HELP.as_bytes()),
+        _ => Err("no such command; `reference help` tells the commands".to_string()),
+    }
+}
+
+/// Takes `--budget N` out of the words.
+fn split_budget<'a>(words: &[&'a str]) -> Result<(Vec<&'a str>, Option<u64>), String> {
+    let mut rest = Vec::new();
+    let mut budget = None;
+    let mut words = words.iter();
+    while let Some(word) = words.next() {
+        if *word == "--budget" {
+            let number = words.next().and_then(|word| word.parse().ok());
+            budget = Some(number.ok_or("--budget takes a number")?);
+        } else {
+            rest.push(*word);
+        }
+    }
+    Ok((rest, budget))
+}
+
+fn read_input() -> Result<Vec<u8>, String> {
+    let mut bytes = Vec::new();
+    std::io::stdin()
+        .read_to_end(&mut bytes)
+        .map_err(|error| error.to_string())?;
+    Ok(bytes)
+}
+
+fn print(bytes: &[u8]) -> Result<ExitCode, String> {
+    let mut out = std::io::stdout().lock();
+    out.write_all(bytes)
+        .and_then(|()| out.flush())
+        .map_err(|error| error.to_string())?;
+    Ok(ExitCode::SUCCESS)
+}
+
+fn gave_up() -> Result<ExitCode, String> {
+    eprintln!("reference: gave up, the budget is used up");
+    Ok(ExitCode::from(GAVE_UP))
+}
+
+fn print_sheet(file: &[u8], budget: Option<u64>) -> Result<ExitCode, String> {
+    match sheet(&Limits::document_01(), file, budget) {
+        (Some(printed), _) => print(&printed),
+        (None, _) => gave_up(),
+    }
+}
+
+fn print_calls(input: &[u8], budget: Option<u64>) -> Result<ExitCode, String> {
+    let text = std::str::from_utf8(input).map_err(|error| error.to_string())?;
+    match Script::parse(text)?.run(budget) {
+        Some(run) => print(run.text().as_bytes()),
+        None => gave_up(),
+    }
+}
+
+fn generate(kind: &str, seed: u64, count: u64, directory: &Path) -> Result<ExitCode, String> {
+    if kind != "calls" && !FILE_KINDS.contains(&kind) {
+        return Err(format!(
+            "{kind} is no kind; `reference help` tells the kinds"
+        ));
+    }
+    std::fs::create_dir_all(directory)
+        .map_err(|error| format!("{}: {error}", directory.display()))?;
+    for case in 1..=count {
+        let (parts, name) = (
+            case_parts(kind, seed, case),
+            format!("{kind}-{seed}-{case}"),
+        );
+        for (ending, bytes) in parts {
+            let path = directory.join(format!("{name}.{ending}"));
+            std::fs::write(&path, bytes).map_err(|error| format!("{}: {error}", path.display()))?;
+        }
+    }
+    Ok(ExitCode::SUCCESS)
+}
+
+/// The two files of a case, with the endings of their names.
+fn case_parts(kind: &str, seed: u64, case: u64) -> Vec<(&'static str, Vec<u8>)> {
+    if kind == "calls" {
+        let (script, run) = calls_case(seed, case, &Reach::tiny());
+        return vec![
+            ("calls", script.text().into_bytes()),
+            ("answers", run.text().into_bytes()),
+        ];
+    }
+    file_case(kind, seed, case)
+        .map(|case| vec![("in", case.file), ("out", case.sheet)])
+        .unwrap_or_default()
+}

@@ -1,0 +1,95 @@
+//! The program's commands.
+
+use std::io::Write;
+use std::path::PathBuf;
+use std::process::{Command, Output, Stdio};
+
+fn run(arguments: &[&str], input: &[u8]) -> Output {
+    let mut child = Command::new(env!("CARGO_BIN_EXE_reference"))
+        .args(arguments)
+        .stdin(Stdio::piped())
+        .stdout(Stdio::piped())
+        .stderr(Stdio::piped())
+        .spawn()
+        .expect("the program starts");
+    // the program may end before it has read all
+    let _ = child.stdin.take().expect("an input").write_all(input);
+    child.wait_with_output().expect("the program ends")
+}
+
+fn printed(arguments: &[&str], input: &[u8]) -> String {
+    let output = run(arguments, input);
+    assert!(output.status.success());
+    String::from_utf8(output.stdout).expect("text")
+}
+
+const PROBLEM: &[u8] = b"R,7,2,1,1\nT,1,1,1,1,0\nT,1,1,1,0,1\nT,2,1,1,0,2\nT,2,1,1,0,0\nE,4\n";
+
+const SHEET: &str = "S,1,1,1,2,1,0\nS,1,1,6,1,0,2\nS,1,1,6,1,0,0\nS,1,1,1,2,0,1\nZ,1,1\nZ,2,0\n";
+
+fn directory(name: &str) -> PathBuf {
+    let directory = PathBuf::from(env!("CARGO_TARGET_TMPDIR")).join(name);
+    // what an earlier run left
+    let _ = std::fs::remove_dir_all(&directory);
+    directory
+}
+
+#[test]
+fn sheets() {
+    assert_eq!(printed(&["sheet"], PROBLEM), SHEET);
+    let directory = directory("sheets");
+    std::fs::create_dir_all(&directory).expect("a directory");
+    let file = directory.join("problem");
+    std::fs::write(&file, PROBLEM).expect("a file");
+    let name = file.to_str().expect("a name");
+    assert_eq!(printed(&["sheet", name], b""), SHEET);
+    assert_eq!(printed(&["sheet", name, "--budget", "16"], b""), SHEET);
+    assert_eq!(printed(&["sheet"], b""), "X,1,1\n");
+    let output = run(&["sheet", "--budget", "15"], PROBLEM);
+    assert_eq!(output.status.code(), Some(3));
+    assert!(output.stdout.is_empty());
+}
+
+#[test]
+fn calls() {
+    let text = "limits levels=1\nread -\nlift 1 division\nfetch 10 1\n";
+    let expected = "1 1 -\n11 0 -\n11 0 -\nlevels 0\nreckoned 0\n";
+    assert_eq!(printed(&["calls"], text.as_bytes()), expected);
+    assert_eq!(run(&["calls"], b"red -\n").status.code(), Some(2));
+}
+
+#[test]
+fn generated_cases_agree_with_the_program() {
+    let directory = directory("generated");
+    let name = directory.to_str().expect("a name");
+    for kind in ["small", "bases", "damaged", "limits", "calls"] {
+        assert_eq!(printed(&["generate", kind, "5", "8", name], b""), "");
+        let (command, input, output) = match kind {
+            "calls" => ("calls", "calls", "answers"),
+            _ => ("sheet", "in", "out"),
+        };
+        for case in 1..=8 {
+            let read = |ending: &str| {
+                let file = directory.join(format!("{kind}-5-{case}.{ending}"));
+                std::fs::read(file).expect("a generated file")
+            };
+            let again = printed(&[command], &read(input));
+            assert_eq!(again.as_bytes(), read(output), "{kind} {case}");
+        }
+    }
+    assert_eq!(
+        run(&["generate", "odd", "1", "1", name], b"").status.code(),
+        Some(2)
+    );
+}
+
+#[test]
+fn help() {
+    let help = printed(&["help"], b"");
+    for word in [
+        "sheet", "calls", "generate", "levels", "reckoned", "--budget",
+    ] {
+        assert!(help.contains(word));
+    }
+    assert_eq!(run(&["no such"], b"").status.code(), Some(2));
+}
