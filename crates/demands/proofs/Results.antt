@@ -4,7 +4,8 @@ use mathlib.Core.Option.{Option, none, some, Option·some-injective, Option·non
 use mathlib.Core.List.{List, []}
 use Prim.Native.Nat.{ℕ, zero, suc, _+_, _≤_}
 use native.Mathlib.Omega.{arith}
-use Rattle.definitions.specs.Lists.{_then_}
+use lib.Dec.{T}
+use Rattle.definitions.specs.Lists.{_then_, between}
 use Rattle.definitions.specs.Monomial.{Vector}
 use Rattle.definitions.specs.Result.{Result, done, refused, unfinished, _>>=_}
 
@@ -15,6 +16,15 @@ pub data Ends {A : Type 0} (P : A → Type 0) (R : ℕ → Vector → Type 0) : 
   gives : {a : A} → P a → Ends P R (done a)
   refuses : {number place : ℕ} {value : Vector} → R number value → Ends P R (refused number place value)
   open-yet : Ends P R unfinished
+
+-- how a run is refused: a limit is met, and no value is left; or 9, with a value that has X
+pub data Refusal (X : Vector → Type 0) : ℕ → Vector → Type 0 where
+  limit : {number : ℕ} → T (between 13 number 15) → Refusal X number []
+  nine : {value : Vector} → X value → Refusal X 9 value
+
+pub refusal-map : {X Y : Vector → Type 0} → ((value : Vector) → X value → Y value) → (number : ℕ) (value : Vector) → Refusal X number value → Refusal Y number value
+refusal-map h number value (limit t) = limit t
+refusal-map h number value (nine x) = nine (h value x)
 
 -- nothing is said of a refusal
 abbrev pub Any : ℕ → Vector → Type 0

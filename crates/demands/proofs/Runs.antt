@@ -26,7 +26,7 @@ use Rattle.definitions.specs.Stage.{Stage, stage-over}
 use Rattle.definitions.specs.Run
 use Rattle.definitions.specs.Run.{Strategy, on, end, add-products, reduced, without-reducer, by-answer, by-pick, step, continued, start}
 use Rattle.demands.specs.Picks.{Picks, runs-by, run-by}
-use Rattle.demands.proofs.Results.{Ends, gives, refuses, open-yet, ends-then, ends-turn}
+use Rattle.demands.proofs.Results.{Ends, gives, refuses, open-yet, ends-then, ends-turn, Refusal, limit, nine, refusal-map}
 use Rattle.demands.proofs.Exponents.{E, out, factor-fits}
 use Rattle.demands.proofs.Levels.{Mono, TVec, mono, term, vec, flat, flats, flat-at, vec-empty, vec-length, lm, module-over, Has, has-act}
 use Rattle.demands.proofs.Coefficients.{Good, good-mul, good-one, good-turned, minus-times, times-one-right}
@@ -152,12 +152,9 @@ module _ (Z : Setting) (lim : Limits) where
     pub lower : Lower (S Z) (L Z) (F Z) x
     pub shown : value ≡ descending (stage .below) (Z .p) (vec (Z .n) g)
 
-  abbrev At-nine : (Vector → Type 0) → ℕ → Vector → Type 0
-  At-nine X number value = number ≡ 9 → X value
-
   module _ (W : Strategy) (K : Picks W) (v g : TVec (Z .n)) (sv : Sum InVector v) (sg : Sum InValue g) where
     abbrev R : ℕ → Vector → Type 0
-    R = At-nine (Stuck W g)
+    R = Refusal (Stuck W g)
 
     -- the quotient of a monomial within the limit is within it
     quotient-fits : (x : Mono (Z .n)) → Fits x → (a : Reducer (S Z) (L Z) (F Z) x) → Fits (a .at)
@@ -202,18 +199,18 @@ module _ (Z : Setting) (lim : Limits) where
 
       reduced-ends : Ends (Stepped W v g) R (reduced stage W (run-at v g) (suc (a .at .1)) c′ (out (Z .n) (a .at .0)))
       reduced-ends =
-          ends-then (like-stored (Z .n) (Z .p) (Z .P) InVector R (λ e. absurd (omega arith)) (lim .vector) (c′, a .at) v recorded-good
+          ends-then (like-stored (Z .n) (Z .p) (Z .P) InVector R (limit tt) (lim .vector) (c′, a .at) v recorded-good
           (Z .somes (a .at .1) (a .dom), quotient-fits (t .x) (t .ok .1) a) (sv .good) (sv .ok) (sv .apart))
           (λ vs l. subst (λ z. Ends (Stepped W v g) R (add-products (stage .reduction) (W .drops) c′ (out (Z .n) (a .at .0)) z (vec (Z .n) g) >>= λ w.
           done (on (record { value = w; vector = vs })))) (sym (flat-at (Z .n) (Z .f) (a .at .1)))
-          (ends-then (products-added (Z .n) (Z .p) (Z .P) lim (hs Z) (W .drops) (Lower (S Z) (L Z) (F Z)) InValue R (λ e. absurd (omega arith))
-          (λ e. absurd (omega arith)) (is-lower Z) (Has (Z .n) (Z .b)) c′ recorded-good (a .at .0) (λ x h k. (has-act (Z .n) (Z .b) (a .at .0) x h, k)) f′ g
+          (ends-then (products-added (Z .n) (Z .p) (Z .P) lim (hs Z) (W .drops) (Lower (S Z) (L Z) (F Z)) InValue R (limit tt)
+          (limit tt) (is-lower Z) (Has (Z .n) (Z .b)) c′ recorded-good (a .at .0) (λ x h k. (has-act (Z .n) (Z .b) (a .at .0) x h, k)) f′ g
           (canonical-good (Z .n) (Z .p) (Z .P) (Z .code) (Z .b) f′ (Z .canons (a .at .1) (a .dom))) (Z .inside (a .at .1) (a .dom)) (sg .good) (sg .ok) (sg .apart))
           (λ gs k. gives (step-of l k))))
 
     stuck-ends : (i : ℕ) → W .pick (vec (Z .n) g) ≡ some i → (t : Taken g i) → Lower (S Z) (L Z) (F Z) (t .x) → (b : Bool) → W .stops ≡ b
         → Ends (Stepped W v g) R (without-reducer b stage (run-at v g) i)
-    stuck-ends i e t o true st = refuses (λ z. record { exact = st; i = i; picks = e; x = t .x; is = (t .c, t .is); lower = o; shown = refl })
+    stuck-ends i e t o true st = refuses (nine (record { exact = st; i = i; picks = e; x = t .x; is = (t .c, t .is); lower = o; shown = refl }))
     stuck-ends i e t o false st = gives (onward v (t .kept) (loses lost never) (record {
       is = λ j. record { value = t .left-is j; vector = vec (Z .n) v };
       vector = sv;
@@ -261,8 +258,8 @@ module _ (Z : Setting) (lim : Limits) where
             let t : Taken g i = taken g i m sg in
             subst (λ z. Ends (Stepped W v g) R (by-answer stage W (run-at v g) i (answer (Z .p) (hs Z) z))) (sym (t .is)) (answered-ends i e t)
 
-  pub stepped : (W : Strategy) → Picks W → (v g : TVec (Z .n)) (r : Run.Run) → Stands v g r → Ends (Stepped W v g) (At-nine (Stuck W g)) (step stage W r)
-  stepped W K v g r s = subst (λ z. Ends (Stepped W v g) (At-nine (Stuck W g)) (step stage W z)) (sym (s .is)) (stepped-at W K v g (s .vector) (s .value))
+  pub stepped : (W : Strategy) → Picks W → (v g : TVec (Z .n)) (r : Run.Run) → Stands v g r → Ends (Stepped W v g) (Refusal (Stuck W g)) (step stage W r)
+  stepped W K v g r s = subst (λ z. Ends (Stepped W v g) (Refusal (Stuck W g)) (step stage W z)) (sym (s .is)) (stepped-at W K v g (s .vector) (s .value))
 
   -- ## Runs
 
@@ -334,20 +331,20 @@ module _ (Z : Setting) (lim : Limits) where
     }
 
     pub runs-end : (Ws : List Strategy) → All-in Ws → (v g : TVec (Z .n)) (r : Run.Run) → Stands v g r
-        → Ends (Finished v g) (At-nine (Halted v g)) (runs-by stage Ws r)
+        → Ends (Finished v g) (Refusal (Halted v g)) (runs-by stage Ws r)
     runs-end [] k v g r s = open-yet
     runs-end (W ∷ Ws) k v g r s = go (stepped W (k .0) v g r s) (λ v′ g′ r′ s′. runs-end Ws (k .2) v′ g′ r′ s′)
       where
         stuck-now : (value : Vector) → Stuck W g value → Halted v g value
         stuck-now value h = record { end = v; left = g; run = stop; whole = λ x. tt; sum = s .value; by = W; known = k .1; stuck = h }
 
-        go : {x : Result Run.Step} → Ends (Stepped W v g) (At-nine (Stuck W g)) x
-            → ((v′ g′ : TVec (Z .n)) (r′ : Run.Run) → Stands v′ g′ r′ → Ends (Finished v′ g′) (At-nine (Halted v′ g′)) (runs-by stage Ws r′))
-            → Ends (Finished v g) (At-nine (Halted v g)) (continued stage (λ r′. runs-by stage Ws r′) x)
+        go : {x : Result Run.Step} → Ends (Stepped W v g) (Refusal (Stuck W g)) x
+            → ((v′ g′ : TVec (Z .n)) (r′ : Run.Run) → Stands v′ g′ r′ → Ends (Finished v′ g′) (Refusal (Halted v′ g′)) (runs-by stage Ws r′))
+            → Ends (Finished v g) (Refusal (Halted v g)) (continued stage (λ r′. runs-by stage Ws r′) x)
         go (gives (onward {r = r′} v′ g′ m s′)) ih =
-            ends-turn (finished-then W (k .1) m) (λ number value h e. halted-then W (k .1) m value (h e)) (ih v′ g′ r′ s′)
+            ends-turn (finished-then W (k .1) m) (refusal-map (halted-then W (k .1) m)) (ih v′ g′ r′ s′)
         go (gives (ended {w = w} e z)) ih = gives (subst (λ y. Finished v g (descending (stage .above) (Z .p) y)) (sym e) (finished-now v g z (s .vector)))
-        go (refuses {value = value} h) ih = refuses (λ e. stuck-now value (h e))
+        go (refuses {number} {value = value} h) ih = refuses (refusal-map stuck-now number value h)
         go open-yet ih = open-yet
 
     -- ## From a frame term
@@ -380,11 +377,11 @@ module _ (Z : Setting) (lim : Limits) where
 
     -- the run of a frame term
     pub run-ends : (W : Strategy) → (exact → W .drops ≡ false) → (Ws : List Strategy) → All-in Ws → (x : Mono (Z .n)) → x .1 < length (Z .f) → Fits x
-        → Ends (Finished ((1, x) ∷ []) (times (S Z) (L Z) (F Z .f) x)) (At-nine (Halted ((1, x) ∷ []) (times (S Z) (L Z) (F Z .f) x)))
+        → Ends (Finished ((1, x) ∷ []) (times (S Z) (L Z) (F Z .f) x)) (Refusal (Halted ((1, x) ∷ []) (times (S Z) (L Z) (F Z .f) x)))
         (run-by stage W Ws (mono (Z .n) x))
     run-ends W d Ws k x l h =
-        ends-then (started (At-nine (Halted v m)) (λ e. absurd (omega arith)) (λ e. absurd (omega arith)) W x l h)
-        (λ r s. ends-turn (λ w f. after s w f) (λ number value f e. stopped s value (f e)) (runs-end Ws k v (s .g) r (s .stands)))
+        ends-then (started (Refusal (Halted v m)) (limit tt) (limit tt) W x l h)
+        (λ r s. ends-turn (λ w f. after s w f) (refusal-map (stopped s)) (runs-end Ws k v (s .g) r (s .stands)))
       where
         v : TVec (Z .n)
         v = (1, x) ∷ []

@@ -8,7 +8,7 @@ ghost use Rattle.definitions.specs.Monomial.{degree, product};
 ghost use Rattle.definitions.specs.Order.{numbers as numbers-definition, lexicographic as lexicographic-definition, last-differing as last-differing-definition, exponents-by, compare-over};
 ghost use Rattle.monomial.specs.Values.{monomial-of};
 ghost use Rattle.orders.specs.Images.{comparison-of, exponents-raw, table-of, Bounded, Tabled, key, key-of, compare-keys};
-use monomial::{Monomial};
+use monomial::Monomial;
 
 pub enum Comparison {
     Greater,
@@ -164,14 +164,26 @@ pub fn image_of(table: &[u16], r: usize, m: Monomial) -> Image
     let i = component as usize;
     let e = m.exponents;
     if i == 0 {
-        return Image { exponents: widened(e), rank: 0, component };
+        return Image {
+            exponents: widened(e),
+            rank: 0,
+            component,
+        };
     }
     if r < i {
-        return Image { exponents: widened(e), rank: 0, component };
+        return Image {
+            exponents: widened(e),
+            rank: 0,
+            component,
+        };
     }
     let at = i * 10 - 10;
     let w = shifted(e, table, at + 2);
-    Image { exponents: w, rank: table[at + 1], component }
+    Image {
+        exponents: w,
+        rank: table[at + 1],
+        component,
+    }
 }
 
 pub fn compare_images(code: u16, a: Image, b: Image) -> Comparison
