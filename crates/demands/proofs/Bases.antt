@@ -96,11 +96,11 @@ module _ (q : Parameters) (P : Prime (q .p)) (eight : q .n ≤ 8) (f : TLevel (q
   abbrev G : Grounded (q .n) b
   G = deep-grounded (q .n) (q .p) P (q .code) b (d .1)
 
-  ranged-in : (w : TVec (q .n)) → Ranged q eight (length f) w → All (S Z) (In (S Z) (L Z) (F Z)) w
+  pub ranged-in : (w : TVec (q .n)) → Ranged q eight (length f) w → All (S Z) (In (S Z) (L Z) (F Z)) w
   ranged-in [] h = tt
   ranged-in (t ∷ w) h = (h .0, ranged-in w (h .1))
 
-  in-ranged : (w : TVec (q .n)) → All (S Z) (In (S Z) (L Z) (F Z)) w → Ranged q eight (length f) w
+  pub in-ranged : (w : TVec (q .n)) → All (S Z) (In (S Z) (L Z) (F Z)) w → Ranged q eight (length f) w
   in-ranged [] h = tt
   in-ranged (t ∷ w) h = (h .0, in-ranged w (h .1))
 

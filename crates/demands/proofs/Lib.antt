@@ -19,3 +19,4 @@ pub mod Ways
 pub mod Lifted
 pub mod Notions
 pub mod Bases
+pub mod Accepting

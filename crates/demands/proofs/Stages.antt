@@ -216,7 +216,7 @@ module _ (Z : Setting) (eight : Z .n ≤ 8) (code : ℕ) where
         (divides-multiple (Z .n) (lm (Z .n) (Z .f) (z .1)) (Induced.image (L Z) (A Z .lm) x) (z .0) e);
   }
 
-  covered : (b : Mono (Z .n)) → b .1 < length (Z .f)
+  pub covered : (b : Mono (Z .n)) → b .1 < length (Z .f)
       → Covered (S Z) (L Z) (F Z) (term-at (ExpM (Z .n)) terms) (λ (k : ℕ). k < length terms) b ⊎ Free (S Z) (L Z) (F Z) b
   covered b l = go (any (λ t. divides-monomial? t (mono (Z .n) b)) frame-terms) (any-says (λ t. divides-monomial? t (mono (Z .n) b)) frame-terms)
       (any-shown (λ t. divides-monomial? t (mono (Z .n) b)) frame-terms)
@@ -239,7 +239,7 @@ module _ (Z : Setting) (eight : Z .n ≤ 8) (code : ℕ) where
   pub term-real : (x : Mono (Z .n)) → Member (mono (Z .n) x) frame-terms → Real (S Z) (L Z) (A Z) x
   term-real x m = syzygy-real x (is-frame-here .only (mono (Z .n) x) m .1)
 
-  pub framed : Framed (S Z) (L Z) (A Z)
+  abbrev pub framed : Framed (S Z) (L Z) (A Z)
   framed = record { terms = terms; covers = covered; real = λ k l. term-real (term-at (ExpM (Z .n)) terms k) (term-in k l) }
 
   abbrev pub theory-stage : Stage.Stage (S Z) (ExpM (Z .n))
