@@ -20,3 +20,4 @@ pub mod Lifted
 pub mod Notions
 pub mod Bases
 pub mod Accepting
+pub mod Exact

@@ -5,17 +5,17 @@ use mathlib.Core.List.{List, [], _∷_, _++_}
 use Prim.Native.Nat.{ℕ, _<_, _≤_}
 use native.Mathlib.Omega.{arith}
 use Rattle.theory.specs.Laws.{Scalars, Monoid, Level}
-use Rattle.theory.specs.Vec.{Vec, Same, scale, mapB, lin, All, times, ψ, Lead}
+use Rattle.theory.specs.Vec.{Vec, ev, Same, scale, mapB, lin, All, times, ψ, Lead}
 use Rattle.theory.specs.Induced.{image, IndLt}
 use Rattle.theory.specs.Syzygy.{Family, Up, In, Ahead, Gröbner}
 use Rattle.theory.specs.Reckon.{Lower, Reducers, lift, reckon}
 use Rattle.theory.proofs.Vec
-use Rattle.theory.proofs.Top.{Le, Leading, leading, leading-lead, lead-same, lead-unique}
+use Rattle.theory.proofs.Top.{Le, δ, Leading, leading, leading-lead, lead-coef, lead-same, lead-unique}
 use Rattle.theory.proofs.Lift.{Normal, Normals, normals, normal, Under, under, up-in}
 
 module _ (S : Scalars) {M : Monoid} (L : Level M) (F : Family S L) where
   -- a vector with m in front leads with m
-  pub ahead-lead : {m : M .E × ℕ} {v : Vec S (M .E × ℕ)} → Ahead S L F m v → Lead S (Up S L F) v m
+  abbrev pub ahead-lead : {m : M .E × ℕ} {v : Vec S (M .E × ℕ)} → Ahead S L F m v → Lead S (Up S L F) v m
   ahead-lead {m} a = record {
     coef = S .𝟙;
     rest = a .rest;
@@ -23,6 +23,10 @@ module _ (S : Scalars) {M : Monoid} (L : Level M) (F : Family S L) where
     smaller = Vec.all-map S (λ y. In S L F y × IndLt L (F .lm) y m) (λ y. IndLt L (F .lm) y m) (λ y h. h .1) (a .rest) (a .small);
     split = a .split;
   }
+
+  -- .. with coefficient 1
+  pub ahead-coef : {m : M .E × ℕ} {v : Vec S (M .E × ℕ)} → Ahead S L F m v → ev S (δ S (Up S L F) m) v ≡ S .mul (S .𝟙) (S .𝟙)
+  ahead-coef a = lead-coef S (Up S L F) (ahead-lead a)
 
 module _ (S : Scalars) {M : Monoid} (L : Level M) (F : Family S L) (reducer : Reducers S L F) where
   open Scalars S using (𝟙)
