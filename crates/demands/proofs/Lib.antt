@@ -21,3 +21,4 @@ pub mod Notions
 pub mod Bases
 pub mod Accepting
 pub mod Exact
+pub mod Short
