@@ -22,3 +22,4 @@ pub mod Bases
 pub mod Accepting
 pub mod Exact
 pub mod Short
+pub mod Kept

@@ -66,7 +66,7 @@ module _ (n p : ℕ) (P : Prime p) (code : ℕ) where
   Deep [] = Unit {0}
   Deep (f ∷ b) = Regulars b f × Deep b
 
-  cons-in : (f : TLevel n) (j : ℕ) → T (cons? n (getD f j [])) → j < length f
+  pub cons-in : (f : TLevel n) (j : ℕ) → T (cons? n (getD f j [])) → j < length f
   cons-in [] j t = absurd t
   cons-in (v ∷ f) zero t = omega arith
   cons-in (v ∷ f) (suc j) t = let h : j < length f = cons-in f j t in omega arith

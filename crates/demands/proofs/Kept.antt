@@ -1,0 +1,132 @@
+-- A level lifted over sound levels is the reckoning's level and leaves the levels sound.
+use mathlib.Core.Path.{_≡_, refl, sym, ap, _∙_, subst}
+use mathlib.Core.Bool.{Bool, true, false}
+use mathlib.Core.Option.{Option, none, some}
+use mathlib.Core.List.{List, [], _∷_, _++_}
+use Prim.Native.Nat.{ℕ, zero, suc, _+_, _-_, _<_, _≤_}
+use native.Mathlib.Omega.{arith}
+use lib.Dec.{T, leb}
+use lib.ListN.{length, getD, drop}
+use Rattle.theory.specs.Vec.{All}
+use Rattle.theory.specs.Canon.{Canonical}
+use Rattle.theory.proofs.Vec
+use Rattle.definitions.specs.Limits.{Limits}
+use Rattle.definitions.specs.Lists.{_and_, every, between}
+use Rattle.definitions.specs.Monomial
+use Rattle.definitions.specs.Monomial.{Monomial, Term, Vector, leading-monomials}
+use Rattle.definitions.specs.Frame.{frame}
+use Rattle.definitions.specs.Result.{Result, done, refused, unfinished, _>>=_}
+use Rattle.definitions.specs.Stage.{highest, stage-over}
+use Rattle.definitions.specs.Lifting.{Lifting, lift-one, lift-all, if-few, limited-frame, lift-level}
+use Rattle.definitions.specs.Problem.{Parameters}
+use Rattle.definitions.specs.State.{term-sound?, vector-sound?, levels-sound?, terms-of, lengths}
+use Rattle.definitions.specs.Reckoning.{reckoned-level}
+use Rattle.definitions.proofs.Modular.{Prime}
+use Rattle.definitions.proofs.Tests.{and-both, between-shown}
+use Rattle.definitions.proofs.Sound.{Sound-term, term-shown, Sound-vector, vector-shown, level-shown}
+use Rattle.demands.proofs.Results.{Ends, Gives, gives, refuses, open-yet, ends-then, ends-map, ends-both}
+use Rattle.demands.proofs.Exponents.{out, out-length, out-past}
+use Rattle.demands.proofs.Levels.{Mono, TVec, TLevel, mono, term, vec, vec-length, flat, flats, flat-length, cons?, lm, module-over, Has}
+use Rattle.demands.proofs.Coefficients.{Good, good-nonzero, good-below}
+use Rattle.demands.proofs.Setting.{Setting, S}
+use Rattle.demands.proofs.Soundness.{tlevel, tlevels, Regular, Regulars, Deep, cons-in, Within, Levels-right, levels-right}
+use Rattle.demands.proofs.Sums.{Goods, canonical-good}
+use Rattle.demands.proofs.Runs.{stage, InVector}
+use Rattle.demands.proofs.Reckoned.{vector}
+use Rattle.demands.proofs.Bases.{here}
+use Rattle.demands.proofs.Ways.{vectors, All-ok, total}
+use Rattle.demands.proofs.Stages.{terms}
+use Rattle.demands.proofs.Lifted.{Lifted-right, level-lifted, level-bound}
+use Rattle.demands.proofs.Accepting.{canonical-descends}
+use Rattle.demands.proofs.Exact.{regular-above}
+use Rattle.demands.proofs.Short.{All-short, all-short}
+
+module _ (lim : Limits) (q : Parameters) (P : Prime (q .p)) (eight : q .n ≤ 8) (f : TLevel (q .n)) (b : List (TLevel (q .n)))
+    (d : Deep (q .n) (q .p) P (q .code) (f ∷ b)) where
+  abbrev Z : Setting
+  Z = here q P eight f b d
+
+  -- ## Sound vectors
+
+  term-sound : (t : ℕ × Mono (q .n)) → Good (q .p) (t .0) → InVector Z lim (t .1) → T (term-sound? lim q (length (flat (q .n) f)) (term (q .n) t))
+  term-sound t g h = term-shown lim q (length (flat (q .n) f)) (term (q .n) t) (record {
+    coefficient = let a = good-nonzero (q .p) P (t .0) g in let c : t .0 < q .p = good-below (q .p) P (t .0) g in
+        between-shown 1 (t .0) (q .p - 1) (omega arith) (omega arith);
+    component = let l : t .1 .1 < length f = cons-in (q .n) (q .p) P (q .code) f (t .1 .1) (h .0) in
+        between-shown 1 (suc (t .1 .1)) (length (flat (q .n) f)) (omega arith) (omega (arith, flat-length (q .n) f));
+    eight = out-length (q .n) eight (t .1 .0);
+    fits = h .1;
+    past = out-past (q .n) (t .1 .0);
+  })
+
+  terms-sound : (v : TVec (q .n)) → Goods (q .n) (q .p) P v → All (S Z) (InVector Z lim) v → T (every (term-sound? lim q (length (flat (q .n) f))) (vec (q .n) v))
+  terms-sound [] g h = tt
+  terms-sound (t ∷ v) g h =
+      and-both (term-sound? lim q (length (flat (q .n) f)) (term (q .n) t)) (every (term-sound? lim q (length (flat (q .n) f))) (vec (q .n) v))
+      (term-sound t (g .0) (h .0)) (terms-sound v (g .1) (h .1))
+
+  filled : (v : TVec (q .n)) → T (cons? (q .n) v) → 1 ≤ length (vec (q .n) v)
+  filled [] t = absurd t
+  filled (u ∷ v) t = omega arith
+
+  vector-sound : (v : TVec (q .n)) → Regular (q .n) (q .p) P (q .code) (f ∷ b) v → All (S Z) (InVector Z lim) v → length (vec (q .n) v) ≤ lim .vector
+      → T (vector-sound? lim q (length (flat (q .n) f)) (lim .vector) (flats (q .n) (f ∷ b)) (vec (q .n) v))
+  vector-sound v r h l = vector-shown lim q (length (flat (q .n) f)) (lim .vector) (flats (q .n) (f ∷ b)) (vec (q .n) v) (record {
+    filled = filled v (r .has-one);
+    short = l;
+    terms = terms-sound v (canonical-good (q .n) (q .p) P (q .code) (f ∷ b) v (r .canonical)) h;
+    descends = canonical-descends (q .n) (q .p) P (q .code) (f ∷ b) (Z .grounded) v (r .inside) (r .canonical);
+  })
+
+  level-sound : (ys : List (Mono (q .n))) → Regulars (q .n) (q .p) P (q .code) (f ∷ b) (vectors Z lim ys) → All-ok Z lim ys → All-short (stage Z lim) (lim .vector) (flat (q .n) (vectors Z lim ys))
+      → T (every (vector-sound? lim q (length (flat (q .n) f)) (lim .vector) (flats (q .n) (f ∷ b))) (flat (q .n) (vectors Z lim ys)))
+  level-sound [] r h l = tt
+  level-sound (y ∷ ys) r h l =
+      and-both (vector-sound? lim q (length (flat (q .n) f)) (lim .vector) (flats (q .n) (f ∷ b)) (vec (q .n) (vector Z y)))
+      (every (vector-sound? lim q (length (flat (q .n) f)) (lim .vector) (flats (q .n) (f ∷ b))) (flat (q .n) (vectors Z lim ys)))
+      (vector-sound (vector Z y) (r 0 (omega arith)) (h .0) (l .0)) (level-sound ys (λ j i. r (suc j) (omega arith)) (h .1) (l .1))
+
+  terms-total : (ys : List (Mono (q .n))) → terms-of (flat (q .n) (vectors Z lim ys)) ≡ total Z lim ys
+  terms-total [] = refl
+  terms-total (y ∷ ys) = let e : length (vec (q .n) (vector Z y)) ≡ length (vector Z y) = vec-length (q .n) (vector Z y) in omega (arith, terms-total ys)
+
+  vectors-count : (ys : List (Mono (q .n))) → length (flat (q .n) (vectors Z lim ys)) ≡ length ys
+  vectors-count [] = refl
+  vectors-count (y ∷ ys) = ap suc (vectors-count ys)
+
+  -- ## What lifting leaves
+
+  module _ (o : 1 ≤ lim .vector) (fits : (j : ℕ) → j < length f → Within lim (q .n) (lm (q .n) f j)) (under : T (levels-sound? lim q (flats (q .n) (f ∷ b)))) where
+    few-short : (b : Bool) (ms : List Monomial) (way : Lifting) (N : ℕ)
+        → Gives (All-short (stage Z lim) (lim .vector)) (if-few b ms >>= λ ms. lift-all (stage Z lim) (lift-one (stage Z lim) way N) ([], 0) [] ms)
+    few-short false ms way N = refuses tt
+    few-short true ms way N = all-short (stage Z lim) o way N ([], 0) [] ms tt
+
+    pub lift-kept : (way : Lifting) (N : ℕ)
+        → Gives (λ g. (g ≡ flat (q .n) (vectors Z lim (terms Z eight (lim .numbering (q .code))))) × T (levels-sound? lim q (g ∷ flats (q .n) (f ∷ b))))
+        (lift-level lim (q .p) (q .code) (flats (q .n) (f ∷ b)) way N)
+    lift-kept way N = ends-both (λ g r s. kept g r s) (level-lifted Z lim eight fits way N)
+        (few-short (leb (length (frame code (leading-monomials (flat (q .n) f)))) (lim .vectors)) (frame code (leading-monomials (flat (q .n) f))) way N)
+      where
+        code : ℕ
+        code = lim .numbering (q .code)
+
+        xs : List (Mono (q .n))
+        xs = terms Z eight code
+
+        sound : All-ok Z lim xs → length xs ≤ lim .vectors → total Z lim xs ≤ lim .level-terms → All-short (stage Z lim) (lim .vector) (flat (q .n) (vectors Z lim xs))
+            → T (levels-sound? lim q (flat (q .n) (vectors Z lim xs) ∷ flats (q .n) (f ∷ b)))
+        sound ok few short s = level-shown lim q (flat (q .n) (vectors Z lim xs)) (flat (q .n) f) (flats (q .n) b) (record {
+          few = omega (arith, vectors-count xs);
+          short = omega (arith, terms-total xs);
+          vectors = level-sound xs (regular-above lim q P eight f b d code) ok s;
+          under = under;
+        })
+
+        kept : (g : Monomial.Level) → Lifted-right Z lim eight fits g → All-short (stage Z lim) (lim .vector) g
+            → (g ≡ flat (q .n) (vectors Z lim xs)) × T (levels-sound? lim q (g ∷ flats (q .n) (f ∷ b)))
+        kept g r s = (
+          r .is,
+          subst (λ z. T (levels-sound? lim q (z ∷ flats (q .n) (f ∷ b)))) (sym (r .is))
+              (sound (r .ok) (r .few) (r .short) (subst (All-short (stage Z lim) (lim .vector)) (r .is) s)),
+        )
