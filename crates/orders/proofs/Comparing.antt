@@ -1,18 +1,20 @@
 -- Comparing eight exponents from the first, or from the last.
-use mathlib.Core.Path.{_≡_, refl, sym, ap, _∙_}
+use mathlib.Core.Path.{_≡_, refl, sym, ap, _∙_, subst}
 use mathlib.Core.Bool.{Bool, true, false}
-use mathlib.Core.List.{List, [], _∷_}
+use mathlib.Core.List.{[], _∷_}
 use Prim.Native.Nat.{ℕ, zero, suc, _+_, _<_, _≤_}
 use native.Mathlib.Nat.{not-suc-le-zero, le-of-suc-le-suc}
 use native.Mathlib.Omega.{arith}
 use native.Mathlib.Decide.{ℕ-discrete}
-use lib.Dec.{eqb}
+use lib.Dec.{T, eqb}
 use lib.ListN.{length, getD, drop, drop-of-length-le}
 use lib.Seq.{drop-cons}
-use borrow.Author.Tests.{eq-eqb, ne-eqb}
+use borrow.Author.Tests.{ne-eqb}
 use Rattle.definitions.specs.Monomial.{Exponents}
 use Rattle.definitions.specs.Order.{Comparison, greater, equal, smaller, or-at-tie, numbers, lexicographic, last-differing, degrees, exponents-by}
+use Rattle.definitions.specs.Layout.{Words}
 use Rattle.definitions.proofs.Comparisons.{Says, numbers-are}
+use Rattle.orders.specs.Images.{decided?, exponents-raw}
 
 -- ## From the first: what is still to be compared decides
 
@@ -49,17 +51,24 @@ last-differing-equal (a ∷ x) (b ∷ y) e f =
     (λ i. or-at-tie (last-differing-equal x y (omega arith) (λ k h l. f (suc k) (omega arith) (omega arith)) i) (numbers b a))
     ∙ numbers-are b a equal (sym (f 0 (omega arith) (omega arith)))
 
-abbrev Decided : Comparison → Type 0
-Decided greater = Unit {0}
-Decided equal = ⊥
-Decided smaller = Unit {0}
-
-tie-decided : (c d : Comparison) → Decided c → or-at-tie c d ≡ c
+pub tie-decided : (c d : Comparison) → T (decided? c) → or-at-tie c d ≡ c
 tie-decided greater d h = refl
 tie-decided equal d h = absurd h
 tie-decided smaller d h = refl
 
-last-differing-at : (x y : Exponents) (j : ℕ) (c : Comparison) → length y ≡ length x → j < length x → Equal-from (j + 1) x y → Says c (getD y j 0) (getD x j 0) → Decided c → last-differing x y ≡ c
+pub tie-open : (c d : Comparison) → decided? c ≡ false → or-at-tie c d ≡ d
+tie-open greater d h = let z : _≡_ {A = ℕ} 0 1 = cc in absurd (omega arith)
+tie-open equal d h = refl
+tie-open smaller d h = let z : _≡_ {A = ℕ} 0 1 = cc in absurd (omega arith)
+
+-- the code's answer, where the first comparison decides and where it does not
+pub first-decides : (r c d : Comparison) → r ≡ c → decided? r ≡ true → r ≡ or-at-tie c d
+first-decides r c d e t = e ∙ sym (tie-decided c d (subst T (sym (ap decided? (sym e) ∙ t)) tt))
+
+pub second-decides : (r s c d : Comparison) → s ≡ c → decided? s ≡ false → r ≡ d → r ≡ or-at-tie c d
+second-decides r s c d e t f = f ∙ sym (tie-open c d (ap decided? (sym e) ∙ t))
+
+last-differing-at : (x y : Exponents) (j : ℕ) (c : Comparison) → length y ≡ length x → j < length x → Equal-from (j + 1) x y → Says c (getD y j 0) (getD x j 0) → T (decided? c) → last-differing x y ≡ c
 last-differing-at [] y j c e h f s d = absurd (not-suc-le-zero h)
 last-differing-at (a ∷ x) [] j c e h f s d = absurd (omega arith)
 last-differing-at (a ∷ x) (b ∷ y) zero c e h f s d =
@@ -97,3 +106,16 @@ code-3 code x y n m = go (eqb code 1) (eqb code 2) (ne-eqb code 1 n) (ne-eqb cod
     go true b e f = let z : _≡_ {A = ℕ} 0 1 = cc in absurd (omega arith)
     go false true e f = let z : _≡_ {A = ℕ} 0 1 = cc in absurd (omega arith)
     go false false e f = refl
+
+-- ## Raw exponents
+
+pub getD-raw : (s : Words) (a k : ℕ) → k < 8 → getD (exponents-raw s a) k 0 ≡ getD s (a + k) 0
+getD-raw s a zero l = let q : a ≡ a + 0 = omega arith in ap (λ j. getD s j 0) q
+getD-raw s a (suc zero) l = refl
+getD-raw s a (suc (suc zero)) l = refl
+getD-raw s a (suc (suc (suc zero))) l = refl
+getD-raw s a (suc (suc (suc (suc zero)))) l = refl
+getD-raw s a (suc (suc (suc (suc (suc zero))))) l = refl
+getD-raw s a (suc (suc (suc (suc (suc (suc zero)))))) l = refl
+getD-raw s a (suc (suc (suc (suc (suc (suc (suc zero))))))) l = refl
+getD-raw s a (suc (suc (suc (suc (suc (suc (suc (suc k)))))))) l = absurd (omega arith)

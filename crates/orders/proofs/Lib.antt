@@ -1,1 +1,4 @@
 pub mod Comparing
+pub mod Tables
+pub mod Ranks
+pub mod Induced

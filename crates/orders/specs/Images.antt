@@ -1,5 +1,5 @@
 -- The code's comparisons as the definitions' ones; images on level 0 and the table that gives them.
-use mathlib.Core.Path.{_≡_}
+use mathlib.Core.Bool.{Bool, true, false}
 use mathlib.Core.Option.{Option, none, some}
 use mathlib.Core.List.{List, [], _∷_, _++_}
 use Prim.Native.Nat.{ℕ, zero, suc, _+_, _*_, _<_, _≤_}
@@ -16,6 +16,12 @@ abbrev pub comparison-of : Comparison → definition.Comparison
 comparison-of Greater = greater
 comparison-of Equal = equal
 comparison-of Smaller = smaller
+
+-- not a tie
+abbrev pub decided? : definition.Comparison → Bool
+decided? greater = true
+decided? equal = false
+decided? smaller = true
 
 -- ## Keys
 

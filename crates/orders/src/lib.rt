@@ -7,7 +7,7 @@ ghost use lib.ListN.{length};
 ghost use Rattle.definitions.specs.Monomial.{degree, product};
 ghost use Rattle.definitions.specs.Order.{numbers as numbers-definition, lexicographic as lexicographic-definition, last-differing as last-differing-definition, exponents-by, compare-over};
 ghost use Rattle.monomial.specs.Values.{monomial-of};
-ghost use Rattle.orders.specs.Images.{comparison-of, exponents-raw, table-of, Bounded, Tabled, key, key-of, compare-keys};
+ghost use Rattle.orders.specs.Images.{comparison-of, decided?, exponents-raw, table-of, Bounded, Tabled, key, key-of, compare-keys};
 use monomial::Monomial;
 
 pub enum Comparison {
@@ -33,6 +33,17 @@ fn numbers(x: u32, y: u32) -> Comparison
         return Comparison::Smaller;
     }
     Comparison::Equal
+}
+
+// Not a tie.
+fn decided(c: Comparison) -> bool
+    ensures { λ r. ⌜ r ≡ decided? (comparison-of c) ⌝ }
+{
+    match c {
+        Comparison::Greater => true,
+        Comparison::Equal => false,
+        Comparison::Smaller => true,
+    }
 }
 
 fn lexicographic(x: [u16; 8], y: [u16; 8]) -> Comparison
@@ -94,16 +105,16 @@ pub fn by_code(code: u16, x: [u16; 8], y: [u16; 8]) -> Comparison
         1 => lexicographic(x, y),
         2 => {
             let d = numbers(total(x), total(y));
-            let Comparison::Equal = d else {
+            if decided(d) {
                 return d;
-            };
+            }
             lexicographic(x, y)
         }
         _ => {
             let d = numbers(total(x), total(y));
-            let Comparison::Equal = d else {
+            if decided(d) {
                 return d;
-            };
+            }
             last_differing(x, y)
         }
     }
@@ -128,9 +139,9 @@ pub fn compare(code: u16, a: Monomial, b: Monomial) -> Comparison
     let x = a.exponents;
     let y = b.exponents;
     let d = by_code(code, widened(x), widened(y));
-    let Comparison::Equal = d else {
+    if decided(d) {
         return d;
-    };
+    }
     numbers(wider(a.component), wider(b.component))
 }
 
@@ -192,12 +203,12 @@ pub fn compare_images(code: u16, a: Image, b: Image) -> Comparison
     let x = a.exponents;
     let y = b.exponents;
     let d = by_code(code, x, y);
-    let Comparison::Equal = d else {
+    if decided(d) {
         return d;
-    };
+    }
     let t = numbers(wider(a.rank), wider(b.rank));
-    let Comparison::Equal = t else {
+    if decided(t) {
         return t;
-    };
+    }
     numbers(wider(a.component), wider(b.component))
 }

@@ -1,56 +1,52 @@
-use borrow.Author.Needs.{needs}
 use native.Mathlib.Omega.{arith}
-use mathlib.Core.Path.{_≡_, refl, sym, ap, _∙_, subst}
-use mathlib.Core.List.{List, [], _∷_, _++_}
-use Prim.Native.Nat.{ℕ, suc, _+_, _-_, _*_, _<_, _≤_}
-use lib.ListN.{length, take, drop, getD, set, length-set}
+use mathlib.Core.Path.{_≡_, sym, ap, _∙_}
+use Prim.Native.Nat.{_+_, _-_, _*_, _≤_}
+use lib.ListN.{length, drop}
+use Rattle.definitions.specs.Monomial.{degree}
+use Rattle.monomial.proofs.Scans.{degree-on, degree-end}
 use Rattle.orders.proofs.total.Statement.{statement}
 use Rattle.orders.proofs.total.Tie as tie
-use Rattle.orders.proofs.total.Reads as reads
-use Rattle.orders.proofs.total.Lts as lts
-use Rattle.orders.proofs.wider.Reads as wider-reads
 
 abbrev Inv-loop : tie.InvT-loop
-Inv-loop x d₀ j₀ d j = ?
+Inv-loop x d₀ j₀ d j = (j ≤ 8) × (length x ≡ 8) × (d ≤ 65535 * j) × (d + degree (drop j x) ≡ degree x)
 
 abbrev μ-loop : tie.MeasureT-loop
-μ-loop x d₀ j₀ d j = ?
+μ-loop x d₀ j₀ d j = 8 - j
 
--- src/lib.rt:82:5
 loop-holds : tie.Need-loop-holds Inv-loop μ-loop
-loop-holds c = omega arith
+loop-holds c = (omega arith, omega arith, omega arith, omega arith)
 
--- src/lib.rt:83:20
 mul-wider : tie.Need-mul-wider Inv-loop μ-loop
 mul-wider c = omega arith
 
--- src/lib.rt:83:20
 array-read-wider : tie.Need-array-read-wider Inv-loop μ-loop
 array-read-wider c = omega arith
 
--- src/lib.rt:83:14
 wider-requires : tie.Need-wider-requires Inv-loop μ-loop
 wider-requires c κs = omega arith
 
--- src/lib.rt:83:9
 add-d : tie.Need-add-d Inv-loop μ-loop
 add-d c = omega arith
 
--- src/lib.rt:84:9
 add-j : tie.Need-add-j Inv-loop μ-loop
 add-j c = omega arith
 
--- src/lib.rt:82:5
 loop-less : tie.Need-loop-less Inv-loop μ-loop
 loop-less c = omega arith
 
--- src/lib.rt:82:5
 loop-again : tie.Need-loop-again Inv-loop μ-loop
-loop-again c = omega arith
+loop-again c =
+    let l = c .before .before .loop in
+    let x = c .before .before .before .args .t1 in
+    let w = c .wider .ensures in (
+      omega arith,
+      l .inv .1,
+      omega arith,
+      ap (λ n. l .d + n + degree (drop (l .j + 1) x)) (w .0) ∙ sym (degree-on x (l .j) (l .d) (omega arith)) ∙ l .inv .3,
+    )
 
--- src/lib.rt:77:1
 returns : tie.Need-returns Inv-loop μ-loop
-returns c = omega arith
+returns c = let l = c .before .loop in sym (degree-end (c .before .before .args .t1) (l .j) (l .d) (omega arith)) ∙ l .inv .3
 
 pub total-spec : {M : Type 1} → statement M
 total-spec =
