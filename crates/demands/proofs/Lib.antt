@@ -23,3 +23,4 @@ pub mod Accepting
 pub mod Exact
 pub mod Short
 pub mod Kept
+pub mod Over

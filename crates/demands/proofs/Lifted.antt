@@ -41,7 +41,7 @@ module _ (Z : Setting) (lim : Limits) (eight : Z .n ≤ 8) (fits : (j : ℕ) →
 
   -- ## The frame terms are in range and within the limit
 
-  term-fits : (x : Mono (Z .n)) → Member (mono (Z .n) x) (frame-terms Z eight code) → Fits Z lim x
+  pub term-fits : (x : Mono (Z .n)) → Member (mono (Z .n) x) (frame-terms Z eight code) → Fits Z lim x
   term-fits x m =
       let w : Written Z eight code (mono (Z .n) x) = written Z eight code (mono (Z .n) x) m in
       let e : w .x ≡ x = mono-injective (Z .n) (w .x) x (sym (w .is)) in
