@@ -24,3 +24,4 @@ pub mod Exact
 pub mod Short
 pub mod Kept
 pub mod Over
+pub mod Reckonings
