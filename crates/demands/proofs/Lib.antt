@@ -19,9 +19,11 @@ pub mod Ways
 pub mod Lifted
 pub mod Notions
 pub mod Bases
+pub mod LeadingModule
 pub mod Accepting
 pub mod Exact
 pub mod Short
 pub mod Kept
 pub mod Over
 pub mod Reckonings
+pub mod Demand2

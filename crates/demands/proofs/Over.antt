@@ -1,5 +1,6 @@
 -- What the theory gives over the levels of a sound state, said of the levels themselves.
 use mathlib.Core.Path.{_≡_, refl, sym, ap, _∙_, subst}
+use mathlib.Core.Logic.{_↔_}
 use mathlib.Core.Bool.{Bool, true, false}
 use mathlib.Core.Option.{Option, none, some}
 use mathlib.Core.List.{List, [], _∷_}
@@ -26,7 +27,7 @@ use Rattle.definitions.specs.Reckoning.{reckoned-vector, reckoned-level}
 use Rattle.definitions.proofs.Modular.{Prime, prime-says}
 use Rattle.definitions.proofs.Tests.{and-left, and-right, between-high}
 use Rattle.definitions.proofs.Sound.{Sound, sound-says}
-use Rattle.demands.specs.Notions.{Gröbner-basis, Member}
+use Rattle.demands.specs.Notions.{Gröbner-basis, Leading-generated, Member}
 use Rattle.demands.specs.Picks.{All-pick, run-by}
 use Rattle.demands.specs.Demands.{sensible?, Read-right, accepts, limited, stopped, open-yet, Level-right}
 use Rattle.demands.proofs.Results.{Gives, ends-map, ends-at}
@@ -39,6 +40,7 @@ use Rattle.demands.proofs.Runs.{stage, All-in}
 use Rattle.demands.proofs.Reckoned.{vector, vector-bound}
 use Rattle.demands.proofs.Stages.{Written, written, terms, term-real}
 use Rattle.demands.proofs.Bases.{here, gröbner-in, gröbner-out}
+use Rattle.demands.proofs.LeadingModule.{leading-module}
 use Rattle.demands.proofs.Ways.{Free, never, Lifts, picks-lift, vectors}
 use Rattle.demands.proofs.Lifted.{term-fits, level-bound}
 use Rattle.demands.proofs.Accepting.{Accepted-right, is-basis, limit-met, shown-why, steps-left, accept-right}
@@ -86,6 +88,7 @@ pub record Over (lim : Limits) (q : Parameters) (below : List Monomial.Level) : 
   pub picks : (W : Strategy) (Ws : List Strategy) (m : Monomial) → Member m (frame (lim .numbering (q .code)) (leading-monomials (highest below))) → All-pick Ws
       → Gives (λ v. (bound : ℕ) × (reckoned-vector bound (q .p) (q .code) below m ≡ some v)) (run-by (stage-over lim (q .p) (q .code) below) W Ws m)
   pub eights : Eight-each (highest below)
+  pub generates : Gröbner-basis q (rest below) (highest below) ↔ Leading-generated q (rest below) (highest below)
 
 module _ (lim : Limits) (q : Parameters) (P : Prime (q .p)) (eight : q .n ≤ 8) where
   head-within : (v : TVec (q .n)) → T (cons? (q .n) v) → All (ModP (q .p) P) (Within lim (q .n)) v → Within lim (q .n) (head (q .n) v)
@@ -142,7 +145,7 @@ module _ (lim : Limits) (q : Parameters) (P : Prime (q .p)) (eight : q .n ≤ 8)
       }) (lift-kept lim q P eight f b d s leading-within under way N)
 
       over-theory : Over lim q (flats (q .n) (f ∷ b))
-      over-theory = record { lifts = lifted; picks = picked; eights = leading-eight }
+      over-theory = record { lifts = lifted; picks = picked; eights = leading-eight; generates = leading-module q P eight f b d }
 
   -- ## Over sound levels
 

@@ -72,8 +72,11 @@ pub record Demand-2 (lim : Limits) : Type 0 where
       → T (accepted? (read lim n bytes)) ↔ Gröbner-basis q [] f
   -- what 9 shows is no Gröbner basis
   pub shows : (q : Parameters) (f : Level) (value : Vector) → Shows-why q f value → Gröbner-basis q [] f → ⊥
-  -- document 01's Gröbner bases are those whose leading monomials generate the leading module
-  pub generated : (bytes : Bytes) (q : Parameters) (f : Level) → problem lim bytes ≡ done (q, f) → Gröbner-basis q [] f ↔ Leading-generated q [] f
+  -- what the reader takes is a sound state with level 0 alone
+  pub well-formed : (bytes : Bytes) (q : Parameters) (f : Level) → problem lim bytes ≡ done (q, f) → T (sound? lim (record { parameters = q; levels = f ∷ [] }))
+  -- document 01's Gröbner bases are those whose leading monomials generate the leading module, on every level of a sound state
+  pub generated : (q : Parameters) (f : Level) (below : List Level) → T (sound? lim (record { parameters = q; levels = f ∷ below }))
+      → Gröbner-basis q below f ↔ Leading-generated q below f
   -- a file that is not well-formed is refused as the reader refuses it
   pub ill-formed : (n : ℕ) (bytes : Bytes) (number place : ℕ) (value : Vector) → problem lim bytes ≡ refused number place value → read lim n bytes ≡ refused number place value
   -- the frame of each level of a sound state, in each order that numbers it, is the minimal one, and the only one
