@@ -27,3 +27,4 @@ pub mod Kept
 pub mod Over
 pub mod Reckonings
 pub mod Demand2
+pub mod Held

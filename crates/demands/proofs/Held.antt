@@ -1,0 +1,172 @@
+-- The state holds what the reckoning says: after reading, and after lifting a level.
+use mathlib.Core.Path.{_≡_, refl, sym, ap, _∙_, subst}
+use mathlib.Core.Logic.{_⊎_, inl, inr}
+use mathlib.Core.Bool.{Bool, true, false, not, _||_}
+use mathlib.Core.Option.{Option, none, some}
+use mathlib.Core.List.{List, [], _∷_}
+use Prim.Native.Nat.{ℕ, zero, suc, _-_, _<_, _≤_}
+use native.Mathlib.Omega.{arith}
+use lib.Dec.{T, ltb, ltb→lt}
+use lib.ListN.{length, drop, length-drop}
+use Rattle.definitions.specs.Limits.{Limits}
+use Rattle.definitions.specs.Lists.{_and_, rest, between}
+use Rattle.definitions.specs.Monomial.{Vector, Level}
+use Rattle.definitions.specs.Result.{Result, done, refused, unfinished, at-level, _>>=_}
+use Rattle.definitions.specs.Stage.{highest}
+use Rattle.definitions.specs.Lifting.{Lifting, lift-level}
+use Rattle.definitions.specs.Problem.{Bytes, Parameters, problem}
+use Rattle.definitions.specs.State.{State, empty, has-level?, up-to, levels-sound?, sound?}
+use Rattle.definitions.specs.Calls.{accepted, read, lift}
+use Rattle.definitions.specs.Reckoning.{Reckoning, nothing, basis-of, reckoned-level}
+use Rattle.definitions.proofs.Tests.{between-low, between-high}
+use Rattle.definitions.proofs.Results.{If-done}
+use Rattle.definitions.proofs.Sound.{Sound, sound-says, sound-shown, level-says}
+use Rattle.definitions.proofs.Numbers
+use Rattle.definitions.proofs.Numbers.{Numbered, limit-number?, read-number?, read-number, lift-number}
+use Rattle.definitions.proofs.Reading.{basis-state, problem-sound}
+use Rattle.demands.specs.Notions.{Gröbner-basis}
+use Rattle.demands.specs.Demands
+use Rattle.demands.specs.Demands.{sensible?, Read-right, accepts, limited, stopped, Level-right, Exact, Reckons, Of-basis}
+use Rattle.demands.proofs.Results.{Ends, Gives, gives, refuses, open-yet, ends-then, ends-map, ends-both, ends-turn}
+use Rattle.demands.proofs.Over.{few-variables, vector-room, sound-prime, sound-eight, Lift-right, accepted-right}
+use Rattle.demands.proofs.Reckonings.{Tower, tower-reckons, drop-keeps}
+use Rattle.demands.proofs.Demand2.{over-sound}
+
+-- ## What the reckoning holds and what the state holds
+
+pub data Held (lim : Limits) : Reckoning → State → Type 0 where
+  none-held : Held lim nothing empty
+  held : {q : Parameters} {f : Level} {levels : List Level} {h : ℕ} → length levels ≡ suc h → Tower lim q f levels
+      → T (sound? lim (record { parameters = q; levels = levels })) → Exact lim q levels
+      → Held lim (record { basis = some (q, f); h = h }) (record { parameters = q; levels = levels })
+
+pub record Agrees (lim : Limits) (R : Reckoning) (X : State) : Type 0 where
+  pub levels : Reckons lim R (X .levels)
+  pub parameters : Of-basis X (R .basis)
+  pub sound : (X ≡ empty) ⊎ T (sound? lim X)
+  pub exact : Exact lim (X .parameters) (X .levels)
+
+pub held-agrees : (lim : Limits) (R : Reckoning) (X : State) → Held lim R X → Agrees lim R X
+held-agrees lim R X none-held = record { levels = (0, refl); parameters = refl; sound = inl refl; exact = tt }
+held-agrees lim R X (held {q} {f} {levels} {h} l t s e) = record { levels = tower-reckons lim q f levels h l t; parameters = refl; sound = inr s; exact = e }
+
+-- ## Levels taken away, and a level more
+
+module _ (lim : Limits) (q : Parameters) where
+  tower-down : (f g b : Level) (below : List Level) → Tower lim q f (g ∷ b ∷ below) → Tower lim q f (b ∷ below)
+  tower-down f g b below t = t .1
+
+  sound-down : (g b : Level) (below : List Level) → T (levels-sound? lim q (g ∷ b ∷ below)) → T (levels-sound? lim q (b ∷ below))
+  sound-down g b below t = level-says lim q g b below t .under
+
+  exact-down : (g b : Level) (below : List Level) → Exact lim q (g ∷ b ∷ below) → Exact lim q (b ∷ below)
+  exact-down g b below t = t .1
+
+  tower-up : (f g : Level) (below : List Level) → Tower lim q f below → (bound : ℕ) × (reckoned-level lim bound (q .p) (q .code) below ≡ some g) → Tower lim q f (g ∷ below)
+  tower-up f g [] t r = absurd t
+  tower-up f g (b ∷ below) t r = (r, t)
+
+  -- the highest level is a Gröbner basis
+  exact-basis : (f : Level) (below : List Level) → Tower lim q f below → Exact lim q below → Gröbner-basis q (rest below) (highest below)
+  exact-basis f [] t e = absurd t
+  exact-basis f (g ∷ []) t e = e
+  exact-basis f (g ∷ b ∷ below) t e = e .0 .basis
+
+  exact-up : (f g : Level) (below : List Level) → Tower lim q f below → Exact lim q below → Level-right q (lim .numbering (q .code)) below g → Exact lim q (g ∷ below)
+  exact-up f g [] t e r = absurd t
+  exact-up f g (b ∷ below) t e r = (r, e)
+
+-- ## The numbers of refusals
+
+numbered-ends : {A : Type 0} {ok : ℕ → Bool} {x : Result A} → Numbered ok x → Ends (λ a. Unit {0}) (λ number value. T (ok number)) x
+numbered-ends Numbers.gives = gives tt
+numbered-ends (Numbers.refuses t) = refuses t
+numbered-ends Numbers.open-yet = open-yet
+
+pub limit-read : (number : ℕ) → T (limit-number? number) → T (read-number? number)
+limit-read number t = go (between 1 number 9)
+  where
+    go : (b : Bool) → T (b || between 13 number 15)
+    go true = tt
+    go false = t
+
+module _ (lim : Limits) (o : T (sensible? lim)) where
+  -- ## Reading
+
+  -- what reading leaves, of what the reader gave
+  read-from : (n : ℕ) (x : Result (Parameters × Level)) → If-done (λ f. T (sound? lim (basis-state f))) x → Numbered read-number? (x >>= accepted lim n)
+      → Ends (Held lim (record { basis = basis-of x; h = 0 })) (λ number value. T (read-number? number)) (x >>= accepted lim n)
+  read-from n unfinished h k = open-yet
+  read-from n (refused number place value) h (Numbers.refuses t) = refuses t
+  read-from n (done (q, f)) h k = go (accepted-right lim q (sound-prime lim o X h) (sound-eight lim o X h) f (sound-says lim X h .levels) n)
+    where
+      X : State
+      X = basis-state (q, f)
+
+      go : {x : Result State} → Read-right lim q f x → Ends (Held lim (record { basis = some (q, f); h = 0 })) (λ number value. T (read-number? number)) x
+      go (accepts gb) = gives (held refl refl h gb)
+      go (limited {number} t) = refuses (limit-read number t)
+      go (stopped t s) = refuses tt
+      go Demands.open-yet = open-yet
+
+  pub read-held : (n : ℕ) (bytes : Bytes) → Ends (Held lim (record { basis = basis-of (problem lim bytes); h = 0 })) (λ number value. T (read-number? number)) (read lim n bytes)
+  read-held n bytes = read-from n (problem lim bytes) (problem-sound lim (few-variables lim o) bytes) (read-number lim n bytes)
+
+  -- ## Lifting
+
+  module _ (q : Parameters) (f : Level) (levels : List Level) (h k : ℕ) (l : length levels ≡ suc h) (t : Tower lim q f levels)
+      (s : T (sound? lim (record { parameters = q; levels = levels }))) (e : Exact lim q levels) (r : T (between 1 k (lim .levels))) (has : k - 1 < length levels) where
+    abbrev before : State
+    before = record { parameters = q; levels = levels }
+
+    -- the levels that stay
+    abbrev below : List Level
+    below = drop (length levels - suc (k - 1)) levels
+
+    low : 1 ≤ k
+    low = between-low 1 k (lim .levels) r
+
+    high : k ≤ lim .levels
+    high = between-high 1 k (lim .levels) r
+
+    left : length levels - suc (k - 1) < length levels
+    left = omega (arith, l)
+
+    height : length below ≡ k
+    height = let d = length-drop (length levels - suc (k - 1)) levels in omega (arith, d, has, low)
+
+    stays : (Y : List Level → Type 0) → ((g b : Level) (below : List Level) → Y (g ∷ b ∷ below) → Y (b ∷ below)) → Y levels → Y below
+    stays Y down y = drop-keeps Y down (length levels - suc (k - 1)) levels left y
+
+    tower-below : Tower lim q f below
+    tower-below = stays (Tower lim q f) (tower-down lim q f) t
+
+    exact-below : Exact lim q below
+    exact-below = stays (Exact lim q) (exact-down lim q) e
+
+    levels-below : T (levels-sound? lim q below)
+    levels-below = stays (λ ls. T (levels-sound? lim q ls)) (sound-down lim q) (sound-says lim before s .levels)
+
+    with-levels : (ls : List Level) → length ls ≤ suc (lim .levels) → T (levels-sound? lim q ls) → T (sound? lim (record { parameters = q; levels = ls }))
+    with-levels ls a b = sound-shown lim (record { parameters = q; levels = ls }) (record { prime = sound-says lim before s .prime; ranges = sound-says lim before s .ranges; height = a; levels = b })
+
+    level-held : (g : Level) → Lift-right lim q below g → Held lim (record { basis = some (q, f); h = k }) (record { parameters = q; levels = g ∷ below })
+    level-held g w =
+        held (ap suc height) (tower-up lim q f g below tower-below (w .bound, w .reckons)) (with-levels (g ∷ below) (omega (arith, height, high)) (w .sound))
+        (exact-up lim q f g below tower-below exact-below (w .exact (exact-basis lim q f below tower-below exact-below)))
+
+    at-held : {x : Result Level} → Gives (Lift-right lim q below) x
+        → Gives (Held lim (record { basis = some (q, f); h = k })) (at-level k x >>= λ g. done (record { parameters = q; levels = g ∷ below }))
+    at-held (gives {a} w) = gives (level-held a w)
+    at-held (refuses u) = refuses u
+    at-held open-yet = open-yet
+
+    lifted : (way : Lifting) (n : ℕ) → Gives (Held lim (record { basis = some (q, f); h = k })) (lift lim n before k way)
+    lifted way n = at-held (over-sound lim o q below (with-levels below (omega (arith, height, high)) levels-below) .lifts way n)
+
+  pub lift-held : (R : Reckoning) (X : State) → Held lim R X → (k : ℕ) (way : Lifting) (n : ℕ) → T (sound? lim X) → T (between 1 k (lim .levels)) → T (has-level? X (k - 1))
+      → Ends (Held lim (record { basis = R .basis; h = k })) (λ number value. T (read-number? number)) (lift lim n X k way)
+  lift-held R X none-held k way n s r c = absurd (sound-says lim empty s .levels)
+  lift-held R X (held {q} {f} {levels} {h} l t u e) k way n s r c =
+      ends-turn (λ Y y. y) (λ number value y. limit-read number y)
+      (ends-both (λ Y a b. b) (numbered-ends (lift-number lim n X k way)) (lifted q f levels h k l t u e r (ltb→lt (k - 1) (length levels) c) way n))
