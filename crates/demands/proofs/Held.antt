@@ -56,7 +56,7 @@ module _ (lim : Limits) (q : Parameters) where
   tower-down : (f g b : Level) (below : List Level) → Tower lim q f (g ∷ b ∷ below) → Tower lim q f (b ∷ below)
   tower-down f g b below t = t .1
 
-  sound-down : (g b : Level) (below : List Level) → T (levels-sound? lim q (g ∷ b ∷ below)) → T (levels-sound? lim q (b ∷ below))
+  pub sound-down : (g b : Level) (below : List Level) → T (levels-sound? lim q (g ∷ b ∷ below)) → T (levels-sound? lim q (b ∷ below))
   sound-down g b below t = level-says lim q g b below t .under
 
   exact-down : (g b : Level) (below : List Level) → Exact lim q (g ∷ b ∷ below) → Exact lim q (b ∷ below)

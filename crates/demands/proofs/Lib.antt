@@ -28,3 +28,5 @@ pub mod Over
 pub mod Reckonings
 pub mod Demand2
 pub mod Held
+pub mod Stored
+pub mod Demand3

@@ -79,6 +79,15 @@ holds-then nothing k = nothing
 pub holds-some : {A : Type 0} {P : A → Type 0} {a : A} → Holds P (some a) → P a
 holds-some (holds p) = p
 
+pub holds-map : {A : Type 0} {P Q : A → Type 0} {x : Option A} → ((a : A) → P a → Q a) → Holds P x → Holds Q x
+holds-map h (holds {a} p) = holds (h a p)
+holds-map h nothing = nothing
+
+-- what holds under a hypothesis
+pub holds-given : {A X : Type 0} {P : A → Type 0} (x : Option A) → (X → Holds P x) → Holds (λ a. X → P a) x
+holds-given none h = nothing
+holds-given (some a) h = holds (λ y. holds-some (h y))
+
 pub holds-at : {A : Type 0} {P : A → Type 0} {x : Option A} {a : A} → x ≡ some a → Holds P x → P a
 holds-at {P = P} e h = holds-some (subst (Holds P) e h)
 

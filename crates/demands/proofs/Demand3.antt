@@ -1,0 +1,115 @@
+-- Demand 3.
+use mathlib.Core.Path.{_≡_, refl, sym, ap, _∙_, subst}
+use mathlib.Core.Logic.{_⊎_, inl, inr}
+use mathlib.Core.Bool.{Bool, true, false}
+use mathlib.Core.Option.{Option, none, some}
+use mathlib.Core.List.{List, [], _∷_}
+use Prim.Native.Nat.{ℕ, zero, suc, _-_, _<_, _≤_}
+use native.Mathlib.Omega.{arith}
+use lib.Dec.{T}
+use lib.ListN.{length, drop, length-drop}
+use Rattle.definitions.specs.Limits.{Limits, document-01}
+use Rattle.definitions.specs.Lists.{_then_}
+use Rattle.definitions.specs.Monomial.{Monomial, Vector, Level, leading-monomials}
+use Rattle.definitions.specs.Frame.{frame}
+use Rattle.definitions.specs.Result.{Result, done, at-level, _>>=_}
+use Rattle.definitions.specs.Stage.{stage-over}
+use Rattle.definitions.specs.Run.{Strategy}
+use Rattle.definitions.specs.Lifting.{Lifting, lift-level}
+use Rattle.definitions.specs.Problem.{Parameters}
+use Rattle.definitions.specs.State.{State, up-to, levels-sound?, sound?}
+use Rattle.definitions.specs.Calls.{lift}
+use Rattle.definitions.specs.Reckoning.{Reckoning, nothing, reckon, reckon-all, reckoned-vector}
+use Rattle.definitions.specs.Layout.{Words, zeros, meant, Lent, read-with, lift-with, fetch-with, Left, lent-call, lent-calls}
+use Rattle.definitions.proofs.Sound.{sound-says}
+use Rattle.demands.specs.Notions.{Member}
+use Rattle.demands.specs.Picks.{All-pick, run-by}
+use Rattle.demands.specs.Demands.{sensible?, as-call, numbered, left-by, Reads, First-reads, Starts, Fetch-right, Fetches-right, Leaves, Demand-3}
+use Rattle.demands.proofs.Results.{Gives, gives, refuses, open-yet, ends-at, Holds, holds, holds-then, holds-map, holds-given, holds-at}
+use Rattle.demands.proofs.Over.{vector-room, sound-prime, sound-eight, Lift-right, over}
+use Rattle.demands.proofs.Reckonings.{one-level, one-reckoning, drop-keeps}
+use Rattle.demands.proofs.Demand2.{over-sound}
+use Rattle.demands.proofs.Held.{Agrees, held-agrees, sound-down}
+use Rattle.demands.proofs.Stored.{Stored, zeros-stored, Called, read-stored, lift-stored, fetch-stored}
+
+module _ (lim : Limits) (o : T (sensible? lim)) where
+  -- ## Lists of calls
+
+  stored-leaves : (R : Reckoning) (words : Words) → Stored lim R words → Leaves lim R words
+  stored-leaves R words s =
+      let a : Agrees lim R (meant lim words) = held-agrees lim R (meant lim words) (s .holds) in
+      record { levels = a .levels; parameters = a .parameters; sound = a .sound; spelled = s .spelled; exact = a .exact }
+
+  -- a call from words that agree with the reckoning
+  call-right : (n : ℕ) (state : Words) (R : Reckoning) → Stored lim R state → (c : Lent) → Holds (λ a. Called lim o R c a × Fetch-right lim R c a) (lent-call lim n state c)
+  call-right n state R s (read-with file work) = holds-map (λ a h. (h (inl s), tt)) (read-stored lim o n state R file work)
+  call-right n state R s (lift-with k way work cache) = holds-map (λ a h. (h, tt)) (lift-stored lim o n state R s k way work cache)
+  call-right n state R s (fetch-with k v out) = fetch-stored lim o n state R s k v out
+
+  abbrev All-right : Words → Reckoning → List Lent → List Left → Type 0
+  All-right state R cs ls = Leaves lim (reckon-all lim R (numbered cs ls)) (left-by state ls) × Fetches-right lim R cs ls
+
+  calls-right : (n : ℕ) (cs : List Lent) (state : Words) (R : Reckoning) → Stored lim R state → Holds (All-right state R cs) (lent-calls lim n state cs)
+  calls-right n [] state R s = holds (stored-leaves R state s, tt)
+  calls-right n (c ∷ cs) state R s = holds-then (call-right n state R s c) (λ a h.
+      holds-then (calls-right n cs (a .state) (reckon lim R (as-call c) (a .number)) (h .0)) (λ ls k. holds (k .0, (h .1, k .1))))
+
+  -- the first call reads, and is not refused with 16
+  first-call : (n : ℕ) (state : Words) (c : Lent) → Holds (λ a. Reads c a → Called lim o nothing c a × Fetch-right lim nothing c a) (lent-call lim n state c)
+  first-call n state (read-with file work) = holds-map (λ a h r. (h (inr r), tt)) (read-stored lim o n state nothing file work)
+  first-call n state (lift-with k way work cache) = holds-given (lent-call lim n state (lift-with k way work cache)) (λ r. absurd r)
+  first-call n state (fetch-with k v out) = holds-given (lent-call lim n state (fetch-with k v out)) (λ r. absurd r)
+
+  first-right : (n : ℕ) (state : Words) (cs : List Lent) → Holds (λ ls. First-reads cs ls → All-right state nothing cs ls) (lent-calls lim n state cs)
+  first-right n state [] = holds (λ r. absurd r)
+  first-right n state (c ∷ cs) = holds-then (first-call n state c) (λ a h.
+      holds-then (holds-given (lent-calls lim n (a .state) cs) (λ r. calls-right n cs (a .state) (reckon lim nothing (as-call c) (a .number)) (h r .0)))
+      (λ ls k. holds (λ r. (k r .0, (h r .1, k r .1)))))
+
+  calls : (n : ℕ) (state : Words) (cs : List Lent) (ls : List Left) → lent-calls lim n state cs ≡ some ls → Starts state cs ls → All-right state nothing cs ls
+  calls n state cs ls e (inl z) = holds-at e (calls-right n cs state nothing (zeros-stored lim state z))
+  calls n state cs ls e (inr r) = holds-at e (first-right n state cs) r
+
+  -- ## Ways
+
+  module _ (X : State) (s : T (sound? lim X)) (k : ℕ) where
+    some-level : (levels : List Level) → T (levels-sound? lim (X .parameters) levels) → 1 ≤ length levels
+    some-level [] t = absurd t
+    some-level (f ∷ levels) t = omega arith
+
+    below-sound : T (levels-sound? lim (X .parameters) (up-to X (k - 1)))
+    below-sound =
+        let t = sound-says lim X s .levels in
+        let l : 1 ≤ length (X .levels) = some-level (X .levels) t in
+        drop-keeps (λ ls. T (levels-sound? lim (X .parameters) ls)) (sound-down lim (X .parameters)) (length (X .levels) - suc (k - 1)) (X .levels) (omega arith) t
+
+    -- the state after lifting
+    abbrev Lifted : State → Type 0
+    Lifted Y = (g : Level) × Lift-right lim (X .parameters) (up-to X (k - 1)) g × (Y ≡ record { parameters = X .parameters; levels = g ∷ up-to X (k - 1) })
+
+    at-lifted : {x : Result Level} → Gives (Lift-right lim (X .parameters) (up-to X (k - 1))) x
+        → Gives Lifted (at-level k x >>= λ g. done (record { parameters = X .parameters; levels = g ∷ up-to X (k - 1) }))
+    at-lifted (gives {a} h) = gives (a, h, refl)
+    at-lifted (refuses u) = refuses u
+    at-lifted open-yet = open-yet
+
+    lifted : (n : ℕ) (way : Lifting) → Gives Lifted (lift lim n X k way)
+    lifted n way = at-lifted (over lim (X .parameters) (sound-prime lim o X s) (sound-eight lim o X s) (vector-room lim o) (up-to X (k - 1)) below-sound .lifts way n)
+
+    one-lifted : (Y Y′ : State) → Lifted Y → Lifted Y′ → Y ≡ Y′
+    one-lifted Y Y′ (g, h, e) (g′, h′, e′) =
+        let d : g ≡ g′ = one-level lim (X .parameters .p) (X .parameters .code) (up-to X (k - 1)) (h .bound) (h′ .bound) g g′ (h .reckons) (h′ .reckons) in
+        e ∙ ap (λ z. record { parameters = X .parameters; levels = z ∷ up-to X (k - 1) }) d ∙ sym e′
+
+  -- ## Demand 3
+
+  pub demand-3 : Demand-3 lim
+  demand-3 = record {
+    calls = calls;
+    one-reckoning = one-reckoning lim;
+    any-picks = λ q f below W Ws m v s i k e. ends-at e (over-sound lim o q (f ∷ below) s .picks W Ws m i k);
+    ways-agree = λ n m X k way way′ Y Y′ s e e′. one-lifted X s k Y Y′ (ends-at e (lifted X s k n way)) (ends-at e′ (lifted X s k m way′));
+  }
+
+pub demand-3-of-document-01 : Demand-3 document-01
+demand-3-of-document-01 = demand-3 document-01 tt
