@@ -17,7 +17,7 @@ use Rattle.theory.specs.Reckon.{Lower}
 use Rattle.theory.specs.Stage.{term-at}
 use Rattle.theory.proofs.Vec
 use Rattle.theory.proofs.Top.{lead-nonzero, lead-unique, lead-same}
-use Rattle.theory.proofs.Canon.{canonical-lead}
+use Rattle.theory.proofs.Canon.{canonical-lead, canonical-is, canon-all}
 use Rattle.theory.proofs.Accept
 use Rattle.theory.proofs.Accept.{Divides, left-combination}
 use Rattle.definitions.specs.Limits.{Limits}
@@ -34,12 +34,15 @@ use Rattle.definitions.specs.Problem.{Parameters}
 use Rattle.definitions.proofs.Modular.{Prime}
 use Rattle.definitions.proofs.Tests.{and-both, between-low, between-shown}
 use Rattle.demands.specs.Notions.{coefficient, put-for, Equal, Zero, Combination, Leads, Divided}
-use Rattle.demands.specs.Demands.{Shows-why}
-use Rattle.demands.proofs.Results.{Ends, gives, refuses, open-yet, ends-turn, Refusal, limit, nine, refusal-map}
+use Rattle.demands.specs.Exact.{Shows-why}
+use Rattle.demands.proofs.Results.{Ends, gives, refuses, open-yet, ends-turn, ends-refusals, Refusal, limit, nine, refusal-map}
 use Rattle.demands.proofs.Comparisons.{Says, less, level, more}
 use Rattle.demands.proofs.Levels.{Mono, TVec, TLevel, mono, monos, monos-length, term, vec, flat, flats, flat-length, cons?, head, lm, module-over, Has, Grounded, over-says}
 use Rattle.demands.proofs.Setting.{Setting, S, L, F, red}
-use Rattle.demands.proofs.Soundness.{Deep, Within}
+use Rattle.demands.proofs.Soundness.{Deep, Within, Sound-mono, All-sound, leading-within}
+use Rattle.demands.proofs.Sums.{canonical-good}
+use Rattle.demands.proofs.Canonical.{canonical-descends, terms-sound}
+use Rattle.demands.proofs.Short.{run-short}
 use Rattle.demands.proofs.Sorting.{Form, sorted}
 use Rattle.demands.proofs.Runs.{stage, Fits, InValue, Sum, Exact, Stuck, Finished, Halted, run-ends}
 use Rattle.demands.proofs.Picking.{accepting-picks, greatest-leads}
@@ -49,33 +52,15 @@ use Rattle.demands.proofs.Ways.{copies, run-as, copies-in, Good-terms}
 use Rattle.demands.proofs.Stages.{frame-terms, terms, terms-back, theory-stage}
 use Rattle.demands.proofs.Lifted.{terms-good}
 
--- ## Canonical vectors descend
-
-module _ (n p : ℕ) (P : Prime p) (code : ℕ) (b : List (TLevel n)) (G : Grounded n b) where
-  abbrev order : Monomial → Monomial → Comparison
-  order = compare-over code (flats n b)
-
-  greater-shown : (x y : Mono n) → Has n b x → Has n b y → module-over n code b .Lt y x → T (greater? (order (mono n x) (mono n y)))
-  greater-shown x y hx hy l = go (over-says n code b G x y hx hy)
-    where
-      go : {c : Comparison} → Says (module-over n code b .Lt x y) (x ≡ y) (module-over n code b .Lt y x) c → T (greater? c)
-      go (more s) = tt
-      go (level s) = absurd (module-over n code b .irrefl y (subst (λ z. module-over n code b .Lt y z) s l))
-      go (less s) = absurd (module-over n code b .irrefl x (module-over n code b .trans x y x s l))
-
-  pub canonical-descends : (v : TVec n) → All (ModP p P) (Has n b) v → Canonical (ModP p P) (module-over n code b) v → T (strictly-descending? (compare-over code (flats n b)) (vec n v))
-  canonical-descends [] h k = tt
-  canonical-descends (t ∷ []) h k = tt
-  canonical-descends (t ∷ u ∷ v) h k =
-      and-both (greater? (order (mono n (t .1)) (mono n (u .1)))) (strictly-descending? order (vec n (u ∷ v)))
-      (greater-shown (t .1) (u .1) (h .0) (h .1 .0) (k .2 .0)) (canonical-descends (u ∷ v) (h .1) (k .3))
-
 -- ## Acceptance of a basis
 
 module _ (lim : Limits) (q : Parameters) (P : Prime (q .p)) (eight : q .n ≤ 8) (f : TLevel (q .n)) (d : Deep (q .n) (q .p) P (q .code) (f ∷ []))
-    (fits : (j : ℕ) → j < length f → Within lim (q .n) (lm (q .n) f j)) where
+    (o : 1 ≤ lim .vector) (w : All-sound lim (q .n) (q .p) P (q .s) f) where
   abbrev Z : Setting
   Z = here q P eight f [] d
+
+  fits : (j : ℕ) → j < length f → Within lim (q .n) (lm (q .n) f j)
+  fits = leading-within lim (q .n) (q .p) P (q .s) f (Z .somes) w
 
   abbrev W : Strategy
   W = accepting-strategy (stage Z lim)
@@ -114,8 +99,21 @@ module _ (lim : Limits) (q : Parameters) (P : Prime (q .p)) (eight : q .n ≤ 8)
     head-is [] k lv = absurd (lead-nonzero (S Z) (L Z) lv (Vec.same-refl (S Z)))
     head-is (t ∷ v) k lv = ap (mono (q .n)) (lead-unique (S Z) (L Z) (canonical-lead (S Z) (L Z) t v k) lv)
 
-    shows-form : Shows-why q (flat (q .n) f) (vec (q .n) (form .form))
-    shows-form = record {
+    -- its components are those of the elements
+    components : All (S Z) (λ (y : Mono (q .n)). y .1 < q .s) (form .form)
+    components =
+        subst (All (S Z) X) (sym (canonical-is (S Z) (L Z) (form .form) (ψ (S Z) (L Z) (F Z .f) (combination .0)) (form .canonical) (Vec.same-trans (S Z) (form .like) (combination .2))))
+        (canon-all (S Z) (L Z) X (ψ (S Z) (L Z) (F Z .f) (combination .0)) (Vec.all-lin (S Z) (In (S Z) (L Z) (F Z)) X (times (S Z) (L Z) (F Z .f))
+        (λ y i. Vec.all-mapB (S Z) (Sound-mono lim (q .n) (q .s)) X (L Z .act (y .0)) (λ z k. k .0) (getD f (y .1) []) (w (y .1) i)) (combination .0) (combination .1)))
+      where
+        X : Mono (q .n) → Type 0
+        X y = y .1 < q .s
+
+    shows-form : length (vec (q .n) (form .form)) ≤ lim .working → Shows-why lim q (flat (q .n) f) (vec (q .n) (form .form))
+    shows-form short = record {
+      sound = terms-sound lim q P eight (q .s) (form .form) (canonical-good (q .n) (q .p) P (q .code) [] (form .form) (form .canonical))
+          (both (form .form) components (form .ok (Within lim (q .n)) (Vec.all-map (S Z) (InValue Z lim) (Within lim (q .n)) (λ y k. k .1) (h .left) (h .sum .ok))));
+      short = short;
       combination = record {
         by = vec (q .n) (combination .0);
         proper = proper-shown q eight (length (flat (q .n) f)) u (subst (λ r. Ranged q eight r u) (sym (flat-length (q .n) f)) (in-ranged q P eight f [] d u (combination .1)));
@@ -133,6 +131,10 @@ module _ (lim : Limits) (q : Parameters) (P : Prime (q .p)) (eight : q .n ≤ 8)
         u : TVec (q .n)
         u = combination .0
 
+        both : (v : TVec (q .n)) → All (S Z) (λ (y : Mono (q .n)). y .1 < q .s) v → All (S Z) (Within lim (q .n)) v → All (S Z) (Sound-mono lim (q .n) (q .s)) v
+        both [] a b = tt
+        both (t ∷ v) a b = ((a .0, b .0), both v (a .1) (b .1))
+
         head : leading (vec (q .n) (form .form)) ≡ mono (q .n) (h .stuck .x)
         head = head-is (form .form) (form .canonical) lead-form
 
@@ -140,20 +142,28 @@ module _ (lim : Limits) (q : Parameters) (P : Prime (q .p)) (eight : q .n ≤ 8)
         leads = subst (λ m. Leads (compare-over (q .code) []) (q .p) m (vec (q .n) (form .form))) (sym head)
             (lead-leads (q .n) (q .p) P (q .code) [] tt (form .form) (form .ok (Has (q .n) []) has) (h .stuck .x) tt lead-form)
 
-    shows : Shows-why q (flat (q .n) f) value
-    shows = subst (Shows-why q (flat (q .n) f)) (sym value-is) shows-form
+    shows : length value ≤ lim .working → Shows-why lim q (flat (q .n) f) value
+    shows = subst (λ z. length z ≤ lim .working → Shows-why lim q (flat (q .n) f) z) (sym value-is) shows-form
 
   -- ## One frame term
 
   abbrev Zero-at : Mono (q .n) → Type 0
   Zero-at x = (w : TVec (q .n)) × Divides (S Z) (L Z) (F Z) (red Z) x w []
 
-  term-accepted : (N : ℕ) (x : Mono (q .n)) → x .1 < length f → Fits Z lim x
-      → Ends (λ v. Zero-at x) (Refusal (Shows-why q (flat (q .n) f))) (run (stage Z lim) W N (mono (q .n) x))
-  term-accepted N x l fx =
-      subst (Ends (λ v. Zero-at x) (Refusal (Shows-why q (flat (q .n) f)))) (sym (run-as (stage Z lim) W N (mono (q .n) x)))
+  abbrev Shown : Vector → Type 0
+  Shown value = Shows-why lim q (flat (q .n) f) value
+
+  -- what is left is shown, as a working value is short
+  shown : (number : ℕ) (value : Vector) → Refusal (λ value. length value ≤ lim .working → Shown value) number value → length value ≤ lim .working → Refusal Shown number value
+  shown number value (limit t) l = limit t
+  shown number value (nine s) l = nine (s l)
+
+  term-accepted : (N : ℕ) (x : Mono (q .n)) → x .1 < length f → Fits Z lim x → Ends (λ v. Zero-at x) (Refusal Shown) (run (stage Z lim) W N (mono (q .n) x))
+  term-accepted N x l fx = ends-refusals shown
+      (subst (Ends (λ v. Zero-at x) (Refusal (λ value. length value ≤ lim .working → Shown value))) (sym (run-as (stage Z lim) W N (mono (q .n) x)))
       (ends-turn (λ v h. (h .end, record { run = h .run; whole = h .whole tt })) (refusal-map (shows x l))
-      (run-ends Z lim I (Unit {0}) exactly W (λ u. refl) (copies N W) (copies-in Z lim I (Unit {0}) exactly W (accepting-picks (stage Z lim)) refl N) x l fx))
+      (run-ends Z lim I (Unit {0}) exactly W (λ u. refl) (copies N W) (copies-in Z lim I (Unit {0}) exactly W (accepting-picks (stage Z lim)) refl N) x l fx)))
+      (run-short (stage Z lim) o W N (mono (q .n) x))
 
   -- ## All frame terms
 
@@ -165,7 +175,7 @@ module _ (lim : Limits) (q : Parameters) (P : Prime (q .p)) (eight : q .n ≤ 8)
   data Accepts (i : ℕ) (xs : List (Mono (q .n))) : Result (Unit {0}) → Type 0 where
     all-zero : All-zero xs → Accepts i xs (done tt)
     met : {number : ℕ} → T (between 13 number 15) → Accepts i xs (refused number 0 [])
-    not-zero : (place : ℕ) {value : Vector} → i ≤ place → place < i + length xs → Shows-why q (flat (q .n) f) value → Accepts i xs (refused 9 place value)
+    not-zero : (place : ℕ) {value : Vector} → i ≤ place → place < i + length xs → Shows-why lim q (flat (q .n) f) value → Accepts i xs (refused 9 place value)
     more-steps : Accepts i xs unfinished
 
   place-of : (i number : ℕ) → T (between 13 number 15) → accepting-place i number ≡ 0
@@ -185,7 +195,7 @@ module _ (lim : Limits) (q : Parameters) (P : Prime (q .p)) (eight : q .n ≤ 8)
       next z (not-zero place a b s) = not-zero place (omega arith) (omega arith) s
       next z more-steps = more-steps
 
-      go : {r : Result Vector} → Ends (λ v. Zero-at x) (Refusal (Shows-why q (flat (q .n) f))) r → Accepts (suc i) xs (accept-from (stage Z lim) N (suc i) (monos (q .n) xs))
+      go : {r : Result Vector} → Ends (λ v. Zero-at x) (Refusal (Shows-why lim q (flat (q .n) f))) r → Accepts (suc i) xs (accept-from (stage Z lim) N (suc i) (monos (q .n) xs))
           → Accepts i (x ∷ xs) (at-frame-term i r >>= λ v. accept-from (stage Z lim) N (suc i) (monos (q .n) xs))
       go (gives z) h = next z h
       go (refuses (limit {number} t)) h = subst (λ place. Accepts i (x ∷ xs) (refused number place [])) (sym (place-of i number t)) (met t)
@@ -210,7 +220,7 @@ module _ (lim : Limits) (q : Parameters) (P : Prime (q .p)) (eight : q .n ≤ 8)
     is-basis : Gröbner (S Z) (L Z) (F Z) → Accepted-right (done tt)
     limit-met : {number : ℕ} → T (between 13 number 15) → Accepted-right (refused number 0 [])
     shown-why : {place : ℕ} {value : Vector} → T (between 1 place (length (frame (lim .numbering (q .code)) (leading-monomials (flat (q .n) f)))))
-        → Shows-why q (flat (q .n) f) value → Accepted-right (refused 9 place value)
+        → Shows-why lim q (flat (q .n) f) value → Accepted-right (refused 9 place value)
     steps-left : Accepted-right unfinished
 
   accepted-from : (N : ℕ) → Accepted-right (accept-from (stage Z lim) N 1 (frame-terms Z eight code))

@@ -22,13 +22,14 @@ use Rattle.definitions.proofs.Sound.{sound-says}
 use Rattle.definitions.proofs.Reading.{basis-state, problem-sound}
 use Rattle.demands.specs.Notions.{put-for, Leads, Gröbner-basis, Leading-generated}
 use Rattle.demands.specs.Frames.{Is-frame}
-use Rattle.demands.specs.Demands.{sensible?, limit?, Shows-why, Read-right, accepts, limited, stopped, open-yet, accepted?, decided?, Demand-2}
+use Rattle.demands.specs.Exact.{Shows-why}
+use Rattle.demands.specs.Demands.{sensible?, limit?, Read-right, accepts, limited, stopped, open-yet, accepted?, decided?, Demand-2}
 use Rattle.demands.proofs.Frames.{is-frame, only-frame}
 use Rattle.demands.proofs.Over.{few-variables, vector-room, sound-prime, sound-eight, Over, over, accepted-right}
 
 -- what 9 shows is no Gröbner basis: its leading monomial is that of a combination, and not divided
-pub shows : (q : Parameters) (f : Level) (value : Vector) → Shows-why q f value → Gröbner-basis q [] f → ⊥
-shows q f value w gb = w .undivided (gb (leading value) (record { by = w .combination .by; proper = w .combination .proper; leads = leads }))
+pub shows : (lim : Limits) (q : Parameters) (f : Level) (value : Vector) → Shows-why lim q f value → Gröbner-basis q [] f → ⊥
+shows lim q f value w gb = w .undivided (gb (leading value) (record { by = w .combination .by; proper = w .combination .proper; leads = leads }))
   where
     leads : Leads (compare-over (q .code) []) (q .p) (leading value) (put-for (q .p) f (w .combination .by))
     leads = record {
@@ -52,7 +53,7 @@ module _ (lim : Limits) (o : T (sensible? lim)) where
 
   pub reading : (n : ℕ) (bytes : Bytes) (q : Parameters) (f : Level) → problem lim bytes ≡ done (q, f) → Read-right lim q f (read lim n bytes)
   reading n bytes q f e = subst (λ x. Read-right lim q f (x >>= accepted lim n)) (sym e)
-      (accepted-right lim q (sound-prime lim o X h) (sound-eight lim o X h) f (sound-says lim X h .levels) n)
+      (accepted-right lim q (sound-prime lim o X h) (sound-eight lim o X h) (vector-room lim o) f (sound-says lim X h .levels) n)
     where
       X : State
       X = basis-state (q, f)
@@ -67,7 +68,7 @@ module _ (lim : Limits) (o : T (sensible? lim)) where
   exactly : (q : Parameters) (f : Level) (x : Result State) → Read-right lim q f x → T (decided? x) → T (accepted? x) ↔ Gröbner-basis q [] f
   exactly q f x (accepts gb) t = ((λ a. gb), (λ a. tt))
   exactly q f x (limited {number} l) t = absurd (not-nine number l t)
-  exactly q f x (stopped {value = value} i w) t = ((λ a. absurd a), (λ gb. absurd (shows q f value w gb)))
+  exactly q f x (stopped {value = value} i w) t = ((λ a. absurd a), (λ gb. absurd (shows lim q f value w gb)))
   exactly q f x open-yet t = absurd t
 
   ill-formed : (n : ℕ) (bytes : Bytes) (number place : ℕ) (value : Vector) → problem lim bytes ≡ refused number place value → read lim n bytes ≡ refused number place value
@@ -87,7 +88,7 @@ module _ (lim : Limits) (o : T (sensible? lim)) where
   demand-2 = record {
     reading = reading;
     exactly = λ n bytes q f e. exactly q f (read lim n bytes) (reading n bytes q f e);
-    shows = shows;
+    shows = shows lim;
     well-formed = well-formed;
     generated = λ q f below h. over-sound q (f ∷ below) h .generates;
     ill-formed = ill-formed;

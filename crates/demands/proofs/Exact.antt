@@ -29,7 +29,7 @@ use Rattle.definitions.specs.Frame.{frame}
 use Rattle.definitions.specs.Problem.{Parameters}
 use Rattle.definitions.proofs.Modular.{Prime}
 use Rattle.demands.specs.Notions.{coefficient, put-for, Equal, Zero, Combination, Syzygy, Leads, Gröbner-basis}
-use Rattle.demands.specs.Demands.{Vector-right, Level-right}
+use Rattle.demands.specs.Exact.{Vector-right, Level-right}
 use Rattle.demands.proofs.Exponents.{E}
 use Rattle.demands.proofs.Levels.{Mono, TVec, TLevel, mono, monos, monos-length, term, vec, flat, flats, flat-at, flat-length, cons?, head, lm, module-over, Has, Grounded}
 use Rattle.demands.proofs.Setting.{Setting, S, L, A, F, red}
@@ -39,7 +39,7 @@ use Rattle.demands.proofs.Notions.{same-equal, equal-same, put-for-is, 
 use Rattle.demands.proofs.Bases.{Ranged, Proper, proper-says, proper-shown, here, ranged-in, in-ranged, gröbner-out}
 use Rattle.demands.proofs.Ways.{vectors}
 use Rattle.demands.proofs.Stages.{frame-terms, terms, terms-back, framed, theory-stage}
-use Rattle.demands.proofs.Accepting.{canonical-descends}
+use Rattle.demands.proofs.Canonical.{canonical-descends}
 
 module _ (lim : Limits) (q : Parameters) (P : Prime (q .p)) (eight : q .n ≤ 8) (f : TLevel (q .n)) (b : List (TLevel (q .n)))
     (d : Deep (q .n) (q .p) P (q .code) (f ∷ b)) (code : ℕ) where

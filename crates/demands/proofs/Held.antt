@@ -26,7 +26,8 @@ use Rattle.definitions.proofs.Numbers.{Numbered, limit-number?, read-number?, r
 use Rattle.definitions.proofs.Reading.{basis-state, problem-sound}
 use Rattle.demands.specs.Notions.{Gröbner-basis}
 use Rattle.demands.specs.Demands
-use Rattle.demands.specs.Demands.{sensible?, Read-right, accepts, limited, stopped, Level-right, Exact, Reckons, Of-basis}
+use Rattle.demands.specs.Exact.{Level-right, Exact, Reckons}
+use Rattle.demands.specs.Demands.{sensible?, Read-right, accepts, limited, stopped, Of-basis}
 use Rattle.demands.proofs.Results.{Ends, Gives, gives, refuses, open-yet, ends-then, ends-map, ends-both, ends-turn}
 use Rattle.demands.proofs.Over.{few-variables, vector-room, sound-prime, sound-eight, Lift-right, accepted-right}
 use Rattle.demands.proofs.Reckonings.{Tower, tower-reckons, drop-keeps}
@@ -98,7 +99,7 @@ module _ (lim : Limits) (o : T (sensible? lim)) where
       → Ends (Held lim (record { basis = basis-of x; h = 0 })) (λ number value. T (read-number? number)) (x >>= accepted lim n)
   read-from n unfinished h k = open-yet
   read-from n (refused number place value) h (Numbers.refuses t) = refuses t
-  read-from n (done (q, f)) h k = go (accepted-right lim q (sound-prime lim o X h) (sound-eight lim o X h) f (sound-says lim X h .levels) n)
+  read-from n (done (q, f)) h k = go (accepted-right lim q (sound-prime lim o X h) (sound-eight lim o X h) (vector-room lim o) f (sound-says lim X h .levels) n)
     where
       X : State
       X = basis-state (q, f)

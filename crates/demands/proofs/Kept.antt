@@ -22,14 +22,12 @@ use Rattle.definitions.specs.Problem.{Parameters}
 use Rattle.definitions.specs.State.{term-sound?, vector-sound?, levels-sound?, terms-of, lengths}
 use Rattle.definitions.specs.Reckoning.{reckoned-level}
 use Rattle.definitions.proofs.Modular.{Prime}
-use Rattle.definitions.proofs.Tests.{and-both, between-shown}
-use Rattle.definitions.proofs.Sound.{Sound-term, term-shown, Sound-vector, vector-shown, level-shown}
+use Rattle.definitions.proofs.Tests.{and-both}
+use Rattle.definitions.proofs.Sound.{Sound-vector, vector-shown, level-shown}
 use Rattle.demands.proofs.Results.{Ends, Gives, gives, refuses, open-yet, ends-then, ends-map, ends-both}
-use Rattle.demands.proofs.Exponents.{out, out-length, out-past}
 use Rattle.demands.proofs.Levels.{Mono, TVec, TLevel, mono, term, vec, vec-length, flat, flats, flat-length, cons?, lm, module-over, Has}
-use Rattle.demands.proofs.Coefficients.{Good, good-nonzero, good-below}
 use Rattle.demands.proofs.Setting.{Setting, S}
-use Rattle.demands.proofs.Soundness.{tlevel, tlevels, Regular, Regulars, Deep, cons-in, Within, Levels-right, levels-right}
+use Rattle.demands.proofs.Soundness.{Regular, Regulars, Deep, cons-in, Within, Sound-mono}
 use Rattle.demands.proofs.Sums.{Goods, canonical-good}
 use Rattle.demands.proofs.Runs.{stage, InVector}
 use Rattle.demands.proofs.Reckoned.{vector}
@@ -37,7 +35,7 @@ use Rattle.demands.proofs.Bases.{here}
 use Rattle.demands.proofs.Ways.{vectors, All-ok, total}
 use Rattle.demands.proofs.Stages.{terms}
 use Rattle.demands.proofs.Lifted.{Lifted-right, level-lifted, level-bound}
-use Rattle.demands.proofs.Accepting.{canonical-descends}
+use Rattle.demands.proofs.Canonical.{canonical-descends, terms-sound}
 use Rattle.demands.proofs.Exact.{regular-above}
 use Rattle.demands.proofs.Short.{All-short, all-short}
 
@@ -48,22 +46,9 @@ module _ (lim : Limits) (q : Parameters) (P : Prime (q .p)) (eight : q .n ≤ 8)
 
   -- ## Sound vectors
 
-  term-sound : (t : ℕ × Mono (q .n)) → Good (q .p) (t .0) → InVector Z lim (t .1) → T (term-sound? lim q (length (flat (q .n) f)) (term (q .n) t))
-  term-sound t g h = term-shown lim q (length (flat (q .n) f)) (term (q .n) t) (record {
-    coefficient = let a = good-nonzero (q .p) P (t .0) g in let c : t .0 < q .p = good-below (q .p) P (t .0) g in
-        between-shown 1 (t .0) (q .p - 1) (omega arith) (omega arith);
-    component = let l : t .1 .1 < length f = cons-in (q .n) (q .p) P (q .code) f (t .1 .1) (h .0) in
-        between-shown 1 (suc (t .1 .1)) (length (flat (q .n) f)) (omega arith) (omega (arith, flat-length (q .n) f));
-    eight = out-length (q .n) eight (t .1 .0);
-    fits = h .1;
-    past = out-past (q .n) (t .1 .0);
-  })
-
-  terms-sound : (v : TVec (q .n)) → Goods (q .n) (q .p) P v → All (S Z) (InVector Z lim) v → T (every (term-sound? lim q (length (flat (q .n) f))) (vec (q .n) v))
-  terms-sound [] g h = tt
-  terms-sound (t ∷ v) g h =
-      and-both (term-sound? lim q (length (flat (q .n) f)) (term (q .n) t)) (every (term-sound? lim q (length (flat (q .n) f))) (vec (q .n) v))
-      (term-sound t (g .0) (h .0)) (terms-sound v (g .1) (h .1))
+  in-module : (v : TVec (q .n)) → All (S Z) (InVector Z lim) v → All (S Z) (Sound-mono lim (q .n) (length (flat (q .n) f))) v
+  in-module v h = Vec.all-map (S Z) (InVector Z lim) (Sound-mono lim (q .n) (length (flat (q .n) f)))
+      (λ x i. (subst (λ z. x .1 < z) (sym (flat-length (q .n) f)) (cons-in (q .n) (q .p) P (q .code) f (x .1) (i .0)), i .1)) v h
 
   filled : (v : TVec (q .n)) → T (cons? (q .n) v) → 1 ≤ length (vec (q .n) v)
   filled [] t = absurd t
@@ -74,7 +59,7 @@ module _ (lim : Limits) (q : Parameters) (P : Prime (q .p)) (eight : q .n ≤ 8)
   vector-sound v r h l = vector-shown lim q (length (flat (q .n) f)) (lim .vector) (flats (q .n) (f ∷ b)) (vec (q .n) v) (record {
     filled = filled v (r .has-one);
     short = l;
-    terms = terms-sound v (canonical-good (q .n) (q .p) P (q .code) (f ∷ b) v (r .canonical)) h;
+    terms = terms-sound lim q P eight (length (flat (q .n) f)) v (canonical-good (q .n) (q .p) P (q .code) (f ∷ b) v (r .canonical)) (in-module v h);
     descends = canonical-descends (q .n) (q .p) P (q .code) (f ∷ b) (Z .grounded) v (r .inside) (r .canonical);
   })
 

@@ -20,9 +20,10 @@ pub mod Lifted
 pub mod Notions
 pub mod Bases
 pub mod LeadingModule
+pub mod Canonical
+pub mod Short
 pub mod Accepting
 pub mod Exact
-pub mod Short
 pub mod Kept
 pub mod Over
 pub mod Reckonings

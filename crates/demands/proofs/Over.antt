@@ -29,12 +29,13 @@ use Rattle.definitions.proofs.Tests.{and-left, and-right, between-high}
 use Rattle.definitions.proofs.Sound.{Sound, sound-says}
 use Rattle.demands.specs.Notions.{Gröbner-basis, Leading-generated, Member}
 use Rattle.demands.specs.Picks.{All-pick, run-by}
-use Rattle.demands.specs.Demands.{sensible?, Read-right, accepts, limited, stopped, open-yet, Level-right}
+use Rattle.demands.specs.Exact.{Level-right}
+use Rattle.demands.specs.Demands.{sensible?, Read-right, accepts, limited, stopped, open-yet}
 use Rattle.demands.proofs.Results.{Gives, ends-map, ends-at}
 use Rattle.demands.proofs.Exponents.{out, out-length}
 use Rattle.demands.proofs.Levels.{Mono, TVec, TLevel, mono, vec, flat, flats, flat-at, flat-length, leading-vec, cons?, head, lm}
 use Rattle.demands.proofs.Setting.{Setting}
-use Rattle.demands.proofs.Soundness.{tlevel, tlevels, Regular, Deep, Within, All-within, Levels-right, levels-right}
+use Rattle.demands.proofs.Soundness.{tlevel, tlevels, Regular, Deep, Within, Sound-mono, All-sound, components, leading-within, Levels-right, levels-right}
 use Rattle.demands.proofs.Frames.{Eight-each}
 use Rattle.demands.proofs.Runs.{stage, All-in}
 use Rattle.demands.proofs.Reckoned.{vector, vector-bound}
@@ -91,19 +92,15 @@ pub record Over (lim : Limits) (q : Parameters) (below : List Monomial.Level) : 
   pub generates : Gröbner-basis q (rest below) (highest below) ↔ Leading-generated q (rest below) (highest below)
 
 module _ (lim : Limits) (q : Parameters) (P : Prime (q .p)) (eight : q .n ≤ 8) where
-  head-within : (v : TVec (q .n)) → T (cons? (q .n) v) → All (ModP (q .p) P) (Within lim (q .n)) v → Within lim (q .n) (head (q .n) v)
-  head-within [] t h = absurd t
-  head-within (u ∷ v) t h = h .0
-
-  module _ (f : TLevel (q .n)) (b : List (TLevel (q .n))) (d : Deep (q .n) (q .p) P (q .code) (f ∷ b)) (w : All-within lim (q .n) (q .p) P f) where
+  module _ (f : TLevel (q .n)) (b : List (TLevel (q .n))) (d : Deep (q .n) (q .p) P (q .code) (f ∷ b)) (count : ℕ) (w : All-sound lim (q .n) (q .p) P count f) where
     abbrev Z : Setting
     Z = here q P eight f b d
 
     abbrev code : ℕ
     code = lim .numbering (q .code)
 
-    leading-within : (j : ℕ) → j < length f → Within lim (q .n) (lm (q .n) f j)
-    leading-within j l = head-within (getD f j []) (d .0 j l .has-one) (w j l)
+    fits : (j : ℕ) → j < length f → Within lim (q .n) (lm (q .n) f j)
+    fits = leading-within lim (q .n) (q .p) P count f (Z .somes) w
 
     leading-eight : Eight-each (flat (q .n) f)
     leading-eight j l =
@@ -121,7 +118,7 @@ module _ (lim : Limits) (q : Parameters) (P : Prime (q .p)) (eight : q .n ≤ 8)
     picked W Ws m i k =
         subst (λ z. Gives (λ v. (bound : ℕ) × (reckoned-vector bound (q .p) (q .code) (flats (q .n) (f ∷ b)) z ≡ some v))
         (run-by (stage-over lim (q .p) (q .code) (flats (q .n) (f ∷ b))) W Ws z)) (sym (r .is))
-        (ends-map (λ v h. (vector-bound Z x l .0, vector-bound Z x l .1 ∙ ap some (sym (h .is)))) (picks-lift Z lim W Ws (all-free Ws k) x l (term-fits Z lim eight leading-within x j)))
+        (ends-map (λ v h. (vector-bound Z x l .0, vector-bound Z x l .1 ∙ ap some (sym (h .is)))) (picks-lift Z lim W Ws (all-free Ws k) x l (term-fits Z lim eight fits x j)))
       where
         r : Written Z eight code m
         r = written Z eight code m i
@@ -138,11 +135,11 @@ module _ (lim : Limits) (q : Parameters) (P : Prime (q .p)) (eight : q .n ≤ 8)
     module _ (s : 1 ≤ lim .vector) (under : T (levels-sound? lim q (flats (q .n) (f ∷ b)))) where
       lifted : (way : Lifting) (N : ℕ) → Gives (Lift-right lim q (flats (q .n) (f ∷ b))) (lift-level lim (q .p) (q .code) (flats (q .n) (f ∷ b)) way N)
       lifted way N = ends-map (λ g h. record {
-        bound = level-bound Z lim eight leading-within .0;
-        reckons = level-bound Z lim eight leading-within .1 ∙ ap some (sym (h .0));
+        bound = level-bound Z lim eight fits .0;
+        reckons = level-bound Z lim eight fits .1 ∙ ap some (sym (h .0));
         sound = h .1;
         exact = λ gb. subst (Level-right q code (flats (q .n) (f ∷ b))) (sym (h .0)) (Exact.level-right lim q P eight f b d code (gröbner-in q P eight f b d gb));
-      }) (lift-kept lim q P eight f b d s leading-within under way N)
+      }) (lift-kept lim q P eight f b d s fits under way N)
 
       over-theory : Over lim q (flats (q .n) (f ∷ b))
       over-theory = record { lifts = lifted; picks = picked; eights = leading-eight; generates = leading-module q P eight f b d }
@@ -154,12 +151,12 @@ module _ (lim : Limits) (q : Parameters) (P : Prime (q .p)) (eight : q .n ≤ 8)
   over s (f ∷ b) h =
       let r : Levels-right lim q P eight (f ∷ b) = levels-right lim q P eight (f ∷ b) h in
       subst (Over lim q) (r .back)
-      (over-theory (tlevel (q .n) f) (tlevels (q .n) b) (r .deep) (r .fits) s (subst (λ ls. T (levels-sound? lim q ls)) (sym (r .back)) h))
+      (over-theory (tlevel (q .n) f) (tlevels (q .n) b) (r .deep) (components lim q P eight (f ∷ b)) (r .fits) s (subst (λ ls. T (levels-sound? lim q ls)) (sym (r .back)) h))
 
   -- ## Acceptance
 
-  pub accepted-right : (f : Monomial.Level) → T (levels-sound? lim q (f ∷ [])) → (N : ℕ) → Read-right lim q f (accepted lim N (q, f))
-  accepted-right f h N = subst (λ ls. Read-right lim q (highest ls) (accepted lim N (q, highest ls))) (r .back) (go (accept-right lim q P eight g (r .deep) (leading-within g [] (r .deep) (r .fits)) N))
+  pub accepted-right : 1 ≤ lim .vector → (f : Monomial.Level) → T (levels-sound? lim q (f ∷ [])) → (N : ℕ) → Read-right lim q f (accepted lim N (q, f))
+  accepted-right o f h N = subst (λ ls. Read-right lim q (highest ls) (accepted lim N (q, highest ls))) (r .back) (go (accept-right lim q P eight g (r .deep) o (r .fits) N))
     where
       r : Levels-right lim q P eight (f ∷ [])
       r = levels-right lim q P eight (f ∷ []) h
@@ -167,7 +164,7 @@ module _ (lim : Limits) (q : Parameters) (P : Prime (q .p)) (eight : q .n ≤ 8)
       g : TLevel (q .n)
       g = tlevel (q .n) f
 
-      go : {x : Result (Unit {0})} → Accepted-right lim q P eight g (r .deep) (leading-within g [] (r .deep) (r .fits)) x
+      go : {x : Result (Unit {0})} → Accepted-right lim q P eight g (r .deep) o (r .fits) x
           → Read-right lim q (flat (q .n) g) (x >>= λ u. done (record { parameters = q; levels = flat (q .n) g ∷ [] }))
       go (is-basis gb) = accepts (gröbner-out q P eight g [] (r .deep) gb)
       go (limit-met t) = limited t

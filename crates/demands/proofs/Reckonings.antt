@@ -13,7 +13,7 @@ use Rattle.definitions.specs.Frame.{frame}
 use Rattle.definitions.specs.Stage.{highest}
 use Rattle.definitions.specs.Problem.{Parameters}
 use Rattle.definitions.specs.Reckoning.{Reckoning, each, reckoned-vector, reckoned-level, reckoned-levels, reckoned-over, reckoned}
-use Rattle.demands.specs.Demands.{Reckons}
+use Rattle.demands.specs.Exact.{Reckons}
 use Rattle.demands.proofs.Results.{Upto, known, upto-refl, upto-then, upto-at, upto-more, upto-one}
 use Rattle.demands.proofs.Reckoned.{vector-more}
 

@@ -53,17 +53,24 @@ ends-turn h k open-yet = open-yet
 pub ends-done : {A : Type 0} {P : A → Type 0} {R : ℕ → Vector → Type 0} {a : A} → Ends P R (done a) → P a
 ends-done (gives p) = p
 
+pub ends-refused : {A : Type 0} {P : A → Type 0} {R : ℕ → Vector → Type 0} {number place : ℕ} {value : Vector} → Ends P R (refused number place value) → R number value
+ends-refused (refuses r) = r
+
 -- two claims of one result
 pub ends-both : {A : Type 0} {P Q X : A → Type 0} {R U : ℕ → Vector → Type 0} {x : Result A} → ((a : A) → P a → Q a → X a) → Ends P R x → Ends Q U x → Ends X R x
 ends-both h (gives {a} p) k = gives (h a p (ends-done k))
 ends-both h (refuses r) k = refuses r
 ends-both h open-yet k = open-yet
 
+-- two claims of one refusal
+pub ends-refusals : {A : Type 0} {P Q : A → Type 0} {R U X : ℕ → Vector → Type 0} {x : Result A} → ((number : ℕ) (value : Vector) → R number value → U number value → X number value)
+    → Ends P R x → Ends Q U x → Ends P X x
+ends-refusals h (gives p) k = gives p
+ends-refusals h (refuses {number} {value = value} r) k = refuses (h number value r (ends-refused k))
+ends-refusals h open-yet k = open-yet
+
 pub ends-at : {A : Type 0} {P : A → Type 0} {R : ℕ → Vector → Type 0} {x : Result A} {a : A} → x ≡ done a → Ends P R x → P a
 ends-at {P = P} {R} e h = ends-done (subst (Ends P R) e h)
-
-pub ends-refused : {A : Type 0} {P : A → Type 0} {R : ℕ → Vector → Type 0} {number place : ℕ} {value : Vector} → Ends P R (refused number place value) → R number value
-ends-refused (refuses r) = r
 
 -- ## Optional values
 

@@ -1,4 +1,4 @@
--- A finished vector has at most as many terms as the limit says.
+-- A finished vector has at most as many terms as its limit says, and so has the value that a refusal leaves.
 use mathlib.Core.Path.{_≡_, refl, sym, ap, _∙_, subst}
 use mathlib.Core.Bool.{Bool, true, false}
 use mathlib.Core.Option.{Option, none, some}
@@ -15,11 +15,12 @@ use Rattle.definitions.specs.Result.{Result, done, refused, unfinished, _>>=_}
 use Rattle.definitions.specs.Vectors.{unless-zero, insert, inserted, descending, behind, combined, appended, or-last, store}
 use Rattle.definitions.specs.Stage.{Stage}
 use Rattle.definitions.specs.Run
-use Rattle.definitions.specs.Run.{Strategy, on, end, multiple, add-products, start, reduced, without-reducer, by-answer, by-pick, step, continued, runs, run, hybrid-strategy, division-strategy}
+use Rattle.definitions.specs.Lists.{without}
+use Rattle.definitions.specs.Run.{Strategy, on, end, multiple, dropped?, unless-dropped, if-fits, add-products, start, reduced, without-reducer, by-answer, by-pick, step, continued, runs, run, hybrid-strategy, division-strategy}
 use Rattle.definitions.specs.Tree
 use Rattle.definitions.specs.Tree.{Cache, held-to, add-result, Lift-term, lift-term, if-vector-product-fits, lift-vector-product, lift-vector, tree}
 use Rattle.definitions.specs.Lifting.{Lifting, by-division, by-hybrid, by-tree, lift-one, Lifted, add-vector, lift-all}
-use Rattle.demands.proofs.Results.{Ends, Gives, gives, refuses, open-yet, ends-then, Holds, holds, nothing}
+use Rattle.demands.proofs.Results.{Ends, Gives, gives, refuses, open-yet, ends-then, ends-turn, Holds, holds, nothing}
 
 -- nothing is claimed of a value
 abbrev Anything : {A : Type 0} → A → Type 0
@@ -52,17 +53,17 @@ combined-length p t (u ∷ v) = go (same-monomial? (t .1) (u .1)) (combined-leng
     go true h = holds (unless-zero-length (plus p (u .0) (t .0), u .1) v)
     go false h = later h
 
-store-short : (limit p : ℕ) (t : Term) (v : Vector) → length v ≤ limit → Gives (λ w. length w ≤ limit) (store limit p t v)
-store-short limit p t v l = go (combined-length p t v)
+store-short : {R : ℕ → Vector → Type 0} → R 14 [] → (limit p : ℕ) (t : Term) (v : Vector) → length v ≤ limit → Ends (λ w. length w ≤ limit) R (store limit p t v)
+store-short {R} r limit p t v l = go (combined-length p t v)
   where
-    last : (b : Bool) → (T b → length v < limit) → Gives (λ w. length w ≤ limit) (appended b t v)
+    last : (b : Bool) → (T b → length v < limit) → Ends (λ w. length w ≤ limit) R (appended b t v)
     last true h =
         let k : length v < limit = h tt in
         let l : length (v ++ t ∷ []) ≤ limit = omega (arith, length-append v (t ∷ [])) in
         gives l
-    last false h = refuses tt
+    last false h = refuses r
 
-    go : {o : Option Vector} → Holds (λ w. length w ≤ length v) o → Gives (λ w. length w ≤ limit) (or-last limit t v o)
+    go : {o : Option Vector} → Holds (λ w. length w ≤ length v) o → Ends (λ w. length w ≤ limit) R (or-last limit t v o)
     go (holds {a = w} k) = let m : length w ≤ limit = omega arith in gives m
     go nothing = last (ltb (length v) limit) (ltb→lt (length v) limit)
 
@@ -90,55 +91,88 @@ module _ (S : Stage) where
   abbrev most : ℕ
   most = S .reduction .limits .vector
 
+  -- what a refusal leaves has no more terms than a working value
+  abbrev pub Small : ℕ → Vector → Type 0
+  Small number value = length value ≤ S .reduction .limits .working
+
+  none-small : Small 0 []
+  none-small = omega arith
+
   abbrev ShortRun : Run.Run → Type 0
-  ShortRun r = length (r .vector) ≤ most
+  ShortRun r = (length (r .vector) ≤ most) × (length (r .value) ≤ S .reduction .limits .working)
 
   abbrev ShortStep : Run.Step → Type 0
   ShortStep (on r) = ShortRun r
   ShortStep (end v) = length v ≤ most
 
-  step-short : (W : Strategy) (r : Run.Run) → ShortRun r → Gives ShortStep (step S W r)
+  products-short : (drops : Bool) (c : ℕ) (q : Exponents) (f v : Vector) → length v ≤ S .reduction .limits .working
+      → Ends (λ w. length w ≤ S .reduction .limits .working) Small (add-products (S .reduction) drops c q f v)
+  products-short drops c q [] v l = gives l
+  products-short drops c q (t ∷ f) v l = ends-then (fitting (fits? (S .reduction .limits .exponent) (u .1 .0))) (λ w k. products-short drops c q f w k)
+    where
+      u : Term
+      u = multiple (S .reduction .p) c q t
+
+      kept : (b : Bool) → Ends (λ w. length w ≤ S .reduction .limits .working) Small (unless-dropped b (S .reduction) u v)
+      kept true = gives l
+      kept false = store-short none-small (S .reduction .limits .working) (S .reduction .p) u v l
+
+      fitting : (b : Bool) → Ends (λ w. length w ≤ S .reduction .limits .working) Small (if-fits b (S .reduction) drops u v)
+      fitting false = refuses none-small
+      fitting true = kept (dropped? (S .reduction) drops (u .1))
+
+  without-short : (i : ℕ) (v : Vector) → length (without i v) ≤ length v
+  without-short zero [] = omega arith
+  without-short zero (t ∷ v) = omega arith
+  without-short (suc i) [] = omega arith
+  without-short (suc i) (t ∷ v) = let l : length (without i v) ≤ length v = without-short i v in omega arith
+
+  step-short : (W : Strategy) (r : Run.Run) → ShortRun r → Ends ShortStep Small (step S W r)
   step-short W r l = by-pick-short (W .pick (r .value))
     where
-      reduced-short : (j c : ℕ) (q : Exponents) → Gives ShortStep (reduced S W r j c q)
+      reduced-short : (j c : ℕ) (q : Exponents) → Ends ShortStep Small (reduced S W r j c q)
       reduced-short j c q =
-          ends-then (store-short most (S .reduction .p) (c, (q, j)) (r .vector) l) (λ v k.
-          ends-then (anything (add-products (S .reduction) (W .drops) c q (vector-of (S .family) j) (r .value))) (λ w u. gives k))
+          ends-then (store-short none-small most (S .reduction .p) (c, (q, j)) (r .vector) (l .0)) (λ v k.
+          ends-then (products-short (W .drops) c q (vector-of (S .family) j) (r .value) (l .1)) (λ w m. gives (k, m)))
 
-      without-short : (b : Bool) (i : ℕ) → Gives ShortStep (without-reducer b S r i)
-      without-short true i = refuses tt
-      without-short false i = gives l
+      without-reducer-short : (b : Bool) (i : ℕ) → Ends ShortStep Small (without-reducer b S r i)
+      without-reducer-short true i =
+          let m : length (descending (S .below) (S .reduction .p) (r .value)) ≤ S .reduction .limits .working = omega (arith, descending-length (S .below) (S .reduction .p) (r .value), l .1) in
+          refuses m
+      without-reducer-short false i =
+          let m : length (without i (r .value)) ≤ S .reduction .limits .working = omega (arith, without-short i (r .value), l .1) in
+          let k : ShortRun (record { value = without i (r .value); vector = r .vector }) = (l .0, m) in
+          gives k
 
-      by-answer-short : (i : ℕ) (a : Answer) → Gives ShortStep (by-answer S W r i a)
+      by-answer-short : (i : ℕ) (a : Answer) → Ends ShortStep Small (by-answer S W r i a)
       by-answer-short i (reducer j c q) = reduced-short j _ q
-      by-answer-short i lower-order = without-short (W .stops) i
+      by-answer-short i lower-order = without-reducer-short (W .stops) i
 
-      by-pick-short : (o : Option ℕ) → Gives ShortStep (by-pick S W r o)
-      by-pick-short none = gives l
+      by-pick-short : (o : Option ℕ) → Ends ShortStep Small (by-pick S W r o)
+      by-pick-short none = gives (l .0)
       by-pick-short (some i) = by-answer-short i (answer (S .reduction .p) (S .reduction .heads) (getD (r .value) i no-term))
 
-  runs-short : (W : Strategy) (N : ℕ) (r : Run.Run) → ShortRun r → Gives (λ w. length w ≤ most) (runs S W N r)
+  runs-short : (W : Strategy) (N : ℕ) (r : Run.Run) → ShortRun r → Ends (λ w. length w ≤ most) Small (runs S W N r)
   runs-short W zero r l = open-yet
   runs-short W (suc N) r l = go (step-short W r l) (runs-short W N)
     where
-      shorter : (v : Vector) → length v ≤ most → Gives (λ w. length w ≤ most) (done (descending (S .above) (S .reduction .p) v))
+      shorter : (v : Vector) → length v ≤ most → Ends (λ w. length w ≤ most) Small (done (descending (S .above) (S .reduction .p) v))
       shorter v k =
           let m : length (descending (S .above) (S .reduction .p) v) ≤ most = omega (arith, descending-length (S .above) (S .reduction .p) v) in
           gives m
 
-      go : {x : Result Run.Step} → Gives ShortStep x → ((r′ : Run.Run) → ShortRun r′ → Gives (λ w. length w ≤ most) (runs S W N r′))
-          → Gives (λ w. length w ≤ most) (continued S (λ r′. runs S W N r′) x)
+      go : {x : Result Run.Step} → Ends ShortStep Small x → ((r′ : Run.Run) → ShortRun r′ → Ends (λ w. length w ≤ most) Small (runs S W N r′))
+          → Ends (λ w. length w ≤ most) Small (continued S (λ r′. runs S W N r′) x)
       go (gives {a = on r′} k) ih = ih r′ k
       go (gives {a = end v} k) ih = shorter v k
-      go (refuses u) ih = refuses tt
+      go (refuses u) ih = refuses u
       go open-yet ih = open-yet
 
-  run-short : 1 ≤ most → (W : Strategy) (N : ℕ) (m : Monomial) → Gives (λ w. length w ≤ most) (run S W N m)
-  run-short o W N m =
-      ends-then started (λ r l. runs-short W N r l)
+  pub run-short : 1 ≤ S .reduction .limits .vector → (W : Strategy) (N : ℕ) (m : Monomial) → Ends (λ w. length w ≤ S .reduction .limits .vector) Small (run S W N m)
+  run-short o W N m = ends-then started (λ r l. runs-short W N r l)
     where
-      started : Gives ShortRun (start S W m)
-      started = ends-then (anything (add-products (S .reduction) (W .drops) 1 (m .0) (vector-of (S .family) (m .1)) [])) (λ v u. gives o)
+      started : Ends ShortRun Small (start S W m)
+      started = ends-then (products-short (W .drops) 1 (m .0) (vector-of (S .family) (m .1)) [] (omega arith)) (λ v l. gives (o, l))
 
   -- ## The tree
 
@@ -167,9 +201,12 @@ module _ (S : Stage) where
 
   -- ## Levels
 
+  run-gives : 1 ≤ most → (W : Strategy) (N : ℕ) (cache : Cache) (m : Monomial) → Gives ShortSum (run S W N m >>= λ v. done (v, cache))
+  run-gives o W N cache m = ends-then (ends-turn (λ v l. l) (λ number value l. tt) (run-short o W N m)) (λ v l. gives l)
+
   one-short : 1 ≤ most → (way : Lifting) (N : ℕ) (cache : Cache) (m : Monomial) → Gives ShortSum (lift-one S way N cache m)
-  one-short o by-division N cache m = ends-then (run-short o (division-strategy S) N m) (λ v l. gives l)
-  one-short o (by-hybrid pick) N cache m = ends-then (run-short o (hybrid-strategy S pick) N m) (λ v l. gives l)
+  one-short o by-division N cache m = run-gives o (division-strategy S) N cache m
+  one-short o (by-hybrid pick) N cache m = run-gives o (hybrid-strategy S pick) N cache m
   one-short o (by-tree room) N cache m =
       lift-vector-short (lift-term S room (S .reduction .limits .tree)) 1 (m .0) (vector-of (S .family) (m .1)) ((1, m) ∷ [], cache) o
 

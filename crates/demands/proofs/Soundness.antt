@@ -97,8 +97,19 @@ module _ (n p : ℕ) (P : Prime p) (code : ℕ) where
 abbrev pub Within : Limits → (n : ℕ) → Mono n → Type 0
 Within lim n x = T (fits? (lim .exponent) (out n (x .0)))
 
-abbrev pub All-within : Limits → (n p : ℕ) → Prime p → TLevel n → Type 0
-All-within lim n p P f = (j : ℕ) → j < length f → All (ModP p P) (Within lim n) (getD f j [])
+-- .. and the component in range
+abbrev pub Sound-mono : Limits → (n : ℕ) → ℕ → Mono n → Type 0
+Sound-mono lim n count x = (x .1 < count) × Within lim n x
+
+abbrev pub All-sound : Limits → (n p : ℕ) → Prime p → ℕ → TLevel n → Type 0
+All-sound lim n p P count f = (j : ℕ) → j < length f → All (ModP p P) (Sound-mono lim n count) (getD f j [])
+
+pub leading-within : (lim : Limits) (n p : ℕ) (P : Prime p) (count : ℕ) (f : TLevel n) → Somes n p f → All-sound lim n p P count f → (j : ℕ) → j < length f → Within lim n (lm n f j)
+leading-within lim n p P count f s w j l = go (getD f j []) (s j l) (w j l)
+  where
+    go : (v : TVec n) → T (cons? n v) → All (ModP p P) (Sound-mono lim n count) v → Within lim n (head n v)
+    go [] t h = absurd t
+    go (u ∷ v) t h = h .0 .1
 
 -- ## One level over regular levels
 
@@ -111,14 +122,14 @@ module _ (lim : Limits) (q : Parameters) (P : Prime (q .p)) (eight : q .n ≤ 8)
     pub back : term (q .n) (t .0, tmono (q .n) (t .1)) ≡ t
     pub good : Good (q .p) (t .0)
     pub has : Has (q .n) b (tmono (q .n) (t .1))
-    pub fits : T (fits? (lim .exponent) (out (q .n) (into (q .n) (t .1 .0))))
+    pub fits : Sound-mono lim (q .n) count (tmono (q .n) (t .1))
 
   term-right : (t : Term) → T (term-sound? lim q count t) → Term-right t
   term-right t s = record {
     back = λ i. (t .0, (out-into n eight (t .1 .0) (h .eight) (h .past) i, component i));
     good = good-range (q .p) P (t .0) (between-low 1 (t .0) (q .p - 1) (h .coefficient)) (between-high 1 (t .0) (q .p - 1) (h .coefficient));
-    has = ranged (tmono n (t .1)) (omega (arith, low, high));
-    fits = subst (λ e. T (fits? (lim .exponent) e)) (sym (out-into n eight (t .1 .0) (h .eight) (h .past))) (h .fits);
+    has = ranged (tmono n (t .1)) inside;
+    fits = (inside, subst (λ e. T (fits? (lim .exponent) e)) (sym (out-into n eight (t .1 .0) (h .eight) (h .past))) (h .fits));
   }
     where
       h : Sound-term lim q count t
@@ -133,6 +144,9 @@ module _ (lim : Limits) (q : Parameters) (P : Prime (q .p)) (eight : q .n ≤ 8)
       component : suc (t .1 .1 - 1) ≡ t .1 .1
       component = omega (arith, low)
 
+      inside : t .1 .1 - 1 < count
+      inside = omega (arith, low, high)
+
   said-greater : (x y : Mono n) → Has n b x → Has n b y → T (greater? (compare-over (q .code) (flats n b) (mono n x) (mono n y))) → module-over n (q .code) b .Lt y x
   said-greater x y hx hy = go (over-says n (q .code) b G x y hx hy)
     where
@@ -145,7 +159,7 @@ module _ (lim : Limits) (q : Parameters) (P : Prime (q .p)) (eight : q .n ≤ 8)
   pub record Vector-right (v : Vector) : Type 0 where
     pub back : vec (q .n) (tvec (q .n) v) ≡ v
     pub inside : All (ModP (q .p) P) (Has (q .n) b) (tvec (q .n) v)
-    pub fits : All (ModP (q .p) P) (Within lim (q .n)) (tvec (q .n) v)
+    pub fits : All (ModP (q .p) P) (Sound-mono lim (q .n) count) (tvec (q .n) v)
 
   pub vector-right : (v : Vector) → T (every (term-sound? lim q count) v) → Vector-right v
   vector-right [] s = record { back = refl; inside = tt; fits = tt }
@@ -189,7 +203,7 @@ module _ (lim : Limits) (q : Parameters) (P : Prime (q .p)) (eight : q .n ≤ 8)
   pub record Level-right (f : Monomial.Level) : Type 0 where
     pub back : flat (q .n) (tlevel (q .n) f) ≡ f
     pub regular : Regulars (q .n) (q .p) P (q .code) b (tlevel (q .n) f)
-    pub fits : All-within lim (q .n) (q .p) P (tlevel (q .n) f)
+    pub fits : All-sound lim (q .n) (q .p) P count (tlevel (q .n) f)
 
   pub level-right : (most : ℕ) (f : Monomial.Level) → T (every (vector-sound? lim q count most (flats (q .n) b)) f) → Level-right f
   level-right most [] s = record { back = refl; regular = λ j l. absurd (omega arith); fits = λ j l. absurd (omega arith) }
@@ -207,7 +221,7 @@ module _ (lim : Limits) (q : Parameters) (P : Prime (q .p)) (eight : q .n ≤ 8)
       go : Level-right f → Level-right (v ∷ f)
       go r = record { back = ap₂ (λ x y. x ∷ y) (w .back) (r .back); regular = all; fits = fits }
         where
-          fits : (j : ℕ) → j < suc (length (tlevel n f)) → All (ModP (q .p) P) (Within lim n) (getD (tvec n v ∷ tlevel n f) j [])
+          fits : (j : ℕ) → j < suc (length (tlevel n f)) → All (ModP (q .p) P) (Sound-mono lim n count) (getD (tvec n v ∷ tlevel n f) j [])
           fits zero l = w .fits
           fits (suc j) l = r .fits j (omega arith)
 
@@ -218,11 +232,17 @@ module _ (lim : Limits) (q : Parameters) (P : Prime (q .p)) (eight : q .n ≤ 8)
 -- ## All levels
 
 module _ (lim : Limits) (q : Parameters) (P : Prime (q .p)) (eight : q .n ≤ 8) where
+  -- how many components the highest level's module has
+  abbrev pub components : List Monomial.Level → ℕ
+  components [] = 0
+  components (f ∷ []) = q .s
+  components (f ∷ g ∷ below) = length g
+
   pub record Levels-right (ls : List Monomial.Level) : Type 0 where
     pub back : flats (q .n) (tlevels (q .n) ls) ≡ ls
     pub deep : Deep (q .n) (q .p) P (q .code) (tlevels (q .n) ls)
     -- the highest level
-    pub fits : All-within lim (q .n) (q .p) P (tlevel (q .n) (highest ls))
+    pub fits : All-sound lim (q .n) (q .p) P (components ls) (tlevel (q .n) (highest ls))
 
   -- the level above sound levels
   module _ (g : Monomial.Level) (below : List Monomial.Level) (w : Levels-right (g ∷ below)) where

@@ -1,4 +1,5 @@
 pub mod Notions
-pub mod Picks
 pub mod Frames
+pub mod Picks
+pub mod Exact
 pub mod Demands
