@@ -35,10 +35,16 @@ use Rattle.demands.proofs.Demand2.{over-sound}
 
 -- ## What the reckoning holds and what the state holds
 
+-- levels 0 to h over the basis f
+pub record Standing (lim : Limits) (q : Parameters) (f : Level) (h : ℕ) (levels : List Level) : Type 0 where
+  pub height : length levels ≡ suc h
+  pub tower : Tower lim q f levels
+  pub sound : T (sound? lim (record { parameters = q; levels = levels }))
+  pub exact : Exact lim q levels
+
 pub data Held (lim : Limits) : Reckoning → State → Type 0 where
   none-held : Held lim nothing empty
-  held : {q : Parameters} {f : Level} {levels : List Level} {h : ℕ} → length levels ≡ suc h → Tower lim q f levels
-      → T (sound? lim (record { parameters = q; levels = levels })) → Exact lim q levels
+  held : {q : Parameters} {f : Level} {levels : List Level} {h : ℕ} → Standing lim q f h levels
       → Held lim (record { basis = some (q, f); h = h }) (record { parameters = q; levels = levels })
 
 pub record Agrees (lim : Limits) (R : Reckoning) (X : State) : Type 0 where
@@ -49,7 +55,7 @@ pub record Agrees (lim : Limits) (R : Reckoning) (X : State) : Type 0 where
 
 pub held-agrees : (lim : Limits) (R : Reckoning) (X : State) → Held lim R X → Agrees lim R X
 held-agrees lim R X none-held = record { levels = (0, refl); parameters = refl; sound = inl refl; exact = tt }
-held-agrees lim R X (held {q} {f} {levels} {h} l t s e) = record { levels = tower-reckons lim q f levels h l t; parameters = refl; sound = inr s; exact = e }
+held-agrees lim R X (held {q} {f} {levels} {h} s) = record { levels = tower-reckons lim q f levels h (s .height) (s .tower); parameters = refl; sound = inr (s .sound); exact = s .exact }
 
 -- ## Levels taken away, and a level more
 
@@ -105,7 +111,7 @@ module _ (lim : Limits) (o : T (sensible? lim)) where
       X = basis-state (q, f)
 
       go : {x : Result State} → Read-right lim q f x → Ends (Held lim (record { basis = some (q, f); h = 0 })) (λ number value. T (read-number? number)) x
-      go (accepts gb) = gives (held refl refl h gb)
+      go (accepts gb) = gives (held (record { height = refl; tower = refl; sound = h; exact = gb }))
       go (limited {number} t) = refuses (limit-read number t)
       go (stopped t s) = refuses tt
       go Demands.open-yet = open-yet
@@ -115,8 +121,7 @@ module _ (lim : Limits) (o : T (sensible? lim)) where
 
   -- ## Lifting
 
-  module _ (q : Parameters) (f : Level) (levels : List Level) (h k : ℕ) (l : length levels ≡ suc h) (t : Tower lim q f levels)
-      (s : T (sound? lim (record { parameters = q; levels = levels }))) (e : Exact lim q levels) (r : T (between 1 k (lim .levels))) (has : k - 1 < length levels) where
+  module _ (q : Parameters) (f : Level) (levels : List Level) (h k : ℕ) (s : Standing lim q f h levels) (r : T (between 1 k (lim .levels))) (has : k - 1 < length levels) where
     abbrev before : State
     before = record { parameters = q; levels = levels }
 
@@ -131,43 +136,55 @@ module _ (lim : Limits) (o : T (sensible? lim)) where
     high = between-high 1 k (lim .levels) r
 
     left : length levels - suc (k - 1) < length levels
-    left = omega (arith, l)
+    left = omega (arith, s .height)
 
-    height : length below ≡ k
-    height = let d = length-drop (length levels - suc (k - 1)) levels in omega (arith, d, has, low)
+    height-below : length below ≡ k
+    height-below = let d = length-drop (length levels - suc (k - 1)) levels in omega (arith, d, has, low)
 
     stays : (Y : List Level → Type 0) → ((g b : Level) (below : List Level) → Y (g ∷ b ∷ below) → Y (b ∷ below)) → Y levels → Y below
     stays Y down y = drop-keeps Y down (length levels - suc (k - 1)) levels left y
 
     tower-below : Tower lim q f below
-    tower-below = stays (Tower lim q f) (tower-down lim q f) t
+    tower-below = stays (Tower lim q f) (tower-down lim q f) (s .tower)
 
     exact-below : Exact lim q below
-    exact-below = stays (Exact lim q) (exact-down lim q) e
+    exact-below = stays (Exact lim q) (exact-down lim q) (s .exact)
 
     levels-below : T (levels-sound? lim q below)
-    levels-below = stays (λ ls. T (levels-sound? lim q ls)) (sound-down lim q) (sound-says lim before s .levels)
+    levels-below = stays (λ ls. T (levels-sound? lim q ls)) (sound-down lim q) (sound-says lim before (s .sound) .levels)
 
     with-levels : (ls : List Level) → length ls ≤ suc (lim .levels) → T (levels-sound? lim q ls) → T (sound? lim (record { parameters = q; levels = ls }))
-    with-levels ls a b = sound-shown lim (record { parameters = q; levels = ls }) (record { prime = sound-says lim before s .prime; ranges = sound-says lim before s .ranges; height = a; levels = b })
+    with-levels ls a b =
+        sound-shown lim (record { parameters = q; levels = ls })
+        (record { prime = sound-says lim before (s .sound) .prime; ranges = sound-says lim before (s .sound) .ranges; height = a; levels = b })
 
-    level-held : (g : Level) → Lift-right lim q below g → Held lim (record { basis = some (q, f); h = k }) (record { parameters = q; levels = g ∷ below })
-    level-held g w =
-        held (ap suc height) (tower-up lim q f g below tower-below (w .bound, w .reckons)) (with-levels (g ∷ below) (omega (arith, height, high)) (w .sound))
-        (exact-up lim q f g below tower-below exact-below (w .exact (exact-basis lim q f below tower-below exact-below)))
+    level-stands : (g : Level) → Lift-right lim q below g → Standing lim q f k (g ∷ below)
+    level-stands g w = record {
+      height = ap suc height-below;
+      tower = tower-up lim q f g below tower-below (w .bound, w .reckons);
+      sound = with-levels (g ∷ below) (omega (arith, height-below, high)) (w .sound);
+      exact = exact-up lim q f g below tower-below exact-below (w .exact (exact-basis lim q f below tower-below exact-below));
+    }
 
-    at-held : {x : Result Level} → Gives (Lift-right lim q below) x
-        → Gives (Held lim (record { basis = some (q, f); h = k })) (at-level k x >>= λ g. done (record { parameters = q; levels = g ∷ below }))
-    at-held (gives {a} w) = gives (level-held a w)
-    at-held (refuses u) = refuses u
-    at-held open-yet = open-yet
+    -- a level more over the levels that stay
+    abbrev pub One-more : State → Type 0
+    One-more Y = (g : Level) × ((Y ≡ record { parameters = q; levels = g ∷ drop (length levels - suc (k - 1)) levels }) × Standing lim q f k (g ∷ drop (length levels - suc (k - 1)) levels))
 
-    lifted : (way : Lifting) (n : ℕ) → Gives (Held lim (record { basis = some (q, f); h = k })) (lift lim n before k way)
-    lifted way n = at-held (over-sound lim o q below (with-levels below (omega (arith, height, high)) levels-below) .lifts way n)
+    at-stands : {x : Result Level} → Gives (Lift-right lim q below) x → Gives One-more (at-level k x >>= λ g. done (record { parameters = q; levels = g ∷ below }))
+    at-stands (gives {a} w) = gives (a, (refl, level-stands a w))
+    at-stands (refuses u) = refuses u
+    at-stands open-yet = open-yet
+
+    -- lifting puts a level on the levels that stay, or meets a limit
+    pub lift-stands : (way : Lifting) (n : ℕ)
+        → Ends One-more (λ number value. T (limit-number? number)) (lift lim n (record { parameters = q; levels = levels }) k way)
+    lift-stands way n =
+        ends-both (λ Y a b. b) (numbered-ends (lift-number lim n before k way))
+        (at-stands (over-sound lim o q below (with-levels below (omega (arith, height-below, high)) levels-below) .lifts way n))
 
   pub lift-held : (R : Reckoning) (X : State) → Held lim R X → (k : ℕ) (way : Lifting) (n : ℕ) → T (sound? lim X) → T (between 1 k (lim .levels)) → T (has-level? X (k - 1))
       → Ends (Held lim (record { basis = R .basis; h = k })) (λ number value. T (read-number? number)) (lift lim n X k way)
   lift-held R X none-held k way n s r c = absurd (sound-says lim empty s .levels)
-  lift-held R X (held {q} {f} {levels} {h} l t u e) k way n s r c =
-      ends-turn (λ Y y. y) (λ number value y. limit-read number y)
-      (ends-both (λ Y a b. b) (numbered-ends (lift-number lim n X k way)) (lifted q f levels h k l t u e r (ltb→lt (k - 1) (length levels) c) way n))
+  lift-held R X (held {q} {f} {levels} {h} u) k way n s r c =
+      ends-turn (λ Y (g, (e, v)). subst (Held lim (record { basis = some (q, f); h = k })) (sym e) (held v)) (λ number value y. limit-read number y)
+      (lift-stands q f levels h k u r (ltb→lt (k - 1) (length levels) c) way n)

@@ -94,16 +94,16 @@ module _ (lim : Limits) (o : T (sensible? lim)) where
   -- what is written holds what was to be held
   encode-stored : (R : Reckoning) (X : State) (size : ℕ) → state-words lim ≤ size → Held lim R X → Stored lim R (encode lim size X)
   encode-stored R X size l none-held = subst (Stored lim nothing) (sym (encode-empty lim size l)) (zeros-stored lim (replicate size 0) (ap (λ n. replicate n 0) (sym (length-replicate size 0))))
-  encode-stored R X size l (held a b s c) = record {
-    holds = subst (Held lim R) (sym back) (held a b s c);
+  encode-stored R X size l (held s) = record {
+    holds = subst (Held lim R) (sym back) (held s);
     spelled = λ i. ap (λ n. encode lim n X) (sym long) ∙ ap (encode lim (length (encode lim size X))) (sym back);
   }
     where
       back : meant lim (encode lim size X) ≡ X
-      back = meant-encode lim (small-exponents lim o) size X s
+      back = meant-encode lim (small-exponents lim o) size X (s .sound)
 
       long : length (encode lim size X) ≡ size
-      long = length-encode lim (small-exponents lim o) size X s l
+      long = length-encode lim (small-exponents lim o) size X (s .sound) l
 
   -- a settled call
   settled-stored : (R : Reckoning) (c : Call) (words : Words) → state-words lim ≤ length words → {x : Result State}
