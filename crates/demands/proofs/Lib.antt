@@ -29,5 +29,6 @@ pub mod Over
 pub mod Reckonings
 pub mod Demand2
 pub mod Held
+pub mod Places
 pub mod Stored
 pub mod Demand3
