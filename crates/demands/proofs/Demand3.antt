@@ -25,11 +25,11 @@ use Rattle.definitions.proofs.Sound.{sound-says}
 use Rattle.demands.specs.Notions.{Member}
 use Rattle.demands.specs.Picks.{All-pick, run-by}
 use Rattle.demands.specs.Demands.{sensible?, as-call, numbered, left-by, Reads, First-reads, Starts, Fetch-right, Fetches-right, Leaves, Demand-3}
-use Rattle.demands.proofs.Results.{Gives, gives, refuses, open-yet, ends-at, Holds, holds, holds-then, holds-map, holds-given, holds-at}
-use Rattle.demands.proofs.Over.{vector-room, sound-prime, sound-eight, Lift-right, over}
-use Rattle.demands.proofs.Reckonings.{one-level, one-reckoning, drop-keeps}
+use Rattle.demands.proofs.Results.{ends-at, Holds, holds, holds-then, holds-map, holds-given, holds-at}
+use Rattle.demands.proofs.Reckonings.{one-level, one-reckoning}
 use Rattle.demands.proofs.Demand2.{over-sound}
-use Rattle.demands.proofs.Held.{Agrees, held-agrees, sound-down}
+use Rattle.demands.proofs.Lifts.{Lifted-to, one-more, lifted-to}
+use Rattle.demands.proofs.Held.{Agrees, held-agrees}
 use Rattle.demands.proofs.Stored.{Stored, zeros-stored, Called, read-stored, lift-stored, fetch-stored}
 
 module _ (lim : Limits) (o : T (sensible? lim)) where
@@ -72,34 +72,15 @@ module _ (lim : Limits) (o : T (sensible? lim)) where
 
   -- ## Ways
 
-  module _ (X : State) (s : T (sound? lim X)) (k : ℕ) where
-    some-level : (levels : List Level) → T (levels-sound? lim (X .parameters) levels) → 1 ≤ length levels
-    some-level [] t = absurd t
-    some-level (f ∷ levels) t = omega arith
+  -- two liftings of one level leave one state
+  one-lifted : (X : State) (k : ℕ) (Y Y′ : State) → Lifted-to lim X k (done Y) → Lifted-to lim X k (done Y′) → Y ≡ Y′
+  one-lifted X k Y Y′ (one-more g h) (one-more g′ h′) =
+      ap (λ z. record { parameters = X .parameters; levels = z ∷ up-to X (k - 1) })
+      (one-level lim (X .parameters .p) (X .parameters .code) (up-to X (k - 1)) (h .bound) (h′ .bound) g g′ (h .reckons) (h′ .reckons))
 
-    below-sound : T (levels-sound? lim (X .parameters) (up-to X (k - 1)))
-    below-sound =
-        let t = sound-says lim X s .levels in
-        let l : 1 ≤ length (X .levels) = some-level (X .levels) t in
-        drop-keeps (λ ls. T (levels-sound? lim (X .parameters) ls)) (sound-down lim (X .parameters)) (length (X .levels) - suc (k - 1)) (X .levels) (omega arith) t
-
-    -- the state after lifting
-    abbrev Lifted : State → Type 0
-    Lifted Y = (g : Level) × Lift-right lim (X .parameters) (up-to X (k - 1)) g × (Y ≡ record { parameters = X .parameters; levels = g ∷ up-to X (k - 1) })
-
-    at-lifted : {x : Result Level} → Gives (Lift-right lim (X .parameters) (up-to X (k - 1))) x
-        → Gives Lifted (at-level k x >>= λ g. done (record { parameters = X .parameters; levels = g ∷ up-to X (k - 1) }))
-    at-lifted (gives {a} h) = gives (a, h, refl)
-    at-lifted (refuses u) = refuses u
-    at-lifted open-yet = open-yet
-
-    lifted : (n : ℕ) (way : Lifting) → Gives Lifted (lift lim n X k way)
-    lifted n way = at-lifted (over lim (X .parameters) (sound-prime lim o X s) (sound-eight lim o X s) (vector-room lim o) (up-to X (k - 1)) below-sound .lifts way n)
-
-    one-lifted : (Y Y′ : State) → Lifted Y → Lifted Y′ → Y ≡ Y′
-    one-lifted Y Y′ (g, h, e) (g′, h′, e′) =
-        let d : g ≡ g′ = one-level lim (X .parameters .p) (X .parameters .code) (up-to X (k - 1)) (h .bound) (h′ .bound) g g′ (h .reckons) (h′ .reckons) in
-        e ∙ ap (λ z. record { parameters = X .parameters; levels = z ∷ up-to X (k - 1) }) d ∙ sym e′
+  ways-agree : (n m : ℕ) (X : State) (k : ℕ) (way way′ : Lifting) (Y Y′ : State) → T (sound? lim X) → lift lim n X k way ≡ done Y → lift lim m X k way′ ≡ done Y′ → Y ≡ Y′
+  ways-agree n m X k way way′ Y Y′ s e e′ =
+      one-lifted X k Y Y′ (subst (Lifted-to lim X k) e (lifted-to lim o X s k way n)) (subst (Lifted-to lim X k) e′ (lifted-to lim o X s k way′ m))
 
   -- ## Demand 3
 
@@ -108,7 +89,7 @@ module _ (lim : Limits) (o : T (sensible? lim)) where
     calls = calls;
     one-reckoning = one-reckoning lim;
     any-picks = λ q f below W Ws m v s i k e. ends-at e (over-sound lim o q (f ∷ below) s .picks W Ws m i k);
-    ways-agree = λ n m X k way way′ Y Y′ s e e′. one-lifted X s k Y Y′ (ends-at e (lifted X s k n way)) (ends-at e′ (lifted X s k m way′));
+    ways-agree = ways-agree;
   }
 
 pub demand-3-of-document-01 : Demand-3 document-01

@@ -31,7 +31,7 @@ use Rattle.demands.specs.Demands.{sensible?, Read-right, accepts, limite
 use Rattle.demands.proofs.Results.{Ends, Gives, gives, refuses, open-yet, ends-then, ends-map, ends-both, ends-turn}
 use Rattle.demands.proofs.Over.{few-variables, vector-room, sound-prime, sound-eight, Lift-right, accepted-right}
 use Rattle.demands.proofs.Reckonings.{Tower, tower-reckons, drop-keeps}
-use Rattle.demands.proofs.Demand2.{over-sound}
+use Rattle.demands.proofs.Lifts.{Lifted-to, one-more, limit-met, still-lifting, stays, height-up-to, with-level, lifted-to, limit-read}
 
 -- ## What the reckoning holds and what the state holds
 
@@ -63,9 +63,6 @@ module _ (lim : Limits) (q : Parameters) where
   tower-down : (f g b : Level) (below : List Level) → Tower lim q f (g ∷ b ∷ below) → Tower lim q f (b ∷ below)
   tower-down f g b below t = t .1
 
-  pub sound-down : (g b : Level) (below : List Level) → T (levels-sound? lim q (g ∷ b ∷ below)) → T (levels-sound? lim q (b ∷ below))
-  sound-down g b below t = level-says lim q g b below t .under
-
   exact-down : (g b : Level) (below : List Level) → Exact lim q (g ∷ b ∷ below) → Exact lim q (b ∷ below)
   exact-down g b below t = t .1
 
@@ -83,20 +80,6 @@ module _ (lim : Limits) (q : Parameters) where
   exact-up f g [] t e r = absurd t
   exact-up f g (b ∷ below) t e r = (r, e)
 
--- ## The numbers of refusals
-
-numbered-ends : {A : Type 0} {ok : ℕ → Bool} {x : Result A} → Numbered ok x → Ends (λ a. Unit {0}) (λ number value. T (ok number)) x
-numbered-ends Numbers.gives = gives tt
-numbered-ends (Numbers.refuses t) = refuses t
-numbered-ends Numbers.open-yet = open-yet
-
-pub limit-read : (number : ℕ) → T (limit-number? number) → T (read-number? number)
-limit-read number t = go (between 1 number 9)
-  where
-    go : (b : Bool) → T (b || between 13 number 15)
-    go true = tt
-    go false = t
-
 module _ (lim : Limits) (o : T (sensible? lim)) where
   -- ## Reading
 
@@ -105,6 +88,7 @@ module _ (lim : Limits) (o : T (sensible? lim)) where
       → Ends (Held lim (record { basis = basis-of x; h = 0 })) (λ number value. T (read-number? number)) (x >>= accepted lim n)
   read-from n unfinished h k = open-yet
   read-from n (refused number place value) h (Numbers.refuses t) = refuses t
+  read-from n (refused number place value) h (Numbers.stops t) = refuses t
   read-from n (done (q, f)) h k = go (accepted-right lim q (sound-prime lim o X h) (sound-eight lim o X h) (vector-room lim o) f (sound-says lim X h .levels) n)
     where
       X : State
@@ -121,70 +105,34 @@ module _ (lim : Limits) (o : T (sensible? lim)) where
 
   -- ## Lifting
 
-  module _ (q : Parameters) (f : Level) (levels : List Level) (h k : ℕ) (s : Standing lim q f h levels) (r : T (between 1 k (lim .levels))) (has : k - 1 < length levels) where
-    abbrev before : State
-    before = record { parameters = q; levels = levels }
+  -- a level more over standing levels
+  pub level-stands : (q : Parameters) (f : Level) (levels : List Level) (h k : ℕ) → Standing lim q f h levels → T (between 1 k (lim .levels)) → k - 1 < length levels → (g : Level)
+      → Lift-right lim q (up-to (record { parameters = q; levels = levels }) (k - 1)) g → Standing lim q f k (g ∷ up-to (record { parameters = q; levels = levels }) (k - 1))
+  level-stands q f levels h k s r l g w = record {
+    height = let e : length below ≡ suc (k - 1) = height-up-to lim X (s .sound) (k - 1) l in let m : 1 ≤ k = between-low 1 k (lim .levels) r in omega arith;
+    tower = tower-up lim q f g below tower-below (w .bound, w .reckons);
+    sound = with-level lim X (s .sound) k r l g (w .sound);
+    exact = exact-up lim q f g below tower-below exact-below (w .exact (exact-basis lim q f below tower-below exact-below));
+  }
+    where
+      X : State
+      X = record { parameters = q; levels = levels }
 
-    -- the levels that stay
-    abbrev below : List Level
-    below = drop (length levels - suc (k - 1)) levels
+      below : List Level
+      below = up-to X (k - 1)
 
-    low : 1 ≤ k
-    low = between-low 1 k (lim .levels) r
+      tower-below : Tower lim q f below
+      tower-below = stays lim X (s .sound) (k - 1) (Tower lim q f) (tower-down lim q f) (s .tower)
 
-    high : k ≤ lim .levels
-    high = between-high 1 k (lim .levels) r
-
-    left : length levels - suc (k - 1) < length levels
-    left = omega (arith, s .height)
-
-    height-below : length below ≡ k
-    height-below = let d = length-drop (length levels - suc (k - 1)) levels in omega (arith, d, has, low)
-
-    stays : (Y : List Level → Type 0) → ((g b : Level) (below : List Level) → Y (g ∷ b ∷ below) → Y (b ∷ below)) → Y levels → Y below
-    stays Y down y = drop-keeps Y down (length levels - suc (k - 1)) levels left y
-
-    tower-below : Tower lim q f below
-    tower-below = stays (Tower lim q f) (tower-down lim q f) (s .tower)
-
-    exact-below : Exact lim q below
-    exact-below = stays (Exact lim q) (exact-down lim q) (s .exact)
-
-    levels-below : T (levels-sound? lim q below)
-    levels-below = stays (λ ls. T (levels-sound? lim q ls)) (sound-down lim q) (sound-says lim before (s .sound) .levels)
-
-    with-levels : (ls : List Level) → length ls ≤ suc (lim .levels) → T (levels-sound? lim q ls) → T (sound? lim (record { parameters = q; levels = ls }))
-    with-levels ls a b =
-        sound-shown lim (record { parameters = q; levels = ls })
-        (record { prime = sound-says lim before (s .sound) .prime; ranges = sound-says lim before (s .sound) .ranges; height = a; levels = b })
-
-    level-stands : (g : Level) → Lift-right lim q below g → Standing lim q f k (g ∷ below)
-    level-stands g w = record {
-      height = ap suc height-below;
-      tower = tower-up lim q f g below tower-below (w .bound, w .reckons);
-      sound = with-levels (g ∷ below) (omega (arith, height-below, high)) (w .sound);
-      exact = exact-up lim q f g below tower-below exact-below (w .exact (exact-basis lim q f below tower-below exact-below));
-    }
-
-    -- a level more over the levels that stay
-    abbrev pub One-more : State → Type 0
-    One-more Y = (g : Level) × ((Y ≡ record { parameters = q; levels = g ∷ drop (length levels - suc (k - 1)) levels }) × Standing lim q f k (g ∷ drop (length levels - suc (k - 1)) levels))
-
-    at-stands : {x : Result Level} → Gives (Lift-right lim q below) x → Gives One-more (at-level k x >>= λ g. done (record { parameters = q; levels = g ∷ below }))
-    at-stands (gives {a} w) = gives (a, (refl, level-stands a w))
-    at-stands (refuses u) = refuses u
-    at-stands open-yet = open-yet
-
-    -- lifting puts a level on the levels that stay, or meets a limit
-    pub lift-stands : (way : Lifting) (n : ℕ)
-        → Ends One-more (λ number value. T (limit-number? number)) (lift lim n (record { parameters = q; levels = levels }) k way)
-    lift-stands way n =
-        ends-both (λ Y a b. b) (numbered-ends (lift-number lim n before k way))
-        (at-stands (over-sound lim o q below (with-levels below (omega (arith, height-below, high)) levels-below) .lifts way n))
+      exact-below : Exact lim q below
+      exact-below = stays lim X (s .sound) (k - 1) (Exact lim q) (exact-down lim q) (s .exact)
 
   pub lift-held : (R : Reckoning) (X : State) → Held lim R X → (k : ℕ) (way : Lifting) (n : ℕ) → T (sound? lim X) → T (between 1 k (lim .levels)) → T (has-level? X (k - 1))
       → Ends (Held lim (record { basis = R .basis; h = k })) (λ number value. T (read-number? number)) (lift lim n X k way)
   lift-held R X none-held k way n s r c = absurd (sound-says lim empty s .levels)
-  lift-held R X (held {q} {f} {levels} {h} u) k way n s r c =
-      ends-turn (λ Y (g, (e, v)). subst (Held lim (record { basis = some (q, f); h = k })) (sym e) (held v)) (λ number value y. limit-read number y)
-      (lift-stands q f levels h k u r (ltb→lt (k - 1) (length levels) c) way n)
+  lift-held R X (held {q} {f} {levels} {h} u) k way n s r c = go (lifted-to lim o X s k way n)
+    where
+      go : {x : Result State} → Lifted-to lim X k x → Ends (Held lim (record { basis = some (q, f); h = k })) (λ number value. T (read-number? number)) x
+      go (one-more g w) = gives (held (level-stands q f levels h k u r (ltb→lt (k - 1) (length levels) c) g w))
+      go (limit-met {number} t) = refuses (limit-read number t)
+      go still-lifting = open-yet

@@ -28,6 +28,7 @@ pub mod Kept
 pub mod Over
 pub mod Reckonings
 pub mod Demand2
+pub mod Lifts
 pub mod Held
 pub mod Places
 pub mod Stored
