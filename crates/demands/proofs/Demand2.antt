@@ -46,7 +46,7 @@ module _ (lim : Limits) (o : T (sensible? lim)) where
       let X : State = record { parameters = q; levels = levels } in
       over lim q (sound-prime lim o X h) (sound-eight lim o X h) (vector-room lim o) levels (sound-says lim X h .levels)
 
-  well-formed : (bytes : Bytes) (q : Parameters) (f : Level) → problem lim bytes ≡ done (q, f) → T (sound? lim (basis-state (q, f)))
+  pub well-formed : (bytes : Bytes) (q : Parameters) (f : Level) → problem lim bytes ≡ done (q, f) → T (sound? lim (basis-state (q, f)))
   well-formed bytes q f e = if-done-says (λ f. T (sound? lim (basis-state f))) (problem lim bytes) (problem-sound lim (few-variables lim o) bytes) (q, f) e
 
   -- ## Reading

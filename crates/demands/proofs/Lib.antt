@@ -31,5 +31,6 @@ pub mod Demand2
 pub mod Lifts
 pub mod Held
 pub mod Places
+pub mod Sheets
 pub mod Stored
 pub mod Demand3
