@@ -32,5 +32,7 @@ pub mod Lifts
 pub mod Held
 pub mod Places
 pub mod Sheets
+pub mod Forms
+pub mod Demand1
 pub mod Stored
 pub mod Demand3

@@ -1,19 +1,19 @@
 -- Lifting a level in a sound state: it puts the reckoning's level on the levels that stay, or meets a limit.
 use mathlib.Core.Path.{_≡_, refl}
-use mathlib.Core.Bool.{Bool, true, false, _||_}
+use mathlib.Core.Bool.{Bool, true, false, not, _||_}
 use mathlib.Core.List.{List, [], _∷_}
 use Prim.Native.Nat.{ℕ, suc, _-_, _<_, _≤_}
 use native.Mathlib.Omega.{arith}
 use lib.Dec.{T}
 use lib.ListN.{length, drop, length-drop}
 use Rattle.definitions.specs.Limits.{Limits}
-use Rattle.definitions.specs.Lists.{between}
+use Rattle.definitions.specs.Lists.{_and_, between}
 use Rattle.definitions.specs.Monomial.{Vector, Level}
 use Rattle.definitions.specs.Result.{Result, done, refused, unfinished, at-level, _>>=_}
 use Rattle.definitions.specs.Lifting.{Lifting, lift-level}
 use Rattle.definitions.specs.Problem.{Parameters}
-use Rattle.definitions.specs.State.{State, up-to, levels-sound?, sound?}
-use Rattle.definitions.specs.Calls.{lift}
+use Rattle.definitions.specs.State.{State, has-level?, up-to, levels-sound?, sound?}
+use Rattle.definitions.specs.Calls.{lift, eleven?}
 use Rattle.definitions.proofs.Tests.{between-low, between-high}
 use Rattle.definitions.proofs.Sound.{sound-says, sound-shown, level-says}
 use Rattle.definitions.proofs.Numbers
@@ -85,3 +85,13 @@ limit-read number t = go (between 1 number 9)
     go : (b : Bool) → T (b || between 13 number 15)
     go true = tt
     go false = t
+
+-- not 11: a sound state, and the level is there
+pub not-eleven : (lim : Limits) (X : State) (k needed : ℕ) → (T (eleven? lim X k needed) → ⊥) → T (sound? lim X) × (T (between 1 k (lim .levels)) → T (has-level? X needed))
+not-eleven lim X k needed = go (sound? lim X) (between 1 k (lim .levels)) (has-level? X needed)
+  where
+    go : (s t u : Bool) → (T (not s || (t and not u)) → ⊥) → T s × (T t → T u)
+    go false t u f = absurd (f tt)
+    go true false u f = (tt, λ x. absurd x)
+    go true true false f = absurd (f tt)
+    go true true true f = (tt, λ x. tt)

@@ -29,6 +29,7 @@ use Rattle.demands.specs.Demands.{sensible?, as-call, Reads, Fetch-right
 use Rattle.demands.proofs.Results.{Ends, gives, refuses, open-yet, Holds, holds, holds-then}
 use Rattle.demands.proofs.Results
 use Rattle.demands.proofs.Over.{small-exponents}
+use Rattle.demands.proofs.Lifts.{not-eleven}
 use Rattle.demands.proofs.Held.{Held, none-held, held, held-agrees, read-held, lift-held}
 
 -- ## The reckoning of refused calls
@@ -146,20 +147,10 @@ module _ (lim : Limits) (o : T (sensible? lim)) where
             (holds-then (settled-stored R (reading true file) state (l tt) (read-held lim o n file)) (λ a k. holds k)) (λ a k. holds (λ r. k))
 
     module _ (R : Reckoning) (h : Stored lim R state) where
-      -- not 11: a sound state, and the level is there
-      not-eleven : (X : State) (k needed : ℕ) → (T (eleven? lim X k needed) → ⊥) → T (sound? lim X) × (T (between 1 k (lim .levels)) → T (has-level? X needed))
-      not-eleven X k needed = go (sound? lim X) (between 1 k (lim .levels)) (has-level? X needed)
-        where
-          go : (s t u : Bool) → (T (not s || (t and not u)) → ⊥) → T s × (T t → T u)
-          go false t u f = absurd (f tt)
-          go true false u f = (tt, λ x. absurd x)
-          go true true false f = absurd (f tt)
-          go true true true f = (tt, λ x. tt)
-
       lift-replied : (b : Bool) → (T b → state-words lim ≤ length state) → (k : ℕ) (way : Lifting)
           → Holds (Replied R (lifting true k way)) (lift-reply lim n (meant lim state) b k way)
       lift-replied false l k way = holds h
-      lift-replied true l k way = eleven (eleven? lim X k (k - 1)) (not-eleven X k (k - 1))
+      lift-replied true l k way = eleven (eleven? lim X k (k - 1)) (not-eleven lim X k (k - 1))
         where
           X : State
           X = meant lim state
