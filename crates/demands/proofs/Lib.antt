@@ -36,3 +36,4 @@ pub mod Forms
 pub mod Demand1
 pub mod Stored
 pub mod Demand3
+pub mod PrintedFile

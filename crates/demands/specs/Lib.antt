@@ -3,3 +3,4 @@ pub mod Frames
 pub mod Picks
 pub mod Exact
 pub mod Demands
+pub mod Idle
