@@ -37,3 +37,4 @@ pub mod Demand1
 pub mod Stored
 pub mod Demand3
 pub mod PrintedFile
+pub mod Idle

@@ -60,7 +60,7 @@ pub record Stored (lim : Limits) (R : Reckoning) (words : Words) : Type 0 where
   pub spelled : state-words lim ≤ length words → words ≡ encode lim (length words) (meant lim words)
 
 -- all zeros mean the empty state
-at-zeros : (size i : ℕ) → _≡_ {A = ℕ} (getD (replicate size 0) i 0) 0
+pub at-zeros : (size i : ℕ) → _≡_ {A = ℕ} (getD (replicate size 0) i 0) 0
 at-zeros zero i = refl
 at-zeros (suc size) zero = refl
 at-zeros (suc size) (suc i) = at-zeros size i
