@@ -83,7 +83,8 @@ module _ (lim : Limits) (q : Parameters) (P : Prime (q .p)) (eight : q .n ≤ 8)
     form = sorted (q .n) (q .p) P (q .code) [] tt (h .left) (h .sum .good) has
 
     lead-left : Lead (S Z) (L Z) (h .left) (h .stuck .x)
-    lead-left = greatest-leads Z lim (h .left) (h .sum) (h .stuck .i) (ap (λ (U : Strategy). U .pick (vec (q .n) (h .left))) (sym (h .known)) ∙ h .stuck .picks) (h .stuck .is .0) (h .stuck .x) (h .stuck .is .1)
+    lead-left = greatest-leads Z lim (h .left) (h .sum) (h .stuck .i) (ap (λ (U : Strategy). U .pick (vec (q .n) (h .left))) (sym (h .known))
+        ∙ h .stuck .picks) (h .stuck .is .0) (h .stuck .x) (h .stuck .is .1)
 
     combination : (u : TVec (q .n)) × All (S Z) (In (S Z) (L Z) (F Z)) u × Same (S Z) (h .left) (ψ (S Z) (L Z) (F Z .f) u)
     combination = left-combination (S Z) (L Z) (F Z) (red Z) x l (h .end) (h .left) (record { run = h .run; whole = h .whole tt })
@@ -102,7 +103,8 @@ module _ (lim : Limits) (q : Parameters) (P : Prime (q .p)) (eight : q .n ≤ 8)
     -- its components are those of the elements
     components : All (S Z) (λ (y : Mono (q .n)). y .1 < q .s) (form .form)
     components =
-        subst (All (S Z) X) (sym (canonical-is (S Z) (L Z) (form .form) (ψ (S Z) (L Z) (F Z .f) (combination .0)) (form .canonical) (Vec.same-trans (S Z) (form .like) (combination .2))))
+        subst (All (S Z) X) (sym (canonical-is (S Z) (L Z) (form .form) (ψ (S Z) (L Z) (F Z .f) (combination .0)) (form .canonical)
+        (Vec.same-trans (S Z) (form .like) (combination .2))))
         (canon-all (S Z) (L Z) X (ψ (S Z) (L Z) (F Z .f) (combination .0)) (Vec.all-lin (S Z) (In (S Z) (L Z) (F Z)) X (times (S Z) (L Z) (F Z .f))
         (λ y i. Vec.all-mapB (S Z) (Sound-mono lim (q .n) (q .s)) X (L Z .act (y .0)) (λ z k. k .0) (getD f (y .1) []) (w (y .1) i)) (combination .0) (combination .1)))
       where
@@ -116,7 +118,9 @@ module _ (lim : Limits) (q : Parameters) (P : Prime (q .p)) (eight : q .n ≤ 8)
       short = short;
       combination = record {
         by = vec (q .n) (combination .0);
-        proper = proper-shown q eight (length (flat (q .n) f)) u (subst (λ r. Ranged q eight r u) (sym (flat-length (q .n) f)) (in-ranged q P eight f [] d u (combination .1)));
+        proper =
+            proper-shown q eight (length (flat (q .n) f)) u (subst (λ r. Ranged q eight r u) (sym (flat-length (q .n) f))
+            (in-ranged q P eight f [] d u (combination .1)));
         is = λ m. same-equal (q .n) (q .p) P (form .form) (ψ (S Z) (L Z) (F Z .f) u) (Vec.same-trans (S Z) (form .like) (combination .2)) m
             ∙ ap (coefficient (q .p) m) (sym (put-for-is (q .n) (q .p) P (q .code) [] f u));
       };
@@ -154,7 +158,8 @@ module _ (lim : Limits) (q : Parameters) (P : Prime (q .p)) (eight : q .n ≤ 8)
   Shown value = Shows-why lim q (flat (q .n) f) value
 
   -- what is left is shown, as a working value is short
-  shown : (number : ℕ) (value : Vector) → Refusal (λ value. length value ≤ lim .working → Shown value) number value → length value ≤ lim .working → Refusal Shown number value
+  shown : (number : ℕ) (value : Vector) → Refusal (λ value. length value ≤ lim .working → Shown value) number value → length value ≤ lim .working
+      → Refusal Shown number value
   shown number value (limit t) l = limit t
   shown number value (nine s) l = nine (s l)
 
@@ -195,7 +200,8 @@ module _ (lim : Limits) (q : Parameters) (P : Prime (q .p)) (eight : q .n ≤ 8)
       next z (not-zero place a b s) = not-zero place (omega arith) (omega arith) s
       next z more-steps = more-steps
 
-      go : {r : Result Vector} → Ends (λ v. Zero-at x) (Refusal (Shows-why lim q (flat (q .n) f))) r → Accepts (suc i) xs (accept-from (stage Z lim) N (suc i) (monos (q .n) xs))
+      go : {r : Result Vector} → Ends (λ v. Zero-at x) (Refusal (Shows-why lim q (flat (q .n) f))) r
+          → Accepts (suc i) xs (accept-from (stage Z lim) N (suc i) (monos (q .n) xs))
           → Accepts i (x ∷ xs) (at-frame-term i r >>= λ v. accept-from (stage Z lim) N (suc i) (monos (q .n) xs))
       go (gives z) h = next z h
       go (refuses (limit {number} t)) h = subst (λ place. Accepts i (x ∷ xs) (refused number place [])) (sym (place-of i number t)) (met t)

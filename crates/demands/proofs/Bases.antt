@@ -159,7 +159,8 @@ module _ (q : Parameters) (P : Prime (q .p)) (eight : q .n ≤ 8) (f : TLevel (q
       i = ranged-in w (subst (λ r. Ranged q eight r w) (flat-length (q .n) f) (pr .ranged))
 
       leads : Leads (compare-over (q .code) (flats (q .n) b)) (q .p) m (vec (q .n) (ψ (S Z) (L Z) (F Z .f) w))
-      leads = subst (Leads (compare-over (q .code) (flats (q .n) b)) (q .p) m) (ap (put-for (q .p) (flat (q .n) f)) (sym (pr .back)) ∙ put-for-is (q .n) (q .p) P (q .code) b f w) (h .leads)
+      leads = subst (Leads (compare-over (q .code) (flats (q .n) b)) (q .p) m)
+          (ap (put-for (q .p) (flat (q .n) f)) (sym (pr .back)) ∙ put-for-is (q .n) (q .p) P (q .code) b f w) (h .leads)
 
   pub lead-led : (w : TVec (q .n)) → All (S Z) (In (S Z) (L Z) (F Z)) w → (x : Mono (q .n)) → Has (q .n) b x → Lead (S Z) (L Z) (ψ (S Z) (L Z) (F Z .f) w) x
       → Led-by q (flats (q .n) b) (flat (q .n) f) (mono (q .n) x)
@@ -173,10 +174,12 @@ module _ (q : Parameters) (P : Prime (q .p)) (eight : q .n ≤ 8) (f : TLevel (q
   pub gröbner-out : Gröbner (S Z) (L Z) (F Z) → Gröbner-basis q (flats (q .n) b) (flat (q .n) f)
   gröbner-out gb m h = go (led-lead m h)
     where
-      go : (w : TVec (q .n)) × All (S Z) (In (S Z) (L Z) (F Z)) w × ((x : Mono (q .n)) × (m ≡ mono (q .n) x) × Lead (S Z) (L Z) (ψ (S Z) (L Z) (F Z .f) w) x) → Divided (flat (q .n) f) m
+      go : (w : TVec (q .n)) × All (S Z) (In (S Z) (L Z) (F Z)) w × ((x : Mono (q .n)) × (m ≡ mono (q .n) x) × Lead (S Z) (L Z) (ψ (S Z) (L Z) (F Z .f) w) x)
+          → Divided (flat (q .n) f) m
       go (w, i, (x, e, l)) = at (gb w i)
         where
-          at : Same (S Z) (ψ (S Z) (L Z) (F Z .f) w) [] ⊎ ((y : Mono (q .n)) × In (S Z) (L Z) (F Z) y × Lead (S Z) (L Z) (ψ (S Z) (L Z) (F Z .f) w) (Induced.image (L Z) (F Z .lm) y))
+          at : Same (S Z) (ψ (S Z) (L Z) (F Z .f) w) [] ⊎ ((y : Mono (q .n)) × In (S Z) (L Z) (F Z) y × Lead (S Z) (L Z) (ψ (S Z) (L Z) (F Z .f) w)
+              (Induced.image (L Z) (F Z .lm) y))
               → Divided (flat (q .n) f) m
           at (inl z) = absurd (lead-nonzero (S Z) (L Z) l z)
           at (inr (y, k, l′)) = subst (Divided (flat (q .n) f)) (sym e) (image-divided y k x (lead-unique (S Z) (L Z) l′ l))
@@ -185,7 +188,8 @@ module _ (q : Parameters) (P : Prime (q .p)) (eight : q .n ≤ 8) (f : TLevel (q
   gröbner-in gb w i = go (Top.leading (S Z) (L Z) (Has (q .n) b) (ψ (S Z) (L Z) (F Z .f) w) (combination-has w i))
     where
       go : Same (S Z) (ψ (S Z) (L Z) (F Z .f) w) [] ⊎ Leading (S Z) (L Z) (Has (q .n) b) (ψ (S Z) (L Z) (F Z .f) w)
-          → Same (S Z) (ψ (S Z) (L Z) (F Z .f) w) [] ⊎ ((y : Mono (q .n)) × In (S Z) (L Z) (F Z) y × Lead (S Z) (L Z) (ψ (S Z) (L Z) (F Z .f) w) (Induced.image (L Z) (F Z .lm) y))
+          → Same (S Z) (ψ (S Z) (L Z) (F Z .f) w) [] ⊎ ((y : Mono (q .n)) × In (S Z) (L Z) (F Z) y × Lead (S Z) (L Z) (ψ (S Z) (L Z) (F Z .f) w)
+          (Induced.image (L Z) (F Z .lm) y))
       go (inl z) = inl z
       go (inr l) =
           let k : Lead (S Z) (L Z) (ψ (S Z) (L Z) (F Z .f) w) (l .mono) = leading-lead (S Z) (L Z) l in

@@ -38,7 +38,8 @@ module _ (n p : ℕ) (P : Prime p) (code : ℕ) (b : List (TLevel n)) (G : Groun
       go (level s) = absurd (module-over n code b .irrefl y (subst (λ z. module-over n code b .Lt y z) s l))
       go (less s) = absurd (module-over n code b .irrefl x (module-over n code b .trans x y x s l))
 
-  pub canonical-descends : (v : TVec n) → All (ModP p P) (Has n b) v → Canonical (ModP p P) (module-over n code b) v → T (strictly-descending? (compare-over code (flats n b)) (vec n v))
+  pub canonical-descends : (v : TVec n) → All (ModP p P) (Has n b) v → Canonical (ModP p P) (module-over n code b) v
+      → T (strictly-descending? (compare-over code (flats n b)) (vec n v))
   canonical-descends [] h k = tt
   canonical-descends (t ∷ []) h k = tt
   canonical-descends (t ∷ u ∷ v) h k =
@@ -56,7 +57,8 @@ module _ (lim : Limits) (q : Parameters) (P : Prime (q .p)) (eight : q .n ≤ 8)
     past = out-past (q .n) (t .1 .0);
   })
 
-  pub terms-sound : (v : TVec (q .n)) → Goods (q .n) (q .p) P v → All (ModP (q .p) P) (Sound-mono lim (q .n) count) v → T (every (term-sound? lim q count) (vec (q .n) v))
+  pub terms-sound : (v : TVec (q .n)) → Goods (q .n) (q .p) P v → All (ModP (q .p) P) (Sound-mono lim (q .n) count) v
+      → T (every (term-sound? lim q count) (vec (q .n) v))
   terms-sound [] g h = tt
   terms-sound (t ∷ v) g h =
       and-both (term-sound? lim q count (term (q .n) t)) (every (term-sound? lim q count) (vec (q .n) v)) (term-sound t (g .0) (h .0)) (terms-sound v (g .1) (h .1))

@@ -71,7 +71,8 @@ module _ (lim : Limits) (o : T (sensible? lim)) where
   exactly q f x (stopped {value = value} i w) t = ((λ a. absurd a), (λ gb. absurd (shows lim q f value w gb)))
   exactly q f x open-yet t = absurd t
 
-  ill-formed : (n : ℕ) (bytes : Bytes) (number place : ℕ) (value : Vector) → problem lim bytes ≡ refused number place value → read lim n bytes ≡ refused number place value
+  ill-formed : (n : ℕ) (bytes : Bytes) (number place : ℕ) (value : Vector) → problem lim bytes ≡ refused number place value
+      → read lim n bytes ≡ refused number place value
   ill-formed n bytes number place value e = ap (λ x. x >>= accepted lim n) e
 
   -- ## The frame

@@ -41,7 +41,8 @@ module _ (lim : Limits) (o : T (sensible? lim)) where
       record { levels = a .levels; parameters = a .parameters; sound = a .sound; spelled = s .spelled; exact = a .exact }
 
   -- a call from words that agree with the reckoning
-  call-right : (n : ℕ) (state : Words) (R : Reckoning) → Stored lim R state → (c : Lent) → Holds (λ a. Called lim o R c a × Fetch-right lim R c a) (lent-call lim n state c)
+  call-right : (n : ℕ) (state : Words) (R : Reckoning) → Stored lim R state → (c : Lent)
+      → Holds (λ a. Called lim o R c a × Fetch-right lim R c a) (lent-call lim n state c)
   call-right n state R s (read-with file work) = holds-map (λ a h. (h (inl s), tt)) (read-stored lim o n state R file work)
   call-right n state R s (lift-with k way work cache) = holds-map (λ a h. (h, tt)) (lift-stored lim o n state R s k way work cache)
   call-right n state R s (fetch-with k v out) = fetch-stored lim o n state R s k v out
@@ -78,7 +79,8 @@ module _ (lim : Limits) (o : T (sensible? lim)) where
       ap (λ z. record { parameters = X .parameters; levels = z ∷ up-to X (k - 1) })
       (one-level lim (X .parameters .p) (X .parameters .code) (up-to X (k - 1)) (h .bound) (h′ .bound) g g′ (h .reckons) (h′ .reckons))
 
-  ways-agree : (n m : ℕ) (X : State) (k : ℕ) (way way′ : Lifting) (Y Y′ : State) → T (sound? lim X) → lift lim n X k way ≡ done Y → lift lim m X k way′ ≡ done Y′ → Y ≡ Y′
+  ways-agree : (n m : ℕ) (X : State) (k : ℕ) (way way′ : Lifting) (Y Y′ : State) → T (sound? lim X) → lift lim n X k way ≡ done Y
+      → lift lim m X k way′ ≡ done Y′ → Y ≡ Y′
   ways-agree n m X k way way′ Y Y′ s e e′ =
       one-lifted X k Y Y′ (subst (Lifted-to lim X k) e (lifted-to lim o X s k way n)) (subst (Lifted-to lim X k) e′ (lifted-to lim o X s k way′ m))
 

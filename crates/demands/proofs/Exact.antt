@@ -126,11 +126,14 @@ module _ (lim : Limits) (q : Parameters) (P : Prime (q .p)) (eight : q .n ≤ 8)
   vector-right : Gröbner (S Z) (L Z) (F Z) → (k : ℕ) → k < length xs → Vector-right q (flats (q .n) (f ∷ b)) (mono (q .n) (at k)) (vec (q .n) (vector Z (at k)))
   vector-right gb k l = record {
     syzygy = (
-      proper-shown q eight (length (flat (q .n) f)) v (subst (λ r. Ranged q eight r v) (sym (flat-length (q .n) f)) (in-ranged q P eight f b d v (vector-in (S Z) G k l))),
-      λ m. ap (coefficient (q .p) m) (put-for-is (q .n) (q .p) P (q .code) b f v) ∙ same-equal (q .n) (q .p) P (ψ (S Z) (L Z) (F Z .f) v) [] (vector-syzygy (S Z) G gb k l) m,
+      proper-shown q eight (length (flat (q .n) f)) v (subst (λ r. Ranged q eight r v) (sym (flat-length (q .n) f))
+          (in-ranged q P eight f b d v (vector-in (S Z) G k l))),
+      λ m. ap (coefficient (q .p) m) (put-for-is (q .n) (q .p) P (q .code) b f v) ∙ same-equal (q .n) (q .p) P (ψ (S Z) (L Z) (F Z .f) v) []
+          (vector-syzygy (S Z) G gb k l) m,
     );
     in-front = ap (λ w. leading-term (vec (q .n) w)) (front-at k l .1);
-    leads = lead-leads (q .n) (q .p) P (q .code) (f ∷ b) (Z .grounded) v (inside-at k l) (at k) (in-range k l) (ahead-lead (S Z) (L Z) (F Z) (vector-ahead (S Z) G k l));
+    leads =
+        lead-leads (q .n) (q .p) P (q .code) (f ∷ b) (Z .grounded) v (inside-at k l) (at k) (in-range k l) (ahead-lead (S Z) (L Z) (F Z) (vector-ahead (S Z) G k l));
     descends = canonical-descends (q .n) (q .p) P (q .code) (f ∷ b) (Z .grounded) v (inside-at k l) (canonical-at k);
   }
     where
@@ -151,9 +154,11 @@ module _ (lim : Limits) (q : Parameters) (P : Prime (q .p)) (eight : q .n ≤ 8)
     generate : (c : Vector) → Syzygy q (flat (q .n) f) c → Combination q (flat (q .n) level-above) c
     generate c s = record {
       by = vec (q .n) u;
-      proper = proper-shown q eight (length (flat (q .n) level-above)) u (subst (λ r. Ranged q eight r u) (sym (flat-length (q .n) level-above)) (in-ranged q P eight level-above (f ∷ b) deep-above u inside));
+      proper = proper-shown q eight (length (flat (q .n) level-above)) u
+          (subst (λ r. Ranged q eight r u) (sym (flat-length (q .n) level-above)) (in-ranged q P eight level-above (f ∷ b) deep-above u inside));
       is = λ m. ap (coefficient (q .p) m) (sym (pr .back)) ∙ same-equal (q .n) (q .p) P w (ψ (S Z) Up (vector-of-stage) u) (found .2) m
-          ∙ ap (λ z. coefficient (q .p) m (vec (q .n) z)) (ψ-agrees (S Z) Up (Stage.family (S Z) Up (Tower.next (S Z) G)) (F Z′) into-size same-vector same-leading u inside)
+          ∙ ap (λ z. coefficient (q .p) m (vec (q .n) z)) (ψ-agrees (S Z) Up (Stage.family (S Z) Up (Tower.next (S Z) G))
+          (F Z′) into-size same-vector same-leading u inside)
           ∙ ap (coefficient (q .p) m) (sym (put-for-is (q .n) (q .p) P (q .code) (f ∷ b) level-above u));
     }
       where

@@ -51,7 +51,8 @@ module _ (lim : Limits) (o : T (sensible? lim)) where
   long-work : (way : Way) (state work : Words) → T (long-enough? lim way state work) → work-words lim way ≤ length work
   long-work way state work t = leb→le (work-words lim way) (length work) (and-right (leb (state-words lim) (length state)) (leb (work-words lim way) (length work)) t)
 
-  value-room : (file : Bytes) (state work : Words) → T (long-enough? lim division state work) → {number place : ℕ} {value : Vector} → Refused-reading lim file number place value
+  value-room : (file : Bytes) (state work : Words) → T (long-enough? lim division state work) → {number place : ℕ} {value : Vector}
+      → Refused-reading lim file number place value
       → length (rows-of value) ≤ length work
   value-room file state work t (ill-formed e b) = omega arith
   value-room file state work t (limit-met e l) = omega arith
@@ -62,11 +63,14 @@ module _ (lim : Limits) (o : T (sensible? lim)) where
   pub read-form : (n : ℕ) (file : Bytes) (state work : Words) → Holds (Read-form lim file state work) (read-call lim n file state work)
   read-form n file state work = go (long-enough? lim division state work) (λ t. t) (λ t. t)
     where
-      settles : T (long-enough? lim division state work) → {x : Result State} → Reading lim file x → Holds (Read-form lim file state work) (settled x then λ a. some (read-left lim state work a))
+      settles : T (long-enough? lim division state work) → {x : Result State} → Reading lim file x
+          → Holds (Read-form lim file state work) (settled x then λ a. some (read-left lim state work a))
       settles t (taken {q} {f} e s) =
-          holds (subst (λ z. Read-form lim file state work (0, 0, encode lim (length state) (record { parameters = q; levels = f ∷ [] }), z)) (sym (all-zeros work)) (accepted-as t e))
+          holds (subst (λ z. Read-form lim file state work (0, 0, encode lim (length state) (record { parameters = q; levels = f ∷ [] }), z))
+          (sym (all-zeros work)) (accepted-as t e))
       settles t (refused-reading {number} {place} {value} r) =
-          holds (subst (λ z. Read-form lim file state work (number, place, z, padded (length work) (rows-of value))) (sym (encode-empty lim (length state) (long-state division state work t)))
+          holds (subst (λ z. Read-form lim file state work (number, place, z, padded (length work) (rows-of value)))
+          (sym (encode-empty lim (length state) (long-state division state work t)))
           (Demands.Read-form.refused-as t r (value-room file state work t r)))
       settles t still-reading = nothing
 
@@ -92,16 +96,19 @@ module _ (lim : Limits) (o : T (sensible? lim)) where
       Form : Lift → Type 0
       Form = Lift-form lim k way state work cache
 
-      settles : T (long-enough? lim way state work) → T (sound? lim X) → T (between 1 k (lim .levels)) → T (has-level? X (k - 1)) → {x : Result State} → Lifted-to lim X k x
+      settles : T (long-enough? lim way state work) → T (sound? lim X) → T (between 1 k (lim .levels)) → T (has-level? X (k - 1)) → {x : Result State}
+          → Lifted-to lim X k x
           → Holds Form (settled x then λ a. some (left a))
       settles t s r c (one-more g w) =
           let l : k - 1 < length (X .levels) = ltb→lt (k - 1) (length (X .levels)) c in
           let m : 1 ≤ k = between-low 1 k (lim .levels) r in
           let e : length (up-to X (k - 1)) ≡ suc (k - 1) = height-up-to lim X s (k - 1) l in
           let Y : State = record { parameters = X .parameters; levels = g ∷ up-to X (k - 1) } in
-          holds (subst (λ z. Form (0, 0, encode lim (length state) Y, z, zeros cache)) (sym (all-zeros work)) (lifted-as Y t (with-level lim X s k r l g (w .sound)) (omega arith)))
+          holds (subst (λ z. Form (0, 0, encode lim (length state) Y, z, zeros cache)) (sym (all-zeros work))
+          (lifted-as Y t (with-level lim X s k r l g (w .sound)) (omega arith)))
       settles t s r c (Lifts.limit-met {number} u) =
-          holds (subst₂ (λ y z. Form (number, k, y, z, zeros cache)) (sym (encode-empty lim (length state) (long-state way state work t))) (sym (all-zeros work)) (Demands.Lift-form.refused-as t u))
+          holds (subst₂ (λ y z. Form (number, k, y, z, zeros cache)) (sym (encode-empty lim (length state) (long-state way state work t)))
+          (sym (all-zeros work)) (Demands.Lift-form.refused-as t u))
       settles t s r c still-lifting = nothing
 
       twelve : T (long-enough? lim way state work) → T (not (eleven? lim X k (k - 1))) → T (sound? lim X) × (T (between 1 k (lim .levels)) → T (has-level? X (k - 1)))
@@ -144,8 +151,10 @@ module _ (lim : Limits) (o : T (sensible? lim)) where
       Form : Fetch → Type 0
       Form = Fetch-form lim k v state out
 
-      fetched : T (out-long-enough? lim state out) → T (sound? lim X) → (T (between 1 k (lim .levels)) → T (has-level? X k)) → T (fetches? lim X k v) → Form (fetch-left out (fetch X k v))
-      fetched t s c r = fetched-as t s r refl (vector-in (X .parameters) (up-to X k) v (levels-stay lim X s k) (omega (arith, height, low)) (and-right (between 1 k (lim .levels)) (between 1 v (length (highest (up-to X k)))) r) out
+      fetched : T (out-long-enough? lim state out) → T (sound? lim X) → (T (between 1 k (lim .levels)) → T (has-level? X k)) → T (fetches? lim X k v)
+          → Form (fetch-left out (fetch X k v))
+      fetched t s c r = fetched-as t s r refl (vector-in (X .parameters) (up-to X k) v (levels-stay lim X s k) (omega (arith, height, low))
+          (and-right (between 1 k (lim .levels)) (between 1 v (length (highest (up-to X k)))) r) out
           (leb→le (out-words lim) (length out) (and-right (leb (state-words lim) (length state)) (leb (out-words lim) (length out)) t)))
         where
           ranged : T (between 1 k (lim .levels))
@@ -158,7 +167,8 @@ module _ (lim : Limits) (o : T (sensible? lim)) where
           height = height-up-to lim X s k (ltb→lt k (length (X .levels)) (c ranged))
 
       twelve : T (out-long-enough? lim state out) → T (not (eleven? lim X k k)) → T (sound? lim X) × (T (between 1 k (lim .levels)) → T (has-level? X k))
-          → (b : Bool) → (T b → T (fetches? lim X k v)) → (T (not b) → T (not (fetches? lim X k v))) → Form (fetch-left out (choose (not b) (refuse 12 X) (fetch X k v)))
+          → (b : Bool) → (T b → T (fetches? lim X k v)) → (T (not b) → T (not (fetches? lim X k v)))
+          → Form (fetch-left out (choose (not b) (refuse 12 X) (fetch X k v)))
       twelve t u s true y z = fetched t (s .0) (s .1) (y tt)
       twelve t u s false y z = Demands.Fetch-form.no-number t u (z tt)
 
@@ -168,6 +178,7 @@ module _ (lim : Limits) (o : T (sensible? lim)) where
       eleven t true y z s = Demands.Fetch-form.no-level t (y tt)
       eleven t false y z s = twelve t (z tt) (s (λ x. x)) (fetches? lim X k v) (λ x. x) (λ x. x)
 
-      go : (b : Bool) → (T b → T (out-long-enough? lim state out)) → (T (not b) → T (not (out-long-enough? lim state out))) → Form (fetch-left out (fetch-reply lim X b k v))
+      go : (b : Bool) → (T b → T (out-long-enough? lim state out)) → (T (not b) → T (not (out-long-enough? lim state out)))
+          → Form (fetch-left out (fetch-reply lim X b k v))
       go true y z = eleven (y tt) (eleven? lim X k k) (λ t. t) (λ t. t) (not-eleven lim X k k)
       go false y z = Demands.Fetch-form.too-short (z tt)

@@ -47,7 +47,8 @@ module _ (code : ℕ) where
   before-append t [] (u ∷ us) b h = (h u (inl refl), before-append t [] us tt (λ v i. h v (inr i)))
   before-append t (s ∷ ts) us b h = (b .0, before-append t ts us (b .1) h)
 
-  ascending-append : (ts us : List Monomial) → Ascending code ts → Ascending code us → ((t u : Monomial) → Member t ts → Member u us → Before code t u) → Ascending code (ts ++ us)
+  ascending-append : (ts us : List Monomial) → Ascending code ts → Ascending code us → ((t u : Monomial) → Member t ts → Member u us → Before code t u)
+      → Ascending code (ts ++ us)
   ascending-append [] us a b h = b
   ascending-append (t ∷ ts) us a b h = (before-append t ts us (a .0) (λ u i. h t u (inl refl) i), ascending-append ts us (a .1) b (λ s u i j. h s u (inr i) j))
 
@@ -109,7 +110,8 @@ module _ (code : ℕ) where
           go (above l) = absurd (omega arith)
           go (same k) =
               let z : h .j < i = subst (λ x. h .j < x) (sym k) (h .high) in
-              let d : T (divides-monomial? (at (h .j)) (product (t .0) (at i .0), at i .1)) = subst (λ x. T (divides-monomial? (at (h .j)) (product (t .0) (at x .0), at x .1))) (sym k) (h .divides) in
+              let d : T (divides-monomial? (at (h .j)) (product (t .0) (at i .0), at i .1)) = subst
+              (λ x. T (divides-monomial? (at (h .j)) (product (t .0) (at x .0), at x .1))) (sym k) (h .divides) in
               let (x, m, u) = g .covers (t .0) e (at (h .j)) (s .listed (h .j) (h .low) z) d in
               ((x, i), member-left (x, i) new ts (tagged-member i gs x m), divides-monomial (x, i) t k u)
 
@@ -188,7 +190,8 @@ module _ (code : ℕ) (f : Level) (e : Eight-each f) where
   monomials-at (v ∷ g) (suc k) l = monomials-at g k (omega arith)
 
   part : Part code at 1 (length f) (frame code (leading-monomials f))
-  part = subst (λ z. Part code at 1 z (frame code (leading-monomials f))) (monomials-length f) (frame-part code at (leading-monomials f) (eights f e) 1 (omega arith) [] tt start)
+  part = subst (λ z. Part code at 1 z (frame code (leading-monomials f))) (monomials-length f)
+      (frame-part code at (leading-monomials f) (eights f e) 1 (omega arith) [] tt start)
     where
       start : Splits code at 1 [] (leading-monomials f)
       start = record {
@@ -199,7 +202,8 @@ module _ (code : ℕ) (f : Level) (e : Eight-each f) where
 
   pub is-frame : Is-frame code f (frame code (leading-monomials f))
   is-frame = record {
-    covers = λ t l h. part .covers t l (between-low 1 (t .1) (length f) (h .in-range)) (let k : t .1 ≤ length f = between-high 1 (t .1) (length f) (h .in-range) in omega arith) (earlier t h);
+    covers = λ t l h. part .covers t l (between-low 1 (t .1) (length f) (h .in-range))
+        (let k : t .1 ≤ length f = between-high 1 (t .1) (length f) (h .in-range) in omega arith) (earlier t h);
     only = λ t m. let (l, a, b, h) = part .only t m in (l, syzygy t a (omega arith) h);
     minimal = part .least;
     numbered = part .numbered;
@@ -248,7 +252,8 @@ module _ (code : ℕ) (f : Level) where
   before-both t u a b (inl l) (inl k) = omega arith
   before-both t u a b (inl l) (inr (k, h)) = omega arith
   before-both t u a b (inr (k, h)) (inl l) = omega arith
-  before-both t u a b (inr (k, h)) (inr (l, i)) = order code 8 .irrefl _ (order code 8 .trans _ _ _ (says-under code (t .0) (u .0) a b h) (says-under code (u .0) (t .0) b a i))
+  before-both t u a b (inr (k, h)) (inr (l, i)) =
+      order code 8 .irrefl _ (order code 8 .trans _ _ _ (says-under code (t .0) (u .0) a b h) (says-under code (u .0) (t .0) b a i))
 
   before-member : (t : Monomial) (ts : List Monomial) → Before-all code t ts → (u : Monomial) → Member u ts → Before code t u
   before-member t (s ∷ ts) b u (inl e) = subst (Before code t) (sym e) (b .0)

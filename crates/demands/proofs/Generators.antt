@@ -67,7 +67,8 @@ module _ (code : ℕ) where
   into-below k g u [] b = (u, tt)
   into-below k g u (h ∷ l) b = go (exponents-by code g h) (into-below k g u l (b .1))
     where
-      go : (c : Comparison) → Below-all k (into-ascending code g l) → Below-all k (elim c [ smaller ↦ g ∷ h ∷ l | equal ↦ h ∷ l | greater ↦ h ∷ into-ascending code g l ])
+      go : (c : Comparison) → Below-all k (into-ascending code g l)
+          → Below-all k (elim c [ smaller ↦ g ∷ h ∷ l | equal ↦ h ∷ l | greater ↦ h ∷ into-ascending code g l ])
       go smaller r = (u, b)
       go equal r = b
       go greater r = (b .0, r)
@@ -103,7 +104,8 @@ module _ (code : ℕ) where
   into-member g e (h ∷ l) s x m = go (eight-says code g h e (s .0)) m (into-member g e l (s .2) x)
     where
       go : {c : Comparison} → Says (Under code g h) (g ≡ h) (Under code h g) c → (x ≡ g) ⊎ ((x ≡ h) ⊎ Member x l)
-          → ((x ≡ g) ⊎ Member x l → Member x (into-ascending code g l)) → Member x (elim c [ smaller ↦ g ∷ h ∷ l | equal ↦ h ∷ l | greater ↦ h ∷ into-ascending code g l ])
+          → ((x ≡ g) ⊎ Member x l → Member x (into-ascending code g l))
+          → Member x (elim c [ smaller ↦ g ∷ h ∷ l | equal ↦ h ∷ l | greater ↦ h ∷ into-ascending code g l ])
       go (less u) m k = m
       go (level u) (inl i) k = inl (i ∙ u)
       go (level u) (inr i) k = i
@@ -144,12 +146,15 @@ module _ (code : ℕ) where
   sorted-length (h ∷ l) s g (inr i) = sorted-length l (s .2) g i
 
   -- every generator is divided by a minimal one: go down along the degree
-  minimal-under : (gs : List Exponents) → Sorted gs → (d : ℕ) → Acc _<_ d → (g : Exponents) → Member g gs → sum g ≡ d → (h : Exponents) × Member h (minimal gs) × T (divides? h g)
+  minimal-under : (gs : List Exponents) → Sorted gs → (d : ℕ) → Acc _<_ d → (g : Exponents) → Member g gs → sum g ≡ d
+      → (h : Exponents) × Member h (minimal gs) × T (divides? h g)
   minimal-under gs s d (Acc·intro d′ ih) g i e =
-      go (any (λ h. properly-divides? h g) gs) (any-says (λ h. properly-divides? h g) gs) (λ t. t) (λ h l j. minimal-under gs s (sum h) (ih (sum h) (subst (λ z. sum h < z) e l)) h j refl)
+      go (any (λ h. properly-divides? h g) gs) (any-says (λ h. properly-divides? h g) gs) (λ t. t)
+      (λ h l j. minimal-under gs s (sum h) (ih (sum h) (subst (λ z. sum h < z) e l)) h j refl)
     where
       go : (b : Bool) → (T b → (h : Exponents) × Member h gs × T (properly-divides? h g)) → (T (not b) → T (minimal? gs g))
-          → ((h : Exponents) → sum h < sum g → Member h gs → (k : Exponents) × Member k (minimal gs) × T (divides? k h)) → (h : Exponents) × Member h (minimal gs) × T (divides? h g)
+          → ((h : Exponents) → sum h < sum g → Member h gs → (k : Exponents) × Member k (minimal gs) × T (divides? k h))
+          → (h : Exponents) × Member h (minimal gs) × T (divides? h g)
       go false f k r = (g, those-shown (minimal? gs) gs g i (k tt), divides-refl g)
       go true f k r = under (f tt)
         where
@@ -164,7 +169,8 @@ module _ (code : ℕ) where
                   let (k, n, u) = r h l j in
                   let lk : length k ≡ 8 = sorted-length gs s k (those-says (minimal? gs) gs k n .0) in
                   (k, n, divides-trans k h g (lk ∙ sym (sorted-length gs s h j)) u w)
-              step (inr q) = absurd (T-not (same-exponents? h g) (and-right (divides? h g) (not (same-exponents? h g)) t) (subst (λ z. T (same-exponents? h z)) q (same-refl h)))
+              step (inr q) =
+                  absurd (T-not (same-exponents? h g) (and-right (divides? h g) (not (same-exponents? h g)) t) (subst (λ z. T (same-exponents? h z)) q (same-refl h)))
 
   -- no minimal one divides another
   minimal-apart : (gs : List Exponents) (g h : Exponents) → Member g (minimal gs) → Member h (minimal gs) → T (divides? h g) → h ≡ g
@@ -219,7 +225,8 @@ module _ (code : ℕ) where
           covers = λ x e k i t. at x e k i t;
         }
           where
-            at : (x : Exponents) → length x ≡ 8 → (k : Monomial) → Member k (l ∷ earlier) → T (divides-monomial? k (onto x)) → (g : Exponents) × Member g gs × T (divides? g x)
+            at : (x : Exponents) → length x ≡ 8 → (k : Monomial) → Member k (l ∷ earlier) → T (divides-monomial? k (onto x))
+                → (g : Exponents) × Member g gs × T (divides? g x)
             at x e k (inl i) t = absurd (n (subst (λ (z : Monomial). z .1 ≡ m .1) i (monomial-divides k (onto x) t .0)))
             at x e k (inr i) t = r .covers x e k i t
 
@@ -227,7 +234,15 @@ module _ (code : ℕ) where
         same n r = record { sorted = into-sorted c ec gs (r .sorted); real = λ g i. from g (into-either c gs g i); covers = at }
           where
             from : (g : Exponents) → (g ≡ c) ⊎ Member g gs → (length g ≡ 8) × ((k : Monomial) × Member k (l ∷ earlier) × T (divides-monomial? k (onto g)))
-            from g (inl e) = (ap length e ∙ ec, (l, inl refl, divides-monomial l (onto g) n (subst (λ z. T (divides? (l .0) (product z (m .0)))) (sym e) (colon-real (l .0) (m .0)))))
+            from g (inl e) = (
+              ap length e ∙ ec,
+              (
+                l,
+                inl refl,
+                divides-monomial l (onto g) n
+                    (subst (λ z. T (divides? (l .0) (product z (m .0)))) (sym e) (colon-real (l .0) (m .0))),
+              ),
+            )
             from g (inr i) = let (e, (k, j, t)) = r .real g i in (e, (k, inr j, t))
 
             at : (x : Exponents) → length x ≡ 8 → (k : Monomial) → Member k (l ∷ earlier) → T (divides-monomial? k (onto x))
@@ -235,7 +250,8 @@ module _ (code : ℕ) where
             at x e k (inl i) t = (
               c,
               into-member c ec gs (r .sorted) c (inl refl),
-              colon-least (l .0) (m .0) x (es .0 ∙ sym em) (e ∙ sym em) (subst (λ (z : Monomial). T (divides? (z .0) (product x (m .0)))) i (monomial-divides k (onto x) t .1)),
+              colon-least (l .0) (m .0) x (es .0 ∙ sym em) (e ∙ sym em)
+                  (subst (λ (z : Monomial). T (divides? (z .0) (product x (m .0)))) i (monomial-divides k (onto x) t .1)),
             )
             at x e k (inr i) t = let (g, j, d) = r .covers x e k i t in (g, into-member c ec gs (r .sorted) g (inr j), d)
 
@@ -258,7 +274,8 @@ module _ (code : ℕ) where
         r : Generates m earlier gs
         r = generated earlier es
 
-        at : (x : Exponents) → length x ≡ 8 → (l : Monomial) → Member l earlier → T (divides-monomial? l (onto x)) → (g : Exponents) × Member g (minimal gs) × T (divides? g x)
+        at : (x : Exponents) → length x ≡ 8 → (l : Monomial) → Member l earlier → T (divides-monomial? l (onto x))
+            → (g : Exponents) × Member g (minimal gs) × T (divides? g x)
         at x e l i t =
             let (g, j, d) = r .covers x e l i t in
             let (h, k, u) = minimal-under gs (r .sorted) (sum g) (Nat·lt-wfRel .wf .apply (sum g)) g j refl in

@@ -55,7 +55,8 @@ pub record Agrees (lim : Limits) (R : Reckoning) (X : State) : Type 0 where
 
 pub held-agrees : (lim : Limits) (R : Reckoning) (X : State) → Held lim R X → Agrees lim R X
 held-agrees lim R X none-held = record { levels = (0, refl); parameters = refl; sound = inl refl; exact = tt }
-held-agrees lim R X (held {q} {f} {levels} {h} s) = record { levels = tower-reckons lim q f levels h (s .height) (s .tower); parameters = refl; sound = inr (s .sound); exact = s .exact }
+held-agrees lim R X (held {q} {f} {levels} {h} s) =
+    record { levels = tower-reckons lim q f levels h (s .height) (s .tower); parameters = refl; sound = inr (s .sound); exact = s .exact }
 
 -- ## Levels taken away, and a level more
 
@@ -66,7 +67,8 @@ module _ (lim : Limits) (q : Parameters) where
   exact-down : (g b : Level) (below : List Level) → Exact lim q (g ∷ b ∷ below) → Exact lim q (b ∷ below)
   exact-down g b below t = t .1
 
-  tower-up : (f g : Level) (below : List Level) → Tower lim q f below → (bound : ℕ) × (reckoned-level lim bound (q .p) (q .code) below ≡ some g) → Tower lim q f (g ∷ below)
+  tower-up : (f g : Level) (below : List Level) → Tower lim q f below → (bound : ℕ) × (reckoned-level lim bound (q .p) (q .code) below ≡ some g)
+      → Tower lim q f (g ∷ below)
   tower-up f g [] t r = absurd t
   tower-up f g (b ∷ below) t r = (r, t)
 
@@ -100,14 +102,17 @@ module _ (lim : Limits) (o : T (sensible? lim)) where
       go (stopped t s) = refuses tt
       go Demands.open-yet = open-yet
 
-  pub read-held : (n : ℕ) (bytes : Bytes) → Ends (Held lim (record { basis = basis-of (problem lim bytes); h = 0 })) (λ number value. T (read-number? number)) (read lim n bytes)
+  pub read-held : (n : ℕ) (bytes : Bytes) → Ends (Held lim (record { basis = basis-of (problem lim bytes); h = 0 })) (λ number value. T (read-number? number))
+      (read lim n bytes)
   read-held n bytes = read-from n (problem lim bytes) (problem-sound lim (few-variables lim o) bytes) (read-number lim n bytes)
 
   -- ## Lifting
 
   -- a level more over standing levels
-  pub level-stands : (q : Parameters) (f : Level) (levels : List Level) (h k : ℕ) → Standing lim q f h levels → T (between 1 k (lim .levels)) → k - 1 < length levels → (g : Level)
-      → Lift-right lim q (up-to (record { parameters = q; levels = levels }) (k - 1)) g → Standing lim q f k (g ∷ up-to (record { parameters = q; levels = levels }) (k - 1))
+  pub level-stands : (q : Parameters) (f : Level) (levels : List Level) (h k : ℕ) → Standing lim q f h levels → T (between 1 k (lim .levels))
+      → k - 1 < length levels → (g : Level)
+      → Lift-right lim q (up-to (record { parameters = q; levels = levels }) (k - 1)) g
+      → Standing lim q f k (g ∷ up-to (record { parameters = q; levels = levels }) (k - 1))
   level-stands q f levels h k s r l g w = record {
     height = let e : length below ≡ suc (k - 1) = height-up-to lim X (s .sound) (k - 1) l in let m : 1 ≤ k = between-low 1 k (lim .levels) r in omega arith;
     tower = tower-up lim q f g below tower-below (w .bound, w .reckons);
@@ -127,7 +132,8 @@ module _ (lim : Limits) (o : T (sensible? lim)) where
       exact-below : Exact lim q below
       exact-below = stays lim X (s .sound) (k - 1) (Exact lim q) (exact-down lim q) (s .exact)
 
-  pub lift-held : (R : Reckoning) (X : State) → Held lim R X → (k : ℕ) (way : Lifting) (n : ℕ) → T (sound? lim X) → T (between 1 k (lim .levels)) → T (has-level? X (k - 1))
+  pub lift-held : (R : Reckoning) (X : State) → Held lim R X → (k : ℕ) (way : Lifting) (n : ℕ) → T (sound? lim X) → T (between 1 k (lim .levels))
+      → T (has-level? X (k - 1))
       → Ends (Held lim (record { basis = R .basis; h = k })) (λ number value. T (read-number? number)) (lift lim n X k way)
   lift-held R X none-held k way n s r c = absurd (sound-says lim empty s .levels)
   lift-held R X (held {q} {f} {levels} {h} u) k way n s r c = go (lifted-to lim o X s k way n)

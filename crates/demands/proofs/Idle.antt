@@ -103,7 +103,8 @@ early-14 E r i = differ 0 printed-lines (text ("X,14,0" ∷ [])) tt (sym (r 99 p
 -- ## Buffers
 
 -- reading the printed file writes p into the first word
-untouched-at : (R : Bytes → Words → Words → Read) → Reads-right document-01 R → Untouched R → (state work : Words) → T (long-enough? document-01 division state work) → getD state 0 0 ≡ 0 → ⊥
+untouched-at : (R : Bytes → Words → Words → Read) → Reads-right document-01 R → Untouched R → (state work : Words)
+    → T (long-enough? document-01 division state work) → getD state 0 0 ≡ 0 → ⊥
 untouched-at R r u state work t z =
     let e : R printed-file state work ≡ (0, 0, encode document-01 (length state) X₁, padded (length work) []) = r 99 printed-file state work _ (reads state work t) in
     let d : encode document-01 (length state) X₁ ≡ state = sym (ap (λ (x : Read). x .2) e) ∙ u printed-file state work in
@@ -111,7 +112,8 @@ untouched-at R r u state work t z =
     omega arith
 
 -- words that are all zero, of any size that is long enough
-long-zeros : (size width : ℕ) → state-words document-01 ≤ size → work-words document-01 division ≤ width → T (long-enough? document-01 division (replicate size 0) (replicate width 0))
+long-zeros : (size width : ℕ) → state-words document-01 ≤ size → work-words document-01 division ≤ width
+    → T (long-enough? document-01 division (replicate size 0) (replicate width 0))
 long-zeros size width l m = and-both (leb (state-words document-01) (length state)) (leb (work-words document-01 division) (length work))
     (le→leb (state-words document-01) (length state) (subst (λ n. state-words document-01 ≤ n) (sym (length-replicate size 0)) l))
     (le→leb (work-words document-01 division) (length work) (subst (λ n. work-words document-01 division ≤ n) (sym (length-replicate width 0)) m))

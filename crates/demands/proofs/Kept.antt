@@ -63,7 +63,8 @@ module _ (lim : Limits) (q : Parameters) (P : Prime (q .p)) (eight : q .n ≤ 8)
     descends = canonical-descends (q .n) (q .p) P (q .code) (f ∷ b) (Z .grounded) v (r .inside) (r .canonical);
   })
 
-  level-sound : (ys : List (Mono (q .n))) → Regulars (q .n) (q .p) P (q .code) (f ∷ b) (vectors Z lim ys) → All-ok Z lim ys → All-short (stage Z lim) (lim .vector) (flat (q .n) (vectors Z lim ys))
+  level-sound : (ys : List (Mono (q .n))) → Regulars (q .n) (q .p) P (q .code) (f ∷ b) (vectors Z lim ys) → All-ok Z lim ys
+      → All-short (stage Z lim) (lim .vector) (flat (q .n) (vectors Z lim ys))
       → T (every (vector-sound? lim q (length (flat (q .n) f)) (lim .vector) (flats (q .n) (f ∷ b))) (flat (q .n) (vectors Z lim ys)))
   level-sound [] r h l = tt
   level-sound (y ∷ ys) r h l =

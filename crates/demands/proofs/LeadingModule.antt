@@ -90,12 +90,15 @@ module _ (q : Parameters) (P : Prime (q .p)) (eight : q .n ≤ 8) (f : TLevel (q
                   inside = i;
                   same = ap (multiples (q .p) (t .0) (out (q .n) (t .1 .0))) (e ∙ ap (λ z. (1, z) ∷ []) (k ∙ ap (mono (q .n)) (sym r)))
                       ∙ ap (λ z. (Field.times (q .p) (t .0) 1, (z, suc (lm (q .n) f (y .1) .1))) ∷ []) (products (t .1 .0) (y .0) (lm (q .n) f (y .1) .0))
-                      ∙ ap (multiples (q .p) (t .0) (out (q .n) (ExpM (q .n) .mulE (t .1 .0) (y .0)))) (sym (flat-at (q .n) T-leadings (y .1) ∙ ap (vec (q .n)) (leadings-at f (y .1) i)));
+                      ∙ ap (multiples (q .p) (t .0) (out (q .n) (ExpM (q .n) .mulE (t .1 .0) (y .0))))
+                      (sym (flat-at (q .n) T-leadings (y .1) ∙ ap (vec (q .n)) (leadings-at f (y .1) i)));
                 }
               where
                 products : (a c e : E (q .n)) → Monomial.product (out (q .n) a) (out (q .n) (ExpM (q .n) .mulE c e))
                     ≡ Monomial.product (out (q .n) (ExpM (q .n) .mulE a c)) (out (q .n) e)
-                products a c e = product-out (q .n) a (ExpM (q .n) .mulE c e) ∙ ap (out (q .n)) (sym (ExpM (q .n) .mulE-assoc a c e)) ∙ sym (product-out (q .n) (ExpM (q .n) .mulE a c) e)
+                products a c e =
+                    product-out (q .n) a (ExpM (q .n) .mulE c e) ∙ ap (out (q .n)) (sym (ExpM (q .n) .mulE-assoc a c e)) ∙ sym
+                    (product-out (q .n) (ExpM (q .n) .mulE a c) e)
 
     all-instead : (w : TVec (q .n)) → Ranged q eight (length s) w
         → (u : TVec (q .n)) × Ranged q eight (length f) u × (put-for (q .p) s (vec (q .n) w) ≡ put-for (q .p) (flat (q .n) T-leadings) (vec (q .n) u))
@@ -111,7 +114,8 @@ module _ (q : Parameters) (P : Prime (q .p)) (eight : q .n ≤ 8) (f : TLevel (q
         let (u, k, e) = all-instead (tvec (q .n) (c .by)) (pr .ranged) in
         record {
           by = vec (q .n) u;
-          proper = proper-shown q eight (length (flat (q .n) T-leadings)) u (subst (λ r. Ranged q eight r u) (sym (flat-length (q .n) T-leadings ∙ leadings-length f)) k);
+          proper =
+              proper-shown q eight (length (flat (q .n) T-leadings)) u (subst (λ r. Ranged q eight r u) (sym (flat-length (q .n) T-leadings ∙ leadings-length f)) k);
           is = λ m. c .is m ∙ ap (coefficient (q .p) m) (ap (put-for (q .p) s) (sym (pr .back)) ∙ e);
         }
 
@@ -121,7 +125,8 @@ module _ (q : Parameters) (P : Prime (q .p)) (eight : q .n ≤ 8) (f : TLevel (q
       → All (S Z) (λ (x : Mono (q .n)). Divided (flat (q .n) f) (mono (q .n) x)) (ψ (S Z) (L Z) (λ j. getD T-leadings j []) w)
   divided-all w h =
       Vec.all-lin (S Z) (In (S Z) (L Z) (F Z)) X (times (S Z) (L Z) (λ j. getD T-leadings j [])) (λ x i.
-      subst (λ v. All (S Z) X (mapB (S Z) (L Z .act (x .0)) v)) (sym (leadings-at f (x .1) i)) (image-divided q P eight f b d x i (Induced.image (L Z) (F Z .lm) x) refl, tt)) w h
+      subst (λ v. All (S Z) X (mapB (S Z) (L Z .act (x .0)) v)) (sym (leadings-at f (x .1) i))
+      (image-divided q P eight f b d x i (Induced.image (L Z) (F Z .lm) x) refl, tt)) w h
     where
       X : Mono (q .n) → Type 0
       X x = Divided (flat (q .n) f) (mono (q .n) x)
@@ -179,7 +184,8 @@ module _ (q : Parameters) (P : Prime (q .p)) (eight : q .n ≤ 8) (f : TLevel (q
     where
       go : (x : Mono (q .n)) × (m ≡ mono (q .n) x) → Divided (flat (q .n) f) m
       go (x, e) = subst (Divided (flat (q .n) f)) (sym e)
-          (divided-in x (h (((1, mono (q .n) x) ∷ []) ∷ []) ((mono (q .n) x, subst (Led-by q (flats (q .n) b) (flat (q .n) f)) e l, refl), tt) ((1, mono (q .n) x) ∷ []) (alone x)))
+          (divided-in x (h (((1, mono (q .n) x) ∷ []) ∷ []) ((mono (q .n) x, subst (Led-by q (flats (q .n) b) (flat (q .n) f)) e l, refl), tt)
+          ((1, mono (q .n) x) ∷ []) (alone x)))
 
   pub leading-module : Gröbner-basis q (flats (q .n) b) (flat (q .n) f) ↔ Leading-generated q (flats (q .n) b) (flat (q .n) f)
   leading-module = subst (λ g. Gröbner-basis q (flats (q .n) b) (flat (q .n) f) ↔ Generated g) (sym are-leadings) ((λ gb s led v c. generated gb s led v c), to-basis)

@@ -70,7 +70,13 @@ module _ (Z : Setting) (lim : Limits) (eight : Z .n ≤ 8) (fits : (j : ℕ) →
   few-frame false h way N = refuses tt
   few-frame true h way N =
       subst (λ ms. Gives Lifted-right (lift-all (stage Z lim) (lift-one (stage Z lim) way N) ([], 0) [] ms)) (terms-back Z eight code)
-      (ends-map (λ g r. record { is = r .is; ok = r .ok; few = count (h tt); short = let m : 0 + total Z lim xs ≤ lim .level-terms = r .few (omega arith) in omega arith })
+      (ends-map (λ g r. record {
+        is = r .is;
+        ok = r .ok;
+        few = count (h tt);
+        short = let m : 0 + total Z lim xs ≤ lim .level-terms = r .few
+            (omega arith) in omega arith;
+      })
       (all-lifted Z lim way N xs terms-good ([], 0) [] tt))
     where
       xs : List (Mono (Z .n))
@@ -95,11 +101,14 @@ module _ (Z : Setting) (lim : Limits) (eight : Z .n ≤ 8) (fits : (j : ℕ) →
   each-reached : (xs : List (Mono (Z .n))) → Reached (λ N. each (reckoned-vector N (Z .p) (Z .code) below) (monos (Z .n) xs))
   each-reached [] = reached-some []
   each-reached (x ∷ xs) =
-      reached-then (λ N. reckoned-vector N (Z .p) (Z .code) below (mono (Z .n) x)) (λ N v. each (reckoned-vector N (Z .p) (Z .code) below) (monos (Z .n) xs) then λ vs. some (v ∷ vs))
-      (vector-reached Z x) (λ v. reached-then (λ N. each (reckoned-vector N (Z .p) (Z .code) below) (monos (Z .n) xs)) (λ N vs. some (v ∷ vs)) (each-reached xs) (λ vs. reached-some (v ∷ vs)))
+      reached-then (λ N. reckoned-vector N (Z .p) (Z .code) below (mono (Z .n) x))
+      (λ N v. each (reckoned-vector N (Z .p) (Z .code) below) (monos (Z .n) xs) then λ vs. some (v ∷ vs))
+      (vector-reached Z x) (λ v. reached-then (λ N. each (reckoned-vector N (Z .p) (Z .code) below) (monos (Z .n) xs)) (λ N vs. some (v ∷ vs))
+      (each-reached xs) (λ vs. reached-some (v ∷ vs)))
 
   -- from some bound on the reckoning's level is that of the theory's vectors
-  pub level-bound : (N : ℕ) × (reckoned-level lim N (Z .p) (Z .code) (flats (Z .n) (Z .f ∷ Z .b)) ≡ some (flat (Z .n) (vectors Z lim (terms Z eight (lim .numbering (Z .code))))))
+  pub level-bound : (N : ℕ) × (reckoned-level lim N (Z .p) (Z .code) (flats (Z .n) (Z .f ∷ Z .b)) ≡ some
+      (flat (Z .n) (vectors Z lim (terms Z eight (lim .numbering (Z .code))))))
   level-bound = subst (λ ms. (N : ℕ) × (each (reckoned-vector N (Z .p) (Z .code) below) ms ≡ some (flat (Z .n) (vectors Z lim xs)))) (terms-back Z eight code)
       (r .bound, reached-at (λ N. each (reckoned-vector N (Z .p) (Z .code) below) (monos (Z .n) xs)) r ∙ ap some value)
     where

@@ -24,7 +24,8 @@ use Rattle.demands.proofs.Over.{vector-room, sound-prime, sound-eight, 
 use Rattle.demands.proofs.Reckonings.{drop-keeps}
 
 pub data Lifted-to (lim : Limits) (X : State) (k : ℕ) : Result State → Type 0 where
-  one-more : (g : Level) → Lift-right lim (X .parameters) (up-to X (k - 1)) g → Lifted-to lim X k (done (record { parameters = X .parameters; levels = g ∷ up-to X (k - 1) }))
+  one-more : (g : Level) → Lift-right lim (X .parameters) (up-to X (k - 1)) g
+      → Lifted-to lim X k (done (record { parameters = X .parameters; levels = g ∷ up-to X (k - 1) }))
   limit-met : {number : ℕ} → T (limit-number? number) → Lifted-to lim X k (refused number k [])
   still-lifting : Lifted-to lim X k unfinished
 
@@ -87,7 +88,8 @@ limit-read number t = go (between 1 number 9)
     go false = t
 
 -- not 11: a sound state, and the level is there
-pub not-eleven : (lim : Limits) (X : State) (k needed : ℕ) → (T (eleven? lim X k needed) → ⊥) → T (sound? lim X) × (T (between 1 k (lim .levels)) → T (has-level? X needed))
+pub not-eleven : (lim : Limits) (X : State) (k needed : ℕ) → (T (eleven? lim X k needed) → ⊥)
+    → T (sound? lim X) × (T (between 1 k (lim .levels)) → T (has-level? X needed))
 not-eleven lim X k needed = go (sound? lim X) (between 1 k (lim .levels)) (has-level? X needed)
   where
     go : (s t u : Bool) → (T (not s || (t and not u)) → ⊥) → T s × (T t → T u)

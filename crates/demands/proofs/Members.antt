@@ -83,7 +83,8 @@ divides-trans (x ∷ a) (y ∷ b) [] l s t = tt
 divides-trans (x ∷ a) (y ∷ b) (z ∷ c) l s t =
     let i : x ≤ y = leb→le x y (and-left (leb x y) (divides? a b) s) in
     let j : y ≤ z = leb→le y z (and-left (leb y z) (divides? b c) t) in
-    and-both (leb x z) (divides? a c) (le→leb x z (omega arith)) (divides-trans a b c (omega arith) (and-right (leb x y) (divides? a b) s) (and-right (leb y z) (divides? b c) t))
+    and-both (leb x z) (divides? a c) (le→leb x z (omega arith)) (divides-trans a b c (omega arith) (and-right (leb x y) (divides? a b) s)
+    (and-right (leb y z) (divides? b c) t))
 
 pub divides-both : (a b : Exponents) → length a ≡ length b → T (divides? a b) → T (divides? b a) → a ≡ b
 divides-both [] [] l s t = refl
@@ -98,7 +99,8 @@ pub divides-degree : (a b : Exponents) → length a ≡ length b → T (divides?
 divides-degree [] [] l s = inr refl
 divides-degree [] (y ∷ b) l s = absurd (omega arith)
 divides-degree (x ∷ a) [] l s = absurd (omega arith)
-divides-degree (x ∷ a) (y ∷ b) l s = go (divides-degree a b (omega arith) (and-right (leb x y) (divides? a b) s)) (eqb x y) (eqb→eq x y) (λ e. subst (λ z. T (eqb x z)) e (eqb-refl x))
+divides-degree (x ∷ a) (y ∷ b) l s =
+    go (divides-degree a b (omega arith) (and-right (leb x y) (divides? a b) s)) (eqb x y) (eqb→eq x y) (λ e. subst (λ z. T (eqb x z)) e (eqb-refl x))
   where
     i : x ≤ y
     i = leb→le x y (and-left (leb x y) (divides? a b) s)
@@ -131,7 +133,8 @@ module _ (code : ℕ) where
       past (suc k) (x ∷ l) e = past k l (omega arith)
 
   pub eight-says : (a b : Exponents) → length a ≡ 8 → length b ≡ 8 → Says (Under a b) (a ≡ b) (Under b a) (exponents-by code a b)
-  eight-says a b ha hb = turn (subst₂ (λ x y. Says (Under a b) (into 8 a ≡ into 8 b) (Under b a) (exponents-by code x y)) (eight-back a ha) (eight-back b hb) (exponents-says code 8 (into 8 a) (into 8 b)))
+  eight-says a b ha hb = turn (subst₂ (λ x y. Says (Under a b) (into 8 a ≡ into 8 b) (Under b a) (exponents-by code x y)) (eight-back a ha) (eight-back b hb)
+      (exponents-says code 8 (into 8 a) (into 8 b)))
     where
       turn : {c : Comparison} → Says (Under a b) (into 8 a ≡ into 8 b) (Under b a) c → Says (Under a b) (a ≡ b) (Under b a) c
       turn (less s) = less s

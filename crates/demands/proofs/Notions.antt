@@ -146,7 +146,8 @@ module _ (n p : ℕ) (P : Prime p) where
 
               under : compare-over code (flats n b) (mono n (l .mono)) m ≡ smaller → ⊥
               under e = h .there (ap (λ w. coefficient p w (vec n v)) (z .is) ∙ coefficient-δ (z .x) v ∙ lead-over S L k (z .x)
-                  (says-less (over-says n code b G (l .mono) (z .x) (l .ok) (z .all (Has n b) hv)) (ap (compare-over code (flats n b) (mono n (l .mono))) (sym (z .is)) ∙ e)))
+                  (says-less (over-says n code b G (l .mono) (z .x) (l .ok) (z .all (Has n b) hv))
+                  (ap (compare-over code (flats n b) (mono n (l .mono))) (sym (z .is)) ∙ e)))
 
               at : (compare-over code (flats n b) (mono n (l .mono)) m ≡ smaller) ⊎ (mono n (l .mono) ≡ m) → (x : Mono n) × (m ≡ mono n x) × Lead S L v x
               at (inl e) = absurd (under e)

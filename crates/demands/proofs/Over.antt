@@ -105,7 +105,8 @@ module _ (lim : Limits) (q : Parameters) (P : Prime (q .p)) (eight : q .n ≤ 8)
     leading-eight : Eight-each (flat (q .n) f)
     leading-eight j l =
         let i : j < length f = subst (λ z. j < z) (flat-length (q .n) f) l in
-        ap (λ (m : Monomial). length (m .0)) (ap leading (flat-at (q .n) f j) ∙ leading-vec (q .n) (getD f j []) (d .0 j i .has-one)) ∙ out-length (q .n) eight (lm (q .n) f j .0)
+        ap (λ (m : Monomial). length (m .0)) (ap leading (flat-at (q .n) f j) ∙ leading-vec (q .n) (getD f j []) (d .0 j i .has-one)) ∙ out-length (q .n) eight
+        (lm (q .n) f j .0)
 
     all-free : (Ws : List Strategy) → All-pick Ws → All-in Z lim (Free Z lim) ⊥ (never Z lim) Ws
     all-free [] k = tt
@@ -118,7 +119,8 @@ module _ (lim : Limits) (q : Parameters) (P : Prime (q .p)) (eight : q .n ≤ 8)
     picked W Ws m i k =
         subst (λ z. Gives (λ v. (bound : ℕ) × (reckoned-vector bound (q .p) (q .code) (flats (q .n) (f ∷ b)) z ≡ some v))
         (run-by (stage-over lim (q .p) (q .code) (flats (q .n) (f ∷ b))) W Ws z)) (sym (r .is))
-        (ends-map (λ v h. (vector-bound Z x l .0, vector-bound Z x l .1 ∙ ap some (sym (h .is)))) (picks-lift Z lim W Ws (all-free Ws k) x l (term-fits Z lim eight fits x j)))
+        (ends-map (λ v h. (vector-bound Z x l .0, vector-bound Z x l .1 ∙ ap some (sym (h .is))))
+        (picks-lift Z lim W Ws (all-free Ws k) x l (term-fits Z lim eight fits x j)))
       where
         r : Written Z eight code m
         r = written Z eight code m i
@@ -151,12 +153,14 @@ module _ (lim : Limits) (q : Parameters) (P : Prime (q .p)) (eight : q .n ≤ 8)
   over s (f ∷ b) h =
       let r : Levels-right lim q P eight (f ∷ b) = levels-right lim q P eight (f ∷ b) h in
       subst (Over lim q) (r .back)
-      (over-theory (tlevel (q .n) f) (tlevels (q .n) b) (r .deep) (components lim q P eight (f ∷ b)) (r .fits) s (subst (λ ls. T (levels-sound? lim q ls)) (sym (r .back)) h))
+      (over-theory (tlevel (q .n) f) (tlevels (q .n) b) (r .deep) (components lim q P eight (f ∷ b)) (r .fits) s
+      (subst (λ ls. T (levels-sound? lim q ls)) (sym (r .back)) h))
 
   -- ## Acceptance
 
   pub accepted-right : 1 ≤ lim .vector → (f : Monomial.Level) → T (levels-sound? lim q (f ∷ [])) → (N : ℕ) → Read-right lim q f (accepted lim N (q, f))
-  accepted-right o f h N = subst (λ ls. Read-right lim q (highest ls) (accepted lim N (q, highest ls))) (r .back) (go (accept-right lim q P eight g (r .deep) o (r .fits) N))
+  accepted-right o f h N =
+      subst (λ ls. Read-right lim q (highest ls) (accepted lim N (q, highest ls))) (r .back) (go (accept-right lim q P eight g (r .deep) o (r .fits) N))
     where
       r : Levels-right lim q P eight (f ∷ [])
       r = levels-right lim q P eight (f ∷ []) h

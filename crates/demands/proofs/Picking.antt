@@ -64,7 +64,8 @@ code-picked order code [] = go (eqb code 1) (eqb code 2)
 code-picked order code (t ∷ v) = go (eqb code 1) (eqb code 2)
   where
     go : (s u : Bool) → Picked (t ∷ v) (elim s [ true ↦ some (greatest-from order 1 (0, t .1) v) | false ↦ elim u [ true ↦ some (length v) | false ↦ some 0 ] ])
-    go true u = place {i = greatest-from order 1 (0, t .1) v} (let h : greatest-from order 1 (0, t .1) v < 1 + length v = greatest-inside order 1 (0, t .1) v (omega arith) in omega arith)
+    go true u = place {i = greatest-from order 1 (0, t .1) v} (let h : greatest-from order 1 (0, t .1) v < 1 + length v = greatest-inside order 1 (0, t .1) v
+        (omega arith) in omega arith)
     go false true = place {i = length v} (omega arith)
     go false false = place {i = 0} (omega arith)
 
@@ -100,7 +101,8 @@ module _ (Z : Setting) (lim : Limits) where
     over : AtMost x y
     top : All (S Z) (AtMost x) g
 
-  top-from : (w : Vector) (i b c : ℕ) (y : Mono (Z .n)) → getD w b no-term ≡ term (Z .n) (c, y) → Has (Z .n) (Z .b) y → (g : TVec (Z .n)) → All (S Z) (Has (Z .n) (Z .b)) g
+  top-from : (w : Vector) (i b c : ℕ) (y : Mono (Z .n)) → getD w b no-term ≡ term (Z .n) (c, y) → Has (Z .n) (Z .b) y → (g : TVec (Z .n))
+      → All (S Z) (Has (Z .n) (Z .b)) g
       → ((k : ℕ) → k < length g → getD w (i + k) no-term ≡ term (Z .n) (getD g k (0, y))) → Top-at w (greatest-from order i (b, mono (Z .n) y) (vec (Z .n) g)) y g
   top-from w i b c y e hy [] hs at = record { c = c; x = y; is = e; over = inr refl; top = tt }
   top-from w i b c y e hy (t ∷ g) hs at = go (over-says (Z .n) (Z .code) (Z .b) (Z .grounded .1) (t .1) y (hs .0) hy)
@@ -115,10 +117,12 @@ module _ (Z : Setting) (lim : Limits) where
       default (u ∷ g) (suc k) l d d′ = default g k (omega arith) d d′
 
       later : (k : ℕ) → k < length g → (z : Mono (Z .n)) → getD w (suc i + k) no-term ≡ term (Z .n) (getD g k (0, z))
-      later k l z = let q : suc i + k ≡ i + suc k = omega arith in ap (λ j. getD w j no-term) q ∙ at (suc k) (omega arith) ∙ ap (term (Z .n)) (default g k l (0, y) (0, z))
+      later k l z =
+          let q : suc i + k ≡ i + suc k = omega arith in ap (λ j. getD w j no-term) q ∙ at (suc k) (omega arith) ∙ ap (term (Z .n)) (default g k l (0, y) (0, z))
 
       go : {o : Comparison} → Says (L Z .Lt (t .1) y) (t .1 ≡ y) (L Z .Lt y (t .1)) o
-          → Top-at w (greatest-from order (suc i) (b, mono (Z .n) y) (vec (Z .n) g)) y g → Top-at w (greatest-from order (suc i) (i, mono (Z .n) (t .1)) (vec (Z .n) g)) (t .1) g
+          → Top-at w (greatest-from order (suc i) (b, mono (Z .n) y) (vec (Z .n) g)) y g
+          → Top-at w (greatest-from order (suc i) (i, mono (Z .n) (t .1)) (vec (Z .n) g)) (t .1) g
           → Top-at w (greatest-from order (suc i) (better o i (mono (Z .n) (t .1)) (b, mono (Z .n) y)) (vec (Z .n) g)) y (t ∷ g)
       go (more s) r q = record { c = q .c; x = q .x; is = q .is; over = at-most-trans y (t .1) (q .x) (inl s) (q .over); top = (q .over, q .top) }
       go (level s) r q = record { c = r .c; x = r .x; is = r .is; over = r .over; top = (at-most-trans (t .1) y (r .x) (inr s) (r .over), r .top) }
@@ -129,7 +133,8 @@ module _ (Z : Setting) (lim : Limits) where
   vec-at (t ∷ g) zero l d = refl
   vec-at (t ∷ g) (suc k) l d = vec-at g k (omega arith) d
 
-  strictly : (y : Mono (Z .n)) (v : TVec (Z .n)) → All (S Z) (AtMost y) v → All (S Z) (λ (x : Mono (Z .n)). y ≡ x → ⊥) v → All (S Z) (λ (x : Mono (Z .n)). L Z .Lt x y) v
+  strictly : (y : Mono (Z .n)) (v : TVec (Z .n)) → All (S Z) (AtMost y) v → All (S Z) (λ (x : Mono (Z .n)). y ≡ x → ⊥) v
+      → All (S Z) (λ (x : Mono (Z .n)). L Z .Lt x y) v
   strictly y [] a n = tt
   strictly y (t ∷ v) a n = (go (a .0), strictly y v (a .1) (n .1))
     where
@@ -163,7 +168,9 @@ module _ (Z : Setting) (lim : Limits) where
           (λ m l. let q : 1 + m ≡ suc m = omega arith in ap (λ z. getD w z no-term) q ∙ vec-at g m l (0, t .1))
 
       inside : i < length (t ∷ g)
-      inside = let h : j < 1 + length (vec (Z .n) g) = greatest-inside order 1 (0, mono (Z .n) (t .1)) (vec (Z .n) g) (omega arith) in omega (arith, number, vec-length (Z .n) g)
+      inside =
+          let h : j < 1 + length (vec (Z .n) g) = greatest-inside order 1 (0, mono (Z .n) (t .1)) (vec (Z .n) g) (omega arith) in omega
+          (arith, number, vec-length (Z .n) g)
 
       k : Taken Z lim (t ∷ g) i
       k = taken Z lim (t ∷ g) i inside s

@@ -57,7 +57,8 @@ module _ (lim : Limits) (q : Parameters) where
       refused-then (guarded (term-in-range? lim q (term-of (q .n) v)) 4 place (here 4 place high tt l)) (λ u₃.
       refused-then (guarded (descends? (q .code) elements (getD v 0 0) (term-of (q .n) v)) 6 place (here 6 place high tt l)) (λ u₄. gives))))
 
-  e-line-at : (place count : ℕ) (later : List Line) (elements : Level) (o : Option (List ℕ)) → Refused-by (At place (place + suc (length later))) (e-line place count later elements o)
+  e-line-at : (place count : ℕ) (later : List Line) (elements : Level) (o : Option (List ℕ))
+      → Refused-by (At place (place + suc (length later))) (e-line place count later elements o)
   e-line-at place count later elements none = refuses (here 1 place (place + suc (length later)) tt (omega arith))
   e-line-at place count later elements (some v) =
       refused-then (guarded (not (eqb (getD v 0 0) 0) and eqb (getD v 0 0) count) 7 place (here 7 place (place + suc (length later)) tt (omega arith))) (λ u₁.
@@ -74,7 +75,8 @@ module _ (lim : Limits) (q : Parameters) where
           record { number-of = h .number-of; from = omega arith; to = omega arith; no-value = h .no-value }
 
       shape : (o : Option (List ℕ)) → ((grown : Level) → Refused-by (At (suc place) (suc place + length later)) (body lim q (suc place) (suc count) grown later))
-          → Refused-by (At place (place + suc (length later))) (by-shape o lim q place count elements line later (λ grown. body lim q (suc place) (suc count) grown later))
+          → Refused-by (At place (place + suc (length later))) (by-shape o lim q place count elements line later
+          (λ grown. body lim q (suc place) (suc count) grown later))
       shape (some v) ih = refused-then (t-line-at place count elements v (place + suc (length later)) (omega arith)) (λ grown. refused-wider further (ih grown))
       shape none ih = e-line-at place count later elements (shaped (lim .field) letter-E 1 line)
 

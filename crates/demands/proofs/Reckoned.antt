@@ -123,7 +123,8 @@ module _ (Z : Setting) where
 
   lifted-by-spelled : (h : Monomial → Option Vector) → ((x : Mono (Z .n)) → Holds (Spelled (up Z x)) (h (mono (Z .n) x))) → (x : Mono (Z .n))
       → Holds (Spelled (up Z x)) (lifted-by (answer-to Z x) (Z .p) (flat (Z .n) (Z .f)) h)
-  lifted-by-spelled h k x = subst (λ z. Holds (Spelled z) (lifted-by (answer-to Z x) (Z .p) (flat (Z .n) (Z .f)) h)) (sym (lift-eq (S Z) (L Z) (F Z) (red Z) x)) (go (answered Z x))
+  lifted-by-spelled h k x =
+      subst (λ z. Holds (Spelled z) (lifted-by (answer-to Z x) (Z .p) (flat (Z .n) (Z .f)) h)) (sym (lift-eq (S Z) (L Z) (F Z) (red Z) x)) (go (answered Z x))
     where
       go : {a : Answer} (s : Answered Z x a) → Holds (Spelled (lift-as (S Z) (L Z) (F Z) (red Z) x (red-by Z x s))) (lifted-by a (Z .p) (flat (Z .n) (Z .f)) h)
       go (miss o) = holds spelled-none
@@ -218,7 +219,8 @@ module _ (Z : Setting) where
       reached-then (λ N. liftings (Z .p) (to N) 1 (out (Z .n) (x .0)) (vector-of (flat (Z .n) (Z .f)) (suc (x .1))))
       (λ N v. some (descending (compare-over (Z .code) (flats (Z .n) (Z .f ∷ Z .b))) (Z .p) ((1, mono (Z .n) x) ∷ v)))
       (subst (λ g. Reached (λ N. liftings (Z .p) (to N) 1 (out (Z .n) (x .0)) g)) (sym (flat-at (Z .n) (Z .f) (x .1)))
-      (liftings-reached 1 (x .0) (getD (Z .f) (x .1) []) (Vec.all-all (S Z) (λ y. Liftable (L Z .act (x .0) y)) (λ y. lifted-reached (L Z .act (x .0) y)) (getD (Z .f) (x .1) []))))
+      (liftings-reached 1 (x .0) (getD (Z .f) (x .1) []) (Vec.all-all (S Z) (λ y. Liftable (L Z .act (x .0) y)) (λ y. lifted-reached (L Z .act (x .0) y))
+      (getD (Z .f) (x .1) []))))
       (λ v. reached-some (descending (compare-over (Z .code) (flats (Z .n) (Z .f ∷ Z .b))) (Z .p) ((1, mono (Z .n) x) ∷ v)))
 
   -- from some bound on the reckoning's vector is the theory's

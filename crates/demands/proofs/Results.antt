@@ -63,7 +63,8 @@ ends-both h (refuses r) k = refuses r
 ends-both h open-yet k = open-yet
 
 -- two claims of one refusal
-pub ends-refusals : {A : Type 0} {P Q : A → Type 0} {R U X : ℕ → Vector → Type 0} {x : Result A} → ((number : ℕ) (value : Vector) → R number value → U number value → X number value)
+pub ends-refusals : {A : Type 0} {P Q : A → Type 0} {R U X : ℕ → Vector → Type 0} {x : Result A}
+    → ((number : ℕ) (value : Vector) → R number value → U number value → X number value)
     → Ends P R x → Ends Q U x → Ends P X x
 ends-refusals h (gives p) k = gives p
 ends-refusals h (refuses {number} {value = value} r) k = refuses (h number value r (ends-refused k))

@@ -172,7 +172,8 @@ module _ (Z : Setting) (lim : Limits) where
       f′ = getD (Z .f) (a .at .1) []
 
       recorded-good : Good (Z .p) c′
-      recorded-good = good-mul (Z .p) (Z .P) (t .c) _ (t .good) (good-turned (Z .p) (Z .P) (F Z .lead (a .at .1) (a .dom) .coef) (F Z .lead (a .at .1) (a .dom) .nonzero))
+      recorded-good =
+          good-mul (Z .p) (Z .P) (t .c) _ (t .good) (good-turned (Z .p) (Z .P) (F Z .lead (a .at .1) (a .dom) .coef) (F Z .lead (a .at .1) (a .dom) .nonzero))
 
       step-of : {vs gs : Vector} → Like (Z .n) (Z .p) (Z .P) InVector ((c′, a .at) ∷ v) vs
           → Left (Z .n) (Z .p) (Z .P) lim (hs Z) (W .drops) (Lower (S Z) (L Z) (F Z)) InValue (g ++ scale (S Z) c′ (times (S Z) (L Z) (F Z .f) (a .at))) gs

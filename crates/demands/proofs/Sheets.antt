@@ -36,7 +36,8 @@ use Rattle.demands.proofs.Places.{Refused-by, problem-at}
 -- ## Reading
 
 pub data Reading (lim : Limits) (bytes : Bytes) : Result State → Type 0 where
-  taken : {q : Parameters} {f : Level} → problem lim bytes ≡ done (q, f) → Standing lim q f 0 (f ∷ []) → Reading lim bytes (done (record { parameters = q; levels = f ∷ [] }))
+  taken : {q : Parameters} {f : Level} → problem lim bytes ≡ done (q, f) → Standing lim q f 0 (f ∷ [])
+      → Reading lim bytes (done (record { parameters = q; levels = f ∷ [] }))
   refused-reading : {number place : ℕ} {value : Vector} → Refused-reading lim bytes number place value → Reading lim bytes (refused number place value)
   still-reading : Reading lim bytes unfinished
 
@@ -44,7 +45,8 @@ module _ (lim : Limits) (o : T (sensible? lim)) where
   pub reading : (n : ℕ) (bytes : Bytes) → Reading lim bytes (read lim n bytes)
   reading n bytes = go (problem lim bytes) refl (problem-at lim bytes)
     where
-      go : (x : Result (Parameters × Level)) → problem lim bytes ≡ x → Refused-by (λ number place value. Bad-line lim bytes number place × (value ≡ [])) x → Reading lim bytes (x >>= accepted lim n)
+      go : (x : Result (Parameters × Level)) → problem lim bytes ≡ x → Refused-by (λ number place value. Bad-line lim bytes number place × (value ≡ [])) x
+          → Reading lim bytes (x >>= accepted lim n)
       go unfinished e r = still-reading
       go (refused number place value) e (Places.refuses (b, z)) =
           subst (λ v. Reading lim bytes (refused number place v)) (sym z) (refused-reading (ill-formed (e ∙ ap (refused number place) z) b))
@@ -69,7 +71,8 @@ module _ (lim : Limits) (o : T (sensible? lim)) where
 
   module _ (bytes : Bytes) (q : Parameters) (f : Level) (e : problem lim bytes ≡ done (q, f)) (bound : ℕ) where
     listed : (g : Level) (below : List Level) → Standing lim q f (length below) (g ∷ below) → T (every filled? below) → Listed lim bytes q g below
-    listed g below s t = record { basis = f; well-formed = e; reckoned = tower-reckons lim q f (g ∷ below) (length below) (s .height) (s .tower); exact = s .exact; filled = t }
+    listed g below s t =
+        record { basis = f; well-formed = e; reckoned = tower-reckons lim q f (g ∷ below) (length below) (s .height) (s .tower); exact = s .exact; filled = t }
 
     -- the bytes after those of the levels so far
     abbrev After : Level → List Level → Bytes → Type 0
@@ -92,11 +95,14 @@ module _ (lim : Limits) (o : T (sensible? lim)) where
     is-filled : (g : Level) → T (filled? g) → ¬ (g ≡ [])
     is-filled g t z = subst (λ h. T (filled? h)) z t
 
-    levels-form : (left : ℕ) (g : Level) (below : List Level) → Standing lim q f (length below) (g ∷ below) → T (every filled? (g ∷ below)) → left + length below ≡ lim .levels
+    levels-form : (left : ℕ) (g : Level) (below : List Level) → Standing lim q f (length below) (g ∷ below) → T (every filled? (g ∷ below))
+        → left + length below ≡ lim .levels
         → Holds (After g below) (levels-from lim bound left (suc (length below)) (so-far g below))
     levels-form zero g below s t l =
-        holds (subst (Sheet-form lim bytes) (sym (append-nil (printed-levels (q .n) (g ∷ below)))) (listing (listed g below s (and-right (filled? g) (every filled? below) t)) (inr (omega arith))))
-    levels-form (suc left) g below s t l = go (lifted-to lim o (so-far g below) (s .sound) k (by-hybrid 2) bound) (λ h st u. levels-form left h (g ∷ below) st u (omega arith))
+        holds (subst (Sheet-form lim bytes) (sym (append-nil (printed-levels (q .n) (g ∷ below))))
+        (listing (listed g below s (and-right (filled? g) (every filled? below) t)) (inr (omega arith))))
+    levels-form (suc left) g below s t l =
+        go (lifted-to lim o (so-far g below) (s .sound) k (by-hybrid 2) bound) (λ h st u. levels-form left h (g ∷ below) st u (omega arith))
       where
         k : ℕ
         k = suc (length below)
@@ -105,19 +111,24 @@ module _ (lim : Limits) (o : T (sensible? lim)) where
         room = omega (arith, l)
 
         Further : Type 0
-        Further = (h : Level) → Standing lim q f k (h ∷ g ∷ below) → T (every filled? (h ∷ g ∷ below)) → Holds (After h (g ∷ below)) (levels-from lim bound left (suc k) (so-far h (g ∷ below)))
+        Further = (h : Level) → Standing lim q f k (h ∷ g ∷ below) → T (every filled? (h ∷ g ∷ below))
+            → Holds (After h (g ∷ below)) (levels-from lim bound left (suc k) (so-far h (g ∷ below)))
 
-        grown : (h : Level) → Standing lim q f k (h ∷ g ∷ below) → Further → Holds (After g below) (if-more (empty? h) (q .n) k h (λ u. levels-from lim bound left (suc k) (so-far h (g ∷ below))))
+        grown : (h : Level) → Standing lim q f k (h ∷ g ∷ below) → Further
+            → Holds (After g below) (if-more (empty? h) (q .n) k h (λ u. levels-from lim bound left (suc k) (so-far h (g ∷ below))))
         grown [] st more = holds (listing (listed [] (g ∷ below) st t) (inl refl))
         grown (v ∷ h) st more = holds-then (more (v ∷ h) st t) (λ out p.
             holds (subst (Sheet-form lim bytes) (append-assoc (printed-levels (q .n) (g ∷ below)) (level-lines (q .n) k (v ∷ h)) out) p))
 
-        go : {x : Result State} → Lifted-to lim (so-far g below) k x → Further → Holds (After g below) (level-then (q .n) k (λ Y. levels-from lim bound left (suc k) Y) x)
+        go : {x : Result State} → Lifted-to lim (so-far g below) k x → Further
+            → Holds (After g below) (level-then (q .n) k (λ Y. levels-from lim bound left (suc k) Y) x)
         go (one-more h w) more =
-            subst (λ z. Holds (After g below) (if-more (empty? h) (q .n) k h (λ u. levels-from lim bound left (suc k) (record { parameters = q; levels = h ∷ z })))) (sym (all-stay g below))
+            subst (λ z. Holds (After g below) (if-more (empty? h) (q .n) k h
+            (λ u. levels-from lim bound left (suc k) (record { parameters = q; levels = h ∷ z })))) (sym (all-stay g below))
             (grown h (next g below s room h w) more)
         go (Lifts.limit-met {number} u) more =
-            holds (cut-off number (listed g below s (and-right (filled? g) (every filled? below) t)) (is-filled g (and-left (filled? g) (every filled? below) t)) room u)
+            holds (cut-off number (listed g below s (and-right (filled? g) (every filled? below) t))
+            (is-filled g (and-left (filled? g) (every filled? below) t)) room u)
         go still-lifting more = nothing
 
   -- ## The sheet

@@ -73,7 +73,8 @@ module _ (order : Monomial → Monomial → Comparison) (p : ℕ) where
   insert-length t (u ∷ v) = go (order (t .1) (u .1)) (insert-length t v)
     where
       go : (c : Comparison) → length (insert order p t v) ≤ suc (length v)
-          → length {A = Term} (elim c [ greater ↦ t ∷ u ∷ v | equal ↦ unless-zero (plus p (t .0) (u .0), u .1) v | smaller ↦ u ∷ insert order p t v ]) ≤ suc (suc (length v))
+          → length {A = Term} (elim c [ greater ↦ t ∷ u ∷ v | equal ↦ unless-zero (plus p (t .0) (u .0), u .1) v | smaller ↦ u ∷ insert order p t v ]) ≤ suc
+          (suc (length v))
       go greater h = omega arith
       go equal h = let k : length (unless-zero (plus p (t .0) (u .0), u .1) v) ≤ suc (length v) = unless-zero-length (plus p (t .0) (u .0), u .1) v in omega arith
       go smaller h = omega arith
@@ -137,7 +138,8 @@ module _ (S : Stage) where
 
       without-reducer-short : (b : Bool) (i : ℕ) → Ends ShortStep Small (without-reducer b S r i)
       without-reducer-short true i =
-          let m : length (descending (S .below) (S .reduction .p) (r .value)) ≤ S .reduction .limits .working = omega (arith, descending-length (S .below) (S .reduction .p) (r .value), l .1) in
+          let m : length (descending (S .below) (S .reduction .p) (r .value)) ≤ S .reduction .limits .working = omega
+          (arith, descending-length (S .below) (S .reduction .p) (r .value), l .1) in
           refuses m
       without-reducer-short false i =
           let m : length (without i (r .value)) ≤ S .reduction .limits .working = omega (arith, without-short i (r .value), l .1) in
@@ -191,7 +193,8 @@ module _ (S : Stage) where
 
   lift-vector-short : (lift : Lift-term) (c : ℕ) (q : Exponents) (f : Vector) (s : Tree.Sum) → ShortSum s → Gives ShortSum (lift-vector S lift c q f s)
   lift-vector-short lift c q [] s l = gives l
-  lift-vector-short lift c q (t ∷ f) s l = ends-then (product (fits? (S .reduction .limits .exponent) (multiple (S .reduction .p) c q t .1 .0))) (λ r k. lift-vector-short lift c q f r k)
+  lift-vector-short lift c q (t ∷ f) s l =
+      ends-then (product (fits? (S .reduction .limits .exponent) (multiple (S .reduction .p) c q t .1 .0))) (λ r k. lift-vector-short lift c q f r k)
     where
       product : (b : Bool) → Gives ShortSum (if-vector-product-fits b S lift (multiple (S .reduction .p) c q t) s)
       product false = refuses tt
@@ -218,11 +221,13 @@ module _ (S : Stage) where
   short-append k [] v h l = (l, tt)
   short-append k (u ∷ f) v h l = (h .0, short-append k f v (h .1) l)
 
-  pub all-short : 1 ≤ S .reduction .limits .vector → (way : Lifting) (N : ℕ) (l : Lifted) (cache : Cache) (ms : List Monomial) → All-short (S .reduction .limits .vector) (l .0)
+  pub all-short : 1 ≤ S .reduction .limits .vector → (way : Lifting) (N : ℕ) (l : Lifted) (cache : Cache) (ms : List Monomial)
+      → All-short (S .reduction .limits .vector) (l .0)
       → Gives (All-short (S .reduction .limits .vector)) (lift-all S (lift-one S way N) l cache ms)
   all-short o way N l cache [] h = gives h
   all-short o way N l cache (m ∷ ms) h =
-      ends-then (one-short o way N cache m) (λ s k. added s k (leb (l .1 + length (s .0)) (S .reduction .limits .level-terms)) (λ l′ h′. all-short o way N l′ (s .1) ms h′))
+      ends-then (one-short o way N cache m) (λ s k. added s k (leb (l .1 + length (s .0)) (S .reduction .limits .level-terms))
+      (λ l′ h′. all-short o way N l′ (s .1) ms h′))
     where
       added : (s : Tree.Sum) → ShortSum s → (b : Bool) → ((l′ : Lifted) → All-short most (l′ .0) → Gives (All-short most) (lift-all S (lift-one S way N) l′ (s .1) ms))
           → Gives (All-short most) (add-vector b l (s .0) >>= λ l′. lift-all S (lift-one S way N) l′ (s .1) ms)

@@ -104,7 +104,8 @@ Sound-mono lim n count x = (x .1 < count) × Within lim n x
 abbrev pub All-sound : Limits → (n p : ℕ) → Prime p → ℕ → TLevel n → Type 0
 All-sound lim n p P count f = (j : ℕ) → j < length f → All (ModP p P) (Sound-mono lim n count) (getD f j [])
 
-pub leading-within : (lim : Limits) (n p : ℕ) (P : Prime p) (count : ℕ) (f : TLevel n) → Somes n p f → All-sound lim n p P count f → (j : ℕ) → j < length f → Within lim n (lm n f j)
+pub leading-within : (lim : Limits) (n p : ℕ) (P : Prime p) (count : ℕ) (f : TLevel n) → Somes n p f → All-sound lim n p P count f → (j : ℕ) → j < length f
+    → Within lim n (lm n f j)
 leading-within lim n p P count f s w j l = go (getD f j []) (s j l) (w j l)
   where
     go : (v : TVec n) → T (cons? n v) → All (ModP p P) (Sound-mono lim n count) v → Within lim n (head n v)
@@ -150,7 +151,8 @@ module _ (lim : Limits) (q : Parameters) (P : Prime (q .p)) (eight : q .n ≤ 8)
   said-greater : (x y : Mono n) → Has n b x → Has n b y → T (greater? (compare-over (q .code) (flats n b) (mono n x) (mono n y))) → module-over n (q .code) b .Lt y x
   said-greater x y hx hy = go (over-says n (q .code) b G x y hx hy)
     where
-      go : {c : Comparison} → Says (module-over n (q .code) b .Lt x y) (x ≡ y) (module-over n (q .code) b .Lt y x) c → T (greater? c) → module-over n (q .code) b .Lt y x
+      go : {c : Comparison} → Says (module-over n (q .code) b .Lt x y) (x ≡ y) (module-over n (q .code) b .Lt y x) c → T (greater? c)
+          → module-over n (q .code) b .Lt y x
       go (more s) t = s
       go (level s) t = absurd t
       go (less s) t = absurd t
@@ -207,7 +209,8 @@ module _ (lim : Limits) (q : Parameters) (P : Prime (q .p)) (eight : q .n ≤ 8)
 
   pub level-right : (most : ℕ) (f : Monomial.Level) → T (every (vector-sound? lim q count most (flats (q .n) b)) f) → Level-right f
   level-right most [] s = record { back = refl; regular = λ j l. absurd (omega arith); fits = λ j l. absurd (omega arith) }
-  level-right most (v ∷ f) s = go (level-right most f (and-right (vector-sound? lim q count most (flats n b) v) (every (vector-sound? lim q count most (flats n b)) f) s))
+  level-right most (v ∷ f) s =
+      go (level-right most f (and-right (vector-sound? lim q count most (flats n b) v) (every (vector-sound? lim q count most (flats n b)) f) s))
     where
       h : Sound-vector lim q count most (flats n b) v
       h = vector-says lim q count most (flats n b) v (and-left (vector-sound? lim q count most (flats n b) v) (every (vector-sound? lim q count most (flats n b)) f) s)
@@ -258,7 +261,8 @@ module _ (lim : Limits) (q : Parameters) (P : Prime (q .p)) (eight : q .n ≤ 8)
   pub levels-right : (ls : List Monomial.Level) → T (levels-sound? lim q ls) → Levels-right ls
   levels-right [] s = absurd s
   levels-right (f ∷ []) s =
-      let r : Level-right lim q P eight [] tt (q .s) (λ x h. tt) f = level-right lim q P eight [] tt (q .s) (λ x h. tt) (lim .t-lines) f (basis-says lim q f s .vectors) in
+      let r : Level-right lim q P eight [] tt (q .s) (λ x h. tt) f = level-right lim q P eight [] tt (q .s) (λ x h. tt) (lim .t-lines) f
+      (basis-says lim q f s .vectors) in
       record { back = ap (λ z. z ∷ []) (r .back); deep = (r .regular, tt); fits = r .fits }
   levels-right (f ∷ g ∷ below) s = go (levels-right (g ∷ below) (level-says lim q f g below s .under))
     where

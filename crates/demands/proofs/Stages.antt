@@ -72,7 +72,8 @@ module _ (code : ℕ) where
           → (Member t (frame-from code (suc i) (x ∷ earlier) rest) → Colon ms (t .0)) → Colon ms (t .0)
       go (inl j) r =
           let g : Member (t .0) (minimal (generators code earlier x)) = tagged-either i (minimal (generators code earlier x)) t j .1 in
-          generator-colon ms earlier x h (k x (inl refl)) (t .0) (those-says (λ g. not (any (λ h. properly-divides? h g) (generators code earlier x))) (generators code earlier x) (t .0) g .0)
+          generator-colon ms earlier x h (k x (inl refl)) (t .0) (those-says (λ g. not (any (λ h. properly-divides? h g) (generators code earlier x)))
+          (generators code earlier x) (t .0) g .0)
       go (inr j) r = r j
 
   pub frame-colon : (ms : List Monomial) (t : Monomial) → Member t (frame code ms) → Colon ms (t .0)
@@ -174,7 +175,8 @@ module _ (Z : Setting) (eight : Z .n ≤ 8) (code : ℕ) where
 
   -- m · LM f_i, of m · e_i
   times-is : (x : Mono (Z .n)) → x .1 < length (Z .f) → times-leading (flat (Z .n) (Z .f)) (mono (Z .n) x) ≡ mono (Z .n) (Induced.image (L Z) (A Z .lm) x)
-  times-is x l = ap (λ (m : Monomial). (product (out (Z .n) (x .0)) (m .0), m .1)) (leading-at (x .1) l) ∙ λ i. (product-out (Z .n) (x .0) (lm (Z .n) (Z .f) (x .1) .0) i, suc (lm (Z .n) (Z .f) (x .1) .1))
+  times-is x l = ap (λ (m : Monomial). (product (out (Z .n) (x .0)) (m .0), m .1)) (leading-at (x .1) l) ∙ λ i.
+      (product-out (Z .n) (x .0) (lm (Z .n) (Z .f) (x .1) .0) i, suc (lm (Z .n) (Z .f) (x .1) .1))
 
   flat-size : length (flat (Z .n) (Z .f)) ≡ length (Z .f)
   flat-size = flat-length (Z .n) (Z .f)
@@ -204,7 +206,8 @@ module _ (Z : Setting) (eight : Z .n ≤ 8) (code : ℕ) where
       number = omega (arith, low)
 
       divides : T (divides-monomial? (mono (Z .n) (lm (Z .n) (Z .f) k)) (mono (Z .n) im))
-      divides = subst₂ (λ l m. T (divides-monomial? l m)) (ap (λ z. leading (vector-of (flat (Z .n) (Z .f)) z)) number ∙ leading-at k (omega (arith, below, inside))) (times-is x inside) (h .divides)
+      divides = subst₂ (λ l m. T (divides-monomial? l m)) (ap (λ z. leading (vector-of (flat (Z .n) (Z .f)) z)) number ∙ leading-at k
+          (omega (arith, below, inside))) (times-is x inside) (h .divides)
 
   real-syzygy : (x z : Mono (Z .n)) → x .1 < length (Z .f) → z .1 < x .1 → Induced.image (L Z) (A Z .lm) z ≡ Induced.image (L Z) (A Z .lm) x
       → Leading-syzygy (flat (Z .n) (Z .f)) (mono (Z .n) x)
@@ -221,7 +224,8 @@ module _ (Z : Setting) (eight : Z .n ≤ 8) (code : ℕ) where
   covered b l = go (any (λ t. divides-monomial? t (mono (Z .n) b)) frame-terms) (any-says (λ t. divides-monomial? t (mono (Z .n) b)) frame-terms)
       (any-shown (λ t. divides-monomial? t (mono (Z .n) b)) frame-terms)
     where
-      here : (t : Monomial) × Member t frame-terms × T (divides-monomial? t (mono (Z .n) b)) → Covered (S Z) (L Z) (F Z) (term-at (ExpM (Z .n)) terms) (λ (k : ℕ). k < length terms) b
+      here : (t : Monomial) × Member t frame-terms × T (divides-monomial? t (mono (Z .n) b))
+          → Covered (S Z) (L Z) (F Z) (term-at (ExpM (Z .n)) terms) (λ (k : ℕ). k < length terms) b
       here (t, m, d) =
           let (k, i, e) = monos-find terms t (subst (Member t) (sym terms-back) m) in
           let x : Mono (Z .n) = term-at (ExpM (Z .n)) terms k in

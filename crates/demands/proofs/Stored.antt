@@ -36,7 +36,11 @@ use Rattle.demands.proofs.Held.{Held, none-held, held, held-agrees, rea
 
 -- 11, 12 and 16 are no numbers of a settled call
 no-keep : (number : ℕ) → T (read-number? number) → (eqb number 0 ≡ false) × (keeps? number ≡ false)
-no-keep number t = (false-is (eqb number 0) (λ e. other 0 (eqb→eq number 0 e) (λ x. x)), kept (eqb number 11) (eqb number 12) (eqb number 16) (eqb→eq number 11) (eqb→eq number 12) (eqb→eq number 16))
+no-keep number t = (
+  false-is (eqb number 0) (λ e. other 0 (eqb→eq number 0 e) (λ x. x)),
+  kept (eqb number 11) (eqb number 12) (eqb number 16)
+      (eqb→eq number 11) (eqb→eq number 12) (eqb→eq number 16),
+)
   where
     other : (m : ℕ) → number ≡ m → (T (read-number? m) → ⊥) → ⊥
     other m e f = f (subst (λ j. T (read-number? j)) e t)
@@ -76,7 +80,9 @@ meant-zeros lim size = go (holds-state? lim s) (λ t. sound (sound? lim (decode 
         subst (λ k. T (levels-sound? lim (decode lim s .parameters) (levels-at lim s k))) (at-zeros size 4) h
 
     sound : (b : Bool) → T (leb (getD s 4 0) (suc (lim .levels)) and all-words-sound? lim s (getD s 4 0) and b) → (T b → T (sound? lim (decode lim s))) → ⊥
-    sound b t f = no-level (f (and-right (all-words-sound? lim s (getD s 4 0)) b (and-right (leb (getD s 4 0) (suc (lim .levels))) (all-words-sound? lim s (getD s 4 0) and b) t)))
+    sound b t f =
+        no-level (f (and-right (all-words-sound? lim s (getD s 4 0)) b (and-right (leb (getD s 4 0) (suc (lim .levels)))
+        (all-words-sound? lim s (getD s 4 0) and b) t)))
 
     go : (b : Bool) → (T b → ⊥) → elim b [ true ↦ decode lim s | false ↦ empty ] ≡ empty
     go true f = absurd (f tt)
@@ -94,7 +100,8 @@ zeros-stored lim words e = record {
 module _ (lim : Limits) (o : T (sensible? lim)) where
   -- what is written holds what was to be held
   encode-stored : (R : Reckoning) (X : State) (size : ℕ) → state-words lim ≤ size → Held lim R X → Stored lim R (encode lim size X)
-  encode-stored R X size l none-held = subst (Stored lim nothing) (sym (encode-empty lim size l)) (zeros-stored lim (replicate size 0) (ap (λ n. replicate n 0) (sym (length-replicate size 0))))
+  encode-stored R X size l none-held =
+      subst (Stored lim nothing) (sym (encode-empty lim size l)) (zeros-stored lim (replicate size 0) (ap (λ n. replicate n 0) (sym (length-replicate size 0))))
   encode-stored R X size l (held s) = record {
     holds = subst (Held lim R) (sym back) (held s);
     spelled = λ i. ap (λ n. encode lim n X) (sym long) ∙ ap (encode lim (length (encode lim size X))) (sym back);
@@ -140,7 +147,8 @@ module _ (lim : Limits) (o : T (sensible? lim)) where
 
         go : (b : Bool) → (T b → state-words lim ≤ length state)
             → Holds (λ a. Stored lim R state ⊎ Reads (read-with file work) a → Called R (read-with file work) a)
-            (read-reply lim n (meant lim state) b file then (λ a. some (read-left lim state work a)) then λ a. some (record { number = a .0; place = a .1; state = a .2; out = [] }))
+            (read-reply lim n (meant lim state) b file then (λ a. some (read-left lim state work a)) then λ a. some
+            (record { number = a .0; place = a .1; state = a .2; out = [] }))
         go false l = holds kept
         go true l =
             holds-then {P = λ (z : Read). Stored lim (reckon lim R (reading true file) (z .0)) (z .2)}
@@ -161,7 +169,8 @@ module _ (lim : Limits) (o : T (sensible? lim)) where
           twelve s true r = settled-stored R (lifting true k way) state (l tt) (lift-held lim o R X (h .holds) k way n (s .0) (r tt) (s .1 (r tt)))
 
           eleven : (b : Bool) → ((T b → ⊥) → T (sound? lim X) × (T (between 1 k (lim .levels)) → T (has-level? X (k - 1))))
-              → Holds (Replied R (lifting true k way)) (choose b (some (refuse 11 X)) (choose (not (lifts? lim k way)) (some (refuse 12 X)) (settled (lift lim n X k way))))
+              → Holds (Replied R (lifting true k way)) (choose b (some (refuse 11 X))
+              (choose (not (lifts? lim k way)) (some (refuse 12 X)) (settled (lift lim n X k way))))
           eleven true f = holds h
           eleven false f = twelve (f (λ x. x)) (lifts? lim k way) (and-left (between 1 k (lim .levels)) (pick-code? way))
 

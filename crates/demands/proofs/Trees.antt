@@ -54,7 +54,8 @@ module _ (Z : Setting) (lim : Limits) where
   inserted : (t : ℕ × Mono (Z .n)) → Good (Z .p) (t .0) → InVector Z lim (t .1) → (v : TVec (Z .n)) (w : Vector) → Summed v w
       → Summed (t ∷ v) (insert (stage Z lim .above) (Z .p) (term (Z .n) t) w)
   inserted t g q v w s =
-      let i : Form (Z .n) (Z .p) (Z .P) (Z .code) (Z .f ∷ Z .b) (Z .grounded) (t ∷ s .form) (insert (stage Z lim .above) (Z .p) (term (Z .n) t) (vec (Z .n) (s .form))) =
+      let i : Form (Z .n) (Z .p) (Z .P) (Z .code) (Z .f ∷ Z .b) (Z .grounded) (t ∷ s .form)
+      (insert (stage Z lim .above) (Z .p) (term (Z .n) t) (vec (Z .n) (s .form))) =
       term-inserted (Z .n) (Z .p) (Z .P) (Z .code) (Z .f ∷ Z .b) (Z .grounded) t (s .form) g (q .0)
       (Vec.all-map (S Z) (InVector Z lim) (Has (Z .n) (Z .f ∷ Z .b)) (λ x h. h .0) (s .form) (s .ok)) (s .canonical) in
       record {
@@ -103,7 +104,8 @@ module _ (Z : Setting) (lim : Limits) where
   looked-up : (x : Mono (Z .n)) (cache : Cache) → CacheOk cache → Holds (Summed (up Z x)) (cached (mono (Z .n) x) cache)
   looked-up x [] k = nothing
   looked-up x (entry ∷ cache) k =
-      go (same-monomial? (entry .0) (mono (Z .n) x)) (λ t. same-mono (Z .n) (k .0 .0) x (subst (λ z. T (same-monomial? z (mono (Z .n) x))) (k .0 .1) t)) (looked-up x cache (k .1))
+      go (same-monomial? (entry .0) (mono (Z .n) x)) (λ t. same-mono (Z .n) (k .0 .0) x (subst (λ z. T (same-monomial? z (mono (Z .n) x))) (k .0 .1) t))
+      (looked-up x cache (k .1))
     where
       go : (s : Bool) → (T s → k .0 .0 ≡ x) → Holds (Summed (up Z x)) (cached (mono (Z .n) x) cache)
           → Holds (Summed (up Z x)) (elim s [ true ↦ some (entry .1) | false ↦ cached (mono (Z .n) x) cache ])
@@ -156,7 +158,8 @@ module _ (Z : Setting) (lim : Limits) where
       → Gives (SumOk (scale (S Z) (t .0) (up Z (t .1)) ++ v)) (lift-product (stage Z lim) lift others (term (Z .n) t) s)
   product-ok lift h others t g v s k = go (fits? (lim .exponent) (out (Z .n) (t .1 .0))) (λ f. f)
     where
-      go : (b : Bool) → (T b → Fits Z lim (t .1)) → Gives (SumOk (scale (S Z) (t .0) (up Z (t .1)) ++ v)) (if-product-fits b (stage Z lim) lift others (term (Z .n) t) s)
+      go : (b : Bool) → (T b → Fits Z lim (t .1)) → Gives (SumOk (scale (S Z) (t .0) (up Z (t .1)) ++ v))
+          (if-product-fits b (stage Z lim) lift others (term (Z .n) t) s)
       go false f = refuses tt
       go true f =
           ends-then (h (others + length (s .0)) (s .1) (t .1) (k .1) (f tt)) (λ r a.
@@ -166,7 +169,8 @@ module _ (Z : Setting) (lim : Limits) where
       → (v : TVec (Z .n)) (s : Tree.Sum) → SumOk v s
       → Gives (SumOk (v ++ lin (S Z) (up Z) (scale (S Z) c (mapB (S Z) (L Z .act q) g)))) (lift-list (stage Z lim) lift others c (out (Z .n) q) (vec (Z .n) g) s)
   list-ok lift h others c gc q g gs v s k =
-      all-ok c q (lift-product (stage Z lim) lift others) (lift-list (stage Z lim) lift others c (out (Z .n) q)) (λ s. refl) (λ t f s. refl) (product-ok lift h others) gc g gs v s k
+      all-ok c q (lift-product (stage Z lim) lift others) (lift-list (stage Z lim) lift others c (out (Z .n) q)) (λ s. refl) (λ t f s. refl)
+      (product-ok lift h others) gc g gs v s k
 
   -- ## Subtrees
 
@@ -184,11 +188,14 @@ module _ (Z : Setting) (lim : Limits) where
   module _ (room : ℕ) (lift : Lift-list) (h : ListsOk lift) (beside : ℕ) (cache : Cache) (x : Mono (Z .n)) (k : CacheOk cache) (fx : Fits Z lim x) where
     -- with a reducer, not in the cache
     grown-ok : (r : Reducer (S Z) (L Z) (F Z) x) → red Z x ≡ inl r → (b : Bool)
-        → Gives (SubtreeOk x) (open-subtree b (stage Z lim) room lift beside cache (mono (Z .n) x) (suc (r .at .1)) (turned (S Z) (L Z) (F Z) r) (out (Z .n) (r .at .0)))
+        → Gives (SubtreeOk x) (open-subtree b (stage Z lim) room lift beside cache (mono (Z .n) x) (suc (r .at .1)) (turned (S Z) (L Z) (F Z) r)
+        (out (Z .n) (r .at .0)))
     grown-ok r known false = refuses tt
     grown-ok r known true =
-        ends-then (subst (λ g. Gives (SumOk (up Z x)) (lift beside (turned (S Z) (L Z) (F Z) r) (out (Z .n) (r .at .0)) g (term (Z .n) t ∷ [], cache))) (sym (others-is Z r))
-        (ends-map (λ s a. (summed-same whole (a .0), a .1)) (h beside (t .0) (turned-good Z r) (r .at .0) (F Z .lead (r .at .1) (r .dom) .rest) (others-good Z r) (t ∷ [])
+        ends-then (subst (λ g. Gives (SumOk (up Z x)) (lift beside (turned (S Z) (L Z) (F Z) r) (out (Z .n) (r .at .0)) g (term (Z .n) t ∷ [], cache)))
+        (sym (others-is Z r))
+        (ends-map (λ s a. (summed-same whole (a .0), a .1)) (h beside (t .0) (turned-good Z r) (r .at .0) (F Z .lead (r .at .1) (r .dom) .rest)
+        (others-good Z r) (t ∷ [])
         (term (Z .n) t ∷ [], cache) (summed-one t (turned-good Z r) (Z .somes (r .at .1) (r .dom), fits), k))))
         (λ s a. gives (finish-ok room x s a))
       where
@@ -220,14 +227,16 @@ module _ (Z : Setting) (lim : Limits) where
       k,
     )
     lift-by-ok (hit r) known =
-        subst (λ m. Gives (SubtreeOk x) (or-open (cached (mono (Z .n) x) cache) (stage Z lim) room lift beside cache (mono (Z .n) x) (suc (r .at .1)) m (out (Z .n) (r .at .0))))
+        subst (λ m. Gives (SubtreeOk x) (or-open (cached (mono (Z .n) x) cache) (stage Z lim) room lift beside cache (mono (Z .n) x) (suc (r .at .1)) m
+        (out (Z .n) (r .at .0))))
         (sym (turned-is Z r)) (opened-ok r known (looked-up x cache k))
 
   -- a subtree is the lifting of its monomial
   term-ok : (room left : ℕ) → TermsOk (lift-term (stage Z lim) room left)
   term-ok room zero others cache x k fx = lift-by-ok room (λ o c q f s. refusal 14) (λ o c gc q g gs v s k. refuses tt) others cache x k fx (answered Z x) refl
   term-ok room (suc left) others cache x k fx =
-      lift-by-ok room (lift-list (stage Z lim) (lift-term (stage Z lim) room left)) (list-ok (lift-term (stage Z lim) room left) (term-ok room left)) others cache x k fx (answered Z x) refl
+      lift-by-ok room (lift-list (stage Z lim) (lift-term (stage Z lim) room left))
+      (list-ok (lift-term (stage Z lim) room left) (term-ok room left)) others cache x k fx (answered Z x) refl
 
   -- ## The vector of a frame term
 
@@ -235,7 +244,8 @@ module _ (Z : Setting) (lim : Limits) where
       → Gives (SumOk (scale (S Z) (t .0) (up Z (t .1)) ++ v)) (lift-vector-product (stage Z lim) lift (term (Z .n) t) s)
   vector-product-ok lift h t g v s k = go (fits? (lim .exponent) (out (Z .n) (t .1 .0))) (λ f. f)
     where
-      go : (b : Bool) → (T b → Fits Z lim (t .1)) → Gives (SumOk (scale (S Z) (t .0) (up Z (t .1)) ++ v)) (if-vector-product-fits b (stage Z lim) lift (term (Z .n) t) s)
+      go : (b : Bool) → (T b → Fits Z lim (t .1)) → Gives (SumOk (scale (S Z) (t .0) (up Z (t .1)) ++ v))
+          (if-vector-product-fits b (stage Z lim) lift (term (Z .n) t) s)
       go false f = refuses tt
       go true f =
           ends-then (h 0 (s .1) (t .1) (k .1) (f tt)) (λ r a.
@@ -254,11 +264,13 @@ module _ (Z : Setting) (lim : Limits) where
       e = canonical-is (S Z) (module-over (Z .n) (Z .code) (Z .f ∷ Z .b)) (k .0 .form) (reckon (S Z) (L Z) (F Z) (red Z) x) (k .0 .canonical)
           (Vec.same-trans (S Z) (k .0 .like) (Vec.same-cons (S Z) (1, x) (Vec.same-lin (S Z) (up Z) (Vec.scale-one (S Z) (times (S Z) (L Z) (F Z .f) x)))))
 
-  pub tree-ok : (room : ℕ) (cache : Cache) (x : Mono (Z .n)) → x .1 < length (Z .f) → Fits Z lim x → CacheOk cache → Gives (Grown x) (tree (stage Z lim) room cache (mono (Z .n) x))
+  pub tree-ok : (room : ℕ) (cache : Cache) (x : Mono (Z .n)) → x .1 < length (Z .f) → Fits Z lim x → CacheOk cache
+      → Gives (Grown x) (tree (stage Z lim) room cache (mono (Z .n) x))
   tree-ok room cache x l fx k =
       subst (λ g. Gives (Grown x) (lift-vector (stage Z lim) (lift-term (stage Z lim) room (lim .tree)) 1 (out (Z .n) (x .0)) g ((1, mono (Z .n) x) ∷ [], cache)))
       (sym (flat-at (Z .n) (Z .f) (x .1)))
-      (ends-map (grown-from x) (all-ok 1 (x .0) (lift-vector-product (stage Z lim) lift) (lift-vector (stage Z lim) lift 1 (out (Z .n) (x .0))) (λ s. refl) (λ t f s. refl)
+      (ends-map (grown-from x) (all-ok 1 (x .0) (lift-vector-product (stage Z lim) lift) (lift-vector (stage Z lim) lift 1 (out (Z .n) (x .0))) (λ s. refl)
+      (λ t f s. refl)
       (vector-product-ok lift (term-ok room (lim .tree))) (good-one (Z .p) (Z .P)) (getD (Z .f) (x .1) [])
       (canonical-good (Z .n) (Z .p) (Z .P) (Z .code) (Z .b) (getD (Z .f) (x .1) []) (Z .canons (x .1) l)) ((1, x) ∷ []) ((1, mono (Z .n) x) ∷ [], cache)
       (summed-one (1, x) (good-one (Z .p) (Z .P)) (Z .somes (x .1) l, fx), k)))

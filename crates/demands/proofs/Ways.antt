@@ -128,7 +128,8 @@ module _ (Z : Setting) (lim : Limits) where
       → Gives (Level-lifted l xs) (lift-all (stage Z lim) (lift-one (stage Z lim) way N) l cache (monos (Z .n) xs))
   all-lifted way N [] h l cache k = gives (record { is = sym (append-nil (l .0)); ok = tt; few = λ e. omega arith })
   all-lifted way N (x ∷ xs) h l cache k =
-      ends-then (one-lifted way N cache k x (h .0) (h .1)) (λ s g. added s g (leb (l .1 + length (s .0)) (lim .level-terms)) (leb→le (l .1 + length (s .0)) (lim .level-terms))
+      ends-then (one-lifted way N cache k x (h .0) (h .1)) (λ s g. added s g (leb (l .1 + length (s .0)) (lim .level-terms))
+      (leb→le (l .1 + length (s .0)) (lim .level-terms))
       (λ l′. all-lifted way N xs (h .2) l′ (s .1) (g .cache)))
     where
       added : (s : Tree.Sum) → Grown Z lim x s → (b : Bool) → (T b → l .1 + length (s .0) ≤ lim .level-terms)
