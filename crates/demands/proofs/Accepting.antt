@@ -1,19 +1,15 @@
 -- Acceptance decides exactly whether the elements are a Gröbner basis; what 9 leaves shows why not.
 use mathlib.Core.Path.{_≡_, refl, sym, ap, _∙_, subst}
-use mathlib.Core.Logic.{_⊎_, inl, inr, _≢_}
 use mathlib.Core.Bool.{Bool, true, false}
-use mathlib.Core.List.{List, [], _∷_, _++_}
+use mathlib.Core.List.{List, [], _∷_}
 use Prim.Native.Nat.{ℕ, zero, suc, _+_, _<_, _≤_}
 use native.Mathlib.Omega.{arith}
 use lib.Dec.{T, leb, eqb, eqb→eq}
 use lib.ListN.{length, getD}
-use Rattle.theory.specs.Laws.{Scalars, Level}
 use Rattle.theory.specs.Vec.{Same, All, times, ψ, Lead}
 use Rattle.theory.specs.Orders.{ExpM}
-use Rattle.theory.specs.Modular.{ModP}
 use Rattle.theory.specs.Syzygy.{In, Gröbner}
 use Rattle.theory.specs.Canon.{Canonical}
-use Rattle.theory.specs.Reckon.{Lower}
 use Rattle.theory.specs.Stage.{term-at}
 use Rattle.theory.proofs.Vec
 use Rattle.theory.proofs.Top.{lead-nonzero, lead-unique, lead-same}
@@ -21,33 +17,31 @@ use Rattle.theory.proofs.Canon.{canonical-lead, canonical-is, canon-all}
 use Rattle.theory.proofs.Accept
 use Rattle.theory.proofs.Accept.{Divides, left-combination}
 use Rattle.definitions.specs.Limits.{Limits}
-use Rattle.definitions.specs.Lists.{_and_, between}
-use Rattle.definitions.specs.Monomial.{Monomial, Vector, leading, leading-monomials}
-use Rattle.definitions.specs.Order.{Comparison, greater?, compare-over}
-use Rattle.definitions.specs.Vectors.{strictly-descending?, descending}
+use Rattle.definitions.specs.Lists.{between}
+use Rattle.definitions.specs.Monomial.{Vector, leading, leading-monomials}
+use Rattle.definitions.specs.Order.{compare-over}
+use Rattle.definitions.specs.Vectors.{descending}
 use Rattle.definitions.specs.Frame.{frame}
 use Rattle.definitions.specs.Result.{Result, done, refused, unfinished, _>>=_}
-use Rattle.definitions.specs.Stage
-use Rattle.definitions.specs.Run.{Strategy, run, greatest, accepting-strategy}
-use Rattle.definitions.specs.Lifting.{if-few, limited-frame, accepting-place, at-frame-term, accept-from, accept}
+use Rattle.definitions.specs.Run.{Strategy, run, accepting-strategy}
+use Rattle.definitions.specs.Lifting.{if-few, accepting-place, at-frame-term, accept-from, accept}
 use Rattle.definitions.specs.Problem.{Parameters}
 use Rattle.definitions.proofs.Modular.{Prime}
-use Rattle.definitions.proofs.Tests.{and-both, between-low, between-shown}
-use Rattle.demands.specs.Notions.{coefficient, put-for, Equal, Zero, Combination, Leads, Divided}
+use Rattle.definitions.proofs.Tests.{between-low, between-shown}
+use Rattle.demands.specs.Notions.{coefficient, Leads, Divided}
 use Rattle.demands.specs.Exact.{Shows-why}
 use Rattle.demands.proofs.Results.{Ends, gives, refuses, open-yet, ends-turn, ends-refusals, Refusal, limit, nine, refusal-map}
-use Rattle.demands.proofs.Comparisons.{Says, less, level, more}
-use Rattle.demands.proofs.Levels.{Mono, TVec, TLevel, mono, monos, monos-length, term, vec, flat, flats, flat-length, cons?, head, lm, module-over, Has, Grounded, over-says}
+use Rattle.demands.proofs.Levels.{Mono, TVec, TLevel, mono, monos, monos-length, vec, flat, flat-length, head, lm, Has}
 use Rattle.demands.proofs.Setting.{Setting, S, L, F, red}
 use Rattle.demands.proofs.Soundness.{Deep, Within, Sound-mono, All-sound, leading-within}
 use Rattle.demands.proofs.Sums.{canonical-good}
 use Rattle.demands.proofs.Canonical.{canonical-descends, terms-sound}
 use Rattle.demands.proofs.Short.{run-short}
 use Rattle.demands.proofs.Sorting.{Form, sorted}
-use Rattle.demands.proofs.Runs.{stage, Fits, InValue, Sum, Exact, Stuck, Finished, Halted, run-ends}
+use Rattle.demands.proofs.Runs.{stage, Fits, InValue, Exact, Halted, run-ends}
 use Rattle.demands.proofs.Picking.{accepting-picks, greatest-leads}
 use Rattle.demands.proofs.Notions.{same-equal, put-for-is, lead-leads}
-use Rattle.demands.proofs.Bases.{Ranged, proper-shown, here, in-ranged, divided-image, combination-has, gröbner-out}
+use Rattle.demands.proofs.Bases.{Ranged, proper-shown, here, in-ranged, divided-image}
 use Rattle.demands.proofs.Ways.{copies, run-as, copies-in, Good-terms}
 use Rattle.demands.proofs.Stages.{frame-terms, terms, terms-back, theory-stage}
 use Rattle.demands.proofs.Lifted.{terms-good}

@@ -1,34 +1,29 @@
 -- Document 01's Gröbner bases are the theory's; and they are those whose leading monomials generate the leading module.
-use mathlib.Core.Path.{_≡_, refl, sym, ap, ap₂, _∙_, subst, subst₂}
+use mathlib.Core.Path.{_≡_, refl, sym, ap, ap₂, _∙_, subst}
 use mathlib.Core.Logic.{_⊎_, inl, inr}
-use mathlib.Core.Bool.{Bool, true, false}
-use mathlib.Core.List.{List, [], _∷_, _++_}
-use Prim.Native.Nat.{ℕ, zero, suc, _+_, _-_, _%_, _<_, _≤_}
-use native.Mathlib.Nat.{mod-eq-of-lt}
+use mathlib.Core.Bool.{Bool}
+use mathlib.Core.List.{List, [], _∷_}
+use Prim.Native.Nat.{ℕ, suc, _-_, _<_, _≤_}
 use native.Mathlib.Omega.{arith}
-use lib.Dec.{T, eqb, eqb→eq, eqb-refl}
+use lib.Dec.{T, eqb, eqb→eq}
 use lib.ListN.{length, getD, drop}
-use Rattle.theory.specs.Laws.{Scalars, Monoid, Level}
-use Rattle.theory.specs.Vec.{Same, scale, mapB, All, times, ψ, Lead}
-use Rattle.theory.specs.Orders.{ExpM}
+use Rattle.theory.specs.Vec.{Same, All, times, ψ, Lead}
 use Rattle.theory.specs.Induced
-use Rattle.theory.specs.Modular.{ModP}
 use Rattle.theory.specs.Syzygy.{In, Gröbner}
 use Rattle.theory.proofs.Vec
 use Rattle.theory.proofs.Top
 use Rattle.theory.proofs.Top.{Leading, leading-lead, lead-nonzero, lead-unique}
-use Rattle.definitions.specs.Lists.{_and_, every, between}
-use Rattle.definitions.specs.Monomial
-use Rattle.definitions.specs.Monomial.{Monomial, Term, Vector, divides-monomial?, leading, vector-of}
+use Rattle.definitions.specs.Lists.{_and_, between}
+use Rattle.definitions.specs.Monomial.{Monomial, Vector, divides-monomial?, leading, vector-of}
 use Rattle.definitions.specs.Order.{compare-over}
 use Rattle.definitions.specs.Problem.{Parameters}
 use Rattle.definitions.proofs.Modular.{Prime}
 use Rattle.definitions.proofs.Tests.{and-left, and-right, and-both, between-low, between-high, between-shown}
 use Rattle.demands.specs.Notions.{proper-term?, proper?, put-for, Leads, Divided, Led-by, Gröbner-basis}
-use Rattle.demands.proofs.Exponents.{E, out, over, into, out-into, out-length, out-past, none}
-use Rattle.demands.proofs.Levels.{Mono, TVec, TLevel, mono, term, vec, flat, flats, flat-at, flat-length, lm, leading-vec, module-over, Has, has-act, Grounded}
+use Rattle.demands.proofs.Exponents.{out, over, into, out-into, out-length, out-past, none}
+use Rattle.demands.proofs.Levels.{Mono, TVec, TLevel, mono, term, vec, flat, flats, flat-at, flat-length, lm, leading-vec, Has, has-act, Grounded}
 use Rattle.demands.proofs.Setting.{Setting, S, L, F, divided-by, divides-multiple}
-use Rattle.demands.proofs.Soundness.{tmono, tvec, Deep, deep-grounded, setting}
+use Rattle.demands.proofs.Soundness.{tvec, Deep, deep-grounded, setting}
 use Rattle.demands.proofs.Notions.{put-for-is, lead-leads, leads-lead}
 
 -- ## Proper combinations are combinations of the theory

@@ -1,16 +1,14 @@
 -- Canonical vectors, written in the definitions: they descend, and their terms are sound.
 use mathlib.Core.Path.{_≡_, subst}
-use mathlib.Core.Bool.{Bool, true, false}
 use mathlib.Core.List.{List, [], _∷_}
 use Prim.Native.Nat.{ℕ, suc, _-_, _<_, _≤_}
 use native.Mathlib.Omega.{arith}
 use lib.Dec.{T}
-use lib.ListN.{length}
 use Rattle.theory.specs.Vec.{All}
 use Rattle.theory.specs.Modular.{ModP}
 use Rattle.theory.specs.Canon.{Canonical}
 use Rattle.definitions.specs.Limits.{Limits}
-use Rattle.definitions.specs.Lists.{_and_, every}
+use Rattle.definitions.specs.Lists.{every}
 use Rattle.definitions.specs.Monomial.{Monomial}
 use Rattle.definitions.specs.Order.{Comparison, greater?, compare-over}
 use Rattle.definitions.specs.Vectors.{strictly-descending?}
@@ -18,8 +16,8 @@ use Rattle.definitions.specs.Problem.{Parameters}
 use Rattle.definitions.specs.State.{term-sound?}
 use Rattle.definitions.proofs.Modular.{Prime}
 use Rattle.definitions.proofs.Tests.{and-both, between-shown}
-use Rattle.definitions.proofs.Sound.{Sound-term, term-shown}
-use Rattle.demands.proofs.Exponents.{out, out-length, out-past}
+use Rattle.definitions.proofs.Sound.{term-shown}
+use Rattle.demands.proofs.Exponents.{out-length, out-past}
 use Rattle.demands.proofs.Comparisons.{Says, less, level, more}
 use Rattle.demands.proofs.Levels.{Mono, TVec, TLevel, mono, term, vec, flats, module-over, Has, Grounded, over-says}
 use Rattle.demands.proofs.Coefficients.{Good, good-nonzero, good-below}

@@ -1,15 +1,13 @@
 -- The definitions' comparisons say what the theory's orders are.
-use mathlib.Core.Path.{_≡_, refl, sym, ap, _∙_, subst}
+use mathlib.Core.Path.{_≡_, refl, sym, ap, subst}
 use mathlib.Core.Logic.{_⊎_, inl, inr}
 use mathlib.Core.Bool.{Bool, true, false, not}
-use mathlib.Core.List.{List, [], _∷_}
-use Prim.Native.Nat.{ℕ, zero, suc, _+_, _-_, _<_, _≤_, compare, Ordering, Ordering·lt, Ordering·eq, Ordering·gt}
+use Prim.Native.Nat.{ℕ, zero, suc, _-_, _<_, _≤_, compare, Ordering, Ordering·lt, Ordering·eq, Ordering·gt}
 use native.Mathlib.Omega.{arith}
 use lib.Dec.{T, isLe, isEq, eqb, leb→le, nleb→lt, eqb→eq, eqb-refl}
 use lib.Arith.{lt-of-le-ne}
 use Rattle.theory.specs.Orders.{Order, ExpM, deg, LexO, DegLexO, DegRevLexO}
-use Rattle.theory.proofs.Orders.{LastMore, RevLex, rev-lex-is}
-use Rattle.definitions.specs.Lists.{sum}
+use Rattle.theory.proofs.Orders.{LastMore, rev-lex-is}
 use Rattle.definitions.specs.Monomial.{Exponents}
 use Rattle.definitions.specs.Order.{Comparison, greater, equal, smaller, or-at-tie, by-ordering, numbers, lexicographic, last-differing, degrees, exponents-by}
 use Rattle.demands.proofs.Exponents.{E, zeros, onto, out, degree-out}

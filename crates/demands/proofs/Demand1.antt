@@ -1,17 +1,13 @@
 -- Demand 1.
-use mathlib.Core.Path.{_≡_, refl, sym, ap, _∙_, subst}
+use mathlib.Core.Path.{_≡_, refl, sym, _∙_, subst}
 use mathlib.Core.Option.{Option, none, some}
-use mathlib.Core.List.{List, [], _∷_}
-use Prim.Native.Nat.{ℕ, _≤_}
-use lib.Dec.{T, leb, leb→le}
+use Prim.Native.Nat.{ℕ}
+use lib.Dec.{T}
 use lib.ListN.{length, length-replicate}
 use Rattle.definitions.specs.Limits.{Limits, document-01}
-use Rattle.definitions.specs.Lists.{_then_}
-use Rattle.definitions.specs.Problem.{Bytes, Parameters}
-use Rattle.definitions.specs.Monomial.{Level}
+use Rattle.definitions.specs.Problem.{Bytes}
 use Rattle.definitions.specs.Sheet.{sheet}
-use Rattle.definitions.specs.Layout.{Words, zeros, state-words, encode, Way, division, long-enough?, work-words, Read, read-call, Lift, lift-call, Lent, read-with, lift-with, fetch-with, Left, lent-call, lent-calls}
-use Rattle.definitions.proofs.Tests.{and-left}
+use Rattle.definitions.specs.Layout.{Words, Way, division, Read, Lift, Lent, read-with, lift-with, fetch-with, lent-call, lent-calls}
 use Rattle.definitions.proofs.Steady.{answered?, Steady, steady-once}
 use Rattle.definitions.proofs.Bound.{sheet-steady, lent-calls-steady}
 use Rattle.definitions.proofs.Reading.{basis-state}

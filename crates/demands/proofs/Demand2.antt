@@ -1,26 +1,21 @@
 -- Demand 2.
-use mathlib.Core.Path.{_≡_, refl, sym, ap, _∙_, subst}
-use mathlib.Core.Logic.{_⊎_, inl, inr, _↔_}
-use mathlib.Core.Bool.{Bool, true, false}
+use mathlib.Core.Path.{_≡_, sym, ap, _∙_, subst}
+use mathlib.Core.Logic.{_↔_}
 use mathlib.Core.List.{List, [], _∷_}
-use Prim.Native.Nat.{ℕ, _≤_}
+use Prim.Native.Nat.{ℕ}
 use lib.Dec.{T, eqb, eqb→eq}
-use lib.ListN.{length}
 use Rattle.definitions.specs.Limits.{Limits, document-01}
-use Rattle.definitions.specs.Lists.{between}
 use Rattle.definitions.specs.Monomial.{Monomial, Vector, Level, leading, leading-monomials}
 use Rattle.definitions.specs.Order.{compare-over}
 use Rattle.definitions.specs.Frame.{frame}
-use Rattle.definitions.specs.Result.{Result, done, refused, unfinished, _>>=_}
+use Rattle.definitions.specs.Result.{Result, done, refused, _>>=_}
 use Rattle.definitions.specs.Problem.{Bytes, Parameters, problem}
-use Rattle.definitions.specs.State.{State, levels-sound?, sound?}
+use Rattle.definitions.specs.State.{State, sound?}
 use Rattle.definitions.specs.Calls.{accepted, read}
-use Rattle.definitions.proofs.Modular.{Prime}
-use Rattle.definitions.proofs.Tests.{between-low}
 use Rattle.definitions.proofs.Results.{if-done-says}
 use Rattle.definitions.proofs.Sound.{sound-says}
 use Rattle.definitions.proofs.Reading.{basis-state, problem-sound}
-use Rattle.demands.specs.Notions.{put-for, Leads, Gröbner-basis, Leading-generated}
+use Rattle.demands.specs.Notions.{put-for, Leads, Gröbner-basis}
 use Rattle.demands.specs.Frames.{Is-frame}
 use Rattle.demands.specs.Exact.{Shows-why}
 use Rattle.demands.specs.Demands.{sensible?, limit?, Read-right, accepts, limited, stopped, open-yet, accepted?, decided?, Demand-2}

@@ -1,29 +1,17 @@
 -- Demand 3.
-use mathlib.Core.Path.{_≡_, refl, sym, ap, _∙_, subst}
-use mathlib.Core.Logic.{_⊎_, inl, inr}
-use mathlib.Core.Bool.{Bool, true, false}
-use mathlib.Core.Option.{Option, none, some}
+use mathlib.Core.Path.{_≡_, ap, subst}
+use mathlib.Core.Logic.{inl, inr}
+use mathlib.Core.Option.{some}
 use mathlib.Core.List.{List, [], _∷_}
-use Prim.Native.Nat.{ℕ, zero, suc, _-_, _<_, _≤_}
-use native.Mathlib.Omega.{arith}
+use Prim.Native.Nat.{ℕ, _-_}
 use lib.Dec.{T}
-use lib.ListN.{length, drop, length-drop}
 use Rattle.definitions.specs.Limits.{Limits, document-01}
-use Rattle.definitions.specs.Lists.{_then_}
-use Rattle.definitions.specs.Monomial.{Monomial, Vector, Level, leading-monomials}
-use Rattle.definitions.specs.Frame.{frame}
-use Rattle.definitions.specs.Result.{Result, done, at-level, _>>=_}
-use Rattle.definitions.specs.Stage.{stage-over}
-use Rattle.definitions.specs.Run.{Strategy}
-use Rattle.definitions.specs.Lifting.{Lifting, lift-level}
-use Rattle.definitions.specs.Problem.{Parameters}
-use Rattle.definitions.specs.State.{State, up-to, levels-sound?, sound?}
+use Rattle.definitions.specs.Result.{done}
+use Rattle.definitions.specs.Lifting.{Lifting}
+use Rattle.definitions.specs.State.{State, up-to, sound?}
 use Rattle.definitions.specs.Calls.{lift}
-use Rattle.definitions.specs.Reckoning.{Reckoning, nothing, reckon, reckon-all, reckoned-vector}
-use Rattle.definitions.specs.Layout.{Words, zeros, meant, Lent, read-with, lift-with, fetch-with, Left, lent-call, lent-calls}
-use Rattle.definitions.proofs.Sound.{sound-says}
-use Rattle.demands.specs.Notions.{Member}
-use Rattle.demands.specs.Picks.{All-pick, run-by}
+use Rattle.definitions.specs.Reckoning.{Reckoning, nothing, reckon, reckon-all}
+use Rattle.definitions.specs.Layout.{Words, meant, Lent, read-with, lift-with, fetch-with, Left, lent-call, lent-calls}
 use Rattle.demands.specs.Demands.{sensible?, as-call, numbered, left-by, Reads, First-reads, Starts, Fetch-right, Fetches-right, Leaves, Demand-3}
 use Rattle.demands.proofs.Results.{ends-at, Holds, holds, holds-then, holds-map, holds-given, holds-at}
 use Rattle.demands.proofs.Reckonings.{one-level, one-reckoning}

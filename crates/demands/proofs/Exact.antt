@@ -1,15 +1,13 @@
 -- Over a Gröbner basis the reckoning's level is right: each vector maps to zero with its frame term in front, every syzygy is a combination of the
 -- vectors, and they are a Gröbner basis again.
-use mathlib.Core.Path.{_≡_, refl, sym, ap, ap₂, _∙_, subst, subst₂}
-use mathlib.Core.Logic.{_⊎_, inl, inr}
-use mathlib.Core.Bool.{Bool, true, false}
-use mathlib.Core.List.{List, [], _∷_, _++_}
+use mathlib.Core.Path.{_≡_, refl, sym, ap, _∙_, subst, subst₂}
+use mathlib.Core.List.{List, [], _∷_}
 use Prim.Native.Nat.{ℕ, zero, suc, _<_, _≤_}
 use native.Mathlib.Omega.{arith}
 use lib.Dec.{T}
 use lib.ListN.{length, getD}
-use Rattle.theory.specs.Laws.{Scalars, Monoid, Level}
-use Rattle.theory.specs.Vec.{Same, All, ψ, Lead}
+use Rattle.theory.specs.Laws.{Level}
+use Rattle.theory.specs.Vec.{Same, All, ψ}
 use Rattle.theory.specs.Orders.{ExpM}
 use Rattle.theory.specs.Syzygy.{In, Ahead, Gröbner}
 use Rattle.theory.specs.Canon.{Canonical}
@@ -23,22 +21,19 @@ use Rattle.theory.proofs.Tower
 use Rattle.theory.proofs.Tower.{ahead-head, ψ-agrees, gröbner-agrees, vector-ahead, vector-in, vector-syzygy, vectors-generate, gröbner-above}
 use Rattle.theory.specs.Reckon.{reckon}
 use Rattle.definitions.specs.Limits.{Limits}
-use Rattle.definitions.specs.Monomial
-use Rattle.definitions.specs.Monomial.{Monomial, Term, Vector, leading-term, leading-monomials}
-use Rattle.definitions.specs.Frame.{frame}
+use Rattle.definitions.specs.Monomial.{Vector, leading-term}
 use Rattle.definitions.specs.Problem.{Parameters}
 use Rattle.definitions.proofs.Modular.{Prime}
-use Rattle.demands.specs.Notions.{coefficient, put-for, Equal, Zero, Combination, Syzygy, Leads, Gröbner-basis}
+use Rattle.demands.specs.Notions.{coefficient, put-for, Combination, Syzygy}
 use Rattle.demands.specs.Exact.{Vector-right, Level-right}
-use Rattle.demands.proofs.Exponents.{E}
-use Rattle.demands.proofs.Levels.{Mono, TVec, TLevel, mono, monos, monos-length, term, vec, flat, flats, flat-at, flat-length, cons?, head, lm, module-over, Has, Grounded}
-use Rattle.demands.proofs.Setting.{Setting, S, L, A, F, red}
-use Rattle.demands.proofs.Soundness.{tvec, Regular, Regulars, Deep, deep-grounded, setting}
+use Rattle.demands.proofs.Levels.{Mono, TVec, TLevel, mono, monos, monos-length, vec, flat, flats, flat-at, flat-length, cons?, head, lm, module-over, Has}
+use Rattle.demands.proofs.Setting.{Setting, S, L, F, red}
+use Rattle.demands.proofs.Soundness.{tvec, Regular, Regulars, Deep}
 use Rattle.demands.proofs.Reckoned.{vector}
 use Rattle.demands.proofs.Notions.{same-equal, equal-same, put-for-is, lead-leads}
 use Rattle.demands.proofs.Bases.{Ranged, Proper, proper-says, proper-shown, here, ranged-in, in-ranged, gröbner-out}
 use Rattle.demands.proofs.Ways.{vectors}
-use Rattle.demands.proofs.Stages.{frame-terms, terms, terms-back, framed, theory-stage}
+use Rattle.demands.proofs.Stages.{terms, terms-back, framed, theory-stage}
 use Rattle.demands.proofs.Canonical.{canonical-descends}
 
 module _ (lim : Limits) (q : Parameters) (P : Prime (q .p)) (eight : q .n ≤ 8) (f : TLevel (q .n)) (b : List (TLevel (q .n)))

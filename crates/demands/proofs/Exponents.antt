@@ -1,14 +1,13 @@
 -- Exponents: the definitions' lists of eight, zero past n, are the theory's exponents of n variables.
 use mathlib.Core.Path.{_≡_, refl, sym, ap, ap₂, _∙_, subst}
-use mathlib.Core.Bool.{Bool, true, false}
-use mathlib.Core.List.{List, [], _∷_}
-use Prim.Native.Nat.{ℕ, zero, suc, _+_, _-_, _≤_, _<_, max}
+use mathlib.Core.Bool.{Bool}
+use mathlib.Core.List.{[], _∷_}
+use Prim.Native.Nat.{ℕ, zero, suc, _+_, _-_, _≤_, max}
 use native.Mathlib.Omega.{arith}
 use lib.Dec.{T, leb, eqb, leb→le, le→leb, eqb→eq, eqb-refl}
 use lib.ListN.{length, drop, replicate, length-replicate}
-use Rattle.theory.specs.Laws.{Monoid}
 use Rattle.theory.specs.Orders.{ExpM, deg}
-use Rattle.definitions.specs.Lists.{_and_, sum, every}
+use Rattle.definitions.specs.Lists.{sum, every}
 use Rattle.definitions.specs.Monomial.{Exponents, product, quotient, lcm, divides?, fits?, same-exponents?}
 use Rattle.definitions.proofs.Tests.{and-left, and-right, and-both}
 

@@ -1,7 +1,6 @@
 -- The definitions' frame is the frame, and the only one.
 use mathlib.Core.Path.{_≡_, refl, sym, ap, ap₂, _∙_, subst, subst₂}
 use mathlib.Core.Logic.{_⊎_, inl, inr}
-use mathlib.Core.Bool.{Bool, true, false}
 use mathlib.Core.List.{List, [], _∷_, _++_}
 use Prim.Native.Nat.{ℕ, zero, suc, _+_, _-_, _<_, _≤_}
 use native.Mathlib.Omega.{arith}
@@ -9,16 +8,13 @@ use lib.Dec.{T}
 use lib.ListN.{length, getD}
 use Rattle.theory.specs.Laws.{Tri, below, same, above}
 use Rattle.theory.specs.Induced.{nat-tri}
-use Rattle.theory.specs.Orders.{Order}
-use Rattle.definitions.specs.Lists.{between}
-use Rattle.definitions.specs.Monomial.{Exponents, Monomial, Vector, Level, product, divides?, divides-monomial?, leading, leading-monomials, vector-of}
-use Rattle.definitions.specs.Order.{smaller, exponents-by, image, image-by}
-use Rattle.definitions.specs.Frame.{generators, minimal, with-component, frame-of, frame-from, frame}
+use Rattle.definitions.specs.Monomial.{Exponents, Monomial, Level, product, divides?, divides-monomial?, leading, leading-monomials, vector-of}
+use Rattle.definitions.specs.Frame.{generators, minimal, with-component, frame-from, frame}
 use Rattle.definitions.proofs.Tests.{between-low, between-high, between-shown}
 use Rattle.demands.specs.Notions.{Member}
 use Rattle.demands.specs.Frames.{Leading-syzygy, Before, Before-all, Ascending, Is-frame}
 use Rattle.demands.proofs.Comparisons.{order}
-use Rattle.demands.proofs.Members.{member-left, member-right, member-either, divides-trans, divides-both, divides-monomial, monomial-divides, Under, says-under, under-says}
+use Rattle.demands.proofs.Members.{member-left, member-right, member-either, divides-trans, divides-both, divides-monomial, monomial-divides, says-under, under-says}
 use Rattle.demands.proofs.Generators.{Below-all, Sorted, Eights, Minimal-generators, minimal-generators}
 
 -- ## Terms of one number

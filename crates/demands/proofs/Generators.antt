@@ -2,19 +2,17 @@
 use mathlib.Core.Path.{_≡_, refl, sym, ap, _∙_, subst}
 use mathlib.Core.Logic.{_⊎_, inl, inr}
 use mathlib.Core.Bool.{Bool, true, false, not}
-use mathlib.Core.List.{List, [], _∷_, _++_}
+use mathlib.Core.List.{List, [], _∷_}
 use mathlib.Core.WellFounded.{Acc, Acc·intro}
-use Prim.Native.Nat.{ℕ, zero, suc, _+_, _-_, _<_, _≤_, max}
-use native.Mathlib.Nat.{sub-add-eq-max}
+use Prim.Native.Nat.{ℕ, suc, _+_, _-_, _<_, _≤_, max}
 use native.Mathlib.Omega.{arith}
 use lib.Dec.{T, leb, eqb, leb→le, le→leb, eqb→eq, eqb-refl, T-not}
 use lib.ListN.{length}
 use lib.WfN.{Nat·lt-wfRel}
-use Rattle.theory.specs.Orders.{Order}
-use Rattle.definitions.specs.Lists.{_and_, any, those, sum}
+use Rattle.definitions.specs.Lists.{any, those, sum}
 use Rattle.definitions.specs.Monomial.{Exponents, Monomial, product, quotient, lcm, divides?, same-exponents?, divides-monomial?}
 use Rattle.definitions.specs.Order.{Comparison, greater, equal, smaller, exponents-by}
-use Rattle.definitions.specs.Frame.{into-ascending, with-generator, generators, properly-divides?, minimal}
+use Rattle.definitions.specs.Frame.{into-ascending, generators, properly-divides?, minimal}
 use Rattle.definitions.proofs.Tests.{and-left, and-right, and-both}
 use Rattle.demands.specs.Notions.{Member}
 use Rattle.demands.proofs.Exponents.{same-is, same-refl, divides-refl}

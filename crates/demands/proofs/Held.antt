@@ -1,36 +1,35 @@
 -- The state holds what the reckoning says: after reading, and after lifting a level.
-use mathlib.Core.Path.{_≡_, refl, sym, ap, _∙_, subst}
+use mathlib.Core.Path.{_≡_, refl}
 use mathlib.Core.Logic.{_⊎_, inl, inr}
-use mathlib.Core.Bool.{Bool, true, false, not, _||_}
-use mathlib.Core.Option.{Option, none, some}
+use mathlib.Core.Option.{some}
 use mathlib.Core.List.{List, [], _∷_}
-use Prim.Native.Nat.{ℕ, zero, suc, _-_, _<_, _≤_}
+use Prim.Native.Nat.{ℕ, suc, _-_, _<_, _≤_}
 use native.Mathlib.Omega.{arith}
-use lib.Dec.{T, ltb, ltb→lt}
-use lib.ListN.{length, drop, length-drop}
+use lib.Dec.{T, ltb→lt}
+use lib.ListN.{length}
 use Rattle.definitions.specs.Limits.{Limits}
-use Rattle.definitions.specs.Lists.{_and_, rest, between}
-use Rattle.definitions.specs.Monomial.{Vector, Level}
-use Rattle.definitions.specs.Result.{Result, done, refused, unfinished, at-level, _>>=_}
+use Rattle.definitions.specs.Lists.{rest, between}
+use Rattle.definitions.specs.Monomial.{Level}
+use Rattle.definitions.specs.Result.{Result, done, refused, unfinished, _>>=_}
 use Rattle.definitions.specs.Stage.{highest}
-use Rattle.definitions.specs.Lifting.{Lifting, lift-level}
+use Rattle.definitions.specs.Lifting.{Lifting}
 use Rattle.definitions.specs.Problem.{Bytes, Parameters, problem}
-use Rattle.definitions.specs.State.{State, empty, has-level?, up-to, levels-sound?, sound?}
+use Rattle.definitions.specs.State.{State, empty, has-level?, up-to, sound?}
 use Rattle.definitions.specs.Calls.{accepted, read, lift}
 use Rattle.definitions.specs.Reckoning.{Reckoning, nothing, basis-of, reckoned-level}
-use Rattle.definitions.proofs.Tests.{between-low, between-high}
+use Rattle.definitions.proofs.Tests.{between-low}
 use Rattle.definitions.proofs.Results.{If-done}
-use Rattle.definitions.proofs.Sound.{Sound, sound-says, sound-shown, level-says}
+use Rattle.definitions.proofs.Sound.{sound-says}
 use Rattle.definitions.proofs.Numbers
-use Rattle.definitions.proofs.Numbers.{Numbered, limit-number?, read-number?, read-number, lift-number}
+use Rattle.definitions.proofs.Numbers.{Numbered, read-number?, read-number}
 use Rattle.definitions.proofs.Reading.{basis-state, problem-sound}
 use Rattle.demands.specs.Notions.{Gröbner-basis}
 use Rattle.demands.specs.Demands
 use Rattle.demands.specs.Exact.{Level-right, Exact, Reckons}
 use Rattle.demands.specs.Demands.{sensible?, Read-right, accepts, limited, stopped, Of-basis}
-use Rattle.demands.proofs.Results.{Ends, Gives, gives, refuses, open-yet, ends-then, ends-map, ends-both, ends-turn}
+use Rattle.demands.proofs.Results.{Ends, gives, refuses, open-yet}
 use Rattle.demands.proofs.Over.{few-variables, vector-room, sound-prime, sound-eight, Lift-right, accepted-right}
-use Rattle.demands.proofs.Reckonings.{Tower, tower-reckons, drop-keeps}
+use Rattle.demands.proofs.Reckonings.{Tower, tower-reckons}
 use Rattle.demands.proofs.Lifts.{Lifted-to, one-more, limit-met, still-lifting, stays, height-up-to, with-level, lifted-to, limit-read}
 
 -- ## What the reckoning holds and what the state holds

@@ -1,30 +1,26 @@
 -- The idle engines of document 01's list are shut out, by computation.
 use mathlib.Core.Path.{_≡_, refl, sym, ap, _∙_, subst}
-use mathlib.Core.Bool.{Bool, true, false, not}
-use mathlib.Core.Option.{some}
+use mathlib.Core.Bool.{not}
 use mathlib.Core.List.{List, [], _∷_, _++_}
 use Prim.Native.Nat.{ℕ, _≤_}
 use native.Mathlib.Omega.{arith}
 use native.Mathlib.Nat.{le-refl}
 use lib.Dec.{T, leb, eqb, eqb-refl, le→leb, T-not}
 use lib.ListN.{length, getD, replicate, length-replicate}
-use Rattle.definitions.specs.Limits.{Limits, document-01}
-use Rattle.definitions.specs.Monomial.{Monomial, Vector, Level, leading-term, leading-monomials}
-use Rattle.definitions.specs.Result.{done}
+use Rattle.definitions.specs.Limits.{document-01}
+use Rattle.definitions.specs.Monomial.{Level, leading-term, leading-monomials}
 use Rattle.definitions.specs.Stage.{highest}
 use Rattle.definitions.specs.Frame.{frame}
-use Rattle.definitions.specs.Lifting.{by-hybrid}
-use Rattle.definitions.specs.Problem.{Bytes, Parameters, problem}
+use Rattle.definitions.specs.Problem.{Bytes, Parameters}
 use Rattle.definitions.specs.State.{State}
-use Rattle.definitions.specs.Calls.{read, lift}
-use Rattle.definitions.specs.Sheet.{sheet, decimal, printed, letter-Z, x-lines}
-use Rattle.definitions.specs.Layout.{Words, padded, state-words, work-words, division, long-enough?, encode, Read, read-call}
+use Rattle.definitions.specs.Sheet.{decimal, printed, letter-Z, x-lines}
+use Rattle.definitions.specs.Layout.{Words, padded, state-words, work-words, division, long-enough?, encode, Read}
 use Rattle.definitions.proofs.Tests.{and-both}
 use Rattle.definitions.proofs.Text.{text}
 use Rattle.definitions.proofs.Instances.{xyz, xy, f₁, g₁}
 use Rattle.definitions.proofs.Views.{limited}
 use Rattle.demands.specs.Exact.{Level-right}
-use Rattle.demands.specs.Idle.{Engine, Right, Empty-always, Level-2-empty, Refuses-all, Count-invented, one-less, Early-14, Reads-right, Untouched, Zero-vector, Idle-shut-out}
+use Rattle.demands.specs.Idle.{Engine, Right, Empty-always, Level-2-empty, Refuses-all, Count-invented, Early-14, Reads-right, Untouched, Zero-vector, Idle-shut-out}
 use Rattle.demands.proofs.Stored.{at-zeros}
 use Rattle.demands.proofs.PrintedFile.{printed-file, q₁, X₁, reads}
 

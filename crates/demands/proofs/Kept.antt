@@ -1,40 +1,36 @@
 -- A level lifted over sound levels is the reckoning's level and leaves the levels sound.
-use mathlib.Core.Path.{_≡_, refl, sym, ap, _∙_, subst}
+use mathlib.Core.Path.{_≡_, refl, sym, ap, subst}
 use mathlib.Core.Bool.{Bool, true, false}
-use mathlib.Core.Option.{Option, none, some}
-use mathlib.Core.List.{List, [], _∷_, _++_}
-use Prim.Native.Nat.{ℕ, zero, suc, _+_, _-_, _<_, _≤_}
+use mathlib.Core.List.{List, [], _∷_}
+use Prim.Native.Nat.{ℕ, suc, _<_, _≤_}
 use native.Mathlib.Omega.{arith}
 use lib.Dec.{T, leb}
-use lib.ListN.{length, getD, drop}
+use lib.ListN.{length}
 use Rattle.theory.specs.Vec.{All}
-use Rattle.theory.specs.Canon.{Canonical}
 use Rattle.theory.proofs.Vec
 use Rattle.definitions.specs.Limits.{Limits}
-use Rattle.definitions.specs.Lists.{_and_, every, between}
+use Rattle.definitions.specs.Lists.{every}
 use Rattle.definitions.specs.Monomial
-use Rattle.definitions.specs.Monomial.{Monomial, Term, Vector, leading-monomials}
+use Rattle.definitions.specs.Monomial.{Monomial, leading-monomials}
 use Rattle.definitions.specs.Frame.{frame}
-use Rattle.definitions.specs.Result.{Result, done, refused, unfinished, _>>=_}
-use Rattle.definitions.specs.Stage.{highest, stage-over}
-use Rattle.definitions.specs.Lifting.{Lifting, lift-one, lift-all, if-few, limited-frame, lift-level}
+use Rattle.definitions.specs.Result.{_>>=_}
+use Rattle.definitions.specs.Lifting.{Lifting, lift-one, lift-all, if-few, lift-level}
 use Rattle.definitions.specs.Problem.{Parameters}
-use Rattle.definitions.specs.State.{term-sound?, vector-sound?, levels-sound?, terms-of, lengths}
-use Rattle.definitions.specs.Reckoning.{reckoned-level}
+use Rattle.definitions.specs.State.{vector-sound?, levels-sound?, terms-of}
 use Rattle.definitions.proofs.Modular.{Prime}
 use Rattle.definitions.proofs.Tests.{and-both}
-use Rattle.definitions.proofs.Sound.{Sound-vector, vector-shown, level-shown}
-use Rattle.demands.proofs.Results.{Ends, Gives, gives, refuses, open-yet, ends-then, ends-map, ends-both}
-use Rattle.demands.proofs.Levels.{Mono, TVec, TLevel, mono, term, vec, vec-length, flat, flats, flat-length, cons?, lm, module-over, Has}
+use Rattle.definitions.proofs.Sound.{vector-shown, level-shown}
+use Rattle.demands.proofs.Results.{Gives, refuses, ends-both}
+use Rattle.demands.proofs.Levels.{Mono, TVec, TLevel, vec, vec-length, flat, flats, flat-length, cons?, lm}
 use Rattle.demands.proofs.Setting.{Setting, S}
 use Rattle.demands.proofs.Soundness.{Regular, Regulars, Deep, cons-in, Within, Sound-mono}
-use Rattle.demands.proofs.Sums.{Goods, canonical-good}
+use Rattle.demands.proofs.Sums.{canonical-good}
 use Rattle.demands.proofs.Runs.{stage, InVector}
 use Rattle.demands.proofs.Reckoned.{vector}
 use Rattle.demands.proofs.Bases.{here}
 use Rattle.demands.proofs.Ways.{vectors, All-ok, total}
 use Rattle.demands.proofs.Stages.{terms}
-use Rattle.demands.proofs.Lifted.{Lifted-right, level-lifted, level-bound}
+use Rattle.demands.proofs.Lifted.{Lifted-right, level-lifted}
 use Rattle.demands.proofs.Canonical.{canonical-descends, terms-sound}
 use Rattle.demands.proofs.Exact.{regular-above}
 use Rattle.demands.proofs.Short.{All-short, all-short}

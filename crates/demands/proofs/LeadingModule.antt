@@ -1,14 +1,14 @@
 -- Document 01's Gröbner bases are those whose leading monomials generate the leading module.
-use mathlib.Core.Path.{_≡_, refl, sym, ap, ap₂, _∙_, subst, subst₂}
-use mathlib.Core.Logic.{_⊎_, inl, inr, _↔_}
+use mathlib.Core.Path.{_≡_, refl, sym, ap, ap₂, _∙_, subst}
+use mathlib.Core.Logic.{_↔_}
 use mathlib.Core.Bool.{Bool, true, false}
 use mathlib.Core.List.{List, [], _∷_, _++_}
 use Prim.Native.Nat.{ℕ, zero, suc, _<_, _≤_}
 use native.Mathlib.Omega.{arith}
 use lib.Dec.{T}
 use lib.ListN.{length, getD}
-use Rattle.theory.specs.Laws.{Scalars, Monoid, Level}
-use Rattle.theory.specs.Vec.{All, scale, mapB, times, ψ}
+use Rattle.theory.specs.Laws.{Level}
+use Rattle.theory.specs.Vec.{All, mapB, times, ψ}
 use Rattle.theory.specs.Orders.{ExpM}
 use Rattle.theory.specs.Induced
 use Rattle.theory.specs.Syzygy.{In}
@@ -18,14 +18,14 @@ use Rattle.definitions.specs.Monomial
 use Rattle.definitions.specs.Monomial.{Monomial, Vector, leading, vector-of}
 use Rattle.definitions.specs.Problem.{Parameters}
 use Rattle.definitions.proofs.Modular.{Prime}
-use Rattle.demands.specs.Notions.{multiples, put-for, coefficient, Equal, Combination, Divided, Led-by, Gröbner-basis, All-led, leading-vectors, Leading-generated}
+use Rattle.demands.specs.Notions.{multiples, put-for, coefficient, Combination, Divided, Led-by, Gröbner-basis, All-led, leading-vectors, Leading-generated}
 use Rattle.demands.proofs.Exponents.{E, out, product-out}
-use Rattle.demands.proofs.Levels.{Mono, TVec, TLevel, mono, term, vec, flat, flats, flat-at, flat-length, leading-vec, mono-same, head, lm, module-over}
+use Rattle.demands.proofs.Levels.{Mono, TVec, TLevel, mono, vec, flat, flats, flat-at, flat-length, leading-vec, mono-same, head, lm}
 use Rattle.demands.proofs.Coefficients.{good-one}
 use Rattle.demands.proofs.Setting.{Setting, S, L, F}
 use Rattle.demands.proofs.Soundness.{tvec, Deep}
 use Rattle.demands.proofs.Notions.{put-for-is, stands-in, Stands-in}
-use Rattle.demands.proofs.Bases.{Ranged, Proper, proper-says, proper-shown, here, ranged-in, in-ranged, image-divided, divided-image, led-lead}
+use Rattle.demands.proofs.Bases.{Ranged, Proper, proper-says, proper-shown, here, ranged-in, image-divided, divided-image, led-lead}
 
 module _ (q : Parameters) (P : Prime (q .p)) (eight : q .n ≤ 8) (f : TLevel (q .n)) (b : List (TLevel (q .n))) (d : Deep (q .n) (q .p) P (q .code) (f ∷ b)) where
   abbrev Z : Setting

@@ -1,25 +1,23 @@
 -- Monomials, vectors and levels of the theory written as those of the definitions, and the order over a list of levels.
 -- All is done in this direction; back goes only Soundness, once, for the levels of a sound state.
 use mathlib.Core.Path.{_≡_, refl, sym, ap, _∙_, subst, subst₂}
-use mathlib.Core.Logic.{_⊎_, inl, inr}
 use mathlib.Core.Bool.{Bool, true, false}
 use mathlib.Core.List.{List, [], _∷_, _++_}
-use Prim.Native.Nat.{ℕ, zero, suc, _-_, _<_}
+use Prim.Native.Nat.{ℕ, zero, suc, _<_}
 use native.Mathlib.Omega.{arith}
 use lib.Dec.{T, eqb, eqb→eq, eqb-refl}
 use lib.ListN.{length, getD}
-use Rattle.theory.specs.Laws.{Monoid, Level}
+use Rattle.theory.specs.Laws.{Level}
 use Rattle.theory.specs.Induced.{Ind, ind-eq}
 use Rattle.theory.specs.Induced
 use Rattle.theory.specs.Orders.{ExpM, MonoL}
 use Rattle.theory.proofs.Orders.{free-lt-is}
-use Rattle.definitions.specs.Lists.{_and_}
 use Rattle.definitions.specs.Monomial
-use Rattle.definitions.specs.Monomial.{Monomial, Term, Vector, product, same-exponents?, same-monomial?, leading-term, leading, vector-of}
-use Rattle.definitions.specs.Order.{numbers, exponents-by, image, image-by, compare-over}
+use Rattle.definitions.specs.Monomial.{Monomial, Term, Vector, same-exponents?, same-monomial?, leading}
+use Rattle.definitions.specs.Order.{numbers, image, image-by, compare-over}
 use Rattle.definitions.proofs.Tests.{and-left, and-right, and-both}
 use Rattle.demands.proofs.Exponents.{E, out, into, product-out, out-injective, same-is, same-refl}
-use Rattle.demands.proofs.Comparisons.{Says, less, level, more, says-map, says-tie, numbers-says, order, exponents-says}
+use Rattle.demands.proofs.Comparisons.{Says, says-map, says-tie, numbers-says, order, exponents-says}
 
 -- ## Monomials, vectors and levels
 

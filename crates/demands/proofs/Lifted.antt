@@ -2,37 +2,29 @@
 use mathlib.Core.Path.{_≡_, refl, sym, ap, ap₂, _∙_, subst}
 use mathlib.Core.Logic.{inl, inr}
 use mathlib.Core.Bool.{Bool, true, false}
-use mathlib.Core.Option.{Option, none, some}
-use mathlib.Core.List.{List, [], _∷_, _++_}
-use Prim.Native.Nat.{ℕ, zero, suc, _+_, _<_, _≤_}
+use mathlib.Core.Option.{some}
+use mathlib.Core.List.{List, [], _∷_}
+use Prim.Native.Nat.{ℕ, _+_, _<_, _≤_}
 use native.Mathlib.Omega.{arith}
 use lib.Dec.{T, leb, leb→le}
-use lib.ListN.{length, getD}
-use Rattle.theory.specs.Vec.{All}
-use Rattle.theory.specs.Orders.{ExpM}
-use Rattle.theory.specs.Stage
-use Rattle.theory.specs.Stage.{term-at}
+use lib.ListN.{length}
 use Rattle.definitions.specs.Limits.{Limits}
 use Rattle.definitions.specs.Lists.{_then_}
 use Rattle.definitions.specs.Monomial
-use Rattle.definitions.specs.Monomial.{Monomial, Vector, fits?, leading-monomials}
-use Rattle.definitions.specs.Frame.{frame}
-use Rattle.definitions.specs.Result.{Result, done, _>>=_}
-use Rattle.definitions.specs.Lifting.{Lifting, lift-one, lift-all, if-few, limited-frame, lift-level}
-use Rattle.definitions.specs.Problem.{Parameters}
-use Rattle.definitions.specs.State.{levels-sound?}
+use Rattle.definitions.specs.Monomial.{Monomial, fits?}
+use Rattle.definitions.specs.Result.{_>>=_}
+use Rattle.definitions.specs.Lifting.{Lifting, lift-one, lift-all, if-few, lift-level}
 use Rattle.definitions.specs.Reckoning.{reckoned-vector, each, reckoned-level}
-use Rattle.definitions.proofs.Modular.{Prime}
 use Rattle.demands.specs.Notions.{Member}
-use Rattle.demands.proofs.Results.{Ends, Gives, gives, refuses, ends-then, ends-map, Holds, holds, holds-then, holds-at, Reached, reached-at, reached-some, reached-then}
-use Rattle.demands.proofs.Exponents.{E, out, colon, colon-fits}
-use Rattle.demands.proofs.Levels.{Mono, TVec, TLevel, mono, mono-injective, monos, monos-length, vec, flat, flats, lm, module-over}
-use Rattle.demands.proofs.Setting.{Setting, S}
-use Rattle.demands.proofs.Soundness.{tlevel, tlevels, setting, Within, Levels-right, levels-right}
+use Rattle.demands.proofs.Results.{Gives, refuses, ends-map, Holds, holds, holds-then, holds-at, Reached, reached-at, reached-some, reached-then}
+use Rattle.demands.proofs.Exponents.{out, colon-fits}
+use Rattle.demands.proofs.Levels.{Mono, mono, mono-injective, monos, monos-length, flat, flats, lm}
+use Rattle.demands.proofs.Setting.{Setting}
+use Rattle.demands.proofs.Soundness.{Within}
 use Rattle.demands.proofs.Runs.{stage, Fits}
-use Rattle.demands.proofs.Reckoned.{vector, vector-is, vector-reached}
+use Rattle.demands.proofs.Reckoned.{vector-is, vector-reached}
 use Rattle.demands.proofs.Stages.{frame-terms, Written, written, terms, terms-back, term-real}
-use Rattle.demands.proofs.Ways.{vectors, All-ok, total, Level-lifted, Good-terms, all-lifted}
+use Rattle.demands.proofs.Ways.{vectors, All-ok, total, Good-terms, all-lifted}
 
 module _ (Z : Setting) (lim : Limits) (eight : Z .n ≤ 8) (fits : (j : ℕ) → j < length (Z .f) → Within lim (Z .n) (lm (Z .n) (Z .f) j)) where
   -- the order that numbers frame terms

@@ -1,16 +1,16 @@
 -- Lifting a level in a sound state: it puts the reckoning's level on the levels that stay, or meets a limit.
-use mathlib.Core.Path.{_≡_, refl}
+use mathlib.Core.Path.{_≡_}
 use mathlib.Core.Bool.{Bool, true, false, not, _||_}
 use mathlib.Core.List.{List, [], _∷_}
 use Prim.Native.Nat.{ℕ, suc, _-_, _<_, _≤_}
 use native.Mathlib.Omega.{arith}
 use lib.Dec.{T}
-use lib.ListN.{length, drop, length-drop}
+use lib.ListN.{length, length-drop}
 use Rattle.definitions.specs.Limits.{Limits}
 use Rattle.definitions.specs.Lists.{_and_, between}
-use Rattle.definitions.specs.Monomial.{Vector, Level}
+use Rattle.definitions.specs.Monomial.{Level}
 use Rattle.definitions.specs.Result.{Result, done, refused, unfinished, at-level, _>>=_}
-use Rattle.definitions.specs.Lifting.{Lifting, lift-level}
+use Rattle.definitions.specs.Lifting.{Lifting}
 use Rattle.definitions.specs.Problem.{Parameters}
 use Rattle.definitions.specs.State.{State, has-level?, up-to, levels-sound?, sound?}
 use Rattle.definitions.specs.Calls.{lift, eleven?}

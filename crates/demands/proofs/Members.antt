@@ -1,20 +1,19 @@
 -- Members of lists, and lists of eight exponents: divisibility, and the orders as strict orders.
 use mathlib.Core.Path.{_≡_, refl, sym, ap, ap₂, _∙_, subst, subst₂}
 use mathlib.Core.Logic.{_⊎_, inl, inr}
-use mathlib.Core.Bool.{Bool, true, false, not}
+use mathlib.Core.Bool.{Bool, true, false}
 use mathlib.Core.List.{List, [], _∷_, _++_}
 use Prim.Native.Nat.{ℕ, zero, suc, _+_, _<_, _≤_}
 use native.Mathlib.Nat.{le-antisymm}
 use native.Mathlib.Omega.{arith}
 use lib.Dec.{T, leb, eqb, leb→le, le→leb, eqb→eq, eqb-refl}
 use lib.ListN.{length, drop}
-use Rattle.theory.specs.Orders.{Order, ExpM}
-use Rattle.definitions.specs.Lists.{_and_, any, those, sum}
+use Rattle.definitions.specs.Lists.{any, those, sum}
 use Rattle.definitions.specs.Monomial.{Exponents, Monomial, divides?, divides-monomial?}
-use Rattle.definitions.specs.Order.{Comparison, greater, equal, smaller, exponents-by}
+use Rattle.definitions.specs.Order.{Comparison, smaller, exponents-by}
 use Rattle.definitions.proofs.Tests.{and-left, and-right, and-both}
 use Rattle.demands.specs.Notions.{Member}
-use Rattle.demands.proofs.Exponents.{E, out, into, out-into, none}
+use Rattle.demands.proofs.Exponents.{out, into, out-into, none}
 use Rattle.demands.proofs.Comparisons.{Says, less, level, more, says-less, order, exponents-says}
 
 -- ## Members

@@ -1,33 +1,29 @@
 -- The plain notions in the theory: equal coefficients, f_j put for e_j, leading monomials.
-use mathlib.Core.Path.{_≡_, refl, sym, ap, ap₂, _∙_, subst, subst₂}
+use mathlib.Core.Path.{_≡_, refl, sym, ap, ap₂, _∙_}
 use mathlib.Core.Logic.{_⊎_, inl, inr}
 use mathlib.Core.Bool.{Bool, true, false}
 use mathlib.Core.List.{List, [], _∷_, _++_}
-use Prim.Native.Nat.{ℕ, suc, _+_, _*_, _-_, _%_, _<_, _≤_}
+use Prim.Native.Nat.{ℕ, suc, _+_, _*_, _%_}
 use native.Mathlib.Nat.{mod-add-mod}
 use native.Mathlib.Omega.{arith}
-use lib.Dec.{T, eqb, eqb→eq, eqb-refl}
-use lib.ListN.{length, getD, drop}
-use Rattle.theory.specs.Laws.{Scalars, Level, Tri, below, same, above}
+use lib.Dec.{T, eqb, eqb→eq}
+use lib.ListN.{getD}
+use Rattle.theory.specs.Laws.{Scalars, Level}
 use Rattle.theory.specs.Vec.{ev, Same, scale, mapB, All, times, ψ, Lead}
 use Rattle.theory.specs.Orders.{ExpM}
 use Rattle.theory.specs.Modular.{ModP}
 use Rattle.theory.proofs.Vec
 use Rattle.theory.proofs.Top.{δ, δ-same, δ-other, Leading, leading, leading-lead, lead-coef, lead-over}
 use Rattle.theory.proofs.Coef.{coef-same}
-use Rattle.definitions.specs.Lists.{_and_, every, between}
 use Rattle.definitions.specs.Field
-use Rattle.definitions.specs.Monomial.{Exponents, Monomial, Term, Vector, same-exponents?, same-monomial?, vector-of}
+use Rattle.definitions.specs.Monomial.{Monomial, same-exponents?, same-monomial?}
 use Rattle.definitions.specs.Order.{Comparison, smaller, compare-over}
-use Rattle.definitions.specs.Run.{multiple}
-use Rattle.definitions.specs.Problem.{Parameters}
 use Rattle.definitions.proofs.Modular.{Prime}
-use Rattle.definitions.proofs.Tests.{and-left, and-right, and-both, between-low, between-high, between-shown}
-use Rattle.demands.specs.Notions.{proper-term?, proper?, multiples, put-for, coefficient, Equal, Leads}
-use Rattle.demands.proofs.Exponents.{E, out, into, out-into, out-length, out-past, same-is, product-out, none}
+use Rattle.definitions.proofs.Tests.{and-left, and-right}
+use Rattle.demands.specs.Notions.{multiples, put-for, coefficient, Equal, Leads}
+use Rattle.demands.proofs.Exponents.{E, out, same-is, product-out}
 use Rattle.demands.proofs.Comparisons.{Says, less, level, more, says-less}
-use Rattle.demands.proofs.Levels.{Mono, TVec, TLevel, mono, mono-injective, same-mono, mono-same, term, vec, vec-append, flat, flats, flat-at, module-over, Has, Grounded, over-says}
-use Rattle.demands.proofs.Soundness.{tmono, tvec}
+use Rattle.demands.proofs.Levels.{Mono, TVec, TLevel, mono, same-mono, mono-same, vec, vec-append, flat, flats, flat-at, module-over, Has, Grounded, over-says}
 
 -- ## Coefficients
 

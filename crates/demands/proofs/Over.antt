@@ -1,48 +1,45 @@
 -- What the theory gives over the levels of a sound state, said of the levels themselves.
-use mathlib.Core.Path.{_≡_, refl, sym, ap, _∙_, subst}
+use mathlib.Core.Path.{_≡_, sym, ap, _∙_, subst}
 use mathlib.Core.Logic.{_↔_}
-use mathlib.Core.Bool.{Bool, true, false}
-use mathlib.Core.Option.{Option, none, some}
+use mathlib.Core.Option.{some}
 use mathlib.Core.List.{List, [], _∷_}
-use Prim.Native.Nat.{ℕ, zero, suc, _-_, _<_, _≤_}
+use Prim.Native.Nat.{ℕ, _<_, _≤_}
 use native.Mathlib.Omega.{arith}
 use lib.Dec.{T, leb, leb→le}
 use lib.ListN.{length, getD}
-use Rattle.theory.specs.Vec.{All}
-use Rattle.theory.specs.Modular.{ModP}
 use Rattle.definitions.specs.Limits.{Limits}
 use Rattle.definitions.specs.Lists.{_and_, rest, between}
 use Rattle.definitions.specs.Monomial
-use Rattle.definitions.specs.Monomial.{Monomial, Vector, leading, leading-monomials}
+use Rattle.definitions.specs.Monomial.{Monomial, leading, leading-monomials}
 use Rattle.definitions.specs.Frame.{frame}
-use Rattle.definitions.specs.Result.{Result, done, refused, unfinished, _>>=_}
+use Rattle.definitions.specs.Result.{Result, done, _>>=_}
 use Rattle.definitions.specs.Stage.{highest, stage-over}
 use Rattle.definitions.specs.Run.{Strategy}
-use Rattle.definitions.specs.Lifting.{Lifting, lift-level, accept}
-use Rattle.definitions.specs.Problem.{Parameters, in-ranges?, prime-in-range?}
+use Rattle.definitions.specs.Lifting.{Lifting, lift-level}
+use Rattle.definitions.specs.Problem.{Parameters}
 use Rattle.definitions.specs.Field.{prime?}
 use Rattle.definitions.specs.State.{State, levels-sound?, sound?}
 use Rattle.definitions.specs.Calls.{accepted}
 use Rattle.definitions.specs.Reckoning.{reckoned-vector, reckoned-level}
 use Rattle.definitions.proofs.Modular.{Prime, prime-says}
 use Rattle.definitions.proofs.Tests.{and-left, and-right, between-high}
-use Rattle.definitions.proofs.Sound.{Sound, sound-says}
+use Rattle.definitions.proofs.Sound.{sound-says}
 use Rattle.demands.specs.Notions.{Gröbner-basis, Leading-generated, Member}
 use Rattle.demands.specs.Picks.{All-pick, run-by}
 use Rattle.demands.specs.Exact.{Level-right}
 use Rattle.demands.specs.Demands.{sensible?, Read-right, accepts, limited, stopped, open-yet}
-use Rattle.demands.proofs.Results.{Gives, ends-map, ends-at}
-use Rattle.demands.proofs.Exponents.{out, out-length}
-use Rattle.demands.proofs.Levels.{Mono, TVec, TLevel, mono, vec, flat, flats, flat-at, flat-length, leading-vec, cons?, head, lm}
+use Rattle.demands.proofs.Results.{Gives, ends-map}
+use Rattle.demands.proofs.Exponents.{out-length}
+use Rattle.demands.proofs.Levels.{Mono, TLevel, mono, flat, flats, flat-at, flat-length, leading-vec, lm}
 use Rattle.demands.proofs.Setting.{Setting}
-use Rattle.demands.proofs.Soundness.{tlevel, tlevels, Regular, Deep, Within, Sound-mono, All-sound, components, leading-within, Levels-right, levels-right}
+use Rattle.demands.proofs.Soundness.{tlevel, tlevels, Deep, Within, All-sound, components, leading-within, Levels-right, levels-right}
 use Rattle.demands.proofs.Frames.{Eight-each}
-use Rattle.demands.proofs.Runs.{stage, All-in}
+use Rattle.demands.proofs.Runs.{All-in}
 use Rattle.demands.proofs.Reckoned.{vector, vector-bound}
-use Rattle.demands.proofs.Stages.{Written, written, terms, term-real}
+use Rattle.demands.proofs.Stages.{Written, written, term-real}
 use Rattle.demands.proofs.Bases.{here, gröbner-in, gröbner-out}
 use Rattle.demands.proofs.LeadingModule.{leading-module}
-use Rattle.demands.proofs.Ways.{Free, never, Lifts, picks-lift, vectors}
+use Rattle.demands.proofs.Ways.{Free, never, picks-lift}
 use Rattle.demands.proofs.Lifted.{term-fits, level-bound}
 use Rattle.demands.proofs.Accepting.{Accepted-right, is-basis, limit-met, shown-why, steps-left, accept-right}
 use Rattle.demands.proofs.Exact

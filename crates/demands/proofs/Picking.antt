@@ -1,26 +1,25 @@
 -- The codes pick a place of the working value; code 1 picks the leading term.
 use mathlib.Core.Path.{_≡_, refl, sym, ap, _∙_, subst}
-use mathlib.Core.Logic.{_⊎_, inl, inr}
+use mathlib.Core.Logic.{inl, inr}
 use mathlib.Core.Bool.{Bool, true, false}
 use mathlib.Core.Option.{Option, none, some, Option·none-ne-some}
-use mathlib.Core.List.{List, [], _∷_, _++_, append-assoc}
-use Prim.Native.Nat.{ℕ, zero, suc, _+_, _<_, _≤_}
+use mathlib.Core.List.{[], _∷_}
+use Prim.Native.Nat.{ℕ, zero, suc, _+_, _<_}
 use native.Mathlib.Omega.{arith}
-use lib.Dec.{T, eqb}
-use lib.ListN.{length, getD, length-append}
-use Rattle.theory.specs.Laws.{Scalars, Level}
-use Rattle.theory.specs.Vec.{Same, All, Lead}
+use lib.Dec.{eqb}
+use lib.ListN.{length, getD}
+use Rattle.theory.specs.Vec.{All, Lead}
 use Rattle.theory.proofs.Vec
 use Rattle.theory.proofs.Top.{Le}
 use Rattle.definitions.specs.Limits.{Limits}
 use Rattle.definitions.specs.Monomial.{Monomial, Term, Vector, no-term}
-use Rattle.definitions.specs.Order.{Comparison, greater, equal, smaller, compare-over}
+use Rattle.definitions.specs.Order.{Comparison, greater, equal, smaller}
 use Rattle.definitions.specs.Stage.{Stage}
-use Rattle.definitions.specs.Run.{Strategy, Best, better, greatest-from, greatest, newest, oldest, by-code, hybrid-strategy, division-strategy, accepting-strategy}
+use Rattle.definitions.specs.Run.{Strategy, Best, better, greatest-from, greatest, by-code, hybrid-strategy, division-strategy, accepting-strategy}
 use Rattle.demands.specs.Picks.{Picks}
 use Rattle.demands.proofs.Results.{some-is}
 use Rattle.demands.proofs.Comparisons.{Says, less, level, more}
-use Rattle.demands.proofs.Levels.{Mono, TVec, mono, mono-injective, term, vec, vec-length, flats, module-over, Has, over-says}
+use Rattle.demands.proofs.Levels.{Mono, TVec, mono, mono-injective, term, vec, vec-length, Has, over-says}
 use Rattle.demands.proofs.Setting.{Setting, S, L}
 use Rattle.demands.proofs.Runs.{stage, InValue, Sum, Taken, taken}
 

@@ -1,18 +1,18 @@
 -- Where the reader refuses: at a line of the file, at the next one where a line is missing, or at line 0 where the file is too long.
-use mathlib.Core.Path.{_≡_, refl, subst}
+use mathlib.Core.Path.{_≡_, refl}
 use mathlib.Core.Bool.{Bool, true, false, not}
 use mathlib.Core.Option.{Option, none, some}
 use mathlib.Core.List.{List, [], _∷_}
-use Prim.Native.Nat.{ℕ, suc, _+_, _<_, _≤_}
+use Prim.Native.Nat.{ℕ, suc, _+_, _≤_}
 use native.Mathlib.Omega.{arith}
-use lib.Dec.{T, leb, ltb, eqb, leb→le, le→leb}
+use lib.Dec.{T, leb, ltb, eqb, le→leb}
 use lib.ListN.{length, getD}
 use Rattle.definitions.specs.Limits.{Limits}
 use Rattle.definitions.specs.Lists.{_and_, empty?, between}
 use Rattle.definitions.specs.Monomial.{Vector, Level}
 use Rattle.definitions.specs.Result.{Result, done, refused, unfinished, unless-refused, _>>=_}
 use Rattle.definitions.specs.Problem.{Bytes, Line, Parameters, lines, shaped, letter-R, letter-T, letter-E, parameters-of, prime-in-range?, in-ranges?, r-line}
-use Rattle.definitions.specs.Problem.{term-of, in-sequence?, term-in-range?, descends?, next?, with-term, t-line, e-line, by-shape, body, after-r, first-line, problem}
+use Rattle.definitions.specs.Problem.{term-of, in-sequence?, term-in-range?, descends?, t-line, e-line, by-shape, body, after-r, first-line, problem}
 use Rattle.definitions.proofs.Tests.{between-shown}
 use Rattle.demands.specs.Demands.{Bad-line, at-line, too-long}
 

@@ -1,8 +1,8 @@
 -- The hypotheses can be met: by document 01's limits, its printed file, and the levels over it.
-use mathlib.Core.Path.{_≡_, refl, sym, ap, _∙_, subst}
+use mathlib.Core.Path.{_≡_, refl, sym, ap}
 use mathlib.Core.Logic.{inl}
-use mathlib.Core.Bool.{Bool, true, false, not}
-use mathlib.Core.Option.{Option, some}
+use mathlib.Core.Bool.{Bool, true}
+use mathlib.Core.Option.{some}
 use mathlib.Core.List.{List, [], _∷_}
 use Prim.Native.Nat.{ℕ, zero, suc}
 use lib.Dec.{T}
@@ -11,20 +11,20 @@ use Rattle.definitions.specs.Limits.{document-01}
 use Rattle.definitions.specs.Lists.{_then_}
 use Rattle.definitions.specs.Monomial.{leading-monomials, vector-of}
 use Rattle.definitions.specs.Frame.{frame}
-use Rattle.definitions.specs.Result.{Result, done}
+use Rattle.definitions.specs.Result.{done}
 use Rattle.definitions.specs.Stage.{stage-over}
 use Rattle.definitions.specs.Run.{Strategy, hybrid-strategy}
 use Rattle.definitions.specs.Lifting.{by-division, lift-level}
 use Rattle.definitions.specs.Problem.{Bytes, Parameters, problem}
 use Rattle.definitions.specs.State.{State, sound?}
-use Rattle.definitions.specs.Calls.{settled, read, read-reply}
-use Rattle.definitions.specs.Layout.{Words, zeros, padded, encode, state-words, meant, division, long-enough?, Read, read-left, read-call, Lent, Left, lent-calls}
+use Rattle.definitions.specs.Calls.{read, read-reply}
+use Rattle.definitions.specs.Layout.{Words, padded, encode, meant, division, long-enough?, read-left, read-call, Lent, Left, lent-calls}
 use Rattle.definitions.proofs.Text.{text}
 use Rattle.definitions.proofs.Instances.{xy, f₁, g₁}
 use Rattle.demands.specs.Notions.{Gröbner-basis, Member}
 use Rattle.demands.specs.Picks.{All-pick, run-by}
 use Rattle.demands.specs.Exact.{Level-right, Exact}
-use Rattle.demands.specs.Demands.{sensible?, Read-right, accepts, accepted?, Starts}
+use Rattle.demands.specs.Demands.{sensible?, Starts}
 use Rattle.demands.proofs.Results.{ends-at}
 use Rattle.demands.proofs.Picking.{hybrid-picks}
 use Rattle.demands.proofs.Ways.{copies}

@@ -1,29 +1,28 @@
 -- The definitions' reckoning within a bound is the theory's, and some bound is enough.
 use mathlib.Core.Path.{_≡_, refl, sym, ap, ap₂, _∙_, subst, subst₂}
-use mathlib.Core.Logic.{_⊎_, inl, inr}
-use mathlib.Core.Option.{Option, none, some}
+use mathlib.Core.Logic.{inl}
+use mathlib.Core.Option.{Option, some}
 use mathlib.Core.List.{List, [], _∷_, _++_}
 use mathlib.Core.WellFounded.{recursion}
 use Prim.Native.Nat.{ℕ, zero, suc, _<_}
 use lib.Dec.{T}
 use lib.ListN.{length, getD}
-use Rattle.theory.specs.Laws.{Monoid, Level}
+use Rattle.theory.specs.Laws.{Level}
 use Rattle.theory.specs.Vec.{Same, scale, mapB, lin, All, times}
-use Rattle.theory.specs.Orders.{ExpM}
-use Rattle.theory.specs.Reckon.{Reducer, Lower, turned, lift-as, lift-eq, reckon}
+use Rattle.theory.specs.Reckon.{Reducer, turned, lift-as, lift-eq, reckon}
 use Rattle.theory.specs.Canon.{Canonical, canon}
 use Rattle.theory.proofs.Vec
 use Rattle.definitions.specs.Lists.{_then_, rest}
 use Rattle.definitions.specs.Field
 use Rattle.definitions.specs.Monomial
-use Rattle.definitions.specs.Monomial.{Exponents, Monomial, Term, Vector, product, vector-of}
+use Rattle.definitions.specs.Monomial.{Exponents, Monomial, Vector, product, vector-of}
 use Rattle.definitions.specs.Order.{compare-over}
 use Rattle.definitions.specs.Reducer.{Answer, reducer, lower-order, heads, answer}
 use Rattle.definitions.specs.Vectors.{descending}
 use Rattle.definitions.specs.Run.{multiple}
 use Rattle.definitions.specs.Stage.{highest}
 use Rattle.definitions.specs.Reckoning.{scaled, liftings, lifted-by, lifted-to, reckoned-vector}
-use Rattle.demands.proofs.Results.{Holds, holds, nothing, holds-then, holds-at, Upto, unknown, known, upto-refl, upto-then, Reached, reached-at, reached-some, reached-then, reached-deeper}
+use Rattle.demands.proofs.Results.{Holds, holds, nothing, holds-then, holds-at, Upto, unknown, known, upto-then, Reached, reached-at, reached-some, reached-then, reached-deeper}
 use Rattle.demands.proofs.Exponents.{E, out, product-out}
 use Rattle.demands.proofs.Levels.{Mono, TVec, mono, term, vec, vec-append, flat, flats, flat-at, cons?, lm, module-over, Has}
 use Rattle.demands.proofs.Coefficients.{Good, good-mul, good-one, good-turned, minus-one}

@@ -1,10 +1,9 @@
 -- The reckoning of whole levels: a larger bound changes nothing, and levels reckoned one over the other are the reckoning's.
-use mathlib.Core.Path.{_≡_, refl, sym, ap, _∙_, subst}
+use mathlib.Core.Path.{_≡_, sym, ap, _∙_, subst}
 use mathlib.Core.Option.{Option, none, some}
 use mathlib.Core.List.{List, [], _∷_}
-use Prim.Native.Nat.{ℕ, zero, suc, _+_, _-_, _<_, _≤_}
+use Prim.Native.Nat.{ℕ, zero, suc, _+_, _<_}
 use native.Mathlib.Omega.{arith}
-use lib.Dec.{T}
 use lib.ListN.{length, drop}
 use Rattle.definitions.specs.Limits.{Limits}
 use Rattle.definitions.specs.Lists.{_then_}
@@ -14,7 +13,7 @@ use Rattle.definitions.specs.Stage.{highest}
 use Rattle.definitions.specs.Problem.{Parameters}
 use Rattle.definitions.specs.Reckoning.{Reckoning, each, reckoned-vector, reckoned-level, reckoned-levels, reckoned-over, reckoned}
 use Rattle.demands.specs.Exact.{Reckons}
-use Rattle.demands.proofs.Results.{Upto, known, upto-refl, upto-then, upto-at, upto-more, upto-one}
+use Rattle.demands.proofs.Results.{Upto, known, upto-then, upto-at, upto-more, upto-one}
 use Rattle.demands.proofs.Reckoned.{vector-more}
 
 -- ## A larger bound changes nothing

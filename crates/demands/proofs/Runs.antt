@@ -1,6 +1,6 @@
 -- A run of the definitions, whatever its steps pick and drop, is a run of the theory.
-use mathlib.Core.Path.{_≡_, refl, sym, ap, _∙_, subst, subst₂}
-use mathlib.Core.Logic.{_⊎_, inl, inr}
+use mathlib.Core.Path.{_≡_, refl, sym, ap, _∙_, subst}
+use mathlib.Core.Logic.{inl}
 use mathlib.Core.Bool.{Bool, true, false}
 use mathlib.Core.Option.{Option, none, some}
 use mathlib.Core.List.{List, [], _∷_, _++_}
@@ -8,8 +8,8 @@ use Prim.Native.Nat.{ℕ, zero, suc, _<_}
 use native.Mathlib.Omega.{arith}
 use lib.Dec.{T}
 use lib.ListN.{length, getD}
-use Rattle.theory.specs.Vec.{Same, scale, mapB, All, times}
-use Rattle.theory.specs.Reckon.{Reducer, Lower, turned, others}
+use Rattle.theory.specs.Vec.{Same, scale, All, times}
+use Rattle.theory.specs.Reckon.{Reducer, Lower, turned}
 use Rattle.theory.specs.Runs
 use Rattle.theory.specs.Runs.{Drop, Whole, stop, turn, drop}
 use Rattle.theory.specs.Canon.{Canonical}
@@ -18,16 +18,16 @@ use Rattle.theory.proofs.Runs.{step-cancels}
 use Rattle.definitions.specs.Limits.{Limits}
 use Rattle.definitions.specs.Lists.{without}
 use Rattle.definitions.specs.Field
-use Rattle.definitions.specs.Monomial.{Term, Vector, fits?, no-term, vector-of}
-use Rattle.definitions.specs.Reducer.{Answer, reducer, lower-order, answer}
-use Rattle.definitions.specs.Result.{Result, done, refused, unfinished, _>>=_}
-use Rattle.definitions.specs.Vectors.{store, descending}
+use Rattle.definitions.specs.Monomial.{Vector, fits?, no-term}
+use Rattle.definitions.specs.Reducer.{Answer, answer}
+use Rattle.definitions.specs.Result.{Result, done, _>>=_}
+use Rattle.definitions.specs.Vectors.{descending}
 use Rattle.definitions.specs.Stage.{Stage, stage-over}
 use Rattle.definitions.specs.Run
 use Rattle.definitions.specs.Run.{Strategy, on, end, add-products, reduced, without-reducer, by-answer, by-pick, step, continued, start}
 use Rattle.demands.specs.Picks.{Picks, runs-by, run-by}
 use Rattle.demands.proofs.Results.{Ends, gives, refuses, open-yet, ends-then, ends-turn, Refusal, limit, nine, refusal-map}
-use Rattle.demands.proofs.Exponents.{E, out, factor-fits}
+use Rattle.demands.proofs.Exponents.{out, factor-fits}
 use Rattle.demands.proofs.Levels.{Mono, TVec, mono, term, vec, flat, flats, flat-at, vec-empty, vec-length, lm, module-over, Has, has-act}
 use Rattle.demands.proofs.Coefficients.{Good, good-mul, good-one, good-turned, minus-times, times-one-right}
 use Rattle.demands.proofs.Setting.{Setting, S, L, F, hs, red, red-by, Answered, hit, miss, answered, is-lower, answer-rescaled, rescaled}

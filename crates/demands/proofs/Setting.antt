@@ -1,5 +1,5 @@
 -- A level over sound levels, as the theory sees it: its family, and the reducer of each monomial, which is the definitions' own answer.
-use mathlib.Core.Path.{_≡_, refl, sym, ap, ap₂, _∙_, subst}
+use mathlib.Core.Path.{_≡_, refl, sym, ap, _∙_, subst}
 use mathlib.Core.Logic.{_⊎_, inl, inr}
 use mathlib.Core.Bool.{Bool, true, false}
 use mathlib.Core.List.{List, [], _∷_}
@@ -7,7 +7,7 @@ use Prim.Native.Nat.{ℕ, zero, suc, _+_, _<_, _≤_}
 use native.Mathlib.Omega.{arith}
 use lib.Dec.{T, eqb, eqb→eq, eqb-refl}
 use lib.ListN.{length, getD}
-use Rattle.theory.specs.Laws.{Scalars, Monoid, Level}
+use Rattle.theory.specs.Laws.{Scalars, Level}
 use Rattle.theory.specs.Vec.{All, Lead}
 use Rattle.theory.specs.Syzygy.{Family}
 use Rattle.theory.specs.Orders.{ExpM}
@@ -16,15 +16,14 @@ use Rattle.theory.specs.Stage.{Finite, family}
 use Rattle.theory.specs.Modular.{ModP}
 use Rattle.theory.specs.Canon.{Canonical}
 use Rattle.theory.proofs.Vec
-use Rattle.definitions.specs.Lists.{_and_}
 use Rattle.definitions.specs.Field.{times, inverse}
-use Rattle.definitions.specs.Monomial.{Monomial, Term, Vector, quotient, divides?, divides-monomial?, leading-term}
+use Rattle.definitions.specs.Monomial.{Monomial, Vector, quotient, divides?, divides-monomial?, leading-term}
 use Rattle.definitions.specs.Reducer.{Answer, reducer, lower-order, lower-order?, heads, answer, answer-from}
 use Rattle.definitions.proofs.Modular.{Prime}
 use Rattle.definitions.proofs.Tests.{and-left, and-right, and-both}
 use Rattle.demands.proofs.Exponents.{E, out, over, quotient-out, divides-out, multiple-out}
-use Rattle.demands.proofs.Levels.{Mono, TVec, TLevel, mono, vec, flat, flats, cons?, head, lm, module-over, Has, Grounded}
-use Rattle.demands.proofs.Coefficients.{Good, times-one-right}
+use Rattle.demands.proofs.Levels.{Mono, TVec, TLevel, mono, vec, flat, cons?, head, lm, module-over, Has, Grounded}
+use Rattle.demands.proofs.Coefficients.{times-one-right}
 
 -- ## A monomial divides another
 

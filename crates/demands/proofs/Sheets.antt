@@ -1,29 +1,27 @@
 -- What reading gives, and what the sheet prints.
-use mathlib.Core.Path.{_≡_, refl, sym, ap, _∙_, subst, subst₂}
-use mathlib.Core.Logic.{_⊎_, inl, inr}
-use mathlib.Core.Bool.{Bool, true, false, not}
-use mathlib.Core.Option.{Option, none, some}
+use mathlib.Core.Path.{_≡_, refl, sym, ap, _∙_, subst}
+use mathlib.Core.Logic.{inl, inr}
+use mathlib.Core.Bool.{Bool, not}
 use mathlib.Core.List.{List, [], _∷_, _++_, append-nil, append-assoc}
-use Prim.Native.Nat.{ℕ, zero, suc, _+_, _-_, _<_, _≤_}
+use Prim.Native.Nat.{ℕ, zero, suc, _+_, _-_, _<_}
 use native.Mathlib.Omega.{arith}
 use lib.Dec.{T}
 use lib.ListN.{length, drop}
 use Rattle.definitions.specs.Limits.{Limits}
-use Rattle.definitions.specs.Lists.{_and_, _then_, every, empty?, between}
+use Rattle.definitions.specs.Lists.{every, empty?}
 use Rattle.definitions.specs.Monomial.{Vector, Level}
 use Rattle.definitions.specs.Result.{Result, done, refused, unfinished, _>>=_}
-use Rattle.definitions.specs.Stage.{highest}
 use Rattle.definitions.specs.Lifting.{by-hybrid}
 use Rattle.definitions.specs.Problem.{Bytes, Parameters, problem}
 use Rattle.definitions.specs.State.{State, up-to, sound?}
-use Rattle.definitions.specs.Calls.{accepted, read, lift}
-use Rattle.definitions.specs.Sheet.{sheet, sheet-of, levels-from, level-then, if-more, level-lines, x-lines, variables-of}
+use Rattle.definitions.specs.Calls.{accepted, read}
+use Rattle.definitions.specs.Sheet.{sheet, sheet-of, levels-from, level-then, if-more, level-lines, variables-of}
 use Rattle.definitions.proofs.Tests.{and-left, and-right, between-shown}
-use Rattle.definitions.proofs.Sound.{sound-says, basis-says}
+use Rattle.definitions.proofs.Sound.{sound-says}
 use Rattle.definitions.proofs.Reading.{basis-state}
 use Rattle.demands.specs.Demands
 use Rattle.demands.specs.Demands.{sensible?, Read-right, accepts, limited, stopped, Bad-line, Refused-reading, ill-formed, no-basis, limit-met, printed-levels, Listed, Sheet-form, listing, cut-off, not-read}
-use Rattle.demands.proofs.Results.{Holds, holds, nothing, holds-then, holds-map}
+use Rattle.demands.proofs.Results.{Holds, holds, nothing, holds-then}
 use Rattle.demands.proofs.Over.{vector-room, sound-prime, sound-eight, Lift-right, accepted-right}
 use Rattle.demands.proofs.Reckonings.{tower-reckons}
 use Rattle.demands.proofs.Demand2.{well-formed}

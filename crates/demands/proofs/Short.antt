@@ -1,5 +1,4 @@
 -- A finished vector has at most as many terms as its limit says, and so has the value that a refusal leaves.
-use mathlib.Core.Path.{_≡_, refl, sym, ap, _∙_, subst}
 use mathlib.Core.Bool.{Bool, true, false}
 use mathlib.Core.Option.{Option, none, some}
 use mathlib.Core.List.{List, [], _∷_, _++_}
@@ -18,7 +17,7 @@ use Rattle.definitions.specs.Run
 use Rattle.definitions.specs.Lists.{without}
 use Rattle.definitions.specs.Run.{Strategy, on, end, multiple, dropped?, unless-dropped, if-fits, add-products, start, reduced, without-reducer, by-answer, by-pick, step, continued, runs, run, hybrid-strategy, division-strategy}
 use Rattle.definitions.specs.Tree
-use Rattle.definitions.specs.Tree.{Cache, held-to, add-result, Lift-term, lift-term, if-vector-product-fits, lift-vector-product, lift-vector, tree}
+use Rattle.definitions.specs.Tree.{Cache, held-to, add-result, Lift-term, lift-term, if-vector-product-fits, lift-vector, tree}
 use Rattle.definitions.specs.Lifting.{Lifting, by-division, by-hybrid, by-tree, lift-one, Lifted, add-vector, lift-all}
 use Rattle.demands.proofs.Results.{Ends, Gives, gives, refuses, open-yet, ends-then, ends-turn, Holds, holds, nothing}
 

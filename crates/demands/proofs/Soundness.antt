@@ -1,6 +1,6 @@
 -- The levels of a sound state are levels of the theory: a setting.
 use mathlib.Core.Path.{_≡_, refl, sym, ap, ap₂, _∙_, subst, subst₂}
-use mathlib.Core.Bool.{Bool, true, false}
+use mathlib.Core.Bool.{Bool, true}
 use mathlib.Core.List.{List, [], _∷_}
 use Prim.Native.Nat.{ℕ, zero, suc, _-_, _<_, _≤_}
 use native.Mathlib.Omega.{arith}
@@ -11,7 +11,7 @@ use Rattle.theory.specs.Modular.{ModP}
 use Rattle.theory.specs.Canon.{Canonical}
 use Rattle.theory.proofs.Canon.{all-lower}
 use Rattle.definitions.specs.Limits.{Limits}
-use Rattle.definitions.specs.Lists.{_and_, every}
+use Rattle.definitions.specs.Lists.{every}
 use Rattle.definitions.specs.Monomial
 use Rattle.definitions.specs.Monomial.{Monomial, Term, Vector, fits?}
 use Rattle.definitions.specs.Order.{Comparison, compare-over, greater?}
@@ -22,7 +22,7 @@ use Rattle.definitions.specs.State.{term-sound?, vector-sound?, levels-sound?}
 use Rattle.definitions.proofs.Modular.{Prime}
 use Rattle.definitions.proofs.Tests.{and-left, and-right, between-low, between-high}
 use Rattle.definitions.proofs.Sound.{Sound-term, term-says, Sound-vector, vector-says, basis-says, level-says}
-use Rattle.demands.proofs.Exponents.{E, out, into, into-out, out-into}
+use Rattle.demands.proofs.Exponents.{out, into, into-out, out-into}
 use Rattle.demands.proofs.Comparisons.{Says, less, level, more}
 use Rattle.demands.proofs.Levels.{Mono, TVec, TLevel, mono, term, vec, flat, flats, flat-length, cons?, head, lm, module-over, Has, Grounded, over-says}
 use Rattle.demands.proofs.Coefficients.{Good, good-range}

@@ -2,30 +2,27 @@
 use mathlib.Core.Path.{_≡_, refl, sym, ap, ap₂, _∙_, subst, subst₂}
 use mathlib.Core.Logic.{_⊎_, inl, inr}
 use mathlib.Core.Bool.{Bool, true, false, not}
-use mathlib.Core.List.{List, [], _∷_, _++_}
-use Prim.Native.Nat.{ℕ, zero, suc, _+_, _-_, _<_, _≤_, max}
-use native.Mathlib.Nat.{sub-add-eq-max}
+use mathlib.Core.List.{List, [], _∷_}
+use Prim.Native.Nat.{ℕ, zero, suc, _-_, _<_, _≤_}
 use native.Mathlib.Omega.{arith}
-use lib.Dec.{T, leb, eqb, leb→le, le→leb, eqb→eq}
+use lib.Dec.{T, eqb}
 use lib.ListN.{length, getD}
-use Rattle.theory.specs.Laws.{Monoid}
 use Rattle.theory.specs.Orders.{ExpM}
 use Rattle.theory.specs.Induced
 use Rattle.theory.specs.Syzygy.{Covered, Free}
 use Rattle.theory.specs.Stage
 use Rattle.theory.specs.Stage.{term-at, Real, Framed}
-use Rattle.definitions.specs.Limits.{Limits}
-use Rattle.definitions.specs.Lists.{_and_, any, between}
-use Rattle.definitions.specs.Monomial.{Exponents, Monomial, Vector, product, quotient, lcm, fits?, divides?, divides-monomial?, leading, leading-monomials, vector-of}
-use Rattle.definitions.specs.Frame.{into-ascending, generators, properly-divides?, minimal, with-component, frame-of, frame-from, frame}
-use Rattle.definitions.proofs.Tests.{and-left, and-right, and-both, between-low, between-high, between-shown}
+use Rattle.definitions.specs.Lists.{any}
+use Rattle.definitions.specs.Monomial.{Exponents, Monomial, product, quotient, lcm, divides-monomial?, leading, leading-monomials, vector-of}
+use Rattle.definitions.specs.Frame.{into-ascending, generators, properly-divides?, minimal, frame-of, frame-from, frame}
+use Rattle.definitions.proofs.Tests.{between-low, between-high, between-shown}
 use Rattle.demands.specs.Notions.{Member}
 use Rattle.demands.specs.Frames.{times-leading, Leading-syzygy, Is-frame}
-use Rattle.demands.proofs.Exponents.{E, out, over, product-out, out-length, colon, colon-out, colon-fits}
-use Rattle.demands.proofs.Levels.{Mono, TVec, TLevel, mono, monos, vec, flat, flat-at, flat-length, lm, leading-vec, module-over}
+use Rattle.demands.proofs.Exponents.{E, out, over, product-out, out-length, colon, colon-out}
+use Rattle.demands.proofs.Levels.{Mono, TLevel, mono, monos, vec, flat, flat-at, flat-length, lm, leading-vec}
 use Rattle.demands.proofs.Setting.{Setting, S, L, A, F, red, divided-by, divides-multiple}
 use Rattle.demands.proofs.Soundness.{tmono, tmono-mono}
-use Rattle.demands.proofs.Members.{member-either, any-says, any-shown, those-says, monomial-divides}
+use Rattle.demands.proofs.Members.{member-either, any-says, any-shown, those-says}
 use Rattle.demands.proofs.Generators.{into-either}
 use Rattle.demands.proofs.Frames.{is-frame, tagged-either}
 

@@ -2,23 +2,22 @@
 use mathlib.Core.Path.{_≡_, refl, sym, ap, _∙_, subst}
 use mathlib.Core.Logic.{_⊎_, inl, inr}
 use mathlib.Core.Bool.{Bool, true, false, not, _||_}
-use mathlib.Core.Option.{Option, none, some}
-use mathlib.Core.List.{List, [], _∷_}
-use Prim.Native.Nat.{ℕ, zero, suc, _-_, _<_, _≤_}
+use mathlib.Core.Option.{some}
+use mathlib.Core.List.{[]}
+use Prim.Native.Nat.{ℕ, zero, suc, _-_, _≤_}
 use native.Mathlib.Omega.{arith}
 use lib.Dec.{T, leb, eqb, leb→le, eqb→eq}
 use lib.ListN.{length, getD, replicate, length-replicate}
 use Rattle.definitions.specs.Limits.{Limits}
 use Rattle.definitions.specs.Lists.{_and_, _then_, choose, between}
-use Rattle.definitions.specs.Monomial.{Vector, Level}
 use Rattle.definitions.specs.Result.{Result}
 use Rattle.definitions.specs.Lifting.{Lifting}
-use Rattle.definitions.specs.Problem.{Bytes, Parameters, problem}
+use Rattle.definitions.specs.Problem.{Bytes}
 use Rattle.definitions.specs.State.{State, empty, has-level?, levels-sound?, sound?}
-use Rattle.definitions.specs.Calls.{Call, reading, lifting, Reply, refuse, settled, read, lift, fetch, eleven?, pick-code?, lifts?, fetches?, read-reply, lift-reply, fetch-reply}
+use Rattle.definitions.specs.Calls.{Call, reading, lifting, Reply, refuse, settled, lift, fetch, eleven?, pick-code?, lifts?, fetches?, read-reply, lift-reply, fetch-reply}
 use Rattle.definitions.specs.Reckoning.{Reckoning, nothing, succeeds, fails, reckon}
-use Rattle.definitions.specs.Layout.{Words, zeros, padded, rows-of, state-words, encode, meant, decode, holds-state?, state-after, rows-after, levels-at, all-words-sound?}
-use Rattle.definitions.specs.Layout.{Way, division, lifting-by, long-enough?, work-words, out-words, Read, read-left, read-call, Lift, lift-left, lift-call, fetch-left, fetch-call}
+use Rattle.definitions.specs.Layout.{Words, zeros, state-words, encode, meant, decode, holds-state?, state-after, rows-after, levels-at, all-words-sound?}
+use Rattle.definitions.specs.Layout.{Way, division, lifting-by, long-enough?, work-words, out-words, Read, read-left, Lift}
 use Rattle.definitions.specs.Layout.{Lent, read-with, lift-with, fetch-with, Left, lent-call}
 use Rattle.definitions.proofs.Tests.{false-is, and-left, and-right}
 use Rattle.definitions.proofs.Sound.{sound-says}

@@ -15,9 +15,8 @@ use Rattle.theory.specs.Canon.{Canonical}
 use Rattle.theory.proofs.Vec
 use Rattle.definitions.specs.Limits.{Limits}
 use Rattle.definitions.specs.Field.{plus, times}
-use Rattle.definitions.specs.Monomial.{Exponents, Vector, product, same-monomial?, fits?}
+use Rattle.definitions.specs.Monomial.{Vector, same-monomial?, fits?}
 use Rattle.definitions.specs.Reducer.{lower-order?, answer}
-use Rattle.definitions.specs.Result.{Result, done}
 use Rattle.definitions.specs.Vectors.{unless-zero, behind, combined, appended, or-last, store}
 use Rattle.definitions.specs.Stage.{Reduction}
 use Rattle.definitions.specs.Run.{dropped?, unless-dropped, if-fits, multiple, add-term, add-products}

@@ -1,15 +1,15 @@
 -- The tree with any cache: every subtree is the lifting of its monomial, and every part of the cache is.
-use mathlib.Core.Path.{_≡_, refl, sym, ap, _∙_, subst, subst₂}
-use mathlib.Core.Logic.{_⊎_, inl, inr}
+use mathlib.Core.Path.{_≡_, refl, sym, ap, _∙_, subst}
+use mathlib.Core.Logic.{inl}
 use mathlib.Core.Bool.{Bool, true, false}
-use mathlib.Core.Option.{Option, none, some}
-use mathlib.Core.List.{List, [], _∷_, _++_}
+use mathlib.Core.Option.{Option, some}
+use mathlib.Core.List.{[], _∷_, _++_}
 use Prim.Native.Nat.{ℕ, zero, suc, _+_, _-_, _<_}
 use lib.Dec.{T, leb, ltb}
 use lib.ListN.{length, getD}
 use Rattle.theory.specs.Vec.{Same, scale, mapB, lin, All, times}
 use Rattle.theory.specs.Reckon.{Reducer, turned, others, reckon}
-use Rattle.theory.specs.Canon.{Canonical, canon}
+use Rattle.theory.specs.Canon.{Canonical}
 use Rattle.theory.proofs.Vec
 use Rattle.theory.proofs.Lift.{up-lower}
 use Rattle.theory.proofs.Trees.{tree-step}
@@ -17,18 +17,18 @@ use Rattle.theory.proofs.Canon.{canonical-is}
 use Rattle.definitions.specs.Limits.{Limits}
 use Rattle.definitions.specs.Lists.{rest}
 use Rattle.definitions.specs.Field
-use Rattle.definitions.specs.Monomial.{Monomial, Term, Vector, fits?, same-monomial?, vector-of}
-use Rattle.definitions.specs.Reducer.{Answer, reducer, lower-order}
+use Rattle.definitions.specs.Monomial.{Term, Vector, fits?, same-monomial?}
+use Rattle.definitions.specs.Reducer.{Answer}
 use Rattle.definitions.specs.Result.{Result, done, _>>=_, refusal}
 use Rattle.definitions.specs.Vectors.{insert}
 use Rattle.definitions.specs.Run.{multiple}
 use Rattle.definitions.specs.Tree
-use Rattle.definitions.specs.Tree.{Cache, cached, used, Subtree, finish-by, finish, held-to, grow, add-result, Lift-term, Lift-list, if-product-fits, lift-product, lift-list, open-subtree, or-open, lift-by, lift-term, if-vector-product-fits, lift-vector-product, lift-vector, tree}
-use Rattle.demands.proofs.Results.{Ends, Any, Gives, gives, refuses, ends-then, ends-map, Holds, holds, nothing}
+use Rattle.definitions.specs.Tree.{Cache, cached, used, Subtree, finish-by, finish, held-to, add-result, Lift-term, Lift-list, if-product-fits, lift-product, lift-list, open-subtree, or-open, lift-by, lift-term, if-vector-product-fits, lift-vector-product, lift-vector, tree}
+use Rattle.demands.proofs.Results.{Gives, gives, refuses, ends-then, ends-map, Holds, holds, nothing}
 use Rattle.demands.proofs.Exponents.{E, out, product-out, factor-fits}
-use Rattle.demands.proofs.Levels.{Mono, TVec, mono, term, vec, flat, flats, flat-at, lm, module-over, Has, same-mono}
+use Rattle.demands.proofs.Levels.{Mono, TVec, mono, term, vec, flat-at, lm, module-over, Has, same-mono}
 use Rattle.demands.proofs.Coefficients.{Good, good-mul, good-one}
-use Rattle.demands.proofs.Setting.{Setting, S, L, F, red, red-by, up, answer-to, Answered, hit, miss, answered}
+use Rattle.demands.proofs.Setting.{Setting, S, L, F, red, red-by, up, Answered, hit, miss, answered}
 use Rattle.demands.proofs.Sums.{Goods, canonical-good}
 use Rattle.demands.proofs.Sorting.{Form, term-inserted}
 use Rattle.demands.proofs.Runs.{stage, Fits, InVector}

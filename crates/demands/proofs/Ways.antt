@@ -1,30 +1,29 @@
 -- Division, hybrid with any pick code, and the tree with any cache: a level lifted by any way holds the theory's vectors of the frame terms.
-use mathlib.Core.Path.{_≡_, refl, sym, ap, ap₂, _∙_, subst}
+use mathlib.Core.Path.{_≡_, refl, sym, ap, _∙_, subst}
 use mathlib.Core.Bool.{Bool, true, false}
 use mathlib.Core.List.{List, [], _∷_, _++_, append-assoc, append-nil}
 use Prim.Native.Nat.{ℕ, zero, suc, _+_, _<_, _≤_}
 use native.Mathlib.Omega.{arith}
 use lib.Dec.{T, leb, leb→le}
 use lib.ListN.{length}
-use Rattle.theory.specs.Vec.{Same, All, times}
+use Rattle.theory.specs.Vec.{All, times}
 use Rattle.theory.specs.Reckon.{reckon}
 use Rattle.theory.proofs.Vec
 use Rattle.theory.proofs.Canon.{canonical-is}
 use Rattle.theory.proofs.Runs.{run-reckons}
 use Rattle.definitions.specs.Limits.{Limits}
 use Rattle.definitions.specs.Monomial
-use Rattle.definitions.specs.Monomial.{Monomial, Vector, fits?}
+use Rattle.definitions.specs.Monomial.{Monomial, Vector}
 use Rattle.definitions.specs.Result.{Result, done, refused, unfinished, _>>=_}
 use Rattle.definitions.specs.Stage
 use Rattle.definitions.specs.Run
 use Rattle.definitions.specs.Run.{Strategy, step, start, continued, runs, run, hybrid-strategy, division-strategy}
 use Rattle.definitions.specs.Tree
 use Rattle.definitions.specs.Tree.{Cache}
-use Rattle.definitions.specs.Lifting.{Lifting, by-division, by-hybrid, by-tree, lift-one, Lifted, add-vector, with-vector, lift-all}
+use Rattle.definitions.specs.Lifting.{Lifting, by-division, by-hybrid, by-tree, lift-one, Lifted, add-vector, lift-all}
 use Rattle.demands.specs.Picks.{Picks, runs-by, run-by}
-use Rattle.demands.proofs.Results.{Ends, Any, Gives, gives, refuses, open-yet, ends-then, ends-map, ends-turn}
-use Rattle.demands.proofs.Exponents.{out}
-use Rattle.demands.proofs.Levels.{Mono, TVec, TLevel, mono, monos, vec, vec-length, flat, module-over}
+use Rattle.demands.proofs.Results.{Gives, gives, refuses, ends-then, ends-map, ends-turn}
+use Rattle.demands.proofs.Levels.{Mono, TLevel, mono, monos, vec, vec-length, flat, module-over}
 use Rattle.demands.proofs.Setting.{Setting, S, L, F, red}
 use Rattle.demands.proofs.Runs.{stage, Fits, InVector, Exact, All-in, Finished, run-ends}
 use Rattle.demands.proofs.Picking.{hybrid-picks, division-picks}

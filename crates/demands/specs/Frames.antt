@@ -6,7 +6,7 @@ use Prim.Native.Nat.{ℕ, _-_, _<_}
 use lib.Dec.{T}
 use lib.ListN.{length}
 use Rattle.definitions.specs.Lists.{between}
-use Rattle.definitions.specs.Monomial.{Exponents, Monomial, Level, product, divides-monomial?, leading, vector-of}
+use Rattle.definitions.specs.Monomial.{Monomial, Level, product, divides-monomial?, leading, vector-of}
 use Rattle.definitions.specs.Order.{smaller, exponents-by}
 use Rattle.demands.specs.Notions.{Member}
 

@@ -1,6 +1,6 @@
 -- Acceptance decides exactly whether f is a Gröbner basis: division of every frame term reaches zero, or stops at a value that shows why not.
 use mathlib.Core.Logic.{_⊎_, inl, inr}
-use mathlib.Core.List.{List, [], _∷_, _++_}
+use mathlib.Core.List.{[], _∷_}
 use Prim.Native.Nat.{ℕ, _<_}
 use Rattle.theory.specs.Laws.{Scalars, Monoid, Level}
 use Rattle.theory.specs.Vec.{Vec, Same, All, times, ψ, Lead}
@@ -12,7 +12,7 @@ use Rattle.theory.specs.Stage.{Stage, fam, term, size, reckoned}
 use Rattle.theory.proofs.Vec
 use Rattle.theory.proofs.Top.{lead-nonzero, lead-unique, lead-same}
 use Rattle.theory.proofs.Runs.{run-reckons, run-even, start-even, Ranged, run-in}
-use Rattle.theory.proofs.Tower.{Zeros, zeros-gröbner}
+use Rattle.theory.proofs.Tower.{zeros-gröbner}
 
 module _ (S : Scalars) {M : Monoid} (L : Level M) (F : Family S L) (reducer : Reducers S L F) where
   open Monoid M using (E)

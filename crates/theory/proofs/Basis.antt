@@ -1,7 +1,7 @@
 -- What Schreyer's theorem gives: f is a Gröbner basis, its syzygies are the combinations of the s_k, and the s_k are a Gröbner basis again.
-use mathlib.Core.Path.{_≡_, sym, subst}
+use mathlib.Core.Path.{sym, subst}
 use mathlib.Core.Logic.{_⊎_, inl, inr}
-use mathlib.Core.List.{List, [], _∷_, _++_}
+use mathlib.Core.List.{[], _∷_}
 use Prim.Native.Nat.{ℕ}
 use Rattle.theory.specs.Laws.{Scalars, Monoid, Level}
 use Rattle.theory.specs.Vec.{Vec, Same, All, times, ψ, Lead}

@@ -1,8 +1,8 @@
 -- The canonical form is equal to the vector, and equal vectors have one canonical form.
 use mathlib.Core.Path.{_≡_, refl, sym, ap, ap₂, _∙_, subst}
-use mathlib.Core.List.{List, [], _∷_, _++_}
+use mathlib.Core.List.{[], _∷_}
 use Rattle.theory.specs.Laws.{Scalars, Monoid, Level, Tri, below, same, above}
-use Rattle.theory.specs.Vec.{Vec, ev, Same, mapB, All, Lead}
+use Rattle.theory.specs.Vec.{Vec, ev, Same, All, Lead}
 use Rattle.theory.specs.Canon.{keep-by, keep, put-by, put, canon, Canonical}
 use Rattle.theory.proofs.Vec
 use Rattle.theory.proofs.Top.{lead-nonzero, lead-unique, lead-coef, lead-same, δ}

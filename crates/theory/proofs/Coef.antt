@@ -1,7 +1,7 @@
 -- Equal coefficients make equal vectors.
 use mathlib.Core.Path.{_≡_, sym, ap, _∙_}
 use mathlib.Core.Logic.{_⊎_, inl, inr}
-use mathlib.Core.List.{List, [], _++_}
+use mathlib.Core.List.{[], _++_}
 use Rattle.theory.specs.Laws.{Scalars, Monoid, Level}
 use Rattle.theory.specs.Vec.{Vec, ev, Same, scale}
 use Rattle.theory.proofs.Vec

@@ -1,9 +1,9 @@
 -- A number that falls with every step of a run, whichever term it picks: the size of the tree of liftings.
 use mathlib.Core.Path.{_≡_, refl, ap, _∙_}
 use mathlib.Core.Logic.{_⊎_, inl, inr}
-use mathlib.Core.List.{List, [], _∷_, _++_}
+use mathlib.Core.List.{[], _∷_}
 use mathlib.Core.WellFounded.{fix, fix-eq}
-use Prim.Native.Nat.{ℕ, zero, suc, _+_, _<_, _≤_}
+use Prim.Native.Nat.{ℕ, suc, _+_, _<_, _≤_}
 use native.Mathlib.Omega.{arith}
 use Rattle.theory.specs.Laws.{Scalars, Monoid, Level, Tri, below, same, above}
 use Rattle.theory.specs.Vec.{Vec, All, scale}

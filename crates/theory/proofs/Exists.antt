@@ -1,7 +1,7 @@
 -- Every level over exponents that can be divided has its reducers and its frame: the tower over any Gröbner basis.
 use mathlib.Core.Bool.{Bool}
 use Prim.Native.Nat.{ℕ}
-use Rattle.theory.specs.Laws.{Scalars, Monoid, Level}
+use Rattle.theory.specs.Laws.{Scalars, Monoid}
 use Rattle.theory.specs.Syzygy.{Gröbner}
 use Rattle.theory.specs.Stage.{Stage, fam, above}
 use Rattle.theory.specs.Division.{Division, IndD}

@@ -10,7 +10,7 @@ use lib.Dec.{T}
 use lib.ListN.{length}
 use Rattle.theory.specs.Laws.{Scalars, Monoid, Level, Tri, below, same, above}
 use Rattle.theory.specs.Division.{Division, Quotient, quotB, quotB-is, Divided, Colon}
-use Rattle.theory.specs.Induced.{image, indAct, nat-tri}
+use Rattle.theory.specs.Induced.{indAct, nat-tri}
 use Rattle.theory.specs.Syzygy.{Free, Covered}
 use Rattle.theory.specs.Stage.{Finite, family, term-at, Framed}
 use Rattle.theory.specs.Frames.{is-some, maybe, gens, divides?, any-divides?, drop-multiples, add-by, minimal, insert, sort, tagged, frame-at, frame-list}

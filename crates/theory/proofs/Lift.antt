@@ -1,11 +1,11 @@
 -- What the reckoning gives: t + ψ (lift t) has no term with a reducer, and the terms of lift t lie under t.
 use mathlib.Core.Path.{_≡_, refl, sym, ap, ap₂, _∙_, subst}
 use mathlib.Core.Logic.{_⊎_, inl, inr}
-use mathlib.Core.List.{List, [], _∷_, _++_}
+use mathlib.Core.List.{[], _∷_, _++_}
 use mathlib.Core.WellFounded.{recursion}
 use Prim.Native.Nat.{ℕ, _≤_}
 use Rattle.theory.specs.Laws.{Scalars, Monoid, Level}
-use Rattle.theory.specs.Vec.{Vec, ev, Same, scale, mapB, lin, All, times, ψ, Lead}
+use Rattle.theory.specs.Vec.{Vec, ev, Same, scale, lin, All, times, ψ, Lead}
 use Rattle.theory.specs.Induced.{image}
 use Rattle.theory.specs.Syzygy.{Family, In}
 use Rattle.theory.specs.Reckon.{Reducer, Lower, Reducers, turned, others, others-small, lift, lift-as, lift-eq}

@@ -1,7 +1,7 @@
 -- No term of the frame's list divides another with the same number.
 use mathlib.Core.Option.{Option, none, some}
 use mathlib.Core.Bool.{Bool, true, false, not, _||_}
-use mathlib.Core.List.{List, [], _∷_, _++_}
+use mathlib.Core.List.{List, [], _∷_}
 use lib.Dec.{T}
 use Rattle.theory.specs.Laws.{Monoid}
 use Rattle.theory.specs.Division.{Division, Quotient}

@@ -1,11 +1,11 @@
 -- The reckoning's vectors have their frame terms in front; over a Gröbner basis, and only there, they are syzygies.
 use mathlib.Core.Path.{_≡_, refl, sym, _∙_}
 use mathlib.Core.Logic.{_⊎_, inl, inr}
-use mathlib.Core.List.{List, [], _∷_, _++_}
+use mathlib.Core.List.{[], _∷_}
 use Prim.Native.Nat.{ℕ, _<_, _≤_}
 use native.Mathlib.Omega.{arith}
 use Rattle.theory.specs.Laws.{Scalars, Monoid, Level}
-use Rattle.theory.specs.Vec.{Vec, ev, Same, scale, mapB, lin, All, times, ψ, Lead}
+use Rattle.theory.specs.Vec.{Vec, ev, Same, mapB, lin, All, times, ψ, Lead}
 use Rattle.theory.specs.Induced.{image, IndLt}
 use Rattle.theory.specs.Syzygy.{Family, Up, In, Ahead, Gröbner}
 use Rattle.theory.specs.Reckon.{Lower, Reducers, lift, reckon}

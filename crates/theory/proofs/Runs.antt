@@ -1,8 +1,7 @@
 -- A run that comes to zero ends with the reckoning's vector, whichever term each step picks and whatever of lower order it drops.
 -- A run that drops nothing keeps ψ of the vector equal to the value: division.
 use mathlib.Core.Path.{_≡_, refl, sym, ap, ap₂, _∙_}
-use mathlib.Core.Logic.{_⊎_, inl, inr}
-use mathlib.Core.List.{List, [], _∷_, _++_}
+use mathlib.Core.List.{[], _∷_, _++_}
 use Prim.Native.Nat.{ℕ}
 use Rattle.theory.specs.Laws.{Scalars, Monoid, Level}
 use Rattle.theory.specs.Vec.{Vec, ev, Same, scale, mapB, lin, All, times, ψ, Lead}

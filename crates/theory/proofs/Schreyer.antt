@@ -1,13 +1,13 @@
 -- Schreyer's theorem and Buchberger's criterion as one induction.
 use mathlib.Core.Path.{_≡_, sym, ap, ap₂, _∙_, subst}
 use mathlib.Core.Logic.{_⊎_, inl, inr}
-use mathlib.Core.List.{List, [], _∷_, _++_}
+use mathlib.Core.List.{[], _∷_, _++_}
 use mathlib.Core.WellFounded.{Acc, Acc·intro}
-use Prim.Native.Nat.{ℕ, _<_}
+use Prim.Native.Nat.{ℕ}
 use Rattle.theory.specs.Laws.{Scalars, Monoid, Level}
-use Rattle.theory.specs.Vec.{Vec, ev, Same, scale, mapB, lin, All, times, ψ, Lead}
+use Rattle.theory.specs.Vec.{Vec, ev, Same, scale, mapB, All, times, ψ, Lead}
 use Rattle.theory.specs.Induced.{image, IndLt, indAct, ind-compat}
-use Rattle.theory.specs.Syzygy.{Family, Up, In, Free, Covered, Frame, Ahead, Lifted}
+use Rattle.theory.specs.Syzygy.{Family, Up, In, Free, Covered, Frame, Lifted}
 use Rattle.theory.proofs.Vec
 use Rattle.theory.proofs.Top.{Le, Top, top, Split, collect, lead-same}
 

@@ -2,7 +2,7 @@
 use mathlib.Core.Path.{_≡_, refl, sym, ap, ap₂, _∙_}
 use mathlib.Core.WellFounded.{Acc, Acc·intro}
 use mathlib.Core.Logic.{_⊎_, inl, inr}
-use mathlib.Core.List.{List, [], _∷_, _++_}
+use mathlib.Core.List.{[], _∷_}
 use Rattle.theory.specs.Laws.{Scalars, Monoid, Level, Tri, below, same, above}
 use Rattle.theory.specs.Vec.{Vec, ev, Same, All, Lead}
 use Rattle.theory.proofs.Vec.{all-map, zero-mul, merge, add-left-comm, same-trans, same-refl, same-drop}

@@ -1,7 +1,7 @@
 -- The levels one above the other: over a Gröbner basis each is a Gröbner basis again, and lists all syzygies of the one below.
 use mathlib.Core.Path.{_≡_, refl, sym, ap, ap₂, _∙_, subst, subst₂}
 use mathlib.Core.Logic.{_⊎_, inl, inr}
-use mathlib.Core.List.{List, [], _∷_, _++_}
+use mathlib.Core.List.{[], _∷_, _++_}
 use Prim.Native.Nat.{ℕ, zero, suc, _<_}
 use native.Mathlib.Omega.{arith}
 use Rattle.theory.specs.Laws.{Scalars, Monoid, Level}

@@ -1,7 +1,7 @@
 -- The tree: a subtree's sum is the lifting of its monomial, whichever vectors stand for its products' liftings; so with any cache.
 use mathlib.Core.Path.{_≡_, sym, ap, _∙_, subst, subst₂}
 use mathlib.Core.Logic.{_⊎_, inl, inr}
-use mathlib.Core.List.{List, [], _∷_, _++_}
+use mathlib.Core.List.{_∷_, _++_}
 use Prim.Native.Nat.{ℕ}
 use Rattle.theory.specs.Laws.{Scalars, Monoid, Level}
 use Rattle.theory.specs.Vec.{Vec, Same, scale, lin, times}

@@ -1,7 +1,7 @@
 -- The algebra of vectors.
 use mathlib.Core.Path.{_≡_, refl, sym, ap, ap₂, _∙_, fun-ext}
-use mathlib.Core.List.{List, [], _∷_, _++_, append-assoc}
-use Rattle.theory.specs.Laws.{Scalars, Monoid, Level}
+use mathlib.Core.List.{[], _∷_, _++_, append-assoc}
+use Rattle.theory.specs.Laws.{Scalars}
 use Rattle.theory.specs.Vec.{Vec, ev, Same, scale, mapB, lin, All}
 
 module _ (S : Scalars) where

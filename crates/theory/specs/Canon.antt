@@ -1,6 +1,6 @@
 -- The canonical form of a vector: equal monomials combined, zero terms left out, descending.
 use mathlib.Core.Path.{_≡_}
-use mathlib.Core.List.{List, [], _∷_, _++_}
+use mathlib.Core.List.{[], _∷_}
 use Rattle.theory.specs.Laws.{Scalars, Monoid, Level, Tri, below, same, above}
 use Rattle.theory.specs.Vec.{Vec, All}
 

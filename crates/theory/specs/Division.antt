@@ -7,7 +7,7 @@ use native.Mathlib.Omega.{arith}
 use lib.Dec.{T, leb, eqb, leb→le, nleb→lt, eqb→eq, eqb-refl}
 use Rattle.theory.specs.Laws.{Monoid, Level}
 use Rattle.theory.specs.Orders.{NatM, UnitM, ProdM, ExpM}
-use Rattle.theory.specs.Induced.{Ind, indAct}
+use Rattle.theory.specs.Induced.{Ind}
 
 -- what a quotient says: m · a = b, or no m has m · a = b
 abbrev pub Quotient : {E B : Type 0} → (E → B) → B → Option E → Type 0

@@ -1,9 +1,9 @@
 -- The order that leading monomials induce one level up (Doc 000, 3.1), and that it has the laws of a level again.
 use mathlib.Core.Path.{_≡_, refl, sym, ap, _∙_}
 use mathlib.Core.Logic.{_⊎_, inl, inr, ⊎-elim}
-use mathlib.Core.WellFounded.{Acc, Acc·intro, WellFounded}
+use mathlib.Core.WellFounded.{Acc, Acc·intro}
 use mathlib.Core.Bool.{Bool, true, false, not}
-use Prim.Native.Nat.{ℕ, suc, _<_, _≤_}
+use Prim.Native.Nat.{ℕ, _<_, _≤_}
 use native.Mathlib.Omega.{arith}
 use native.Mathlib.Nat.{le-antisymm}
 use lib.Dec.{T, ltb, ltb→lt, nltb→le}

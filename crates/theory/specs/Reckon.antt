@@ -1,11 +1,11 @@
 -- The plain reckoning: the lifting of a monomial, by recursion along the order, and the vector of a frame term.
 use mathlib.Core.Path.{_≡_, refl, ap, _∙_, subst}
 use mathlib.Core.Logic.{_⊎_, inl, inr}
-use mathlib.Core.List.{List, [], _∷_, _++_}
+use mathlib.Core.List.{[], _∷_, _++_}
 use mathlib.Core.WellFounded.{fix, fix-eq}
 use Prim.Native.Nat.{ℕ, _≤_}
 use Rattle.theory.specs.Laws.{Scalars, Monoid, Level}
-use Rattle.theory.specs.Vec.{Vec, scale, mapB, lin, All, times, Lead}
+use Rattle.theory.specs.Vec.{Vec, scale, mapB, lin, All, times}
 use Rattle.theory.specs.Induced.{image}
 use Rattle.theory.specs.Syzygy.{Family, In}
 

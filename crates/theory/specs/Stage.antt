@@ -1,7 +1,7 @@
 -- A stage: a finite family over a level, the reducer of each monomial, and a frame, held as a list. The vectors of the level above it.
 use mathlib.Core.Path.{_≡_}
 use mathlib.Core.Logic.{_⊎_}
-use mathlib.Core.List.{List, [], _∷_}
+use mathlib.Core.List.{List}
 use Prim.Native.Nat.{ℕ, _<_}
 use lib.ListN.{getD, length}
 use Rattle.theory.specs.Laws.{Scalars, Monoid, Level}
