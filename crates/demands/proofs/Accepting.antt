@@ -38,7 +38,8 @@ use Rattle.demands.proofs.Sums.{canonical-good}
 use Rattle.demands.proofs.Canonical.{canonical-descends, terms-sound}
 use Rattle.demands.proofs.Short.{run-short}
 use Rattle.demands.proofs.Sorting.{Form, sorted}
-use Rattle.demands.proofs.Runs.{stage, Fits, InValue, Exact, Halted, run-ends}
+use Rattle.demands.proofs.Steps.{stage, Fits, InValue, Exact}
+use Rattle.demands.proofs.Runs.{Halted, run-ends}
 use Rattle.demands.proofs.Picking.{accepting-picks, greatest-leads}
 use Rattle.demands.proofs.Notions.{same-equal, put-for-is, lead-leads}
 use Rattle.demands.proofs.Bases.{Ranged, proper-shown, here, in-ranged, divided-image}

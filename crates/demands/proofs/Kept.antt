@@ -25,7 +25,7 @@ use Rattle.demands.proofs.Levels.{Mono, TVec, TLevel, vec, vec-length, 
 use Rattle.demands.proofs.Setting.{Setting, S}
 use Rattle.demands.proofs.Soundness.{Regular, Regulars, Deep, cons-in, Within, Sound-mono}
 use Rattle.demands.proofs.Sums.{canonical-good}
-use Rattle.demands.proofs.Runs.{stage, InVector}
+use Rattle.demands.proofs.Steps.{stage, InVector}
 use Rattle.demands.proofs.Reckoned.{vector}
 use Rattle.demands.proofs.Bases.{here}
 use Rattle.demands.proofs.Ways.{vectors, All-ok, total}

@@ -6,6 +6,7 @@ pub mod Coefficients
 pub mod Setting
 pub mod Sums
 pub mod Sorting
+pub mod Steps
 pub mod Runs
 pub mod Reckoned
 pub mod Trees

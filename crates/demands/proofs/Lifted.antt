@@ -21,7 +21,7 @@ use Rattle.demands.proofs.Exponents.{out, colon-fits}
 use Rattle.demands.proofs.Levels.{Mono, mono, mono-injective, monos, monos-length, flat, flats, lm}
 use Rattle.demands.proofs.Setting.{Setting}
 use Rattle.demands.proofs.Soundness.{Within}
-use Rattle.demands.proofs.Runs.{stage, Fits}
+use Rattle.demands.proofs.Steps.{stage, Fits}
 use Rattle.demands.proofs.Reckoned.{vector-is, vector-reached}
 use Rattle.demands.proofs.Stages.{frame-terms, Written, written, terms, terms-back, term-real}
 use Rattle.demands.proofs.Ways.{vectors, All-ok, total, Good-terms, all-lifted}

@@ -21,7 +21,7 @@ use Rattle.demands.proofs.Results.{some-is}
 use Rattle.demands.proofs.Comparisons.{Says, less, level, more}
 use Rattle.demands.proofs.Levels.{Mono, TVec, mono, mono-injective, term, vec, vec-length, Has, over-says}
 use Rattle.demands.proofs.Setting.{Setting, S, L}
-use Rattle.demands.proofs.Runs.{stage, InValue, Sum, Taken, taken}
+use Rattle.demands.proofs.Steps.{stage, InValue, Sum, Taken, taken}
 
 -- ## A place of the value, none only of an empty one
 

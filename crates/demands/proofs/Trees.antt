@@ -31,7 +31,7 @@ use Rattle.demands.proofs.Coefficients.{Good, good-mul, good-one}
 use Rattle.demands.proofs.Setting.{Setting, S, L, F, red, red-by, up, Answered, hit, miss, answered}
 use Rattle.demands.proofs.Sums.{Goods, canonical-good}
 use Rattle.demands.proofs.Sorting.{Form, term-inserted}
-use Rattle.demands.proofs.Runs.{stage, Fits, InVector}
+use Rattle.demands.proofs.Steps.{stage, Fits, InVector}
 use Rattle.demands.proofs.Reckoned.{vector, others-is, others-good, turned-good, turned-is}
 
 module _ (Z : Setting) (lim : Limits) where

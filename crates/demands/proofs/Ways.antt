@@ -25,7 +25,8 @@ use Rattle.demands.specs.Picks.{Picks, runs-by, run-by}
 use Rattle.demands.proofs.Results.{Gives, gives, refuses, ends-then, ends-map, ends-turn}
 use Rattle.demands.proofs.Levels.{Mono, TLevel, mono, monos, vec, vec-length, flat, module-over}
 use Rattle.demands.proofs.Setting.{Setting, S, L, F, red}
-use Rattle.demands.proofs.Runs.{stage, Fits, InVector, Exact, All-in, Finished, run-ends}
+use Rattle.demands.proofs.Steps.{stage, Fits, InVector, Exact}
+use Rattle.demands.proofs.Runs.{All-in, Finished, run-ends}
 use Rattle.demands.proofs.Picking.{hybrid-picks, division-picks}
 use Rattle.demands.proofs.Reckoned.{vector}
 use Rattle.demands.proofs.Trees.{CacheOk, Grown, tree-ok}
