@@ -1,11 +1,13 @@
 -- Demand 1.
 use mathlib.Core.Path.{_≡_, refl, sym, _∙_, subst}
+use mathlib.Core.List.{_∷_}
 use mathlib.Core.Option.{Option, none, some}
-use Prim.Native.Nat.{ℕ}
+use Prim.Native.Nat.{ℕ, _-_}
 use lib.Dec.{T}
 use lib.ListN.{length, length-replicate}
 use Rattle.definitions.specs.Limits.{Limits, document-01}
 use Rattle.definitions.specs.Problem.{Bytes}
+use Rattle.definitions.specs.State.{up-to}
 use Rattle.definitions.specs.Sheet.{sheet}
 use Rattle.definitions.specs.Layout.{Words, Way, division, Read, Lift, Lent, read-with, lift-with, fetch-with, lent-call, lent-calls}
 use Rattle.definitions.proofs.Steady.{answered?, Steady, steady-once}
@@ -48,7 +50,8 @@ module _ (lim : Limits) (o : T (sensible? lim)) where
   read-length file state work r (Demands.Read-form.too-short t) = refl
 
   lift-length : (k : ℕ) (way : Way) (state work cache : Words) (r : Lift) → Lift-form lim k way state work cache r → length (r .2) ≡ length state
-  lift-length k way state work cache r (lifted-as Y t s e) = length-encode lim (small-exponents lim o) (length state) Y s (long-state lim o way state work t)
+  lift-length k way state work cache r (lifted-as X g bound t e d s) =
+      length-encode lim (small-exponents lim o) (length state) (record { parameters = X .parameters; levels = g ∷ up-to X (k - 1) }) s (long-state lim o way state work t)
   lift-length k way state work cache r (Demands.Lift-form.refused-as t u) = length-replicate (length state) 0
   lift-length k way state work cache r (Demands.Lift-form.no-level t u) = refl
   lift-length k way state work cache r (Demands.Lift-form.no-number t u x) = refl

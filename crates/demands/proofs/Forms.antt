@@ -101,11 +101,8 @@ module _ (lim : Limits) (o : T (sensible? lim)) where
           → Holds Form (settled x then λ a. some (left a))
       settles t s r c (one-more g w) =
           let l : k - 1 < length (X .levels) = ltb→lt (k - 1) (length (X .levels)) c in
-          let m : 1 ≤ k = between-low 1 k (lim .levels) r in
-          let e : length (up-to X (k - 1)) ≡ suc (k - 1) = height-up-to lim X s (k - 1) l in
-          let Y : State = record { parameters = X .parameters; levels = g ∷ up-to X (k - 1) } in
-          holds (subst (λ z. Form (0, 0, encode lim (length state) Y, z, zeros cache)) (sym (all-zeros work))
-          (lifted-as Y t (with-level lim X s k r l g (w .sound)) (omega arith)))
+          holds (subst (λ z. Form (0, 0, encode lim (length state) (record { parameters = X .parameters; levels = g ∷ up-to X (k - 1) }), z, zeros cache))
+          (sym (all-zeros work)) (lifted-as X g (w .bound) t refl (w .reckons) (with-level lim X s k r l g (w .sound))))
       settles t s r c (Lifts.limit-met {number} u) =
           holds (subst₂ (λ y z. Form (number, k, y, z, zeros cache)) (sym (encode-empty lim (length state) (long-state way state work t)))
           (sym (all-zeros work)) (Demands.Lift-form.refused-as t u))

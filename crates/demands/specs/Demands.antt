@@ -16,9 +16,9 @@ use Rattle.definitions.specs.Stage.{highest, stage-over}
 use Rattle.definitions.specs.Run.{Strategy}
 use Rattle.definitions.specs.Lifting.{Lifting}
 use Rattle.definitions.specs.Problem.{Bytes, Parameters, lines, problem}
-use Rattle.definitions.specs.State.{State, empty, sound?}
+use Rattle.definitions.specs.State.{State, empty, up-to, sound?}
 use Rattle.definitions.specs.Calls.{Call, reading, lifting, fetching, read, lift, eleven?, lifts?, fetches?}
-use Rattle.definitions.specs.Reckoning.{Reckoning, nothing, reckon, reckon-all, reckoned-vector}
+use Rattle.definitions.specs.Reckoning.{Reckoning, nothing, reckon, reckon-all, reckoned-vector, reckoned-level}
 use Rattle.definitions.specs.Sheet.{sheet, level-lines, x-lines, variables-of}
 use Rattle.definitions.specs.Layout.{Words, rows-of, padded, zeros, state-words, encode, meant, out-words, Way, division, lifting-by, long-enough?}
 use Rattle.definitions.specs.Layout.{Read, read-call, Lift, lift-call, Fetch, fetch-call, Lent, read-with, lift-with, fetch-with, Left, lent-call, lent-calls}
@@ -52,7 +52,8 @@ pub data Bad-line (lim : Limits) (bytes : Bytes) : ℕ → ℕ → Type 0 where
 
 -- the number, the place and the value with which reading is refused: "for 9 the frame term's number, for 13 to 15 .. 0 while accepting"
 pub data Refused-reading (lim : Limits) (bytes : Bytes) : ℕ → ℕ → Vector → Type 0 where
-  ill-formed : {number place : ℕ} → problem lim bytes ≡ refused number place [] → Bad-line lim bytes number place → Refused-reading lim bytes number place []
+  ill-formed : {number place : ℕ} → problem lim bytes ≡ refused number place [] → Bad-line lim bytes number place
+      → Refused-reading lim bytes number place []
   no-basis : {q : Parameters} {f : Level} {place : ℕ} {value : Vector} → problem lim bytes ≡ done (q, f)
       → T (between 1 place (length (frame (lim .numbering (q .code)) (leading-monomials f)))) → Shows-why lim q f value → Refused-reading lim bytes 9 place value
   limit-met : {q : Parameters} {f : Level} {number : ℕ} → problem lim bytes ≡ done (q, f) → T (limit? number) → Refused-reading lim bytes number 0 []
@@ -75,12 +76,14 @@ pub record Listed (lim : Limits) (bytes : Bytes) (q : Parameters) (g : Level) (b
 pub data Sheet-form (lim : Limits) (bytes : Bytes) : Bytes → Type 0 where
   listing : {q : Parameters} {g : Level} {below : List Level} → Listed lim bytes q g below → (g ≡ []) ⊎ (length below ≡ lim .levels)
       → Sheet-form lim bytes (printed-levels (q .n) (g ∷ below))
-  cut-off : {q : Parameters} {g : Level} {below : List Level} (number : ℕ) → Listed lim bytes q g below → ¬ (g ≡ []) → length below < lim .levels → T (limit? number)
+  cut-off : {q : Parameters} {g : Level} {below : List Level} (number : ℕ) → Listed lim bytes q g below → ¬ (g ≡ []) → length below < lim .levels
+      → T (limit? number)
       → Sheet-form lim bytes (printed-levels (q .n) (g ∷ below) ++ x-lines (q .n) number (suc (length below)) [])
   not-read : {number place : ℕ} {value : Vector} → Refused-reading lim bytes number place value
       → Sheet-form lim bytes (x-lines (variables-of (problem lim bytes)) number place value)
 
--- number, place and the buffers after reading: "After 1 to 9 and 13 to 15 the state is empty and each buffer lent for writing is zeroed; 9 leaves in the work area the value"
+-- Number, place and the buffers after reading: "After 1 to 9 and 13 to 15 the state is empty and each buffer lent for writing is zeroed; 9 leaves
+-- in the work area the value where division stopped, descending, zeros after it."
 pub data Read-form (lim : Limits) (file : Bytes) (state work : Words) : Read → Type 0 where
   accepted-as : {q : Parameters} {f : Level} → T (long-enough? lim division state work) → problem lim file ≡ done (q, f)
       → Read-form lim file state work (0, 0, encode lim (length state) (record { parameters = q; levels = f ∷ [] }), zeros work)
@@ -88,11 +91,16 @@ pub data Read-form (lim : Limits) (file : Bytes) (state work : Words) : Read →
       → length (rows-of value) ≤ length work → Read-form lim file state work (number, place, zeros state, padded (length work) (rows-of value))
   too-short : T (not (long-enough? lim division state work)) → Read-form lim file state work (16, 0, state, work)
 
--- .. after lifting, in whatever state: "A call that succeeds leaves zeros in the work area, the cache and the unused places of the state"; "11, 12, 16 change no buffer and no state"
+-- .. after lifting, in whatever state: "A call that succeeds leaves zeros in the work area, the cache and the unused places of the state",
+-- "Lifting a complete level again drops the levels above it", "11, 12, 16 change no buffer and no state".
 pub data Lift-form (lim : Limits) (k : ℕ) (way : Way) (state work cache : Words) : Lift → Type 0 where
-  lifted-as : (Y : State) → T (long-enough? lim way state work) → T (sound? lim Y) → length (Y .levels) ≡ suc k
-      → Lift-form lim k way state work cache (0, 0, encode lim (length state) Y, zeros work, zeros cache)
-  refused-as : {number : ℕ} → T (long-enough? lim way state work) → T (limit? number) → Lift-form lim k way state work cache (number, k, zeros state, zeros work, zeros cache)
+  lifted-as : (X : State) (g : Level) (bound : ℕ) → T (long-enough? lim way state work) → meant lim state ≡ X
+      → reckoned-level lim bound (X .parameters .p) (X .parameters .code) (up-to X (k - 1)) ≡ some g
+      → T (sound? lim (record { parameters = X .parameters; levels = g ∷ up-to X (k - 1) }))
+      → Lift-form lim k way state work cache
+      (0, 0, encode lim (length state) (record { parameters = X .parameters; levels = g ∷ up-to X (k - 1) }), zeros work, zeros cache)
+  refused-as : {number : ℕ} → T (long-enough? lim way state work) → T (limit? number)
+      → Lift-form lim k way state work cache (number, k, zeros state, zeros work, zeros cache)
   no-level : T (long-enough? lim way state work) → T (eleven? lim (meant lim state) k (k - 1)) → Lift-form lim k way state work cache (11, 0, state, work, cache)
   no-number : T (long-enough? lim way state work) → T (not (eleven? lim (meant lim state) k (k - 1))) → T (not (lifts? lim k (lifting-by way cache)))
       → Lift-form lim k way state work cache (12, 0, state, work, cache)
@@ -101,9 +109,11 @@ pub data Lift-form (lim : Limits) (k : ℕ) (way : Way) (state work cache : Word
 -- .. after fetching: "a fetched vector is followed by zeros to its buffer's end"
 pub data Fetch-form (lim : Limits) (k v : ℕ) (state out : Words) : Fetch → Type 0 where
   fetched-as : {w : Vector} → T (out-long-enough? lim state out) → T (sound? lim (meant lim state)) → T (fetches? lim (meant lim state) k v)
-      → w ≡ vector-of (level-of (meant lim state .levels) k) v → length (rows-of w) ≤ length out → Fetch-form lim k v state out (0, 0, padded (length out) (rows-of w))
+      → w ≡ vector-of (level-of (meant lim state .levels) k) v → length (rows-of w) ≤ length out
+      → Fetch-form lim k v state out (0, 0, padded (length out) (rows-of w))
   no-level : T (out-long-enough? lim state out) → T (eleven? lim (meant lim state) k k) → Fetch-form lim k v state out (11, 0, out)
-  no-number : T (out-long-enough? lim state out) → T (not (eleven? lim (meant lim state) k k)) → T (not (fetches? lim (meant lim state) k v)) → Fetch-form lim k v state out (12, 0, out)
+  no-number : T (out-long-enough? lim state out) → T (not (eleven? lim (meant lim state) k k)) → T (not (fetches? lim (meant lim state) k v))
+      → Fetch-form lim k v state out (12, 0, out)
   too-short : T (not (out-long-enough? lim state out)) → Fetch-form lim k v state out (16, 0, out)
 
 pub record Demand-1 (lim : Limits) : Type 0 where
@@ -113,9 +123,11 @@ pub record Demand-1 (lim : Limits) : Type 0 where
   pub sheets : (n : ℕ) (bytes a : Bytes) → sheet lim n bytes ≡ some a → Sheet-form lim bytes a
   -- .. and for every list of calls on any contents of the buffers
   pub calls-end : (state : Words) (cs : List Lent) → (n : ℕ) × ((ls : List Left) × (lent-calls lim n state cs ≡ some ls))
-  pub one-answer : (n m : ℕ) (state : Words) (cs : List Lent) (a b : List Left) → lent-calls lim n state cs ≡ some a → lent-calls lim m state cs ≡ some b → a ≡ b
+  pub one-answer : (n m : ℕ) (state : Words) (cs : List Lent) (a b : List Left) → lent-calls lim n state cs ≡ some a
+      → lent-calls lim m state cs ≡ some b → a ≡ b
   pub reads : (n : ℕ) (file : Bytes) (state work : Words) (r : Read) → read-call lim n file state work ≡ some r → Read-form lim file state work r
-  pub lifts : (n k : ℕ) (way : Way) (state work cache : Words) (r : Lift) → lift-call lim n k way state work cache ≡ some r → Lift-form lim k way state work cache r
+  pub lifts : (n k : ℕ) (way : Way) (state work cache : Words) (r : Lift) → lift-call lim n k way state work cache ≡ some r
+      → Lift-form lim k way state work cache r
   pub fetches : (k v : ℕ) (state out : Words) → Fetch-form lim k v state out (fetch-call lim k v state out)
   -- the state's buffer keeps its length
   pub lengths : (n : ℕ) (state : Words) (c : Lent) (a : Left) → lent-call lim n state c ≡ some a → length (a .state) ≡ length state
@@ -149,12 +161,14 @@ pub record Demand-2 (lim : Limits) : Type 0 where
   -- what 9 shows is no Gröbner basis
   pub shows : (q : Parameters) (f : Level) (value : Vector) → Shows-why lim q f value → Gröbner-basis q [] f → ⊥
   -- what the reader takes is a sound state with level 0 alone
-  pub well-formed : (bytes : Bytes) (q : Parameters) (f : Level) → problem lim bytes ≡ done (q, f) → T (sound? lim (record { parameters = q; levels = f ∷ [] }))
+  pub well-formed : (bytes : Bytes) (q : Parameters) (f : Level) → problem lim bytes ≡ done (q, f)
+      → T (sound? lim (record { parameters = q; levels = f ∷ [] }))
   -- document 01's Gröbner bases are those whose leading monomials generate the leading module, on every level of a sound state
   pub generated : (q : Parameters) (f : Level) (below : List Level) → T (sound? lim (record { parameters = q; levels = f ∷ below }))
       → Gröbner-basis q below f ↔ Leading-generated q below f
   -- a file that is not well-formed is refused as the reader refuses it
-  pub ill-formed : (n : ℕ) (bytes : Bytes) (number place : ℕ) (value : Vector) → problem lim bytes ≡ refused number place value → read lim n bytes ≡ refused number place value
+  pub ill-formed : (n : ℕ) (bytes : Bytes) (number place : ℕ) (value : Vector) → problem lim bytes ≡ refused number place value
+      → read lim n bytes ≡ refused number place value
   -- the frame of each level of a sound state, in each order that numbers it, is the minimal one, and the only one
   pub framed : (q : Parameters) (f : Level) (below : List Level) → T (sound? lim (record { parameters = q; levels = f ∷ below })) → (code : ℕ)
       → Is-frame code f (frame code (leading-monomials f)) × ((ts : List Monomial) → Is-frame code f ts → ts ≡ frame code (leading-monomials f))
@@ -204,9 +218,9 @@ Fetches-right lim R [] ls = Unit {0}
 Fetches-right lim R (c ∷ cs) [] = Unit {0}
 Fetches-right lim R (c ∷ cs) (a ∷ ls) = Fetch-right lim R c a × Fetches-right lim (reckon lim R (as-call c) (a .number)) cs ls
 
--- the state holds the basis' parameters; without a basis no level
+-- the state holds the basis' parameters; "without a basis, as at the start, none"
 abbrev pub Of-basis : State → Option (Parameters × Level) → Type 0
-Of-basis X none = X .levels ≡ []
+Of-basis X none = X ≡ empty
 Of-basis X (some f) = X .parameters ≡ f .0
 
 -- what a list of calls leaves in the state's words: R is the reckoning after the list
