@@ -1,0 +1,4 @@
+pub mod Sought
+pub mod Placing
+pub mod Outcomes
+pub mod Rowwise

@@ -1,0 +1,27 @@
+use borrow.Author.Needs.{needs}
+use mathlib.Core.Path.{ap, _∙_}
+use Prim.Native.Nat.{_*_}
+use lib.Seq.{paste}
+use Rattle.terms.proofs.put.Statement.{statement}
+use Rattle.terms.proofs.put.Tie as tie
+
+words-requires : tie.Need-words-requires
+words-requires c κs = search needs
+
+mul-store-words : tie.Need-mul-store-words
+mul-store-words c = search needs
+
+store-words-requires : tie.Need-store-words-requires
+store-words-requires c κs = search needs
+
+same-length : tie.Need-same-length
+same-length c = search needs
+
+returns : tie.Need-returns
+returns c =
+    let a = c .before .before .before .before .before .before .before .before .args in
+    (c .before .before .store-words .ensures ∙ ap (λ w. paste (a .s .now) (a .i * 10) w 10) (c .before .before .before .before .words .ensures .0), c .before .before .before .before .words .ensures .1)
+
+pub put-spec : {M : Type 1} → statement M
+put-spec =
+    tie.close (tie.spec words-requires mul-store-words store-words-requires same-length returns)
