@@ -98,8 +98,12 @@ module _ (lim : Limits) where
 
   first-line-at : (ls : List Line) → Refused-by (At 1 (suc (length ls))) (first-line lim ls)
   first-line-at [] = refuses (here 1 1 1 tt (omega arith))
-  first-line-at (line ∷ later) = refused-wider (λ number place value h. record { number-of = h .number-of; from = h .from; to = let b : place ≤ 2 + length later = h .to in omega arith; no-value = h .no-value })
-      (after-r-at later (shaped (lim .field) letter-R 4 line))
+  first-line-at (line ∷ later) = refused-wider further (after-r-at later (shaped (lim .field) letter-R 4 line))
+    where
+      further : (number place : ℕ) (value : Vector) → At 1 (2 + length later) number place value → At 1 (suc (suc (length later))) number place value
+      further number place value h =
+          let b : place ≤ 2 + length later = h .to in
+          record { number-of = h .number-of; from = h .from; to = omega arith; no-value = h .no-value }
 
   -- the reader's refusals
   pub problem-at : (bytes : Bytes) → Refused-by (λ number place value. Bad-line lim bytes number place × (value ≡ [])) (problem lim bytes)

@@ -41,7 +41,11 @@ module _ (S : Scalars) {M : Monoid} (L : Level M) (F : Family S L) (reducer : Re
   vector x = reckon S L F reducer x
 
   pub reckon-in : (x : E × ℕ) → In S L F x → All S (In S L F) (vector x)
-  reckon-in x d = (d, Vec.all-lin S (λ b. Unit {0}) (In S L F) up (λ b u. up-in S L F reducer b) (times S L f x) (Vec.all-all S (λ b. Unit {0}) (λ b. tt) (times S L f x)))
+  reckon-in x d = (
+    d,
+    Vec.all-lin S (λ b. Unit {0}) (In S L F) up (λ b u. up-in S L F reducer b) (times S L f x)
+        (Vec.all-all S (λ b. Unit {0}) (λ b. tt) (times S L f x)),
+  )
 
   -- ## Syzygies
 
@@ -79,7 +83,8 @@ module _ (S : Scalars) {M : Monoid} (L : Level M) (F : Family S L) (reducer : Re
       Small y = In S L F y × IndLt L lm y x
 
       tail : All S (λ b. Le S L b (image L lm x)) (mapB S (act (x .0)) (lead (x .1) d .rest))
-      tail = Vec.all-mapB S (λ b. Lt b (lm (x .1))) (λ b. Le S L b (image L lm x)) (act (x .0)) (λ b k. inl (L .compat (x .0) _ _ k)) (lead (x .1) d .rest) (lead (x .1) d .smaller)
+      tail = Vec.all-mapB S (λ b. Lt b (lm (x .1))) (λ b. Le S L b (image L lm x)) (act (x .0)) (λ b k. inl (L .compat (x .0) _ _ k))
+          (lead (x .1) d .rest) (lead (x .1) d .smaller)
 
       place : (b : B) (y : E × ℕ) → Under S L F reducer b y → Le S L b (image L lm x) → IndLt L lm y x
       place b y (dy, inl k) (inl l) = inl (L .trans _ _ _ k l)
