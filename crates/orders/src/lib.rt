@@ -120,7 +120,7 @@ pub fn by_code(code: u16, x: [u16; 8], y: [u16; 8]) -> Comparison
     }
 }
 
-fn widened(e: [u8; 8]) -> [u16; 8]
+pub fn widened(e: [u8; 8]) -> [u16; 8]
     ensures { λ r. ⌜ r ≡ e ⌝ }
 {
     let mut w = [0u16; 8];

@@ -1,0 +1,164 @@
+// The reducer rule over a table of leading rows, and the multiple of a row by a term.
+// Knows: crate definitions' Reducer. The table's coefficients are the inverses of the leading ones; spans say in which part of the table a component's rows stand.
+ghost use mathlib.Core.Path.{_≡_};
+ghost use Prim.Native.Nat.{_+_, _-_, _*_, _≤_, _<_};
+ghost use lib.ListN.{length};
+ghost use Rattle.definitions.specs.Monomial.{divides?, divides-monomial?};
+ghost use Rattle.definitions.specs.Reducer.{answer as answer-definition, lower-order?};
+ghost use Rattle.definitions.specs.Run.{multiple as multiple-definition};
+ghost use Rattle.definitions.specs.Layout.{row-at, rows};
+ghost use Rattle.monomial.specs.Values.{monomial-of};
+ghost use Rattle.orders.specs.Images.{exponents-raw};
+ghost use Rattle.terms.specs.Rows.{term-of};
+ghost use Rattle.reducers.specs.Search.{head-raw, first-from, first-dividing, span-at, span-of, Small, Spanned, answer-of, formed-term, multiple-of};
+use monomial::Monomial;
+use terms::Term;
+
+// The number of the element, from 1, and the coefficient of its multiple.
+pub enum Answer {
+    Reducer(usize, u16),
+    LowerOrder,
+}
+
+pub struct Found {
+    pub answer: Answer,
+    pub quotient: [u8; 8],
+}
+
+pub struct Span {
+    pub from: usize,
+    pub to: usize,
+}
+
+pub struct Multiple {
+    pub fits: bool,
+    pub term: Term,
+}
+
+// Whether the eight words from at on divide w.
+fn head_divides(heads: &[u16], at: usize, w: [u16; 8]) -> bool
+    requires { ⌜ at + 8 ≤ length (now heads) ⌝ }
+    ensures { λ r. ⌜ r ≡ divides? (exponents-raw (now (heads .entry)) at) w ⌝ }
+{
+    let mut mark: u16 = 0;
+    let mut j = 0;
+    while j < 8 {
+        mark = monomial::mark_above(mark, heads[at + j], w[j]);
+        j += 1;
+    }
+    mark == 0
+}
+
+fn row_divides(heads: &[u16], i: usize, component: u16, w: [u16; 8]) -> bool
+    requires { ⌜ i * 10 + 10 ≤ length (now heads) ⌝ }
+    ensures { λ r. ⌜ r ≡ divides-monomial? (head-raw (now (heads .entry)) i) (w, component) ⌝ }
+{
+    let at = i * 10;
+    if heads[at + 1] != component {
+        return false;
+    }
+    head_divides(heads, at + 2, w)
+}
+
+// The first row that divides, of those from row `from` up to row `to`; `to` if there is none.
+fn first_in(heads: &[u16], from: usize, to: usize, component: u16, w: [u16; 8]) -> usize
+    requires { ⌜ to * 10 ≤ length (now heads) ⌝ }
+    ensures { λ r. ⌜ r ≡ first-from (λ j. divides-monomial? (head-raw (now (heads .entry)) j) (w, component)) (to - from) from ⌝ }
+{
+    let mut i = from;
+    while i < to {
+        if row_divides(heads, i, component, w) {
+            return i;
+        }
+        i += 1;
+    }
+    i
+}
+
+fn place(x: u16) -> usize
+    ensures { λ r. ⌜ r ≡ x ⌝ }
+{
+    x as usize
+}
+
+// The part of the table for a component: all of it if the spans have none.
+fn span_for(spans: &[u16], k: usize, r: usize, component: u16) -> Span
+    requires { ⌜ k * 2 ≤ length (now spans) ⌝ }
+    ensures { λ x. ⌜ span-of x ≡ span-at k r (now (spans .entry)) component ⌝ }
+{
+    let i = component as usize;
+    if k <= i {
+        return Span { from: 0, to: r };
+    }
+    Span {
+        from: place(spans[i * 2]),
+        to: place(spans[i * 2 + 1]),
+    }
+}
+
+// The lowest row of the table, from 0, that divides the monomial; r if none does.
+pub fn lowest(heads: &[u16], r: usize, spans: &[u16], k: usize, m: Monomial) -> usize
+    requires { ⌜ (r * 10 ≤ length (now heads)) × (k * 2 ≤ length (now spans)) × Small r (now heads) × Spanned k r (now spans) (now heads) ⌝ }
+    ensures { λ x. ⌜ x ≡ first-dividing (monomial-of m) (rows (now (heads .entry)) 0 r) 0 ⌝ }
+{
+    let component = m.component;
+    let e = m.exponents;
+    let s = span_for(spans, k, r, component);
+    let w = orders::widened(e);
+    let j = first_in(heads, s.from, s.to, component, w);
+    if j < s.to {
+        return j;
+    }
+    r
+}
+
+// The reducer rule.
+pub fn reducer_of(heads: &[u16], r: usize, spans: &[u16], k: usize, p: u16, t: Term) -> Found
+    requires { ⌜ (0 < p) × (r * 10 ≤ length (now heads)) × (k * 2 ≤ length (now spans)) × Small r (now heads) × Spanned k r (now spans) (now heads) ⌝ }
+    ensures { λ x. ⌜ answer-of x ≡ answer-definition p (rows (now (heads .entry)) 0 r) (term-of t) ⌝ }
+{
+    let m = t.monomial;
+    let j = lowest(heads, r, spans, k, m);
+    if j == r {
+        return Found {
+            answer: Answer::LowerOrder,
+            quotient: [0; 8],
+        };
+    }
+    let h = terms::row(heads, j);
+    let c = field::times(t.coefficient, h.coefficient, p);
+    let n = h.monomial;
+    let quotient = m.quotient(n);
+    Found {
+        answer: Answer::Reducer(j + 1, c),
+        quotient,
+    }
+}
+
+// Whether no row divides.
+pub fn lower_order(heads: &[u16], r: usize, spans: &[u16], k: usize, p: u16, m: Monomial) -> bool
+    requires { ⌜ (r * 10 ≤ length (now heads)) × (k * 2 ≤ length (now spans)) × Small r (now heads) × Spanned k r (now spans) (now heads) ⌝ }
+    ensures { λ x. ⌜ x ≡ lower-order? (answer-definition p (rows (now (heads .entry)) 0 r) (1, monomial-of m)) ⌝ }
+{
+    lowest(heads, r, spans, k, m) == r
+}
+
+// Row i times c and q, with 13's test.
+pub fn multiplied(s: &[u16], i: usize, c: u16, q: [u8; 8], p: u16) -> Multiple
+    requires { ⌜ (0 < p) × (i * 10 + 10 ≤ length (now s)) ⌝ }
+    ensures { λ x. ⌜ multiple-of x ≡ formed-term (multiple-definition p c q (row-at (now (s .entry)) i)) ⌝ }
+{
+    let t = terms::row(s, i);
+    let x = field::times(c, t.coefficient, p);
+    let m = t.monomial;
+    let y = m.product(q);
+    let fits = y.fits;
+    let n = y.monomial;
+    Multiple {
+        fits,
+        term: Term {
+            coefficient: x,
+            monomial: n,
+        },
+    }
+}
