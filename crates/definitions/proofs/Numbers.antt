@@ -26,22 +26,25 @@ use Rattle.definitions.specs.State.{State, up-to}
 use Rattle.definitions.specs.Calls.{read, lift}
 use Rattle.definitions.proofs.Tests.{between-low, between-high, between-shown}
 
--- a refusal's number passes the test
+-- a refusal's number passes the test; only 9 leaves a value
 pub data Numbered {A : Type 0} (ok : ℕ → Bool) : Result A → Type 0 where
   gives : {a : A} → Numbered ok (done a)
-  refuses : {number place : ℕ} {value : Vector} → T (ok number) → Numbered ok (refused number place value)
+  refuses : {number place : ℕ} → T (ok number) → Numbered ok (refused number place [])
+  stops : {place : ℕ} {value : Vector} → T (ok 9) → Numbered ok (refused 9 place value)
   open-yet : Numbered ok unfinished
 
 -- one after the other
 pub numbered-then : {A B : Type 0} {ok : ℕ → Bool} {x : Result A} {f : A → Result B} → Numbered ok x → ((a : A) → Numbered ok (f a)) → Numbered ok (x >>= f)
 numbered-then (gives {a}) k = k a
 numbered-then (refuses h) k = refuses h
+numbered-then (stops h) k = stops h
 numbered-then open-yet k = open-yet
 
 -- a wider test
 pub numbered-more : {A : Type 0} {ok more : ℕ → Bool} {x : Result A} → ((n : ℕ) → T (ok n) → T (more n)) → Numbered ok x → Numbered more x
 numbered-more w gives = gives
 numbered-more w (refuses {number} h) = refuses (w number h)
+numbered-more w (stops h) = stops (w 9 h)
 numbered-more w open-yet = open-yet
 
 -- "13 to 15 where the run meets them"
@@ -109,7 +112,7 @@ reduced-number S W r j c q =
     (λ v. numbered-then (add-products-number (S .reduction) (W .drops) c q (vector-of (S .family) j) (r .value)) (λ w. gives))
 
 without-reducer-number : (b : Bool) (S : Stage) (r : Run.Run) (i : ℕ) → Numbered (stop-number? b) (without-reducer b S r i)
-without-reducer-number true S r i = refuses tt
+without-reducer-number true S r i = stops tt
 without-reducer-number false S r i = gives
 
 by-answer-number : (S : Stage) (W : Strategy) (r : Run.Run) (i : ℕ) (a : Answer) → Numbered (stop-number? (W .stops)) (by-answer S W r i a)
@@ -124,6 +127,7 @@ continued-number : (S : Stage) (ok : ℕ → Bool) (go : Run.Run → Result Vect
 continued-number S ok go h (gives {a = on r}) = h r
 continued-number S ok go h (gives {a = end v}) = gives
 continued-number S ok go h (refuses k) = refuses k
+continued-number S ok go h (stops k) = stops k
 continued-number S ok go h open-yet = open-yet
 
 runs-number : (S : Stage) (W : Strategy) (n : ℕ) (r : Run.Run) → Numbered (stop-number? (W .stops)) (runs S W n r)
@@ -227,6 +231,7 @@ lift-level-number lim p code below way n =
 at-frame-term-number : {ok : ℕ → Bool} (i : ℕ) {r : Result Vector} → Numbered ok r → Numbered ok (at-frame-term i r)
 at-frame-term-number i gives = gives
 at-frame-term-number i (refuses h) = refuses h
+at-frame-term-number i (stops h) = stops h
 at-frame-term-number i open-yet = open-yet
 
 accept-from-number : (S : Stage) (n i : ℕ) (ms : List Monomial) → Numbered run-number? (accept-from S n i ms)
@@ -303,6 +308,7 @@ read-number lim n bytes =
 at-level-number : {A : Type 0} {ok : ℕ → Bool} (k : ℕ) {r : Result A} → Numbered ok r → Numbered ok (at-level k r)
 at-level-number k gives = gives
 at-level-number k (refuses h) = refuses h
+at-level-number k (stops h) = stops h
 at-level-number k open-yet = open-yet
 
 pub lift-number : (lim : Limits) (n : ℕ) (X : State) (k : ℕ) (way : Lifting) → Numbered limit-number? (lift lim n X k way)

@@ -2,7 +2,7 @@
 use mathlib.Core.Path.{_≡_, refl, sym, ap, _∙_, subst}
 use mathlib.Core.Bool.{Bool, true, false, not, _||_}
 use mathlib.Core.Option.{Option, none, some, Option·some-injective}
-use mathlib.Core.List.{_++_, append-nil}
+use mathlib.Core.List.{[], _++_, append-nil}
 use Prim.Native.Nat.{ℕ, zero, _+_, _-_, _≤_}
 use native.Mathlib.Omega.{arith}
 use lib.Dec.{T, leb, eqb, leb→le, eqb→eq}
@@ -17,7 +17,7 @@ use Rattle.definitions.specs.State.{State, empty}
 use Rattle.definitions.specs.Calls.{Reply, refuse, settled, read, lift, fetch, eleven?, lifts?, fetches?, read-reply, lift-reply, fetch-reply}
 use Rattle.definitions.specs.Layout.{Words, padded, zeros, rows-place, state-words, encode, state-after, rows-after, cache-after, meant, Way, division, lifting-by, work-words, out-words, long-enough?, Read, read-left, read-call, Lift, lift-left, lift-call, fetch-call}
 use Rattle.definitions.proofs.Tests.{and-left}
-use Rattle.definitions.proofs.Numbers.{Numbered, gives, refuses, open-yet, limit-number?, read-number?, numbered-more, read-number, lift-number}
+use Rattle.definitions.proofs.Numbers.{Numbered, gives, refuses, stops, open-yet, limit-number?, read-number?, numbered-more, read-number, lift-number}
 
 -- the numbers after which nothing has changed
 abbrev pub keeps? : ℕ → Bool
@@ -62,7 +62,8 @@ Fair-or-none lim (some a) = Fair lim a
 
 settled-fair : (lim : Limits) (r : Result State) → Numbered read-number? r → Fair-or-none lim (settled r)
 settled-fair lim r gives = record { kept = λ h. absurd h; emptied = λ h. absurd h }
-settled-fair lim r (refuses {number} {value = v} h) = record { kept = λ k. absurd (never-both number h k); emptied = λ k. (refl, (v, refl)) }
+settled-fair lim r (refuses {number} h) = record { kept = λ k. absurd (never-both number h k); emptied = λ k. (refl, ([], refl)) }
+settled-fair lim r (stops {value = v} h) = record { kept = λ k. absurd (never-both 9 h k); emptied = λ k. (refl, (v, refl)) }
 settled-fair lim r open-yet = tt
 
 limit-read : (n : ℕ) → T (limit-number? n) → T (read-number? n)

@@ -1,0 +1,13 @@
+pub mod Laws
+pub mod Vec
+pub mod Induced
+pub mod Syzygy
+pub mod Reckon
+pub mod Canon
+pub mod Runs
+pub mod Trees
+pub mod Stage
+pub mod Orders
+pub mod Modular
+pub mod Division
+pub mod Frames
