@@ -64,7 +64,7 @@ pub fn work_words(limits: &Limits, way: Option<Way>) -> usize {
         Some(Way::Tree) => limits.tree as usize,
         _ => limits.working as usize,
     };
-    ROW * (limits.vector as usize + rows)
+    ROW * rows
 }
 
 /// The words a buffer for a fetched vector needs.

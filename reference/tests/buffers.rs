@@ -27,10 +27,10 @@ const PRINTED: [&str; 6] = [
 fn lengths_of_document_01() {
     let limits = Limits::document_01();
     assert_eq!(state_words(&limits), 206_095);
-    assert_eq!(work_words(&limits, None), 10_240);
-    assert_eq!(work_words(&limits, Some(Way::Division)), 10_240);
-    assert_eq!(work_words(&limits, Some(Way::Hybrid(1))), 10_240);
-    assert_eq!(work_words(&limits, Some(Way::Tree)), 46_080);
+    assert_eq!(work_words(&limits, None), 5_120);
+    assert_eq!(work_words(&limits, Some(Way::Division)), 5_120);
+    assert_eq!(work_words(&limits, Some(Way::Hybrid(1))), 5_120);
+    assert_eq!(work_words(&limits, Some(Way::Tree)), 40_960);
     assert_eq!(out_words(&limits), 5_120);
     let layout = Layout::new(&limits);
     for k in 0..10 {
@@ -44,7 +44,7 @@ fn lengths_of_document_01() {
 fn the_printed_example_word_by_word() {
     let limits = Limits::document_01();
     let mut state = vec![9; 206_100];
-    let mut work = vec![9; 46_081];
+    let mut work = vec![9; 40_961];
     let mut cache = vec![9; 47];
     let mut out = vec![9; 5_121];
     assert_eq!(
@@ -93,7 +93,7 @@ fn the_printed_example_word_by_word() {
 fn nine_leaves_its_value_in_work() {
     let limits = Limits::document_01();
     let mut state = vec![9; 206_095];
-    let mut work = vec![9; 10_240];
+    let mut work = vec![9; 5_120];
     let lines = [
         "R,7,2,1,1",
         "T,1,1,1,2,0",
@@ -114,10 +114,10 @@ fn nine_leaves_its_value_in_work() {
 fn sixteen_comes_first_and_changes_nothing() {
     let limits = Limits::document_01();
     let mut good = vec![0; 206_095];
-    let mut work = vec![0; 46_080];
+    let mut work = vec![0; 40_960];
     read_call(&limits, &file(&PRINTED), &mut good, &mut work);
     // a bad file, a level that is not complete, wrong numbers: 16 all the same
-    for (state_length, work_length) in [(206_094, 46_080), (206_095, 10_239), (0, 0)] {
+    for (state_length, work_length) in [(206_094, 40_960), (206_095, 5_119), (0, 0)] {
         let mut state = good[..state_length].to_vec();
         let mut work = vec![5; work_length];
         let before = (state.clone(), work.clone());
@@ -127,7 +127,7 @@ fn sixteen_comes_first_and_changes_nothing() {
         assert!((state, work) == before);
     }
     let mut state = good.clone();
-    let mut work = vec![5; 46_079];
+    let mut work = vec![5; 40_959];
     let mut cache = vec![5; 100];
     assert_eq!(
         lift_call(&limits, &mut state, 1, Way::Tree, &mut work, &mut cache),
@@ -153,7 +153,7 @@ fn sixteen_comes_first_and_changes_nothing() {
     assert_eq!(fetch_call(&limits, &state, 1, 2, &mut out), (12, 0));
     assert_eq!(fetch_call(&limits, &state, 2, 1, &mut out), (11, 0));
     assert!(out.iter().all(|word| *word == 5));
-    let mut work = vec![5; 10_240];
+    let mut work = vec![5; 5_120];
     for (level, way, number) in [(3, Way::Division, 11), (1, Way::Hybrid(0), 12)] {
         let before = state.clone();
         let refused = lift_call(&limits, &mut state, level, way, &mut work, &mut cache);
@@ -580,7 +580,7 @@ fn garbage_states_of_full_length() {
     let mut random = Random::new(44);
     let limits = Limits::document_01();
     let mut good = vec![0; 206_095];
-    let mut work = vec![0; 46_080];
+    let mut work = vec![0; 40_960];
     let lines = [
         "R,7,3,1,1",
         "T,1,1,1,1,0,0",

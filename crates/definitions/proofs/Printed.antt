@@ -217,7 +217,7 @@ by-code-2 = refl
 
 -- ## The lengths and places of docs/BUFFERS.md
 
-lengths-of-buffers : (state-words document-01 ≡ 206_095) × (work-words document-01 division ≡ 10_240) × (work-words document-01 tree ≡ 46_080) × (out-words document-01 ≡ 5_120)
+lengths-of-buffers : (state-words document-01 ≡ 206_095) × (work-words document-01 division ≡ 5_120) × (work-words document-01 tree ≡ 40_960) × (out-words document-01 ≡ 5_120)
 lengths-of-buffers = (refl, refl, refl, refl)
 
 places-of-level-9 : (count-place document-01 9 ≡ 5 + 129 * 9) × (rows-place document-01 9 ≡ 1_295 + 20_480 * 9)

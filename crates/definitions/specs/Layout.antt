@@ -172,11 +172,11 @@ lifting-by division cache = by-division
 lifting-by (hybrid pick) cache = by-hybrid pick
 lifting-by tree cache = by-tree (length cache / 10)
 
--- the work area has the vector, then the working value or the tree's area
+-- the work area is that of the working value, or the tree's
 abbrev pub work-words : Limits → Way → ℕ
-work-words lim division = (lim .vector + lim .working) * 10
-work-words lim (hybrid pick) = (lim .vector + lim .working) * 10
-work-words lim tree = (lim .vector + lim .tree) * 10
+work-words lim division = lim .working * 10
+work-words lim (hybrid pick) = lim .working * 10
+work-words lim tree = lim .tree * 10
 
 abbrev pub out-words : Limits → ℕ
 out-words lim = lim .vector * 10

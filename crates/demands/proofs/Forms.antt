@@ -57,7 +57,7 @@ module _ (lim : Limits) (o : T (sensible? lim)) where
   value-room file state work t (ill-formed e b) = omega arith
   value-room file state work t (limit-met e l) = omega arith
   value-room file state work t (no-basis {q} {value = value} e i s) =
-      let r : (lim .vector + lim .working) * 10 ≤ length work = long-work division state work t in
+      let r : lim .working * 10 ≤ length work = long-work division state work t in
       rows-room q (q .s) (lim .working) value (s .sound) (s .short) work (omega arith)
 
   pub read-form : (n : ℕ) (file : Bytes) (state work : Words) → Holds (Read-form lim file state work) (read-call lim n file state work)
