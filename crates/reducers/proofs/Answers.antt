@@ -5,14 +5,16 @@ use mathlib.Core.Option.{Option, none, some}
 use mathlib.Core.List.{[], _∷_}
 use Prim.Native.Nat.{ℕ, suc, _+_, _-_, _<_, _≤_}
 use native.Mathlib.Omega.{arith}
-use lib.Dec.{leb, ltb, eqb}
+use lib.Dec.{T, ltb}
 use lib.ListN.{length, getD}
-use borrow.Author.Tests.{eq-eqb, ne-eqb}
+use borrow.Author.Tests.{ltb-true, ltb-false, lt-ltb, le-ltb}
 use Rattle.definitions.specs.Lists.{choose}
 use Rattle.definitions.specs.Field.{times}
 use Rattle.definitions.specs.Monomial.{Exponents, Monomial, Term, Vector, divides-monomial?, quotient, no-term, fits?}
-use Rattle.definitions.specs.Reducer.{Answer, reducer, lower-order, lower-order?, answer-from}
-use Rattle.reducers.specs.Search.{first-dividing, formed-term}
+use Rattle.definitions.specs.Reducer.{Answer, reducer, lower-order, answer-from}
+use Rattle.reducers.specs.declared.Answer as code
+use Rattle.reducers.specs.declared.Answer.the-variants.{Reducer, LowerOrder}
+use Rattle.reducers.specs.Search.{searched, searched-at, first-dividing, formed-term}
 
 abbrev answer-at : ℕ → ℕ → Vector → Term → ℕ → Answer
 answer-at p k v t j = reducer (k + j) (times p (t .0) (getD v j no-term .0)) (quotient (t .1 .0) (getD v j no-term .1 .0))
@@ -63,13 +65,73 @@ answer-one p v t j e q = ap (answer-at p 1 v t) e ∙ to-reducer (answered-by p 
 pub found-inside : (p : ℕ) (v : Vector) (t : Term) (j : ℕ) → j ≡ first-dividing (t .1) v 0 → (j ≡ length v → ⊥) → j < length v
 found-inside p v t j e q = subst (λ n. n < length v) (sym e) (to-inside (answered-by p 1 v t 0) (λ x. q (e ∙ x)))
 
--- the test alone
-pub lower-tested : (p : ℕ) (v : Vector) (m : Monomial) (j : ℕ) → j ≡ first-dividing m v 0 → eqb j (length v) ≡ lower-order? (answer-from p 1 v (1, m))
-lower-tested p v m j e = ap (λ n. eqb n (length v)) e ∙ go (answered-by p 1 v (1, m) 0)
+-- ## What the search gives
+
+abbrev element : code.Answer → ℕ
+element (Reducer j h) = j
+element LowerOrder = 0
+
+abbrev head-of : code.Answer → ℕ
+head-of (Reducer j h) = h
+head-of LowerOrder = 0
+
+abbrev found? : code.Answer → Bool
+found? (Reducer j h) = true
+found? LowerOrder = false
+
+first-within : (p : ℕ) (v : Vector) (t : Term) → first-dividing (t .1) v 0 ≤ length v
+first-within p v t = go (answered-by p 1 v t 0)
   where
-    go : {n : ℕ} {x : Answer} → Answered p 1 v (1, m) 0 n x → eqb n (length v) ≡ lower-order? x
-    go {n} (none-divides q) = eq-eqb n (length v) (omega arith)
-    go {n} (one-divides l q f) = ne-eqb n (length v) (λ z. omega arith) ∙ sym (ap lower-order? f)
+    go : {j : ℕ} {x : Answer} → Answered p 1 v t 0 j x → j ≤ length v
+    go (none-divides e) = omega arith
+    go (one-divides l m e) = omega arith
+
+pub searched-none : (v : Vector) (m : Monomial) (j : ℕ) → j ≡ first-dividing m v 0 → j ≡ length v → LowerOrder ≡ searched v m
+searched-none v m j e q = sym (ap (searched-at v) (sym e) ∙ ap (λ b. choose b (Reducer (suc j) (getD v j no-term .0)) LowerOrder) (le-ltb j (length v) (omega arith)))
+
+pub searched-one : (v : Vector) (m : Monomial) (j : ℕ) → j ≡ first-dividing m v 0 → j < length v → Reducer (j + 1) (getD v j no-term .0) ≡ searched v m
+searched-one v m j e l =
+    let z : j + 1 ≡ suc j = omega arith in
+    ap (λ n. Reducer n (getD v j no-term .0)) z ∙ sym (ap (searched-at v) (sym e) ∙ ap (λ b. choose b (Reducer (suc j) (getD v j no-term .0)) LowerOrder) (lt-ltb j (length v) l))
+
+-- none: of lower order, whatever the coefficient
+pub searched-lower : (p : ℕ) (v : Vector) (t : Term) → LowerOrder ≡ searched v (t .1) → lower-order ≡ answer-from p 1 v t
+searched-lower p v t e = go (ltb (first-dividing (t .1) v 0) (length v)) refl e
+  where
+    j : ℕ
+    j = first-dividing (t .1) v 0
+
+    go : (b : Bool) → ltb j (length v) ≡ b → LowerOrder ≡ choose b (Reducer (suc j) (getD v j no-term .0)) LowerOrder → lower-order ≡ answer-from p 1 v t
+    go true q f = absurd (subst (λ x. T (found? x)) (sym f) tt)
+    go false q f = let n : length v ≤ j = ltb-false j (length v) q in answer-none p v t j refl (omega (arith, first-within p v t))
+
+-- element j, whose row has the coefficient h
+pub record Is-reducer (p : ℕ) (v : Vector) (t : Term) (j h : ℕ) : Type 0 where
+  pub from : 1 ≤ j
+  pub inside : j - 1 < length v
+  pub head : h ≡ getD v (j - 1) no-term .0
+  pub answers : reducer j (times p (t .0) h) (quotient (t .1 .0) (getD v (j - 1) no-term .1 .0)) ≡ answer-from p 1 v t
+
+pub searched-reducer : (p : ℕ) (v : Vector) (t : Term) (j h : ℕ) → Reducer j h ≡ searched v (t .1) → Is-reducer p v t j h
+searched-reducer p v t j h e = go (ltb k (length v)) refl e
+  where
+    k : ℕ
+    k = first-dividing (t .1) v 0
+
+    go : (b : Bool) → ltb k (length v) ≡ b → Reducer j h ≡ choose b (Reducer (suc k) (getD v k no-term .0)) LowerOrder → Is-reducer p v t j h
+    go false q f = absurd (subst (λ x. T (found? x)) f tt)
+    go true q f =
+        let n : k < length v = ltb-true k (length v) q in
+        let x : j ≡ suc k = ap element f in
+        let y : h ≡ getD v k no-term .0 = ap head-of f in
+        let z : j - 1 ≡ k = omega arith in
+        let w : j ≡ 1 + k = omega arith in
+        record {
+          from = omega arith;
+          inside = omega arith;
+          head = y ∙ ap (λ i. getD v i no-term .0) (sym z);
+          answers = (λ i. reducer (w i) (times p (t .0) (y i)) (quotient (t .1 .0) (getD v (z i) no-term .1 .0))) ∙ answer-one p v t k refl (λ m. omega arith);
+        }
 
 -- ## A product with its coefficient
 

@@ -4,10 +4,10 @@ use mathlib.Core.Bool.{Bool, true, false}
 use mathlib.Core.Option.{Option, none, some}
 use mathlib.Core.List.{[], _∷_}
 use Prim.Native.Nat.{ℕ, zero, suc, _+_, _*_, _<_, _≤_}
-use lib.Dec.{leb}
-use lib.ListN.{getD}
+use lib.Dec.{leb, ltb}
+use lib.ListN.{length, getD}
 use Rattle.definitions.specs.Lists.{choose}
-use Rattle.definitions.specs.Monomial.{Exponents, Monomial, Term, Vector, divides-monomial?, fits?}
+use Rattle.definitions.specs.Monomial.{Exponents, Monomial, Term, Vector, divides-monomial?, fits?, no-term}
 use Rattle.definitions.specs.Reducer as definition
 use Rattle.definitions.specs.Reducer.{reducer, lower-order}
 use Rattle.definitions.specs.Layout.{Words}
@@ -50,6 +50,13 @@ abbrev pub Spanned : ℕ → ℕ → Words → Words → Type 0
 Spanned k r spans heads = (i : ℕ) → i < k → (getD spans (i * 2 + 1) 0 ≤ r) × ((j : ℕ) → j < r → getD heads (j * 10 + 1) 0 ≡ i → (getD spans (i * 2) 0 ≤ j) × (j < getD spans (i * 2 + 1) 0))
 
 -- ## Answers
+
+abbrev pub searched-at : Vector → ℕ → Answer
+searched-at hs j = choose (ltb j (length hs)) (Reducer (suc j) (getD hs j no-term .0)) LowerOrder
+
+-- the lowest number, from 1, of a head that divides, and that head's coefficient
+abbrev pub searched : Vector → Monomial → Answer
+searched hs m = searched-at hs (first-dividing m hs 0)
 
 abbrev pub answered : Answer → Exponents → definition.Answer
 answered (Reducer j c) q = reducer j c q

@@ -4,13 +4,13 @@ ghost use mathlib.Core.Path.{_≡_};
 ghost use Prim.Native.Nat.{_+_, _-_, _*_, _≤_, _<_};
 ghost use lib.ListN.{length};
 ghost use Rattle.definitions.specs.Monomial.{divides?, divides-monomial?};
-ghost use Rattle.definitions.specs.Reducer.{answer as answer-definition, lower-order?};
+ghost use Rattle.definitions.specs.Reducer.{answer as answer-definition};
 ghost use Rattle.definitions.specs.Run.{multiple as multiple-definition};
 ghost use Rattle.definitions.specs.Layout.{row-at, rows};
 ghost use Rattle.monomial.specs.Values.{monomial-of};
 ghost use Rattle.orders.specs.Images.{exponents-raw};
 ghost use Rattle.terms.specs.Rows.{term-of};
-ghost use Rattle.reducers.specs.Search.{head-raw, first-from, first-dividing, span-at, span-of, Small, Spanned, answer-of, formed-term, multiple-of};
+ghost use Rattle.reducers.specs.Search.{head-raw, first-from, first-dividing, span-at, span-of, Small, Spanned, searched, answer-of, formed-term, multiple-of};
 use monomial::Monomial;
 use terms::Term;
 
@@ -112,35 +112,39 @@ pub fn lowest(heads: &[u16], r: usize, spans: &[u16], k: usize, m: Monomial) -> 
     r
 }
 
+// The lowest element whose leading monomial divides, with its row's coefficient.
+pub fn search(heads: &[u16], r: usize, spans: &[u16], k: usize, m: Monomial) -> Answer
+    requires { ⌜ (r * 10 ≤ length (now heads)) × (k * 2 ≤ length (now spans)) × Small r (now heads) × Spanned k r (now spans) (now heads) ⌝ }
+    ensures { λ x. ⌜ x ≡ searched (rows (now (heads .entry)) 0 r) (monomial-of m) ⌝ }
+{
+    let j = lowest(heads, r, spans, k, m);
+    if j == r {
+        return Answer::LowerOrder;
+    }
+    Answer::Reducer(j + 1, heads[j * 10])
+}
+
 // The reducer rule.
 pub fn reducer_of(heads: &[u16], r: usize, spans: &[u16], k: usize, p: u16, t: Term) -> Found
     requires { ⌜ (0 < p) × (r * 10 ≤ length (now heads)) × (k * 2 ≤ length (now spans)) × Small r (now heads) × Spanned k r (now spans) (now heads) ⌝ }
     ensures { λ x. ⌜ answer-of x ≡ answer-definition p (rows (now (heads .entry)) 0 r) (term-of t) ⌝ }
 {
     let m = t.monomial;
-    let j = lowest(heads, r, spans, k, m);
-    if j == r {
+    let found = search(heads, r, spans, k, m);
+    let Answer::Reducer(j, h) = found else {
         return Found {
             answer: Answer::LowerOrder,
             quotient: [0; 8],
         };
-    }
-    let h = terms::row(heads, j);
-    let c = field::times(t.coefficient, h.coefficient, p);
-    let n = h.monomial;
+    };
+    let u = terms::row(heads, j - 1);
+    let n = u.monomial;
+    let c = field::times(t.coefficient, h, p);
     let quotient = m.quotient(n);
     Found {
-        answer: Answer::Reducer(j + 1, c),
+        answer: Answer::Reducer(j, c),
         quotient,
     }
-}
-
-// Whether no row divides.
-pub fn lower_order(heads: &[u16], r: usize, spans: &[u16], k: usize, p: u16, m: Monomial) -> bool
-    requires { ⌜ (r * 10 ≤ length (now heads)) × (k * 2 ≤ length (now spans)) × Small r (now heads) × Spanned k r (now spans) (now heads) ⌝ }
-    ensures { λ x. ⌜ x ≡ lower-order? (answer-definition p (rows (now (heads .entry)) 0 r) (1, monomial-of m)) ⌝ }
-{
-    lowest(heads, r, spans, k, m) == r
 }
 
 // Row i times c and q, with 13's test.
