@@ -1,0 +1,66 @@
+-- What the lent slices and the ground mean: the reduction, the stage and the run of the definitions.
+use mathlib.Core.Path.{_≡_}
+use mathlib.Core.Bool.{Bool, true}
+use mathlib.Core.List.{[], _∷_}
+use Prim.Native.Nat.{ℕ, _+_, _*_, _<_, _≤_}
+use lib.Dec.{eqb}
+use lib.ListN.{length, getD, take}
+use Rattle.definitions.specs.Limits.{Limits, document-01}
+use Rattle.definitions.specs.Monomial.{Vector, Level}
+use Rattle.definitions.specs.Result.{Result, done, refused, refusal}
+use Rattle.definitions.specs.Stage.{Reduction, Stage}
+use Rattle.definitions.specs.Run as definition
+use Rattle.definitions.specs.Run.{Run, by-code}
+use Rattle.definitions.specs.Layout.{Words, rows, vectors-at}
+use Rattle.orders.specs.Images.{table-of, table-order, Tabled}
+use Rattle.reducers.specs.Search.{Small, Spanned}
+use Rattle.reduce.specs.declared.Ground.{Ground}
+use Rattle.reduce.specs.declared.Added.{Added}
+use Rattle.reduce.specs.declared.Added.the-variants.{Rows, Refused}
+use Rattle.reduce.specs.declared.Strategy.{Strategy}
+
+-- document 01's limits, but for those that the ground names
+abbrev pub limits-of : Ground → Limits
+limits-of g = record {
+  prime-bound = document-01 .prime-bound;
+  variables = document-01 .variables;
+  components = document-01 .components;
+  elements = document-01 .elements;
+  exponent = 255;
+  t-lines = document-01 .t-lines;
+  file = document-01 .file;
+  field = document-01 .field;
+  vectors = document-01 .vectors;
+  level-terms = g .room;
+  levels = document-01 .levels;
+  working = g .working;
+  vector = g .vector;
+  tree = g .tree;
+  numbering = document-01 .numbering;
+}
+
+-- the heads' rows
+abbrev pub reduction-of : Ground → Words → Reduction
+reduction-of g heads = record { limits = limits-of g; p = g .p; heads = rows heads 0 (g .r) }
+
+-- f_1 .. f_r
+abbrev pub family-of : Ground → Words → Words → Level
+family-of g level ends = vectors-at level 0 (take (g .r) ends)
+
+-- what the tables must be
+pub record Tables (g : Ground) (heads spans : Words) : Type 0 where
+  pub prime : 0 < g .p
+  pub heads-fit : g .r * 10 ≤ length heads
+  pub spans-fit : g .components * 2 ≤ length spans
+  pub small : Small (g .r) heads
+  pub spanned : Spanned (g .components) (g .r) spans heads
+
+-- ## Answers
+
+abbrev pub added-of : Added → Words → Result Vector
+added-of (Rows n) s = done (rows s 0 n)
+added-of (Refused number) s = refusal number
+
+abbrev pub Within : ℕ → Added → Type 0
+Within limit (Rows n) = n ≤ limit
+Within limit (Refused number) = Unit {0}
