@@ -2,7 +2,7 @@
 use mathlib.Core.Path.{_≡_}
 use mathlib.Core.Bool.{Bool, true}
 use mathlib.Core.List.{[], _∷_}
-use Prim.Native.Nat.{ℕ, _+_, _*_, _<_, _≤_}
+use Prim.Native.Nat.{ℕ, zero, suc, _+_, _*_, _<_, _≤_}
 use lib.Dec.{eqb}
 use lib.ListN.{length, getD, take}
 use Rattle.definitions.specs.Limits.{Limits, document-01}
@@ -12,12 +12,15 @@ use Rattle.definitions.specs.Stage.{Reduction, Stage}
 use Rattle.definitions.specs.Run as definition
 use Rattle.definitions.specs.Run.{Run, by-code}
 use Rattle.definitions.specs.Layout.{Words, rows, vectors-at}
-use Rattle.orders.specs.Images.{table-of, table-order, Tabled}
+use Rattle.definitions.specs.Lists.{choose}
+use Rattle.definitions.specs.Order.{greater?}
+use Rattle.orders.specs.Images.{table-of, table-order, Tabled, Key, key-of, compare-keys}
 use Rattle.reducers.specs.Search.{Small, Spanned}
 use Rattle.reduce.specs.declared.Ground.{Ground}
 use Rattle.reduce.specs.declared.Added.{Added}
 use Rattle.reduce.specs.declared.Added.the-variants.{Rows, Refused}
 use Rattle.reduce.specs.declared.Strategy.{Strategy}
+use Rattle.reduce.specs.declared.Best.{Best}
 
 -- document 01's limits, but for those that the ground names
 abbrev pub limits-of : Ground → Limits
@@ -64,3 +67,25 @@ added-of (Refused number) s = refusal number
 abbrev pub Within : ℕ → Added → Type 0
 Within limit (Rows n) = n ≤ limit
 Within limit (Refused number) = Unit {0}
+
+-- ## A level's vectors
+
+-- every vector ends within the rows
+pub record Family (g : Ground) (level ends : Words) : Type 0 where
+  pub ends-fit : g .r ≤ length ends
+  pub rows-fit : (j : ℕ) → j < g .r → getD ends j 0 * 10 ≤ length level
+
+-- the first row of vector j, counted from 1: the end of the one before it
+abbrev pub first-row : Words → ℕ → ℕ
+first-row ends zero = 0
+first-row ends (suc zero) = 0
+first-row ends (suc (suc j)) = getD ends j 0
+
+-- ## Picks
+
+-- a place, and the key of the monomial there
+abbrev pub best-of : Best → ℕ × Key
+best-of b = (b .place, key-of (b .image))
+
+abbrev pub better-key : ℕ → ℕ × Key → ℕ → Key → ℕ × Key
+better-key code best i k = choose (greater? (compare-keys code k (best .1))) (i, k) best

@@ -6,13 +6,14 @@ ghost use Prim.Native.Nat.{_+_, _-_, _*_, _≤_, _<_};
 ghost use lib.ListN.{length};
 ghost use Rattle.definitions.specs.Monomial.{vector-of};
 ghost use Rattle.definitions.specs.Vectors.{store};
-ghost use Rattle.definitions.specs.Run.{add-term, unless-dropped, dropped?, add-products, multiple, by-code, greatest, step as step-definition};
-ghost use Rattle.definitions.specs.Layout.{row-at, rows, vectors-at};
-ghost use Rattle.orders.specs.Images.{table-of, table-order, Tabled};
+ghost use Rattle.definitions.specs.Run.{add-term, unless-dropped, dropped?, add-products, multiple, by-code, greatest as greatest-definition};
+ghost use Rattle.definitions.specs.Order.{greater?};
+ghost use Rattle.definitions.specs.Layout.{row-at, rows};
+ghost use Rattle.orders.specs.Images.{comparison-of, key, key-of, table-of, table-order, Tabled};
 ghost use Rattle.terms.specs.Rows.{term-of};
-ghost use Rattle.reduce.specs.Grounds.{reduction-of, Tables, added-of, Within};
+ghost use Rattle.reduce.specs.Grounds.{reduction-of, Tables, Family, family-of, first-row, added-of, Within, best-of, better-key};
 use monomial::Monomial;
-use orders::Image;
+use orders::{Comparison, Image};
 use reducers::Answer;
 use sums::Stored;
 use terms::Term;
@@ -43,12 +44,18 @@ pub struct Strategy {
     pub stops: bool,
 }
 
-// The rows of value and vector after a step; or the end, a refusal's number, or the value that has no reducer.
+// The rows of value and vector after a step; the vector's at the end; a refusal's number; the value's where its picked term has no reducer.
 pub enum Step {
     On(usize, usize),
-    End,
+    End(usize),
     Refused(u16),
-    Stopped,
+    Stopped(usize),
+}
+
+// The greatest term so far: its place and its image.
+pub struct Best {
+    pub place: usize,
+    pub image: Image,
 }
 
 // A term into the value: equal monomials combine in place, a zero sum leaves, else it goes last.
@@ -109,4 +116,96 @@ pub fn add_all(value: &mut [u16], n: usize, level: &[u16], from: usize, to: usiz
         i += 1;
     }
     Added::Rows(k)
+}
+
+fn place(x: u16) -> usize
+    ensures { λ r. ⌜ r ≡ x ⌝ }
+{
+    x as usize
+}
+
+// The first row of vector j.
+fn first_of(ends: &[u16], j: usize) -> usize
+    requires { ⌜ (1 ≤ j) × (j ≤ length (now ends)) ⌝ }
+    ensures { λ r. ⌜ r ≡ first-row (now (ends .entry)) j ⌝ }
+{
+    if j == 1 {
+        return 0;
+    }
+    place(ends[j - 2])
+}
+
+// The products of c·q and the terms of f_j.
+pub fn add_multiple(value: &mut [u16], n: usize, level: &[u16], ends: &[u16], j: usize, c: u16, q: [u8; 8], heads: &[u16], spans: &[u16], g: Ground, drops: bool) -> Added
+    requires { ⌜ Tables g (now heads) (now spans) × Family g (now level) (now ends) × (n ≤ g .working) × (g .working * 10 ≤ length (now value)) × (1 ≤ j) × (j ≤ g .r) ⌝ }
+    ensures { λ x. ⌜ (added-of x (now (value .exit)) ≡ add-products (reduction-of g (now (heads .entry))) drops c q (vector-of (family-of g (now (level .entry)) (now (ends .entry))) j) (rows (now (value .entry)) 0 n)) × Within (g .working) x ⌝ }
+{
+    let from = first_of(ends, j);
+    let to = place(ends[j - 1]);
+    add_all(value, n, level, from, to, c, q, heads, spans, g, drops)
+}
+
+fn image_at(value: &[u16], i: usize, below: &[u16], images: usize) -> Image
+    requires { ⌜ (i * 10 + 10 ≤ length (now value)) × (images * 10 ≤ length (now below)) × Tabled images (now below) ⌝ }
+    ensures { λ k. ⌜ key-of k ≡ key (table-of images (now (below .entry))) (row-at (now (value .entry)) i .1) ⌝ }
+{
+    let t = terms::row(value, i);
+    let m = t.monomial;
+    orders::image_of(below, images, m)
+}
+
+fn is_greater(c: Comparison) -> bool
+    ensures { λ r. ⌜ r ≡ greater? (comparison-of c) ⌝ }
+{
+    match c {
+        Comparison::Greater => true,
+        Comparison::Equal => false,
+        Comparison::Smaller => false,
+    }
+}
+
+// The better of the best so far and the term at place i.
+fn better(code: u16, best: Best, i: usize, image: Image) -> Best
+    ensures { λ r. ⌜ best-of r ≡ better-key code (best-of best) i (key-of image) ⌝ }
+{
+    let old = best.image;
+    let c = orders::compare_images(code, image, old);
+    if is_greater(c) {
+        return Best {
+            place: i,
+            image,
+        };
+    }
+    best
+}
+
+// The place of the greatest of n terms.
+pub fn greatest(value: &[u16], n: usize, code: u16, below: &[u16], images: usize) -> usize
+    requires { ⌜ (0 < n) × (n * 10 ≤ length (now value)) × (images * 10 ≤ length (now below)) × Tabled images (now below) ⌝ }
+    ensures { λ r. ⌜ some r ≡ greatest-definition (table-order code (table-of images (now (below .entry)))) (rows (now (value .entry)) 0 n) ⌝ }
+{
+    let image = image_at(value, 0, below, images);
+    let mut best = Best {
+        place: 0,
+        image,
+    };
+    let mut i = 1;
+    while i < n {
+        let other = image_at(value, i, below, images);
+        best = better(code, best, i, other);
+        i += 1;
+    }
+    best.place
+}
+
+// The place that the pick code says, of n terms.
+pub fn pick(value: &[u16], n: usize, pick: u16, code: u16, below: &[u16], images: usize) -> usize
+    requires { ⌜ (0 < n) × (n * 10 ≤ length (now value)) × (images * 10 ≤ length (now below)) × Tabled images (now below) ⌝ }
+    ensures { λ r. ⌜ some r ≡ by-code (table-order code (table-of images (now (below .entry)))) pick (rows (now (value .entry)) 0 n) ⌝ }
+{
+    match pick {
+        1 => greatest(value, n, code, below, images),
+        2 => n - 1,
+        _ => 0,
+    }
 }
