@@ -55,14 +55,14 @@ module _ (code : ℕ) (T : Table) (s : Words) (n : ℕ) where
           let v : l ≡ m = ap (λ (z : ℕ × Key). z .1) f in
           record {
             image = v ∙ e ∙ ap (λ j. key T (row-at s j .1)) (sym u);
-            left = r .left ∙ ap some (step-from i x h ∙ ap (λ b. greatest-from (table-order code T) (i + 1) (choose b (i, row-at s i .1) (x, row-at s x .1)) (rows s (i + 1) (n - (i + 1)))) (sym same ∙ q) ∙ ap (λ j. greatest-from (table-order code T) (i + 1) (j, row-at s j .1) (rows s (i + 1) (n - (i + 1)))) (sym u))
+            left = r .left ∙ ap some (step-from i x h ∙ ap (λ b. greatest-from (table-order code T) (i + 1) (choose b (i, row-at s i .1) (x, row-at s x .1)) (rows s (i + 1) (n - (i + 1)))) (sym same ∙ q) ∙ ap (λ j. greatest-from (table-order code T) (i + 1) (j, row-at s j .1) (rows s (i + 1) (n - (i + 1)))) (sym u));
           }
       go false q f =
           let u : y ≡ x = ap (λ (z : ℕ × Key). z .0) f in
           let v : l ≡ k = ap (λ (z : ℕ × Key). z .1) f in
           record {
             image = v ∙ r .image ∙ ap (λ j. key T (row-at s j .1)) (sym u);
-            left = r .left ∙ ap some (step-from i x h ∙ ap (λ b. greatest-from (table-order code T) (i + 1) (choose b (i, row-at s i .1) (x, row-at s x .1)) (rows s (i + 1) (n - (i + 1)))) (sym same ∙ q) ∙ ap (λ j. greatest-from (table-order code T) (i + 1) (j, row-at s j .1) (rows s (i + 1) (n - (i + 1)))) (sym u))
+            left = r .left ∙ ap some (step-from i x h ∙ ap (λ b. greatest-from (table-order code T) (i + 1) (choose b (i, row-at s i .1) (x, row-at s x .1)) (rows s (i + 1) (n - (i + 1)))) (sym same ∙ q) ∙ ap (λ j. greatest-from (table-order code T) (i + 1) (j, row-at s j .1) (rows s (i + 1) (n - (i + 1)))) (sym u));
           }
 
   pub running-end : (i x : ℕ) (k : Key) → n ≤ i → Running i x k → some x ≡ greatest (table-order code T) (rows s 0 n)

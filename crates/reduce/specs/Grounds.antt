@@ -19,7 +19,6 @@ use Rattle.reducers.specs.Search.{Small, Spanned}
 use Rattle.reduce.specs.declared.Ground.{Ground}
 use Rattle.reduce.specs.declared.Added.{Added}
 use Rattle.reduce.specs.declared.Added.the-variants.{Rows, Refused}
-use Rattle.reduce.specs.declared.Strategy.{Strategy}
 use Rattle.reduce.specs.declared.Best.{Best}
 
 -- document 01's limits, but for those that the ground names

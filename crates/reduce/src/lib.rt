@@ -13,7 +13,8 @@ ghost use Rattle.orders.specs.Images.{comparison-of, key, key-of, table-of, tab
 ghost use Rattle.terms.specs.Rows.{term-of};
 ghost use Rattle.reduce.specs.Grounds.{reduction-of, Tables, Family, family-of, first-row, added-of, Within, best-of, better-key};
 use monomial::Monomial;
-use orders::{Comparison, Image};
+use orders::Comparison;
+use orders::Image;
 use reducers::Answer;
 use sums::Stored;
 use terms::Term;
@@ -37,40 +38,33 @@ pub enum Added {
     Refused(u16),
 }
 
-// How a run goes: whether products of lower order are dropped, the pick code, whether a term without a reducer ends it.
-pub struct Strategy {
-    pub drops: bool,
-    pub pick: u16,
-    pub stops: bool,
-}
-
-// The rows of value and vector after a step; the vector's at the end; a refusal's number; the value's where its picked term has no reducer.
-pub enum Step {
-    On(usize, usize),
-    End(usize),
-    Refused(u16),
-    Stopped(usize),
-}
-
 // The greatest term so far: its place and its image.
 pub struct Best {
     pub place: usize,
     pub image: Image,
 }
 
-// A term into the value: equal monomials combine in place, a zero sum leaves, else it goes last.
-fn store_term(value: &mut [u16], n: usize, t: Term, g: Ground) -> Added
-    requires { ⌜ (0 < g .p) × (n ≤ g .working) × (g .working * 10 ≤ length (now value)) ⌝ }
-    ensures { λ x. ⌜ (added-of x (now (value .exit)) ≡ store (g .working) (g .p) (term-of t) (rows (now (value .entry)) 0 n)) × Within (g .working) x ⌝ }
+// A term into a sum in the order of arrival: 14 where it is full.
+pub fn store_term(s: &mut [u16], n: usize, limit: usize, p: u16, t: Term) -> Added
+    requires { ⌜ (0 < p) × (n ≤ limit) × (limit * 10 ≤ length (now s)) ⌝ }
+    ensures { λ x. ⌜ (added-of x (now (s .exit)) ≡ store limit p (term-of t) (rows (now (s .entry)) 0 n)) × Within limit x ⌝ }
 {
-    match sums::store(value, n, g.working, g.p, t) {
+    match sums::store(s, n, limit, p, t) {
         Stored::Rows(k) => Added::Rows(k),
         Stored::Full => Added::Refused(14),
     }
 }
 
 // A product that fits, added to the value: one of lower order is dropped where such are.
-fn add_fitting(value: &mut [u16], n: usize, t: Term, heads: &[u16], spans: &[u16], g: Ground, drops: bool) -> Added
+fn add_fitting(
+    value: &mut [u16],
+    n: usize,
+    t: Term,
+    heads: &[u16],
+    spans: &[u16],
+    g: Ground,
+    drops: bool,
+) -> Added
     requires { ⌜ Tables g (now heads) (now spans) × (n ≤ g .working) × (g .working * 10 ≤ length (now value)) ⌝ }
     ensures { λ x. ⌜ (added-of x (now (value .exit)) ≡ unless-dropped (dropped? (reduction-of g (now (heads .entry))) drops (term-of t .1)) (reduction-of g (now (heads .entry))) (term-of t) (rows (now (value .entry)) 0 n)) × Within (g .working) x ⌝ }
 {
@@ -80,13 +74,24 @@ fn add_fitting(value: &mut [u16], n: usize, t: Term, heads: &[u16], spans: &[u16
         let Answer::Reducer(_j, _h) = found else {
             return Added::Rows(n);
         };
-        return store_term(value, n, t, g);
+        return store_term(value, n, g.working, g.p, t);
     }
-    store_term(value, n, t, g)
+    store_term(value, n, g.working, g.p, t)
 }
 
 // The product of c·q and row i, added to the value: 13 before anything else.
-fn add_product(value: &mut [u16], n: usize, level: &[u16], i: usize, c: u16, q: [u8; 8], heads: &[u16], spans: &[u16], g: Ground, drops: bool) -> Added
+fn add_product(
+    value: &mut [u16],
+    n: usize,
+    level: &[u16],
+    i: usize,
+    c: u16,
+    q: [u8; 8],
+    heads: &[u16],
+    spans: &[u16],
+    g: Ground,
+    drops: bool,
+) -> Added
     requires { ⌜ Tables g (now heads) (now spans) × (n ≤ g .working) × (g .working * 10 ≤ length (now value)) × (i * 10 + 10 ≤ length (now level)) ⌝ }
     ensures { λ x. ⌜ (added-of x (now (value .exit)) ≡ add-term (reduction-of g (now (heads .entry))) drops (multiple (g .p) c q (row-at (now (level .entry)) i)) (rows (now (value .entry)) 0 n)) × Within (g .working) x ⌝ }
 {
@@ -100,7 +105,19 @@ fn add_product(value: &mut [u16], n: usize, level: &[u16], i: usize, c: u16, q: 
 }
 
 // The products of c·q and the rows from row `from` up to row `to`, one by one.
-pub fn add_all(value: &mut [u16], n: usize, level: &[u16], from: usize, to: usize, c: u16, q: [u8; 8], heads: &[u16], spans: &[u16], g: Ground, drops: bool) -> Added
+pub fn add_all(
+    value: &mut [u16],
+    n: usize,
+    level: &[u16],
+    from: usize,
+    to: usize,
+    c: u16,
+    q: [u8; 8],
+    heads: &[u16],
+    spans: &[u16],
+    g: Ground,
+    drops: bool,
+) -> Added
     requires { ⌜ Tables g (now heads) (now spans) × (n ≤ g .working) × (g .working * 10 ≤ length (now value)) × (to * 10 ≤ length (now level)) ⌝ }
     ensures { λ x. ⌜ (added-of x (now (value .exit)) ≡ add-products (reduction-of g (now (heads .entry))) drops c q (rows (now (level .entry)) from (to - from)) (rows (now (value .entry)) 0 n)) × Within (g .working) x ⌝ }
 {
@@ -136,7 +153,19 @@ fn first_of(ends: &[u16], j: usize) -> usize
 }
 
 // The products of c·q and the terms of f_j.
-pub fn add_multiple(value: &mut [u16], n: usize, level: &[u16], ends: &[u16], j: usize, c: u16, q: [u8; 8], heads: &[u16], spans: &[u16], g: Ground, drops: bool) -> Added
+pub fn add_multiple(
+    value: &mut [u16],
+    n: usize,
+    level: &[u16],
+    ends: &[u16],
+    j: usize,
+    c: u16,
+    q: [u8; 8],
+    heads: &[u16],
+    spans: &[u16],
+    g: Ground,
+    drops: bool,
+) -> Added
     requires { ⌜ Tables g (now heads) (now spans) × Family g (now level) (now ends) × (n ≤ g .working) × (g .working * 10 ≤ length (now value)) × (1 ≤ j) × (j ≤ g .r) ⌝ }
     ensures { λ x. ⌜ (added-of x (now (value .exit)) ≡ add-products (reduction-of g (now (heads .entry))) drops c q (vector-of (family-of g (now (level .entry)) (now (ends .entry))) j) (rows (now (value .entry)) 0 n)) × Within (g .working) x ⌝ }
 {
@@ -171,10 +200,7 @@ fn better(code: u16, best: Best, i: usize, image: Image) -> Best
     let old = best.image;
     let c = orders::compare_images(code, image, old);
     if is_greater(c) {
-        return Best {
-            place: i,
-            image,
-        };
+        return Best { place: i, image };
     }
     best
 }
@@ -185,10 +211,7 @@ pub fn greatest(value: &[u16], n: usize, code: u16, below: &[u16], images: usize
     ensures { λ r. ⌜ some r ≡ greatest-definition (table-order code (table-of images (now (below .entry)))) (rows (now (value .entry)) 0 n) ⌝ }
 {
     let image = image_at(value, 0, below, images);
-    let mut best = Best {
-        place: 0,
-        image,
-    };
+    let mut best = Best { place: 0, image };
     let mut i = 1;
     while i < n {
         let other = image_at(value, i, below, images);

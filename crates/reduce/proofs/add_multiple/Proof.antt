@@ -1,63 +1,50 @@
 use borrow.Author.Needs.{needs}
 use native.Mathlib.Omega.{arith}
-use mathlib.Core.Path.{_≡_, refl, sym, ap, _∙_, subst}
-use mathlib.Core.List.{List, [], _∷_, _++_}
-use Prim.Native.Nat.{ℕ, suc, _+_, _-_, _*_, _<_, _≤_}
-use lib.ListN.{length, take, drop, getD, set, length-set}
-use Rattle.reduce.proofs.Families.{vector-at, first-later, first-one}
-use Rattle.reduce.specs.Grounds.{reduction-of, added-of, Within, Tables}
-use Rattle.definitions.specs.Run.{dropped?, unless-dropped, if-fits, add-term, add-products, multiple}
-use Rattle.definitions.specs.Layout.{row-at, rows}
+use mathlib.Core.Path.{sym, ap, _∙_}
+use Prim.Native.Nat.{_-_, _*_, _≤_}
+use lib.ListN.{length, getD}
+use Rattle.reduce.proofs.Families.{vector-at}
+use Rattle.reduce.specs.Grounds.{reduction-of}
+use Rattle.definitions.specs.Run.{add-products}
+use Rattle.definitions.specs.Layout.{rows}
 use Rattle.reduce.proofs.add_multiple.Statement.{statement}
 use Rattle.reduce.proofs.add_multiple.Tie as tie
-use Rattle.reduce.proofs.add_multiple.Reads as reads
-use Rattle.reduce.proofs.add_multiple.Lts as lts
-use Rattle.reduce.proofs.add_all.Reads as add-all-reads
-use Rattle.reduce.proofs.first_of.Reads as first-of-reads
-use Rattle.reduce.proofs.place.Reads as place-reads
 
--- src/lib.rt:143:9
 first-of-requires : tie.Need-first-of-requires
 first-of-requires c κs = (omega arith, omega (arith, c .before .before .before .before .before .pre .1 .ends-fit))
 
--- src/lib.rt:144:25
 sub-place : tie.Need-sub-place
 sub-place c = search needs
 
--- src/lib.rt:144:20
 mul-place : tie.Need-mul-place
 mul-place c = search needs
 
--- src/lib.rt:144:20
 shared-slice-read-place : tie.Need-shared-slice-read-place
 shared-slice-read-place c = omega (arith, c .before .before .before .before .before .before .before .pre .1 .ends-fit)
 
--- src/lib.rt:144:9
 place-requires : tie.Need-place-requires
 place-requires c κs = search needs
 
--- src/lib.rt:145:5
 add-all-requires : tie.Need-add-all-requires
 add-all-requires c κs =
     let a = c .before .before .before .before .before .before .before .before .before .args in
     let h : getD (a .ends .now) (a .j - 1) 0 * 10 ≤ length (a .level .now) = c .before .before .before .before .before .before .before .before .before .pre .1 .rows-fit (a .j - 1) (omega arith) in
     (c .before .before .before .before .before .before .before .before .before .pre .0, omega arith, omega arith, omega (arith, c .before .place .ensures))
 
--- src/lib.rt:139:1
 same-length : tie.Need-same-length
 same-length c = search needs
 
--- src/lib.rt:139:1
 returns : tie.Need-returns
 returns c =
     let a = c .before .before .before .before .before .before .before .before .before .before .before .before .args in
     let R = reduction-of (a .g) (a .heads .now) in
     let s = a .level .now in
     let e = a .ends .now in
-    let v = rows (a .value .now) 0 (a .n) in
-    (c .before .before .add-all .ensures .0
-    ∙ ap (λ f. add-products R (a .drops) (a .c) (a .q) f v) ((λ i. rows s (c .before .before .before .before .before .before .first-of .ensures i) (c .before .before .before .before .place .ensures i - c .before .before .before .before .before .before .first-of .ensures i)) ∙ sym (vector-at s e (a .g .r) (a .j) (c .before .before .before .before .before .before .before .before .before .before .before .before .pre .1 .ends-fit) (omega arith) (omega arith))),
-    c .before .before .add-all .ensures .1)
+    let v = rows (a .value .now) 0 (a .n) in (
+      c .before .before .add-all .ensures .0
+          ∙ ap (λ f. add-products R (a .drops) (a .c) (a .q) f v) ((λ i. rows s (c .before .before .before .before .before .before .first-of .ensures i) (c .before .before .before .before .place .ensures i - c .before .before .before .before .before .before .first-of .ensures i)) ∙ sym (vector-at s e (a .g .r) (a .j) (c .before .before .before .before .before .before .before .before .before .before .before .before .pre .1 .ends-fit) (omega arith) (omega arith))),
+      c .before .before .add-all .ensures .1,
+    )
 
 pub add-multiple-spec : {M : Type 1} → statement M
 add-multiple-spec =

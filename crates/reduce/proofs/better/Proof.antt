@@ -1,30 +1,19 @@
 use borrow.Author.Needs.{needs}
-use native.Mathlib.Omega.{arith}
-use mathlib.Core.Path.{_≡_, refl, sym, ap, _∙_, subst}
-use mathlib.Core.List.{List, [], _∷_, _++_}
-use Prim.Native.Nat.{ℕ, suc, _+_, _-_, _*_, _<_, _≤_}
-use lib.ListN.{length, take, drop, getD, set, length-set}
-use Rattle.orders.specs.Images.{key, key-of, table-of, table-order, compare-keys, comparison-of}
+use mathlib.Core.Path.{_≡_, sym, ap, _∙_}
+use Rattle.orders.specs.Images.{key-of, compare-keys}
 use Rattle.definitions.specs.Lists.{choose}
 use Rattle.definitions.specs.Order.{greater?}
 use Rattle.reduce.specs.Grounds.{best-of}
 use mathlib.Core.Bool.{true, false}
 use Rattle.reduce.proofs.better.Statement.{statement}
 use Rattle.reduce.proofs.better.Tie as tie
-use Rattle.reduce.proofs.better.Reads as reads
-use Rattle.reduce.proofs.better.Lts as lts
-use Rattle.orders.proofs.compare_images.Reads as compare-images-reads
-use Rattle.reduce.proofs.is_greater.Reads as is-greater-reads
 
--- src/lib.rt:172:9
 compare-images-requires : tie.Need-compare-images-requires
 compare-images-requires c κs = search needs
 
--- src/lib.rt:173:8
 is-greater-requires : tie.Need-is-greater-requires
 is-greater-requires c κs = search needs
 
--- src/lib.rt:174:9
 returns : tie.Need-returns
 returns c =
     let a = c .before .before .before .before .args in
@@ -32,7 +21,6 @@ returns c =
     let q : greater? (compare-keys (a .code) k (key-of (a .best .image))) ≡ true = sym (ap greater? (c .before .before .compare-images .ensures)) ∙ sym (c .before .is-greater .ensures) ∙ c .if1 .taken in
     sym (ap (λ b. choose b (a .i, k) (best-of (a .best))) q)
 
--- src/lib.rt:168:1
 returns-2 : tie.Need-returns-2
 returns-2 c =
     let a = c .before .before .before .before .args in

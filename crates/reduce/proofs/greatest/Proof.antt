@@ -1,17 +1,9 @@
-use borrow.Author.Needs.{needs}
 use native.Mathlib.Omega.{arith}
-use mathlib.Core.Path.{_≡_, refl, sym, ap, _∙_, subst}
-use mathlib.Core.List.{List, [], _∷_, _++_}
-use Prim.Native.Nat.{ℕ, suc, _+_, _-_, _*_, _<_, _≤_}
-use lib.ListN.{length, take, drop, getD, set, length-set}
-use Rattle.orders.specs.Images.{key, key-of, table-of, table-order, compare-keys, comparison-of}
-use Rattle.reduce.proofs.Picking.{Running, running-first, running-more, running-end, picks-greatest, picks-newest, picks-oldest}
+use Prim.Native.Nat.{_-_, _≤_}
+use Rattle.orders.specs.Images.{key-of, table-of}
+use Rattle.reduce.proofs.Picking.{Running, running-first, running-more, running-end}
 use Rattle.reduce.proofs.greatest.Statement.{statement}
 use Rattle.reduce.proofs.greatest.Tie as tie
-use Rattle.reduce.proofs.greatest.Reads as reads
-use Rattle.reduce.proofs.greatest.Lts as lts
-use Rattle.reduce.proofs.better.Reads as better-reads
-use Rattle.reduce.proofs.image_at.Reads as image-at-reads
 
 abbrev Inv-loop : tie.InvT-loop
 Inv-loop value n code below images best₀ i₀ best i = (1 ≤ i) × Running code (table-of images below) value n i (best .place) (key-of (best .image))
@@ -19,40 +11,32 @@ Inv-loop value n code below images best₀ i₀ best i = (1 ≤ i) × Running co
 abbrev μ-loop : tie.MeasureT-loop
 μ-loop value n code below images best₀ i₀ best i = n - i
 
--- src/lib.rt:187:9
 image-at-requires : tie.Need-image-at-requires Inv-loop μ-loop
 image-at-requires c κs = (omega arith, omega arith, c .before .before .pre .3)
 
--- src/lib.rt:193:5
 loop-holds : tie.Need-loop-holds Inv-loop μ-loop
 loop-holds c =
     let a = c .before .before .before .args in
     (omega arith, running-first (a .code) (table-of (a .images) (a .below .now)) (a .value .now) (a .n) (key-of (c .image-at .result)) (omega arith) (c .image-at .ensures))
 
--- src/lib.rt:194:13
 image-at-requires-2 : tie.Need-image-at-requires-2 Inv-loop μ-loop
 image-at-requires-2 c κs = (omega arith, omega arith, c .before .before .before .before .before .pre .3)
 
--- src/lib.rt:195:9
 better-requires : tie.Need-better-requires Inv-loop μ-loop
 better-requires c κs = omega arith
 
--- src/lib.rt:196:9
 add-i : tie.Need-add-i Inv-loop μ-loop
 add-i c = omega arith
 
--- src/lib.rt:193:5
 loop-less : tie.Need-loop-less Inv-loop μ-loop
 loop-less c = omega arith
 
--- src/lib.rt:193:5
 loop-again : tie.Need-loop-again Inv-loop μ-loop
 loop-again c =
     let a = c .before .before .before .before .before .before .before .args in
     let l = c .before .before .before .loop in
     (omega arith, running-more (a .code) (table-of (a .images) (a .below .now)) (a .value .now) (a .n) (l .i) (l .best .place) (c .better .result .place) (key-of (l .best .image)) (key-of (c .better .result .image)) (key-of (c .before .image-at2 .result)) (omega arith) (l .inv .1) (c .before .image-at2 .ensures) (c .better .ensures))
 
--- src/lib.rt:183:1
 returns : tie.Need-returns Inv-loop μ-loop
 returns c =
     let a = c .before .before .before .before .before .args in
