@@ -52,6 +52,7 @@ family-of g level ends = vectors-at level 0 (take (g .r) ends)
 -- what the tables must be
 pub record Tables (g : Ground) (heads spans : Words) : Type 0 where
   pub prime : 0 < g .p
+  pub few : g .r < 65536
   pub heads-fit : g .r * 10 ≤ length heads
   pub spans-fit : g .components * 2 ≤ length spans
   pub small : Small (g .r) heads
