@@ -1,9 +1,9 @@
 -- One step, put together from its parts.
 use mathlib.Core.Path.{_≡_, refl, sym, ap, _∙_, subst}
 use mathlib.Core.Bool.{Bool, true, false}
-use mathlib.Core.Option.{Option, some}
+use mathlib.Core.Option.{some}
 use mathlib.Core.List.{[], _∷_}
-use Prim.Native.Nat.{ℕ, suc, _+_, _-_, _*_, _<_, _≤_}
+use Prim.Native.Nat.{ℕ, suc, _+_, _*_, _<_, _≤_}
 use native.Mathlib.Omega.{arith}
 use lib.ListN.{length, getD}
 use Rattle.definitions.specs.Lists.{without}
@@ -15,7 +15,7 @@ use Rattle.definitions.specs.Result.{Result, done, refusal, _>>=_}
 use Rattle.definitions.specs.Vectors.{store}
 use Rattle.definitions.specs.Stage.{Reduction, Stage}
 use Rattle.definitions.specs.Run.{Run, Strategy, Step, on, add-products, reduced, without-reducer, by-answer, by-code, by-pick, step}
-use Rattle.definitions.specs.Layout.{Words, rows, row-at}
+use Rattle.definitions.specs.Layout.{Words, rows}
 use Rattle.terms.proofs.Stored.{rows-closed}
 use Rattle.ending.proofs.Picking.{picks-by-code}
 use Rattle.definitions.proofs.Rows.{length-rows}
@@ -60,7 +60,6 @@ without-room g n v false k l = (omega arith, l)
 -- a pick is inside the value
 pub inside : (value : Words) (n : ℕ) (order : Monomial → Monomial → Comparison) (code i : ℕ) → some i ≡ by-code order code (rows value 0 n) → i < n
 inside value n order code i e = omega (arith, picks-by-code order code (rows value 0 n) i (sym e), length-rows value 0 n)
-
 
 module _ (S : Stage) (W : Strategy) (r : Run) (i : ℕ) (picked : some i ≡ W .pick (r .value)) where
   step-at : (a : Answer) → a ≡ answer-from (S .reduction .p) 1 (S .reduction .heads) (getD (r .value) i no-term) → by-answer S W r i a ≡ step S W r

@@ -1,6 +1,5 @@
 -- What the lent slices mean to a run: the stage, the strategy, the run so far; and the code's answers as the definitions' ones.
 use mathlib.Core.Bool.{Bool, true, false}
-use mathlib.Core.List.{[], _∷_}
 use Prim.Native.Nat.{ℕ, _-_, _*_, _≤_}
 use lib.ListN.{length}
 use Rattle.definitions.specs.Monomial.{Exponents, Monomial, Vector, Level, vector-of}

@@ -16,7 +16,8 @@ ghost use Rattle.orders.specs.Images.{table-of, table-order};
 ghost use Rattle.reduce.specs.Grounds.{reduction-of, family-of, Tables, Family, added-of, Within};
 ghost use Rattle.runs.specs.Stages.{order-of, stage-of, strategy-of, run-of, Images, Rooms, reduced-by, without-step, without-words, step-of, Room, ended-of, outcome-of, Ended};
 use monomial::Monomial;
-use reduce::{Added, Ground};
+use reduce::Added;
+use reduce::Ground;
 use reducers::Answer;
 use terms::Term;
 
@@ -42,7 +43,21 @@ pub enum Outcome {
 }
 
 // The multiple c·q·f_j into the vector, then its products to the value.
-fn reduced(value: &mut [u16], n: usize, vector: &mut [u16], v: usize, level: &[u16], ends: &[u16], heads: &[u16], spans: &[u16], g: Ground, drops: bool, j: usize, c: u16, q: [u8; 8]) -> Step
+fn reduced(
+    value: &mut [u16],
+    n: usize,
+    vector: &mut [u16],
+    v: usize,
+    level: &[u16],
+    ends: &[u16],
+    heads: &[u16],
+    spans: &[u16],
+    g: Ground,
+    drops: bool,
+    j: usize,
+    c: u16,
+    q: [u8; 8],
+) -> Step
     requires { ⌜ Tables g (now heads) (now spans) × Family g (now level) (now ends) × Rooms g (now value) (now vector) × (n ≤ g .working) × (v ≤ g .vector) × (1 ≤ j) × (j ≤ g .r) ⌝ }
     ensures { λ x. ⌜ ((order : definition.Monomial → definition.Monomial → Comparison) → step-of order (g .p) x (now (value .exit)) (now (vector .exit)) ≡ reduced-by (reduction-of g (now (heads .entry))) (family-of g (now (level .entry)) (now (ends .entry))) drops (run-of (now (value .entry)) n (now (vector .entry)) v) j c q) × Room g x ⌝ }
 {
@@ -55,7 +70,19 @@ fn reduced(value: &mut [u16], n: usize, vector: &mut [u16], v: usize, level: &[u
         },
     };
     match reduce::store_term(vector, v, g.vector, g.p, t) {
-        Added::Rows(k) => match reduce::add_multiple(value, n, level, ends, j, c, q, heads, spans, g, drops) {
+        Added::Rows(k) => match reduce::add_multiple(
+            value,
+            n,
+            level,
+            ends,
+            j,
+            c,
+            q,
+            heads,
+            spans,
+            g,
+            drops,
+        ) {
             Added::Rows(m) => Step::On(m, k),
             Added::Refused(x) => Step::Refused(x),
         },
@@ -76,7 +103,19 @@ fn without_reducer(value: &mut [u16], n: usize, v: usize, i: usize, stops: bool)
 }
 
 // One step; the value is not empty.
-fn one_step(value: &mut [u16], n: usize, vector: &mut [u16], v: usize, level: &[u16], ends: &[u16], heads: &[u16], spans: &[u16], below: &[u16], g: Ground, w: Strategy) -> Step
+fn one_step(
+    value: &mut [u16],
+    n: usize,
+    vector: &mut [u16],
+    v: usize,
+    level: &[u16],
+    ends: &[u16],
+    heads: &[u16],
+    spans: &[u16],
+    below: &[u16],
+    g: Ground,
+    w: Strategy,
+) -> Step
     requires { ⌜ Tables g (now heads) (now spans) × Family g (now level) (now ends) × Images (g .images) (now below) × Rooms g (now value) (now vector) × (0 < n) × (n ≤ g .working) × (v ≤ g .vector) ⌝ }
     ensures { λ x. ⌜ ((above : definition.Monomial → definition.Monomial → Comparison) → step-of (order-of g (now (below .entry))) (g .p) x (now (value .exit)) (now (vector .exit)) ≡ step-definition (stage-of g (now (level .entry)) (now (ends .entry)) (now (heads .entry)) (now (below .entry)) above) (strategy-of g (now (below .entry)) w) (run-of (now (value .entry)) n (now (vector .entry)) v)) × Room g x ⌝ }
 {
@@ -89,11 +128,37 @@ fn one_step(value: &mut [u16], n: usize, vector: &mut [u16], v: usize, level: &[
     };
     let q = found.quotient;
     let d = field::negative(c, g.p);
-    reduced(value, n, vector, v, level, ends, heads, spans, g, w.drops, j, d, q)
+    reduced(
+        value,
+        n,
+        vector,
+        v,
+        level,
+        ends,
+        heads,
+        spans,
+        g,
+        w.drops,
+        j,
+        d,
+        q,
+    )
 }
 
 // Steps to the end.
-fn steps(value: &mut [u16], start: usize, vector: &mut [u16], first: usize, level: &[u16], ends: &[u16], heads: &[u16], spans: &[u16], below: &[u16], g: Ground, w: Strategy) -> Outcome
+fn steps(
+    value: &mut [u16],
+    start: usize,
+    vector: &mut [u16],
+    first: usize,
+    level: &[u16],
+    ends: &[u16],
+    heads: &[u16],
+    spans: &[u16],
+    below: &[u16],
+    g: Ground,
+    w: Strategy,
+) -> Outcome
     requires { ⌜ Tables g (now heads) (now spans) × Family g (now level) (now ends) × Images (g .images) (now below) × Rooms g (now value) (now vector) × (start ≤ g .working) × (first ≤ g .vector) × Well (stage-of g (now level) (now ends) (now heads) (now below) (order-of g (now below))) × T (good? (rows (now value) 0 start)) ⌝ }
     ensures { λ x. ⌜ ((above : definition.Monomial → definition.Monomial → Comparison) → (k : ℕ) × (ended-of (order-of g (now (below .entry))) above (g .p) x (now (value .exit)) (now (vector .exit)) ≡ runs (stage-of g (now (level .entry)) (now (ends .entry)) (now (heads .entry)) (now (below .entry)) above) (strategy-of g (now (below .entry)) w) k (run-of (now (value .entry)) start (now (vector .entry)) first))) × Ended g x ⌝ }
 {
@@ -113,7 +178,14 @@ fn steps(value: &mut [u16], start: usize, vector: &mut [u16], first: usize, leve
 }
 
 // A finished vector descending, in the value's place; a value without a reducer descending, in the vector's.
-fn sorted(value: &mut [u16], vector: &mut [u16], x: Outcome, below: &[u16], above: &[u16], g: Ground) -> Outcome
+fn sorted(
+    value: &mut [u16],
+    vector: &mut [u16],
+    x: Outcome,
+    below: &[u16],
+    above: &[u16],
+    g: Ground,
+) -> Outcome
     requires { ⌜ (0 < g .p) × Images (g .images) (now below) × Images (g .r) (now above) × Rooms g (now value) (now vector) × Ended g x ⌝ }
     ensures { λ y. ⌜ (outcome-of y (now (value .exit)) (now (vector .exit)) ≡ ended-of (order-of g (now (below .entry))) (table-order (g .code) (table-of (g .r) (now (above .entry)))) (g .p) x (now (value .entry)) (now (vector .entry))) × Ended g y ⌝ }
 {
@@ -131,7 +203,16 @@ fn sorted(value: &mut [u16], vector: &mut [u16], x: Outcome, below: &[u16], abov
 }
 
 // The first products: those of m·f_i.
-fn started(value: &mut [u16], level: &[u16], ends: &[u16], heads: &[u16], spans: &[u16], g: Ground, drops: bool, m: Monomial) -> Added
+fn started(
+    value: &mut [u16],
+    level: &[u16],
+    ends: &[u16],
+    heads: &[u16],
+    spans: &[u16],
+    g: Ground,
+    drops: bool,
+    m: Monomial,
+) -> Added
     requires { ⌜ Tables g (now heads) (now spans) × Family g (now level) (now ends) × (g .working * 10 ≤ length (now value)) × (1 ≤ monomial-of m .1) × (monomial-of m .1 ≤ g .r) ⌝ }
     ensures { λ x. ⌜ (added-of x (now (value .exit)) ≡ add-products (reduction-of g (now (heads .entry))) drops 1 (monomial-of m .0) (definition.vector-of (family-of g (now (level .entry)) (now (ends .entry))) (monomial-of m .1)) []) × Within (g .working) x ⌝ }
 {
@@ -141,7 +222,19 @@ fn started(value: &mut [u16], level: &[u16], ends: &[u16], heads: &[u16], spans:
 }
 
 // The run of the frame term m.
-pub fn run(value: &mut [u16], vector: &mut [u16], level: &[u16], ends: &[u16], heads: &[u16], spans: &[u16], below: &[u16], above: &[u16], g: Ground, w: Strategy, m: Monomial) -> Outcome
+pub fn run(
+    value: &mut [u16],
+    vector: &mut [u16],
+    level: &[u16],
+    ends: &[u16],
+    heads: &[u16],
+    spans: &[u16],
+    below: &[u16],
+    above: &[u16],
+    g: Ground,
+    w: Strategy,
+    m: Monomial,
+) -> Outcome
     requires { ⌜ Tables g (now heads) (now spans) × Family g (now level) (now ends) × Images (g .images) (now below) × Images (g .r) (now above) × Rooms g (now value) (now vector) × (1 ≤ g .vector) × Well (stage-of g (now level) (now ends) (now heads) (now below) (order-of g (now below))) × (1 ≤ monomial-of m .1) × (monomial-of m .1 ≤ g .r) ⌝ }
     ensures { λ x. ⌜ ((k : ℕ) × (outcome-of x (now (value .exit)) (now (vector .exit)) ≡ run-definition (stage-of g (now (level .entry)) (now (ends .entry)) (now (heads .entry)) (now (below .entry)) (table-order (g .code) (table-of (g .r) (now (above .entry))))) (strategy-of g (now (below .entry)) w) k (monomial-of m))) × Ended g x ⌝ }
 {

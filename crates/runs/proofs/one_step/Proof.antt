@@ -1,9 +1,7 @@
 use borrow.Author.Needs.{needs}
 use native.Mathlib.Omega.{arith}
-use mathlib.Core.Path.{_≡_, refl, sym, ap, _∙_, subst}
-use mathlib.Core.List.{List, [], _∷_, _++_}
-use Prim.Native.Nat.{ℕ, suc, _+_, _-_, _*_, _<_, _≤_}
-use lib.ListN.{length, take, drop, getD, set, length-set}
+use mathlib.Core.Path.{_≡_, sym, ap, _∙_, subst}
+use lib.ListN.{getD}
 use Rattle.terms.specs.Rows.{term-of}
 use Rattle.sums.proofs.Rowwise.{at-row}
 use Rattle.reducers.specs.Search.{answered}
@@ -16,44 +14,28 @@ use Rattle.runs.specs.Stages.{order-of, stage-of, strategy-of, run-of, r
 use Rattle.runs.proofs.Stepping.{reducer-number, left-out, step-reduced, step-without, inside, without-room}
 use Rattle.runs.proofs.one_step.Statement.{statement}
 use Rattle.runs.proofs.one_step.Tie as tie
-use Rattle.runs.proofs.one_step.Reads as reads
-use Rattle.runs.proofs.one_step.Lts as lts
-use Rattle.field.proofs.negative.Reads as negative-reads
-use Rattle.reduce.proofs.pick.Reads as pick-reads
-use Rattle.reducers.proofs.reducer_of.Reads as reducer-of-reads
-use Rattle.runs.proofs.reduced.Reads as reduced-reads
-use Rattle.runs.proofs.without_reducer.Reads as without-reducer-reads
-use Rattle.terms.proofs.row.Reads as row-reads
 
--- src/lib.rt:83:9
 pick-requires : tie.Need-pick-requires
 pick-requires c κs = (omega arith, omega (arith, c .before .before .before .before .before .before .before .before .pre .3 .value-fits, c .before .before .before .before .before .before .before .before .pre .5), c .before .before .before .before .before .before .before .before .pre .2 .fits, c .before .before .before .before .before .before .before .before .pre .2 .tabled)
 
--- src/lib.rt:84:9
 row-requires : tie.Need-row-requires
 row-requires c κs = omega (arith, c .before .before .before .before .before .before .before .before .before .before .pre .3 .value-fits, c .before .before .before .before .before .before .before .before .before .before .pre .5, inside (c .before .before .before .before .before .before .before .before .before .before .args .value .now) (c .before .before .before .before .before .before .before .before .before .before .args .n) (order-of (c .before .before .before .before .before .before .before .before .before .before .args .g) (c .before .before .before .before .before .before .before .before .before .before .args .below .now)) (c .before .before .before .before .before .before .before .before .before .before .args .w .pick) (c .before .pick .result) (c .before .pick .ensures))
 
--- src/lib.rt:85:9
 reducer-of-requires : tie.Need-reducer-of-requires
 reducer-of-requires c κs = let t = c .before .before .before .before .before .before .before .before .before .before .before .pre .0 in (t .prime, t .heads-fit, t .spans-fit, t .small, t .spanned)
 
--- src/lib.rt:87:25
 enum-known-answer : tie.Need-enum-known-answer
 enum-known-answer c = search needs
 
--- src/lib.rt:88:32
 enum-told : tie.Need-enum-told
 enum-told c = search needs
 
--- src/lib.rt:88:9
 without-reducer-requires : tie.Need-without-reducer-requires
 without-reducer-requires c κs = (inside (c .before .before .before .before .before .before .before .before .before .before .before .before .before .before .before .args .value .now) (c .before .before .before .before .before .before .before .before .before .before .before .before .before .before .before .args .n) (order-of (c .before .before .before .before .before .before .before .before .before .before .before .before .before .before .before .args .g) (c .before .before .before .before .before .before .before .before .before .before .before .before .before .before .before .args .below .now)) (c .before .before .before .before .before .before .before .before .before .before .before .before .before .before .before .args .w .pick) (c .before .before .before .before .before .before .pick .result) (c .before .before .before .before .before .before .pick .ensures), omega (arith, c .before .before .before .before .before .before .before .before .before .before .before .before .before .before .before .pre .3 .value-fits, c .before .before .before .before .before .before .before .before .before .before .before .before .before .before .before .pre .5))
 
--- src/lib.rt:88:9
 same-length : tie.Need-same-length
 same-length c = search needs
 
--- src/lib.rt:88:9
 returns : tie.Need-returns
 returns c =
     let a = c .before .before .before .before .before .before .before .before .before .before .before .before .before .before .before .before .before .before .args in
@@ -65,19 +47,17 @@ returns c =
     let w = c .before .before .without-reducer in
     let l = inside (a .value .now) n (order-of g (a .below .now)) (a .w .pick) i (c .before .before .before .before .before .before .before .before .before .pick .ensures) in
     let told : lower-order ≡ answer (g .p) (rows (a .heads .now) 0 (g .r)) (getD (rows (a .value .now) 0 n) i no-term) =
-        sym (ap (λ y. answered y (c .before .before .before .before .before .before .reducer-of .result .quotient)) (c .before .before .before .before .enum-told .given .1)) ∙ c .before .before .before .before .before .before .reducer-of .ensures
-        ∙ ap (answer (g .p) (rows (a .heads .now) 0 (g .r))) (c .before .before .before .before .before .before .before .row .ensures ∙ sym (at-row (a .value .now) n i l)) in (
+    sym (ap (λ y. answered y (c .before .before .before .before .before .before .reducer-of .result .quotient)) (c .before .before .before .before .enum-told .given .1)) ∙ c .before .before .before .before .before .before .reducer-of .ensures
+    ∙ ap (answer (g .p) (rows (a .heads .now) 0 (g .r))) (c .before .before .before .before .before .before .before .row .ensures ∙ sym (at-row (a .value .now) n i l)) in (
       λ above. (λ k. step-of (order-of g (a .below .now)) (g .p) (w .ensures .0 k) (w .ensures .1 k) (a .vector .now))
-      ∙ left-out (stage-of g (a .level .now) (a .ends .now) (a .heads .now) (a .below .now) above) (a .value .now) n (a .vector .now) (a .v) i l (omega (arith, c .before .before .before .before .before .before .before .before .before .before .before .before .before .before .before .before .before .before .pre .3 .value-fits, c .before .before .before .before .before .before .before .before .before .before .before .before .before .before .before .before .before .before .pre .5)) (a .w .stops)
-      ∙ step-without (stage-of g (a .level .now) (a .ends .now) (a .heads .now) (a .below .now) above) W r i (c .before .before .before .before .before .before .before .before .before .pick .ensures) told,
+          ∙ left-out (stage-of g (a .level .now) (a .ends .now) (a .heads .now) (a .below .now) above) (a .value .now) n (a .vector .now) (a .v) i l (omega (arith, c .before .before .before .before .before .before .before .before .before .before .before .before .before .before .before .before .before .before .pre .3 .value-fits, c .before .before .before .before .before .before .before .before .before .before .before .before .before .before .before .before .before .before .pre .5)) (a .w .stops)
+          ∙ step-without (stage-of g (a .level .now) (a .ends .now) (a .heads .now) (a .below .now) above) W r i (c .before .before .before .before .before .before .before .before .before .pick .ensures) told,
       subst (Room g) (sym (w .ensures .0)) (without-room g n (a .v) (a .w .stops) (c .before .before .before .before .before .before .before .before .before .before .before .before .before .before .before .before .before .before .pre .5) (c .before .before .before .before .before .before .before .before .before .before .before .before .before .before .before .before .before .before .pre .6)),
     )
 
--- src/lib.rt:91:9
 negative-requires : tie.Need-negative-requires
 negative-requires c κs = search needs
 
--- src/lib.rt:92:5
 reduced-requires : tie.Need-reduced-requires
 reduced-requires c κs =
     let a = c .before .before .before .before .before .before .before .before .before .before .before .before .before .before .before .before .before .before .before .args in
@@ -85,15 +65,12 @@ reduced-requires c κs =
     let b = reducer-number (a .g .p) hs (term-of (c .before .before .before .before .before .before .before .before .row .result)) (c .before .before .before .before .before .answer .given .0 .0) (c .before .before .before .before .before .answer .given .0 .1 .0) (c .before .before .before .before .before .before .before .reducer-of .result .quotient) (sym (ap (λ y. answered y (c .before .before .before .before .before .before .before .reducer-of .result .quotient)) (c .before .before .before .before .before .answer .given .1)) ∙ c .before .before .before .before .before .before .before .reducer-of .ensures) in
     (c .before .before .before .before .before .before .before .before .before .before .before .before .before .before .before .before .before .before .before .pre .0, c .before .before .before .before .before .before .before .before .before .before .before .before .before .before .before .before .before .before .before .pre .1, c .before .before .before .before .before .before .before .before .before .before .before .before .before .before .before .before .before .before .before .pre .3, c .before .before .before .before .before .before .before .before .before .before .before .before .before .before .before .before .before .before .before .pre .5, c .before .before .before .before .before .before .before .before .before .before .before .before .before .before .before .before .before .before .before .pre .6, b .0, omega (arith, b .1, length-rows (a .heads .now) 0 (a .g .r)))
 
--- src/lib.rt:79:1
 same-length-2 : tie.Need-same-length-2
 same-length-2 c = search needs
 
--- src/lib.rt:79:1
 same-length-3 : tie.Need-same-length-3
 same-length-3 c = search needs
 
--- src/lib.rt:79:1
 returns-2 : tie.Need-returns-2
 returns-2 c =
     let a = c .before .before .before .before .before .before .before .before .before .before .before .before .before .before .before .before .before .before .before .before .before .before .before .before .args in
@@ -110,11 +87,11 @@ returns-2 c =
     let R = reduction-of g (a .heads .now) in
     let l = inside (a .value .now) n (order-of g (a .below .now)) (a .w .pick) i (c .before .before .before .before .before .before .before .before .before .before .before .before .before .before .before .pick .ensures) in
     let told : reducer j x q ≡ answer (g .p) (rows (a .heads .now) 0 (g .r)) (getD (rows (a .value .now) 0 n) i no-term) =
-        sym (ap (λ y. answered y q) (c .before .before .before .before .before .before .before .before .before .before .answer .given .1)) ∙ c .before .before .before .before .before .before .before .before .before .before .before .before .reducer-of .ensures
-        ∙ ap (answer (g .p) (rows (a .heads .now) 0 (g .r))) (c .before .before .before .before .before .before .before .before .before .before .before .before .before .row .ensures ∙ sym (at-row (a .value .now) n i l)) in (
+    sym (ap (λ y. answered y q) (c .before .before .before .before .before .before .before .before .before .before .answer .given .1)) ∙ c .before .before .before .before .before .before .before .before .before .before .before .before .reducer-of .ensures
+    ∙ ap (answer (g .p) (rows (a .heads .now) 0 (g .r))) (c .before .before .before .before .before .before .before .before .before .before .before .before .before .row .ensures ∙ sym (at-row (a .value .now) n i l)) in (
       λ above. d .ensures .0 (order-of g (a .below .now))
-      ∙ ap (λ y. reduced-by R f (a .w .drops) r j y q) (c .before .before .before .before .before .before .before .negative .ensures)
-      ∙ step-reduced (stage-of g (a .level .now) (a .ends .now) (a .heads .now) (a .below .now) above) W r i (c .before .before .before .before .before .before .before .before .before .before .before .before .before .before .before .pick .ensures) j x q told,
+          ∙ ap (λ y. reduced-by R f (a .w .drops) r j y q) (c .before .before .before .before .before .before .before .negative .ensures)
+          ∙ step-reduced (stage-of g (a .level .now) (a .ends .now) (a .heads .now) (a .below .now) above) W r i (c .before .before .before .before .before .before .before .before .before .before .before .before .before .before .before .pick .ensures) j x q told,
       d .ensures .1,
     )
 

@@ -1,9 +1,6 @@
 use borrow.Author.Needs.{needs}
 use native.Mathlib.Omega.{arith}
-use mathlib.Core.Path.{_≡_, refl, sym, ap, _∙_, subst}
-use mathlib.Core.List.{List, [], _∷_, _++_}
-use Prim.Native.Nat.{ℕ, suc, _+_, _-_, _*_, _<_, _≤_}
-use lib.ListN.{length, take, drop, getD, set, length-set}
+use mathlib.Core.Path.{sym, ap, _∙_}
 use Rattle.definitions.specs.Layout.{rows}
 use Rattle.runs.specs.Stages.{run-of}
 use Rattle.reduce.proofs.Adding.{within-rows}
@@ -11,48 +8,34 @@ use Rattle.reduce.specs.Grounds.{reduction-of, family-of, added-of}
 use Rattle.runs.proofs.Stepping.{record-refused, products-refused, both-added}
 use Rattle.runs.proofs.reduced.Statement.{statement}
 use Rattle.runs.proofs.reduced.Tie as tie
-use Rattle.runs.proofs.reduced.Reads as reads
-use Rattle.runs.proofs.reduced.Lts as lts
-use Rattle.reduce.proofs.add_multiple.Reads as add-multiple-reads
-use Rattle.reduce.proofs.store_term.Reads as store-term-reads
 
--- src/lib.rt:49:21
 cast-component : tie.Need-cast-component
 cast-component c = omega (arith, c .before .before .before .before .before .before .pre .0 .few)
 
--- src/lib.rt:57:11
 store-term-requires : tie.Need-store-term-requires
 store-term-requires c κs = (c .before .before .before .before .before .before .before .pre .0 .prime, omega arith, c .before .before .before .before .before .before .before .pre .2 .vector-fits)
 
--- src/lib.rt:58:21
 enum-known-k : tie.Need-enum-known-k
 enum-known-k c = search needs
 
--- src/lib.rt:58:33
 add-multiple-requires : tie.Need-add-multiple-requires
 add-multiple-requires c κs = (c .before .before .before .before .before .before .before .before .before .before .before .before .before .before .pre .0, c .before .before .before .before .before .before .before .before .before .before .before .before .before .before .pre .1, omega arith, c .before .before .before .before .before .before .before .before .before .before .before .before .before .before .pre .2 .value-fits, omega arith, omega arith)
 
--- src/lib.rt:59:25
 enum-known-m : tie.Need-enum-known-m
 enum-known-m c = search needs
 
--- src/lib.rt:60:28
 enum-known-x : tie.Need-enum-known-x
 enum-known-x c = search needs
 
--- src/lib.rt:62:24
 enum-known-x-2 : tie.Need-enum-known-x-2
 enum-known-x-2 c = search needs
 
--- src/lib.rt:45:1
 same-length : tie.Need-same-length
 same-length c = search needs
 
--- src/lib.rt:45:1
 same-length-2 : tie.Need-same-length-2
 same-length-2 c = search needs
 
--- src/lib.rt:45:1
 returns : tie.Need-returns
 returns c =
     let a = c .before .before .before .before .before .before .before .before .before .before .before .before .before .before .before .before .before .before .before .before .args in
@@ -65,20 +48,17 @@ returns c =
     let s = c .before .before .before .before .before .before .before .before .before .before .before .before .store-term in
     let t = c .before .before .before .before .before .add-multiple in (
       λ order. both-added R f (a .drops) r (a .j) (a .c) (a .q) (rows (s .last .0) 0 k) (rows (t .last .0) 0 m)
-      (sym (ap (λ y. added-of y (s .last .0)) (c .before .before .before .before .before .before .before .before .k .given .1)) ∙ s .ensures .0)
-      (sym (ap (λ y. added-of y (t .last .0)) (c .before .m .given .1)) ∙ t .ensures .0),
+          (sym (ap (λ y. added-of y (s .last .0)) (c .before .before .before .before .before .before .before .before .k .given .1)) ∙ s .ensures .0)
+          (sym (ap (λ y. added-of y (t .last .0)) (c .before .m .given .1)) ∙ t .ensures .0),
       (within-rows (g .working) (t .result) m (t .ensures .1) (c .before .m .given .1), within-rows (g .vector) (s .result) k (s .ensures .1) (c .before .before .before .before .before .before .before .before .k .given .1)),
     )
 
--- src/lib.rt:45:1
 same-length-3 : tie.Need-same-length-3
 same-length-3 c = search needs
 
--- src/lib.rt:45:1
 same-length-4 : tie.Need-same-length-4
 same-length-4 c = search needs
 
--- src/lib.rt:45:1
 returns-2 : tie.Need-returns-2
 returns-2 c =
     let a = c .before .before .before .before .before .before .before .before .before .before .before .before .before .before .before .before .before .before .before .before .args in
@@ -90,16 +70,14 @@ returns-2 c =
     let s = c .before .before .before .before .before .before .before .before .before .before .before .before .store-term in
     let t = c .before .before .before .before .before .add-multiple in (
       λ order. products-refused R f (a .drops) r (a .j) (a .c) (a .q) (rows (s .last .0) 0 k) (c .before .x .given .0 .0)
-      (sym (ap (λ y. added-of y (s .last .0)) (c .before .before .before .before .before .before .before .before .k .given .1)) ∙ s .ensures .0)
-      (sym (ap (λ y. added-of y (t .last .0)) (c .before .x .given .1)) ∙ t .ensures .0),
+          (sym (ap (λ y. added-of y (s .last .0)) (c .before .before .before .before .before .before .before .before .k .given .1)) ∙ s .ensures .0)
+          (sym (ap (λ y. added-of y (t .last .0)) (c .before .x .given .1)) ∙ t .ensures .0),
       tt,
     )
 
--- src/lib.rt:45:1
 same-length-5 : tie.Need-same-length-5
 same-length-5 c = search needs
 
--- src/lib.rt:45:1
 returns-3 : tie.Need-returns-3
 returns-3 c =
     let a = c .before .before .before .before .before .before .before .before .before .before .before .before .before .args in

@@ -1,9 +1,7 @@
 use borrow.Author.Needs.{needs}
 use native.Mathlib.Omega.{arith}
-use mathlib.Core.Path.{_≡_, refl, sym, ap, _∙_, subst}
-use mathlib.Core.List.{List, [], _∷_, _++_}
-use Prim.Native.Nat.{ℕ, suc, _+_, _-_, _*_, _<_, _≤_}
-use lib.ListN.{length, take, drop, getD, set, length-set}
+use mathlib.Core.Path.{_≡_, sym, ap, _∙_}
+use mathlib.Core.List.{[], _∷_, _++_}
 use Rattle.runs.proofs.Stepping.{rooms-again}
 use Rattle.runs.proofs.Reaching.{start-refused, started-good, from-start}
 use Rattle.runs.specs.Stages.{order-of, stage-of, strategy-of, outcome-of}
@@ -15,30 +13,19 @@ use Rattle.monomial.specs.Values.{monomial-of}
 use Rattle.definitions.specs.Layout.{rows}
 use Rattle.runs.proofs.run.Statement.{statement}
 use Rattle.runs.proofs.run.Tie as tie
-use Rattle.runs.proofs.run.Reads as reads
-use Rattle.runs.proofs.run.Lts as lts
-use Rattle.runs.proofs.sorted.Reads as sorted-reads
-use Rattle.runs.proofs.started.Reads as started-reads
-use Rattle.runs.proofs.steps.Reads as steps-reads
-use Rattle.terms.proofs.put.Reads as put-reads
 
--- src/lib.rt:148:19
 started-requires : tie.Need-started-requires
 started-requires c κs = (c .before .before .before .before .before .before .before .before .before .pre .0, c .before .before .before .before .before .before .before .before .before .pre .1, c .before .before .before .before .before .before .before .before .before .pre .4 .value-fits, c .before .before .before .before .before .before .before .before .before .pre .7, c .before .before .before .before .before .before .before .before .before .pre .8)
 
--- src/lib.rt:149:21
 enum-known-n : tie.Need-enum-known-n
 enum-known-n c = search needs
 
--- src/lib.rt:150:24
 enum-known-x : tie.Need-enum-known-x
 enum-known-x c = search needs
 
--- src/lib.rt:150:30
 same-length : tie.Need-same-length
 same-length c = search needs
 
--- src/lib.rt:150:30
 returns : tie.Need-returns
 returns c =
     let a = c .before .before .before .before .before .before .before .before .before .before .before .before .before .before .before .args in
@@ -48,11 +35,9 @@ returns c =
     let s = c .before .before .before .before .before .started in
     (start-refused (stage-of g (a .level .now) (a .ends .now) (a .heads .now) (a .below .now) above) W (monomial-of (a .m)) (c .before .x .given .0 .0) (sym (ap (λ y. added-of y (s .last .0)) (c .before .x .given .1)) ∙ s .ensures .0), tt)
 
--- src/lib.rt:156:5
 put-requires : tie.Need-put-requires
 put-requires c κs = omega (arith, c .before .before .before .before .before .before .before .before .before .before .before .before .before .before .before .before .pre .4 .vector-fits, c .before .before .before .before .before .before .before .before .before .before .before .before .before .before .before .before .pre .5)
 
--- src/lib.rt:157:9
 steps-requires : tie.Need-steps-requires
 steps-requires c κs =
     let a = c .before .before .before .before .before .before .before .before .before .before .before .before .before .before .before .before .before .before .before .before .before .args in
@@ -60,26 +45,29 @@ steps-requires c κs =
     let P = c .before .before .before .before .before .before .before .before .before .before .before .before .before .before .before .before .before .before .before .before .before .pre in
     let W = strategy-of g (a .below .now) (a .w) in
     let s = c .before .before .before .before .before .before .before .before .before .before .before .started in
-    let n = c .before .before .before .before .before .before .before .n .given .0 .0 in
-    (P .0, P .1, P .2, rooms-again g (a .value .now) (a .vector .now) (s .last .0) (c .before .before .before .before .put .last .0) (omega arith) (omega arith) (P .4), within-rows (g .working) (s .result) n (s .ensures .1) (c .before .before .before .before .before .before .before .n .given .1), P .5, P .6,
-    started-good (stage-of g (a .level .now) (a .ends .now) (a .heads .now) (a .below .now) (order-of g (a .below .now))) W (monomial-of (a .m)) (P .6) (c .before .before .before .before .put .ensures .1 .eight) (rows (s .last .0) 0 n) (sym (ap (λ y. added-of y (s .last .0)) (c .before .before .before .before .before .before .before .n .given .1)) ∙ s .ensures .0))
+    let n = c .before .before .before .before .before .before .before .n .given .0 .0 in (
+      P .0,
+      P .1,
+      P .2,
+      rooms-again g (a .value .now) (a .vector .now) (s .last .0) (c .before .before .before .before .put .last .0) (omega arith) (omega arith) (P .4),
+      within-rows (g .working) (s .result) n (s .ensures .1) (c .before .before .before .before .before .before .before .n .given .1),
+      P .5,
+      P .6,
+      started-good (stage-of g (a .level .now) (a .ends .now) (a .heads .now) (a .below .now) (order-of g (a .below .now))) W (monomial-of (a .m)) (P .6) (c .before .before .before .before .put .ensures .1 .eight) (rows (s .last .0) 0 n) (sym (ap (λ y. added-of y (s .last .0)) (c .before .before .before .before .before .before .before .n .given .1)) ∙ s .ensures .0),
+    )
 
--- src/lib.rt:158:5
 sorted-requires : tie.Need-sorted-requires
 sorted-requires c κs =
     let a = c .before .before .before .before .before .before .before .before .before .before .before .before .before .before .before .before .before .before .before .before .before .before .before .before .before .before .before .before .args in
     let P = c .before .before .before .before .before .before .before .before .before .before .before .before .before .before .before .before .before .before .before .before .before .before .before .before .before .before .before .before .pre in
     (P .0 .prime, P .2, P .3, rooms-again (a .g) (a .value .now) (a .vector .now) (c .before .before .before .before .before .before .steps .last .0) (c .before .before .before .before .before .before .steps .last .1 .1 .0) (omega arith) (omega arith) (P .4), c .before .before .before .before .before .before .steps .ensures .1)
 
--- src/lib.rt:144:1
 same-length-2 : tie.Need-same-length-2
 same-length-2 c = search needs
 
--- src/lib.rt:144:1
 same-length-3 : tie.Need-same-length-3
 same-length-3 c = search needs
 
--- src/lib.rt:144:1
 returns-2 : tie.Need-returns-2
 returns-2 c =
     let a = c .before .before .before .before .before .before .before .before .before .before .before .before .before .before .before .before .before .before .before .before .before .before .before .before .before .before .before .before .before .before .before .before .before .args in
@@ -92,9 +80,9 @@ returns-2 c =
     let t = c .before .before .before .before .before .before .before .before .before .before .before .steps .ensures .0 above in
     let p = c .before .before .before .before .before .before .before .before .before .before .before .before .before .before .before .before .put in
     let one : rows (p .last .0) 0 1 ≡ (1, m) ∷ [] =
-        ap (λ z. rows z 0 1) (p .ensures .0) ∙ rows-appended (a .vector .now) 0 (1, m) (omega (arith, c .before .before .before .before .before .before .before .before .before .before .before .before .before .before .before .before .before .before .before .before .before .before .before .before .before .before .before .before .before .before .before .before .before .pre .4 .vector-fits, c .before .before .before .before .before .before .before .before .before .before .before .before .before .before .before .before .before .before .before .before .before .before .before .before .before .before .before .before .before .before .before .before .before .pre .5)) (p .ensures .1) ∙ ap (λ v. v ++ (1, m) ∷ []) (rows-none (a .vector .now) 0) in (
+    ap (λ z. rows z 0 1) (p .ensures .0) ∙ rows-appended (a .vector .now) 0 (1, m) (omega (arith, c .before .before .before .before .before .before .before .before .before .before .before .before .before .before .before .before .before .before .before .before .before .before .before .before .before .before .before .before .before .before .before .before .before .pre .4 .vector-fits, c .before .before .before .before .before .before .before .before .before .before .before .before .before .before .before .before .before .before .before .before .before .before .before .before .before .before .before .before .before .before .before .before .before .pre .5)) (p .ensures .1) ∙ ap (λ v. v ++ (1, m) ∷ []) (rows-none (a .vector .now) 0) in (
       from-start (stage-of g (a .level .now) (a .ends .now) (a .heads .now) (a .below .now) above) W m (rows (s .last .0) 0 n) (rows (p .last .0) 0 1) (outcome-of (c .before .before .before .before .sorted .result) (c .before .before .before .before .sorted .last .0) (c .before .before .before .before .sorted .last .1 .0))
-      (sym (ap (λ y. added-of y (s .last .0)) (c .before .before .before .before .before .before .before .before .before .before .before .before .before .before .before .before .before .before .before .n .given .1)) ∙ s .ensures .0) one (t .0, c .before .before .before .before .sorted .ensures .0 ∙ t .1),
+          (sym (ap (λ y. added-of y (s .last .0)) (c .before .before .before .before .before .before .before .before .before .before .before .before .before .before .before .before .before .before .before .n .given .1)) ∙ s .ensures .0) one (t .0, c .before .before .before .before .sorted .ensures .0 ∙ t .1),
       c .before .before .before .before .sorted .ensures .1,
     )
 

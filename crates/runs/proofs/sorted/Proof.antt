@@ -1,48 +1,34 @@
 use borrow.Author.Needs.{needs}
 use native.Mathlib.Omega.{arith}
-use mathlib.Core.Path.{_≡_, refl, sym, ap, _∙_, subst}
-use mathlib.Core.List.{List, [], _∷_, _++_}
-use Prim.Native.Nat.{ℕ, suc, _+_, _-_, _*_, _<_, _≤_}
-use lib.ListN.{length, take, drop, getD, set, length-set}
+use mathlib.Core.Path.{sym, ap, _∙_, subst}
 use Rattle.definitions.specs.Result.{done, refused}
 use Rattle.orders.specs.Images.{table-of, table-order}
 use Rattle.runs.specs.Stages.{order-of, ended-of, Ended}
 use Rattle.runs.proofs.Sorting.{sorted-rows}
 use Rattle.runs.proofs.sorted.Statement.{statement}
 use Rattle.runs.proofs.sorted.Tie as tie
-use Rattle.runs.proofs.sorted.Reads as reads
-use Rattle.runs.proofs.sorted.Lts as lts
-use Rattle.sums.proofs.sort.Reads as sort-reads
 
--- src/lib.rt:121:27
 enum-known-x : tie.Need-enum-known-x
 enum-known-x c = search needs
 
--- src/lib.rt:122:17
 sort-requires : tie.Need-sort-requires
 sort-requires c κs = (c .before .before .before .before .before .before .before .before .before .pre .0, omega (arith, c .before .before .before .before .before .before .before .before .before .pre .3 .vector-fits, subst (Ended (c .before .before .before .before .before .before .before .before .before .args .g)) (c .before .before .before .x .given .1) (c .before .before .before .before .before .before .before .before .before .pre .4)), omega (arith, c .before .before .before .before .before .before .before .before .before .pre .3 .sorted-fits, subst (Ended (c .before .before .before .before .before .before .before .before .before .args .g)) (c .before .before .before .x .given .1) (c .before .before .before .before .before .before .before .before .before .pre .4)), c .before .before .before .before .before .before .before .before .before .pre .2 .fits, c .before .before .before .before .before .before .before .before .before .pre .2 .tabled)
 
--- src/lib.rt:125:26
 enum-known-x-2 : tie.Need-enum-known-x-2
 enum-known-x-2 c = search needs
 
--- src/lib.rt:126:26
 enum-known-x-3 : tie.Need-enum-known-x-3
 enum-known-x-3 c = search needs
 
--- src/lib.rt:127:17
 sort-requires-2 : tie.Need-sort-requires-2
 sort-requires-2 c κs = (c .before .before .before .before .before .before .before .before .before .pre .0, omega (arith, c .before .before .before .before .before .before .before .before .before .pre .3 .value-fits, subst (Ended (c .before .before .before .before .before .before .before .before .before .args .g)) (c .before .before .before .x3 .given .1) (c .before .before .before .before .before .before .before .before .before .pre .4)), omega (arith, c .before .before .before .before .before .before .before .before .before .pre .3 .left-fits, subst (Ended (c .before .before .before .before .before .before .before .before .before .args .g)) (c .before .before .before .x3 .given .1) (c .before .before .before .before .before .before .before .before .before .pre .4)), c .before .before .before .before .before .before .before .before .before .pre .1 .fits, c .before .before .before .before .before .before .before .before .before .pre .1 .tabled)
 
--- src/lib.rt:116:1
 same-length : tie.Need-same-length
 same-length c = search needs
 
--- src/lib.rt:116:1
 same-length-2 : tie.Need-same-length-2
 same-length-2 c = search needs
 
--- src/lib.rt:116:1
 returns : tie.Need-returns
 returns c =
     let a = c .before .before .before .before .before .before .before .before .before .before .before .before .args in
@@ -54,7 +40,6 @@ returns c =
       omega (arith, sorted-rows above (g .p) (s .last .0) (s .result) (a .vector .now) (c .before .before .before .before .before .before .x .given .0 .0) (s .ensures), subst (Ended g) (c .before .before .before .before .before .before .x .given .1) (c .before .before .before .before .before .before .before .before .before .before .before .before .pre .4)),
     )
 
--- src/lib.rt:116:1
 returns-2 : tie.Need-returns-2
 returns-2 c =
     let a = c .before .before .before .before .before .before .before .args in
@@ -63,15 +48,12 @@ returns-2 c =
     let above = table-order (g .code) (table-of (g .r) (a .above .now)) in
     (sym (ap (λ y. ended-of order above (g .p) y (a .value .now) (a .vector .now)) (c .before .x2 .given .1)), tt)
 
--- src/lib.rt:116:1
 same-length-3 : tie.Need-same-length-3
 same-length-3 c = search needs
 
--- src/lib.rt:116:1
 same-length-4 : tie.Need-same-length-4
 same-length-4 c = search needs
 
--- src/lib.rt:116:1
 returns-3 : tie.Need-returns-3
 returns-3 c =
     let a = c .before .before .before .before .before .before .before .before .before .before .before .before .args in

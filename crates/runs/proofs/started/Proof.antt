@@ -1,9 +1,6 @@
 use borrow.Author.Needs.{needs}
 use native.Mathlib.Omega.{arith}
-use mathlib.Core.Path.{_≡_, refl, sym, ap, _∙_, subst}
-use mathlib.Core.List.{List, [], _∷_, _++_}
-use Prim.Native.Nat.{ℕ, suc, _+_, _-_, _*_, _<_, _≤_}
-use lib.ListN.{length, take, drop, getD, set, length-set}
+use mathlib.Core.Path.{ap, _∙_}
 use Rattle.definitions.specs.Monomial as definition
 use Rattle.definitions.specs.Run.{add-products}
 use Rattle.monomial.specs.Values.{monomial-of}
@@ -11,23 +8,16 @@ use Rattle.reduce.proofs.Adding.{rows-none}
 use Rattle.reduce.specs.Grounds.{reduction-of, family-of}
 use Rattle.runs.proofs.started.Statement.{statement}
 use Rattle.runs.proofs.started.Tie as tie
-use Rattle.runs.proofs.started.Reads as reads
-use Rattle.runs.proofs.started.Lts as lts
-use Rattle.reduce.proofs.add_multiple.Reads as add-multiple-reads
 
--- src/lib.rt:139:13
 cast-i : tie.Need-cast-i
 cast-i c = search needs
 
--- src/lib.rt:140:5
 add-multiple-requires : tie.Need-add-multiple-requires
 add-multiple-requires c κs = (c .before .before .before .before .before .before .before .before .pre .0, c .before .before .before .before .before .before .before .before .pre .1, omega arith, c .before .before .before .before .before .before .before .before .pre .2, omega arith, omega arith)
 
--- src/lib.rt:134:1
 same-length : tie.Need-same-length
 same-length c = search needs
 
--- src/lib.rt:134:1
 returns : tie.Need-returns
 returns c =
     let a = c .before .before .before .before .before .before .before .before .before .before .before .args in

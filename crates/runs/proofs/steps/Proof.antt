@@ -1,9 +1,8 @@
-use borrow.Author.Needs.{needs}
 use native.Mathlib.Omega.{arith}
 use mathlib.Core.Path.{_≡_, refl, sym, ap, _∙_, subst}
-use mathlib.Core.List.{List, [], _∷_, _++_}
-use Prim.Native.Nat.{ℕ, suc, _+_, _-_, _*_, _<_, _≤_}
-use lib.ListN.{length, take, drop, getD, set, length-set}
+use mathlib.Core.List.{[]}
+use Prim.Native.Nat.{_≤_}
+use lib.ListN.{length}
 use Rattle.runs.proofs.Stepping.{rooms-again}
 use Rattle.runs.proofs.Reaching.{Reached, reached-start, reached-on, reached-refused, reached-end, step-ends}
 use Rattle.runs.specs.Stages.{order-of, stage-of, strategy-of, run-of, step-of, Room}
@@ -22,9 +21,6 @@ use Rattle.definitions.specs.Monomial.{Monomial}
 use lib.Dec.{T}
 use Rattle.runs.proofs.steps.Statement.{statement}
 use Rattle.runs.proofs.steps.Tie as tie
-use Rattle.runs.proofs.steps.Reads as reads
-use Rattle.runs.proofs.steps.Lts as lts
-use Rattle.runs.proofs.one_step.Reads as one-step-reads
 
 abbrev Inv-loop : tie.InvT-loop
 Inv-loop value₀ start vector₀ first level ends heads spans below g w n₀ v₀ value vector n v =
@@ -34,22 +30,18 @@ Inv-loop value₀ start vector₀ first level ends heads spans below g w n₀ v�
 abbrev μ-loop : tie.MeasureT-loop
 μ-loop value₀ start vector₀ first level ends heads spans below g w n₀ v₀ value vector n v = spent (g .p) (rows heads 0 (g .r)) (family-of g level ends) (rows value 0 n)
 
--- src/lib.rt:102:5
 loop-holds : tie.Need-loop-holds Inv-loop μ-loop
 loop-holds c = let a = c .before .before .before .before .before .before .before .args in (omega arith, omega arith, refl, refl, c .before .before .before .before .before .before .before .pre .7, λ above. reached-start (stage-of (a .g) (a .level .now) (a .ends .now) (a .heads .now) (a .below .now) above) (strategy-of (a .g) (a .below .now) (a .w)) (run-of (a .value .now) (a .start) (a .vector .now) (a .first)))
 
--- src/lib.rt:103:15
 one-step-requires : tie.Need-one-step-requires Inv-loop μ-loop
 one-step-requires c κs =
     let P = c .before .before .before .before .before .before .before .before .before .before .before .pre in
     let i = c .before .before .before .loop .inv in
     (P .0, P .1, P .2, rooms-again (c .before .before .before .before .before .before .before .before .before .before .before .args .g) (c .before .before .before .before .before .before .before .before .before .before .before .args .value .now) (c .before .before .before .before .before .before .before .before .before .before .before .args .vector .now) (c .before .before .before .loop .value) (c .before .before .before .loop .vector) (i .2) (i .3) (P .3), omega arith, i .0, i .1)
 
--- src/lib.rt:104:22
 enum-known-x : tie.Need-enum-known-x Inv-loop μ-loop
 enum-known-x c = omega arith
 
--- src/lib.rt:102:5
 loop-less : tie.Need-loop-less Inv-loop μ-loop
 loop-less c =
     let a = c .before .before .before .before .before .before .before .before .before .before .before .before .before .before .before .before .before .before .before .args in
@@ -64,10 +56,9 @@ loop-less c =
     let v = c .before .x .given .0 .1 .0 in
     let r′ = run-of (s .last .0) n (s .last .1 .1 .0) v in
     let told : (above : Monomial → Monomial → Comparison) → done (on r′) ≡ step (stage-of g (a .level .now) (a .ends .now) (a .heads .now) (a .below .now) above) W r =
-        λ above. sym (ap (λ y. step-of order (g .p) y (s .last .0) (s .last .1 .1 .0)) (c .before .x .given .1)) ∙ s .ensures .0 above in
+    λ above. sym (ap (λ y. step-of order (g .p) y (s .last .0) (s .last .1 .1 .0)) (c .before .x .given .1)) ∙ s .ensures .0 above in
     step-falls-as S (c .before .before .before .before .before .before .before .before .before .before .before .before .before .before .before .before .before .before .before .pre .6) W refl refl refl (picks-by-code order (a .w .pick)) r r′ (l .inv .4) (sym (told order))
 
--- src/lib.rt:102:5
 loop-again : tie.Need-loop-again Inv-loop μ-loop
 loop-again c =
     let a = c .before .before .before .before .before .before .before .before .before .before .before .before .before .before .before .before .before .before .before .args in
@@ -82,7 +73,7 @@ loop-again c =
     let v = c .before .x .given .0 .1 .0 in
     let r′ = run-of (s .last .0) n (s .last .1 .1 .0) v in
     let told : (above : Monomial → Monomial → Comparison) → done (on r′) ≡ step (stage-of g (a .level .now) (a .ends .now) (a .heads .now) (a .below .now) above) W r =
-        λ above. sym (ap (λ y. step-of order (g .p) y (s .last .0) (s .last .1 .1 .0)) (c .before .x .given .1)) ∙ s .ensures .0 above in
+    λ above. sym (ap (λ y. step-of order (g .p) y (s .last .0) (s .last .1 .1 .0)) (c .before .x .given .1)) ∙ s .ensures .0 above in
     let room = subst (Room g) (c .before .x .given .1) (s .ensures .1) in (
       room .0,
       room .1,
@@ -92,19 +83,15 @@ loop-again c =
       λ above. reached-on (stage-of g (a .level .now) (a .ends .now) (a .heads .now) (a .below .now) above) W (run-of (a .value .now) (a .start) (a .vector .now) (a .first)) r r′ (l .inv .5 above) (told above),
     )
 
--- src/lib.rt:108:27
 enum-known-x-2 : tie.Need-enum-known-x-2 Inv-loop μ-loop
 enum-known-x-2 c = omega arith
 
--- src/lib.rt:108:33
 same-length : tie.Need-same-length Inv-loop μ-loop
 same-length c = omega (arith, c .before .before .before .before .before .before .before .before .before .before .before .loop .inv .2)
 
--- src/lib.rt:108:33
 same-length-2 : tie.Need-same-length-2 Inv-loop μ-loop
 same-length-2 c = omega (arith, c .before .before .before .before .before .before .before .before .before .before .before .loop .inv .3)
 
--- src/lib.rt:108:33
 returns : tie.Need-returns Inv-loop μ-loop
 returns c =
     let a = c .before .before .before .before .before .before .before .before .before .before .before .before .before .before .before .before .before .before .before .args in
@@ -116,23 +103,19 @@ returns c =
     let s = c .before .before .before .before .before .before .before .one-step in
     let x = c .before .x2 .given .0 .0 in (
       λ above. reached-refused (stage-of g (a .level .now) (a .ends .now) (a .heads .now) (a .below .now) above) W (run-of (a .value .now) (a .start) (a .vector .now) (a .first)) r x 0 [] (l .inv .5 above)
-      (sym (ap (λ y. step-of order (g .p) y (s .last .0) (s .last .1 .1 .0)) (c .before .x2 .given .1)) ∙ s .ensures .0 above),
+          (sym (ap (λ y. step-of order (g .p) y (s .last .0) (s .last .1 .1 .0)) (c .before .x2 .given .1)) ∙ s .ensures .0 above),
       tt,
     )
 
--- src/lib.rt:109:27
 enum-known-x-3 : tie.Need-enum-known-x-3 Inv-loop μ-loop
 enum-known-x-3 c = omega arith
 
--- src/lib.rt:109:33
 same-length-3 : tie.Need-same-length-3 Inv-loop μ-loop
 same-length-3 c = omega (arith, c .before .before .before .before .before .before .before .before .before .before .before .loop .inv .2)
 
--- src/lib.rt:109:33
 same-length-4 : tie.Need-same-length-4 Inv-loop μ-loop
 same-length-4 c = omega (arith, c .before .before .before .before .before .before .before .before .before .before .before .loop .inv .3)
 
--- src/lib.rt:109:33
 returns-2 : tie.Need-returns-2 Inv-loop μ-loop
 returns-2 c =
     let a = c .before .before .before .before .before .before .before .before .before .before .before .before .before .before .before .before .before .before .before .args in
@@ -144,19 +127,16 @@ returns-2 c =
     let s = c .before .before .before .before .before .before .before .one-step in
     let x = c .before .x3 .given .0 .0 in (
       λ above. reached-refused (stage-of g (a .level .now) (a .ends .now) (a .heads .now) (a .below .now) above) W (run-of (a .value .now) (a .start) (a .vector .now) (a .first)) r 9 0 (descending order (g .p) (rows (s .last .0) 0 x)) (l .inv .5 above)
-      (sym (ap (λ y. step-of order (g .p) y (s .last .0) (s .last .1 .1 .0)) (c .before .x3 .given .1)) ∙ s .ensures .0 above),
+          (sym (ap (λ y. step-of order (g .p) y (s .last .0) (s .last .1 .1 .0)) (c .before .x3 .given .1)) ∙ s .ensures .0 above),
       subst (Room g) (c .before .x3 .given .1) (s .ensures .1),
     )
 
--- src/lib.rt:96:1
 same-length-5 : tie.Need-same-length-5 Inv-loop μ-loop
 same-length-5 c = omega (arith, c .before .loop .inv .2)
 
--- src/lib.rt:96:1
 same-length-6 : tie.Need-same-length-6 Inv-loop μ-loop
 same-length-6 c = omega (arith, c .before .loop .inv .3)
 
--- src/lib.rt:96:1
 returns-3 : tie.Need-returns-3 Inv-loop μ-loop
 returns-3 c =
     let a = c .before .before .before .before .before .before .before .before .before .args in
@@ -167,7 +147,7 @@ returns-3 c =
     let r = run-of (l .value) (l .n) (l .vector) (l .v) in
     let empty : rows (l .value) 0 (l .n) ≡ [] = ap (rows (l .value) 0) (omega arith) ∙ rows-none (l .value) 0 in (
       λ above. let S = stage-of g (a .level .now) (a .ends .now) (a .heads .now) (a .below .now) above in
-      reached-end S W (run-of (a .value .now) (a .start) (a .vector .now) (a .first)) r (r .vector) (l .inv .5 above) (step-ends S order (a .w .pick) (a .w .drops) (a .w .stops) r empty),
+          reached-end S W (run-of (a .value .now) (a .start) (a .vector .now) (a .first)) r (r .vector) (l .inv .5 above) (step-ends S order (a .w .pick) (a .w .drops) (a .w .stops) r empty),
       l .inv .1,
     )
 

@@ -1,33 +1,21 @@
 use borrow.Author.Needs.{needs}
-use native.Mathlib.Omega.{arith}
-use mathlib.Core.Path.{_≡_, refl, sym, ap, _∙_, subst}
-use mathlib.Core.List.{List, [], _∷_, _++_}
-use Prim.Native.Nat.{ℕ, suc, _+_, _-_, _*_, _<_, _≤_}
-use lib.ListN.{length, take, drop, getD, set, length-set}
+use mathlib.Core.Path.{sym, ap, _∙_}
 use Rattle.runs.specs.Stages.{without-step, without-words}
 use Rattle.runs.proofs.without_reducer.Statement.{statement}
 use Rattle.runs.proofs.without_reducer.Tie as tie
-use Rattle.runs.proofs.without_reducer.Reads as reads
-use Rattle.runs.proofs.without_reducer.Lts as lts
-use Rattle.terms.proofs.remove.Reads as remove-reads
 
--- src/lib.rt:72:9
 returns : tie.Need-returns
 returns c = (sym (ap (λ b. without-step b (c .before .before .args .n) (c .before .before .args .v)) (c .if1 .taken)), sym (ap (λ b. without-words b (c .before .before .args .value .now) (c .before .before .args .n) (c .before .before .args .i)) (c .if1 .taken)))
 
--- src/lib.rt:74:5
 remove-requires : tie.Need-remove-requires
 remove-requires c κs = search needs
 
--- src/lib.rt:75:14
 sub-t10 : tie.Need-sub-t10
 sub-t10 c = search needs
 
--- src/lib.rt:67:1
 same-length : tie.Need-same-length
 same-length c = search needs
 
--- src/lib.rt:67:1
 returns-2 : tie.Need-returns-2
 returns-2 c = (sym (ap (λ b. without-step b (c .before .before .before .before .before .before .args .n) (c .before .before .before .before .before .before .args .v)) (c .before .before .before .before .if1 .left)), c .before .before .remove .ensures ∙ sym (ap (λ b. without-words b (c .before .before .before .before .before .before .args .value .now) (c .before .before .before .before .before .before .args .n) (c .before .before .before .before .before .before .args .i)) (c .before .before .before .before .if1 .left)))
 
