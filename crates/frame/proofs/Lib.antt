@@ -1,0 +1,3 @@
+pub mod Ascending
+pub mod Minimal
+pub mod Components
