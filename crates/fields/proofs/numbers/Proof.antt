@@ -1,0 +1,145 @@
+use borrow.Author.Needs.{needs}
+use native.Mathlib.Omega.{arith}
+use mathlib.Core.Path.{_≡_, refl, sym, ap, _∙_, subst}
+use mathlib.Core.List.{List, [], _∷_, _++_}
+use Prim.Native.Nat.{ℕ, suc, _+_, _-_, _*_, _<_, _≤_}
+use lib.ListN.{length, take, drop, getD, set, length-set}
+use Rattle.fields.proofs.numbers.Statement.{statement}
+use Rattle.fields.proofs.numbers.Tie as tie
+use Rattle.fields.proofs.numbers.Reads as reads
+use Rattle.fields.proofs.numbers.Lts as lts
+use Rattle.fields.proofs.misshapen.Reads as misshapen-reads
+use Rattle.fields.proofs.number.Reads as number-reads
+
+abbrev Inv-loop : tie.InvT-loop
+Inv-loop file from count numbers₀ at₀ i₀ numbers at i = ?
+
+abbrev μ-loop : tie.MeasureT-loop
+μ-loop file from count numbers₀ at₀ i₀ numbers at i = ?
+
+-- src/lib.rt:110:5
+loop-holds : tie.Need-loop-holds Inv-loop μ-loop
+loop-holds c = omega arith
+
+-- src/lib.rt:112:13
+misshapen-requires : tie.Need-misshapen-requires Inv-loop μ-loop
+misshapen-requires c κs = omega arith
+
+-- src/lib.rt:112:13
+returns : tie.Need-returns Inv-loop μ-loop
+returns c = omega arith
+
+-- src/lib.rt:114:12
+shared-slice-read-if2 : tie.Need-shared-slice-read-if2 Inv-loop μ-loop
+shared-slice-read-if2 c = omega arith
+
+-- src/lib.rt:115:13
+misshapen-requires-2 : tie.Need-misshapen-requires-2 Inv-loop μ-loop
+misshapen-requires-2 c κs = omega arith
+
+-- src/lib.rt:115:13
+returns-2 : tie.Need-returns-2 Inv-loop μ-loop
+returns-2 c = omega arith
+
+-- src/lib.rt:117:51
+add-number : tie.Need-add-number Inv-loop μ-loop
+add-number c = omega arith
+
+-- src/lib.rt:117:38
+number-requires : tie.Need-number-requires Inv-loop μ-loop
+number-requires c κs = omega arith
+
+-- src/lib.rt:117:27
+enum-known-v : tie.Need-enum-known-v Inv-loop μ-loop
+enum-known-v c = omega arith
+
+-- src/lib.rt:118:13
+enum-told : tie.Need-enum-told Inv-loop μ-loop
+enum-told c = omega arith
+
+-- src/lib.rt:118:13
+misshapen-requires-3 : tie.Need-misshapen-requires-3 Inv-loop μ-loop
+misshapen-requires-3 c κs = omega arith
+
+-- src/lib.rt:118:13
+returns-3 : tie.Need-returns-3 Inv-loop μ-loop
+returns-3 c = omega arith
+
+-- src/lib.rt:120:9
+mul-numbers : tie.Need-mul-numbers Inv-loop μ-loop
+mul-numbers c = omega arith
+
+-- src/lib.rt:120:9
+array-write-numbers : tie.Need-array-write-numbers Inv-loop μ-loop
+array-write-numbers c = omega arith
+
+-- src/lib.rt:122:9
+add-i : tie.Need-add-i Inv-loop μ-loop
+add-i c = omega arith
+
+-- src/lib.rt:110:5
+loop-less : tie.Need-loop-less Inv-loop μ-loop
+loop-less c = omega arith
+
+-- src/lib.rt:110:5
+loop-again : tie.Need-loop-again Inv-loop μ-loop
+loop-again c = omega arith
+
+-- src/lib.rt:125:9
+misshapen-requires-4 : tie.Need-misshapen-requires-4 Inv-loop μ-loop
+misshapen-requires-4 c κs = omega arith
+
+-- src/lib.rt:125:9
+returns-4 : tie.Need-returns-4 Inv-loop μ-loop
+returns-4 c = omega arith
+
+-- src/lib.rt:127:8
+shared-slice-read-if4 : tie.Need-shared-slice-read-if4 Inv-loop μ-loop
+shared-slice-read-if4 c = omega arith
+
+-- src/lib.rt:128:9
+misshapen-requires-5 : tie.Need-misshapen-requires-5 Inv-loop μ-loop
+misshapen-requires-5 c κs = omega arith
+
+-- src/lib.rt:128:9
+returns-5 : tie.Need-returns-5 Inv-loop μ-loop
+returns-5 c = omega arith
+
+-- src/lib.rt:131:26
+add-t16 : tie.Need-add-t16 Inv-loop μ-loop
+add-t16 c = omega arith
+
+-- src/lib.rt:103:1
+returns-6 : tie.Need-returns-6 Inv-loop μ-loop
+returns-6 c = omega arith
+
+pub numbers-spec : {M : Type 1} → statement M
+numbers-spec =
+    tie.close
+    (tie.spec
+    Inv-loop
+    μ-loop
+    loop-holds
+    misshapen-requires
+    returns
+    shared-slice-read-if2
+    misshapen-requires-2
+    returns-2
+    add-number
+    number-requires
+    enum-known-v
+    enum-told
+    misshapen-requires-3
+    returns-3
+    mul-numbers
+    array-write-numbers
+    add-i
+    loop-less
+    loop-again
+    misshapen-requires-4
+    returns-4
+    shared-slice-read-if4
+    misshapen-requires-5
+    returns-5
+    add-t16
+    returns-6)
