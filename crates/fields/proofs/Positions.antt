@@ -11,7 +11,7 @@ use lib.Seq.{drop-cons}
 use borrow.Author.Tests.{eq-eqb, ne-eqb}
 use Rattle.definitions.specs.Problem.{Bytes, digit?, newline, comma}
 use Rattle.definitions.specs.Lists.{_then_}
-use Rattle.fields.specs.Scanning.{digit-or-ten, number-first, kept, number-on, number-zero, numbers-first, shaped-first}
+use Rattle.fields.specs.Scanning.{digit-or-ten, number-first, kept, number-on, number-zero, field-first, line-end, numbers-first, shaped-first}
 use Rattle.fields.proofs.Digits.{digit-is, digit-is-none, digit-zero, number-more, number-ends, number-ends-file, number-none, number-begins, zero-first}
 use Rattle.fields.proofs.Lines.{letter-differs, letter-stands}
 
@@ -74,3 +74,35 @@ module _ (file : Bytes) (at : ℕ) where
 
   pub first-end : length file ≤ at → none ≡ number-first 65535 (drop at file)
   first-end h = sym (ap (number-first 65535) (nothing-left file at h))
+
+  -- ## A comma before a number, byte 10 behind the last
+
+  pub field-end : length file ≤ at → field-first 65535 (drop at file) ≡ none
+  field-end h = ap (field-first 65535) (nothing-left file at h)
+
+  pub field-comma : at < length file → getD file at 0 ≡ 44 → field-first 65535 (drop at file) ≡ number-first 65535 (drop (at + 1) file)
+  field-comma h e = ap (field-first 65535) (byte-left file at h) ∙ (λ i. kept (eq-eqb (getD file at 0) 44 e i) (number-first 65535 (drop (at + 1) file)))
+
+  pub field-other : at < length file → (getD file at 0 ≡ 44 → ⊥) → field-first 65535 (drop at file) ≡ none
+  field-other h n = ap (field-first 65535) (byte-left file at h) ∙ (λ i. kept (ne-eqb (getD file at 0) 44 n i) (number-first 65535 (drop (at + 1) file)))
+
+  pub end-end : length file ≤ at → line-end (drop at file) ≡ none
+  end-end h = ap line-end (nothing-left file at h)
+
+  pub end-here : at < length file → getD file at 0 ≡ 10 → line-end (drop at file) ≡ some ([], drop (at + 1) file)
+  end-here h e = ap line-end (byte-left file at h) ∙ (λ i. kept (eq-eqb (getD file at 0) 10 e i) (some ([], drop (at + 1) file)))
+
+  pub end-other : at < length file → (getD file at 0 ≡ 10 → ⊥) → line-end (drop at file) ≡ none
+  end-other h n = ap line-end (byte-left file at h) ∙ (λ i. kept (ne-eqb (getD file at 0) 10 n i) (some ([], drop (at + 1) file)))
+
+  -- ## The letter
+
+  module _ (letter count : ℕ) (after-digits : 57 < letter) where
+    pub line-none : length file ≤ at → shaped-first 65535 letter count (drop at file) ≡ none
+    line-none h = ap (shaped-first 65535 letter count) (nothing-left file at h)
+
+    pub line-other : at < length file → (getD file at 0 ≡ letter → ⊥) → shaped-first 65535 letter count (drop at file) ≡ none
+    line-other h n = ap (shaped-first 65535 letter count) (byte-left file at h) ∙ letter-differs 65535 letter count after-digits (getD file at 0) (drop (at + 1) file) n
+
+    pub line-letter : at < length file → getD file at 0 ≡ letter → shaped-first 65535 letter count (drop at file) ≡ numbers-first 65535 count (drop (at + 1) file)
+    line-letter h e = ap (shaped-first 65535 letter count) (byte-left file at h) ∙ letter-stands 65535 letter count after-digits (getD file at 0) (drop (at + 1) file) e
