@@ -3,16 +3,16 @@ use mathlib.Core.Path.{_≡_, refl, sym, ap, _∙_, subst}
 use mathlib.Core.Bool.{Bool, true, false, not, _||_}
 use mathlib.Core.Option.{Option, none, some}
 use mathlib.Core.List.{List, [], _∷_}
-use Prim.Native.Nat.{ℕ, zero, suc, _+_, _<_, _≤_}
+use Prim.Native.Nat.{ℕ, zero, suc, _<_, _≤_}
 use native.Mathlib.Omega.{arith}
 use native.Mathlib.Decide.{ℕ-discrete}
-use lib.Dec.{leb, eqb, eqb·zero-suc, eqb·suc-zero, eqb·suc-suc}
+use lib.Dec.{eqb, eqb·zero-suc, eqb·suc-zero, eqb·suc-suc}
 use lib.ListN.{length}
-use borrow.Author.Tests.{eq-eqb, ne-eqb, lt-leb}
+use borrow.Author.Tests.{eq-eqb, ne-eqb}
 use Rattle.definitions.specs.Lists.{_and_, _then_, every, empty?}
-use Rattle.definitions.specs.Problem.{Bytes, Line, newline, comma, onto, split, ended, lines, digit?, number, all-numbers, letter?, shaped-fields, shaped}
+use Rattle.definitions.specs.Problem.{Bytes, newline, comma, onto, split, ended, lines, digit?, number, all-numbers, letter?, shaped-fields, shaped}
 use Rattle.definitions.proofs.Tests.{is-true, between-low}
-use Rattle.fields.specs.Scanning.{behind, shaped-of, shaped-first, digits, past-digits, number-first, kept, field-first, line-end, numbers-first}
+use Rattle.fields.specs.Scanning.{behind, shaped-of, shaped-first, digits, past-digits, number-first, kept, numbers-first}
 use Rattle.fields.proofs.Digits.{digits-on, digits-none, past-on, past-none, number-unwritten}
 
 -- ## The first line
@@ -164,7 +164,7 @@ module _ (g : Head) (limit : ℕ) where
 
       go : (e t : Bool) (o : Option (List ℕ → List ℕ)) (n : Option ℕ) (a : Option (List ℕ))
           → kept e (paired rest (kept t (with-head o (n then λ v. a then λ vs. some (v ∷ vs)))))
-            ≡ joined o (kept e (paired rest (kept t (with-head (n then λ v. some (λ vs. v ∷ vs)) a))))
+          ≡ joined o (kept e (paired rest (kept t (with-head (n then λ v. some (λ vs. v ∷ vs)) a))))
       go false t o n a = sym (joined-none o)
       go true false o n a = sym (joined-none o)
       go true true none n a = refl

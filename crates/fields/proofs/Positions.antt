@@ -1,16 +1,15 @@
 -- The laws of numbers and lines at a position in a file, from what the code's tests say there.
 use mathlib.Core.Path.{_≡_, refl, sym, ap, _∙_, subst}
-use mathlib.Core.Bool.{Bool, true, false, not}
-use mathlib.Core.Option.{Option, none, some}
-use mathlib.Core.List.{List, [], _∷_, _++_}
-use Prim.Native.Nat.{ℕ, zero, suc, _+_, _-_, _*_, _<_, _≤_}
+use mathlib.Core.Bool.{true, false, not}
+use mathlib.Core.Option.{none, some}
+use mathlib.Core.List.{[], _∷_}
+use Prim.Native.Nat.{ℕ, _+_, _-_, _*_, _<_, _≤_}
 use native.Mathlib.Omega.{arith}
 use native.Mathlib.Numerals.{add-one}
 use lib.ListN.{length, drop, getD, drop-of-length-le}
 use lib.Seq.{drop-cons}
 use borrow.Author.Tests.{eq-eqb, ne-eqb}
-use Rattle.definitions.specs.Problem.{Bytes, digit?, newline, comma}
-use Rattle.definitions.specs.Lists.{_then_}
+use Rattle.definitions.specs.Problem.{Bytes, digit?, comma}
 use Rattle.fields.specs.Scanning.{digit-or-ten, number-first, kept, number-on, number-zero, field-first, line-end, numbers-first, shaped-first}
 use Rattle.fields.proofs.Digits.{digit-is, digit-is-none, digit-zero, number-more, number-ends, number-ends-file, number-none, number-begins, zero-first}
 use Rattle.fields.proofs.Lines.{letter-differs, letter-stands}
@@ -24,7 +23,6 @@ pub byte-left : (file : Bytes) (at : ℕ) → at < length file → drop at file 
 byte-left file at h = drop-cons file at 0 h ∙ ap (λ n. getD file at 0 ∷ drop n file) (sym (add-one at))
 
 module _ (file : Bytes) (at : ℕ) where
-
   pub zero-end : length file ≤ at → some (0, drop at file) ≡ number-zero (drop at file)
   zero-end h = subst (λ (l : Bytes). some (0, l) ≡ number-zero l) (sym (nothing-left file at h)) refl
 

@@ -1,33 +1,21 @@
 use borrow.Author.Needs.{needs}
 use native.Mathlib.Omega.{arith}
-use mathlib.Core.Path.{_≡_, refl, sym, ap, _∙_, subst}
-use mathlib.Core.List.{List, [], _∷_, _++_}
-use Prim.Native.Nat.{ℕ, suc, _+_, _-_, _*_, _<_, _≤_}
-use lib.ListN.{length, take, drop, getD, set, length-set}
 use Rattle.fields.proofs.Positions.{zero-end, zero-other, zero-digit}
 use Rattle.fields.proofs.number_zero.Statement.{statement}
 use Rattle.fields.proofs.number_zero.Tie as tie
-use Rattle.fields.proofs.number_zero.Reads as reads
-use Rattle.fields.proofs.number_zero.Lts as lts
-use Rattle.fields.proofs.digit.Reads as digit-reads
 
--- src/lib.rt:66:9
 returns : tie.Need-returns
 returns c = let a = c .before .before .args in zero-end (a .file .now) (a .at) (omega arith)
 
--- src/lib.rt:68:19
 shared-slice-read-digit : tie.Need-shared-slice-read-digit
 shared-slice-read-digit c = search needs
 
--- src/lib.rt:68:9
 digit-requires : tie.Need-digit-requires
 digit-requires c κs = search needs
 
--- src/lib.rt:70:9
 returns-2 : tie.Need-returns-2
 returns-2 c = let a = c .before .before .before .before .before .args in zero-other (a .file .now) (a .at) (omega arith) (c .before .digit .result) (c .before .digit .ensures) (omega arith)
 
--- src/lib.rt:62:1
 returns-3 : tie.Need-returns-3
 returns-3 c = let a = c .before .before .before .before .before .args in zero-digit (a .file .now) (a .at) (omega arith) (c .before .digit .result) (c .before .digit .ensures) (omega arith)
 

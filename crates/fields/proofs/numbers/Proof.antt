@@ -1,22 +1,17 @@
 use borrow.Author.Needs.{needs}
 use native.Mathlib.Omega.{arith}
-use mathlib.Core.Path.{_≡_, refl, sym, ap, _∙_, subst}
-use mathlib.Core.List.{List, [], _∷_, _++_}
-use Prim.Native.Nat.{ℕ, suc, _+_, _-_, _*_, _<_, _≤_}
-use lib.ListN.{length, take, drop, getD, set, replicate, length-set}
+use mathlib.Core.Path.{_≡_, refl, sym, ap, _∙_}
+use Prim.Native.Nat.{_+_, _-_, _≤_}
+use lib.ListN.{length, drop, replicate, length-set}
 use Rattle.fields.specs.Scanning.{numbers-first}
 use Rattle.fields.proofs.Collected.{so-far, Zeros-from}
 use Rattle.fields.proofs.Collected.{misshapen-as, none-so-far, no-field, no-end, one-field, all-fields, zeros-behind}
 use Rattle.fields.proofs.Positions.{field-end, field-other, field-comma, end-end, end-other, end-here}
 use Rattle.fields.specs.declared.Field.{Field}
 use Rattle.fields.specs.Scanning.{field-first, field-as, in-eleven}
-use mathlib.Core.Option.{none, some}
+use mathlib.Core.Option.{some}
 use Rattle.fields.proofs.numbers.Statement.{statement}
 use Rattle.fields.proofs.numbers.Tie as tie
-use Rattle.fields.proofs.numbers.Reads as reads
-use Rattle.fields.proofs.numbers.Lts as lts
-use Rattle.fields.proofs.misshapen.Reads as misshapen-reads
-use Rattle.fields.proofs.number.Reads as number-reads
 
 abbrev Inv-loop : tie.InvT-loop
 Inv-loop file from count numbers₀ at₀ i₀ numbers at i =
@@ -25,102 +20,78 @@ Inv-loop file from count numbers₀ at₀ i₀ numbers at i =
 abbrev μ-loop : tie.MeasureT-loop
 μ-loop file from count numbers₀ at₀ i₀ numbers at i = count - i
 
--- src/lib.rt:110:5
 loop-holds : tie.Need-loop-holds Inv-loop μ-loop
 loop-holds c = (omega arith, refl, refl, none-so-far (replicate 11 0) (c .before .args .count) (drop (c .before .args .from) (c .before .args .file .now)))
 
--- src/lib.rt:112:13
 misshapen-requires : tie.Need-misshapen-requires Inv-loop μ-loop
 misshapen-requires c κs = omega arith
 
--- src/lib.rt:112:13
 returns : tie.Need-returns Inv-loop μ-loop
 returns c = let a = c .before .before .before .before .before .args in let l = c .before .before .before .loop in let file = a .file .now in let r = c .misshapen in misshapen-as (r .result) file (r .ensures) ∙ sym (ap in-eleven (l .inv .3) ∙ no-field (l .numbers) (a .count) (l .i) (drop (l .at) file) (omega arith) (field-end file (l .at) (omega arith)))
 
--- src/lib.rt:114:12
 shared-slice-read-if2 : tie.Need-shared-slice-read-if2 Inv-loop μ-loop
 shared-slice-read-if2 c = omega arith
 
--- src/lib.rt:115:13
 misshapen-requires-2 : tie.Need-misshapen-requires-2 Inv-loop μ-loop
 misshapen-requires-2 c κs = omega arith
 
--- src/lib.rt:115:13
 returns-2 : tie.Need-returns-2 Inv-loop μ-loop
 returns-2 c = let a = c .before .before .before .before .before .before .before .args in let l = c .before .before .before .before .before .loop in let file = a .file .now in let r = c .misshapen2 in misshapen-as (r .result) file (r .ensures) ∙ sym (ap in-eleven (l .inv .3) ∙ no-field (l .numbers) (a .count) (l .i) (drop (l .at) file) (omega arith) (field-other file (l .at) (omega arith) (λ q. omega arith)))
 
--- src/lib.rt:117:51
 add-number : tie.Need-add-number Inv-loop μ-loop
 add-number c = omega arith
 
--- src/lib.rt:117:38
 number-requires : tie.Need-number-requires Inv-loop μ-loop
 number-requires c κs = omega arith
 
--- src/lib.rt:117:27
 enum-known-v : tie.Need-enum-known-v Inv-loop μ-loop
 enum-known-v c = search needs
 
--- src/lib.rt:118:13
 enum-told : tie.Need-enum-told Inv-loop μ-loop
 enum-told c = search needs
 
--- src/lib.rt:118:13
 misshapen-requires-3 : tie.Need-misshapen-requires-3 Inv-loop μ-loop
 misshapen-requires-3 c κs = omega arith
 
--- src/lib.rt:118:13
 returns-3 : tie.Need-returns-3 Inv-loop μ-loop
 returns-3 c = let a = c .before .before .before .before .before .before .before .before .before .before .args in let l = c .before .before .before .before .before .before .before .before .loop in let file = a .file .now in let r = c .misshapen3 in misshapen-as (r .result) file (r .ensures) ∙ sym (ap in-eleven (l .inv .3) ∙ no-field (l .numbers) (a .count) (l .i) (drop (l .at) file) (omega arith) (field-comma file (l .at) (omega arith) (omega arith) ∙ sym (c .before .before .before .number .ensures) ∙ ap (λ (x : Field). field-as x file) (c .before .enum-told .given .1)))
 
--- src/lib.rt:120:9
 mul-numbers : tie.Need-mul-numbers Inv-loop μ-loop
 mul-numbers c = omega arith
 
--- src/lib.rt:120:9
 array-write-numbers : tie.Need-array-write-numbers Inv-loop μ-loop
 array-write-numbers c = omega arith
 
--- src/lib.rt:122:9
 add-i : tie.Need-add-i Inv-loop μ-loop
 add-i c = omega arith
 
--- src/lib.rt:110:5
 loop-less : tie.Need-loop-less Inv-loop μ-loop
 loop-less c = omega arith
 
--- src/lib.rt:110:5
 loop-again : tie.Need-loop-again Inv-loop μ-loop
 loop-again c =
     let a = c .before .before .before .before .before .before .before .before .before .before .args in let l = c .before .before .before .before .before .before .before .before .loop in let file = a .file .now in let v = c .before .v .given .0 .0 in let next = c .before .v .given .0 .1 .0 in
     let one : field-first 65535 (drop (l .at) file) ≡ some (v, drop next file) = field-comma file (l .at) (omega arith) (omega arith) ∙ sym (c .before .before .before .number .ensures) ∙ ap (λ (x : Field). field-as x file) (c .before .v .given .1) in
     (omega arith, simp length-set (l .inv .1), zeros-behind (l .numbers) (l .i) v (omega arith) (l .inv .2), l .inv .3 ∙ one-field (l .numbers) (a .count) (l .i) (drop (l .at) file) v (drop next file) (omega arith) (omega (arith, l .inv .1)) one)
 
--- src/lib.rt:125:9
 misshapen-requires-4 : tie.Need-misshapen-requires-4 Inv-loop μ-loop
 misshapen-requires-4 c κs = omega arith
 
--- src/lib.rt:125:9
 returns-4 : tie.Need-returns-4 Inv-loop μ-loop
 returns-4 c = let a = c .before .before .before .before .before .args in let l = c .before .before .before .loop in let file = a .file .now in let r = c .misshapen4 in misshapen-as (r .result) file (r .ensures) ∙ sym (ap in-eleven (l .inv .3) ∙ no-end (l .numbers) (a .count) (l .i) (drop (l .at) file) (omega arith) (end-end file (l .at) (omega arith)))
 
--- src/lib.rt:127:8
 shared-slice-read-if4 : tie.Need-shared-slice-read-if4 Inv-loop μ-loop
 shared-slice-read-if4 c = omega arith
 
--- src/lib.rt:128:9
 misshapen-requires-5 : tie.Need-misshapen-requires-5 Inv-loop μ-loop
 misshapen-requires-5 c κs = omega arith
 
--- src/lib.rt:128:9
 returns-5 : tie.Need-returns-5 Inv-loop μ-loop
 returns-5 c = let a = c .before .before .before .before .before .before .before .args in let l = c .before .before .before .before .before .loop in let file = a .file .now in let r = c .misshapen5 in misshapen-as (r .result) file (r .ensures) ∙ sym (ap in-eleven (l .inv .3) ∙ no-end (l .numbers) (a .count) (l .i) (drop (l .at) file) (omega arith) (end-other file (l .at) (omega arith) (λ q. omega arith)))
 
--- src/lib.rt:131:26
 add-t16 : tie.Need-add-t16 Inv-loop μ-loop
 add-t16 c = omega arith
 
--- src/lib.rt:103:1
 returns-6 : tie.Need-returns-6 Inv-loop μ-loop
 returns-6 c =
     let a = c .before .before .before .before .before .before .args in let l = c .before .before .before .before .loop in let file = a .file .now in
