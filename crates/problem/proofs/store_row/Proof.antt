@@ -1,0 +1,83 @@
+use borrow.Author.Needs.{needs}
+use native.Mathlib.Omega.{arith}
+use mathlib.Core.Path.{_≡_, refl, sym, ap, _∙_, subst}
+use mathlib.Core.List.{List, [], _∷_, _++_}
+use Prim.Native.Nat.{ℕ, suc, _+_, _-_, _*_, _<_, _≤_}
+use lib.ListN.{length, take, drop, getD, set, length-set}
+use Rattle.problem.proofs.store_row.Statement.{statement}
+use Rattle.problem.proofs.store_row.Tie as tie
+use Rattle.problem.proofs.store_row.Reads as reads
+use Rattle.problem.proofs.store_row.Lts as lts
+
+abbrev Inv-loop : tie.InvT-loop
+Inv-loop state₀ at w j₀ state j = ?
+
+abbrev μ-loop : tie.MeasureT-loop
+μ-loop state₀ at w j₀ state j = ?
+
+-- src/lib.rt:343:5
+loop-holds : tie.Need-loop-holds Inv-loop μ-loop
+loop-holds c = omega arith
+
+-- src/lib.rt:344:27
+add-state : tie.Need-add-state Inv-loop μ-loop
+add-state c = omega arith
+
+-- src/lib.rt:344:25
+mul-state : tie.Need-mul-state Inv-loop μ-loop
+mul-state c = omega arith
+
+-- src/lib.rt:344:25
+array-read-state : tie.Need-array-read-state Inv-loop μ-loop
+array-read-state c = omega arith
+
+-- src/lib.rt:344:15
+add-state-2 : tie.Need-add-state-2 Inv-loop μ-loop
+add-state-2 c = omega arith
+
+-- src/lib.rt:344:9
+mul-state-2 : tie.Need-mul-state-2 Inv-loop μ-loop
+mul-state-2 c = omega arith
+
+-- src/lib.rt:344:9
+slice-write-state : tie.Need-slice-write-state Inv-loop μ-loop
+slice-write-state c = omega arith
+
+-- src/lib.rt:345:9
+add-j : tie.Need-add-j Inv-loop μ-loop
+add-j c = omega arith
+
+-- src/lib.rt:343:5
+loop-less : tie.Need-loop-less Inv-loop μ-loop
+loop-less c = omega arith
+
+-- src/lib.rt:343:5
+loop-again : tie.Need-loop-again Inv-loop μ-loop
+loop-again c = omega arith
+
+-- src/lib.rt:338:1
+same-length : tie.Need-same-length Inv-loop μ-loop
+same-length c = omega arith
+
+-- src/lib.rt:338:1
+returns : tie.Need-returns Inv-loop μ-loop
+returns c = omega arith
+
+pub store-row-spec : {M : Type 1} → statement M
+store-row-spec =
+    tie.close
+    (tie.spec
+    Inv-loop
+    μ-loop
+    loop-holds
+    add-state
+    mul-state
+    array-read-state
+    add-state-2
+    mul-state-2
+    slice-write-state
+    add-j
+    loop-less
+    loop-again
+    same-length
+    returns)
