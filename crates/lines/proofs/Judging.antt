@@ -1,7 +1,7 @@
 -- A line's answer, from what its shape and its tests say.
-use mathlib.Core.Path.{_≡_, refl, sym, ap, _∙_}
+use mathlib.Core.Path.{_≡_, refl, sym, ap, _∙_, subst}
 use mathlib.Core.Bool.{Bool, true, false, not}
-use mathlib.Core.Option.{Option, none, some}
+use mathlib.Core.Option.{Option, none}
 use mathlib.Core.List.{[], _∷_}
 use Prim.Native.Nat.{ℕ, zero, suc, _+_, _<_, _≤_}
 use native.Mathlib.Omega.{arith}
@@ -10,7 +10,7 @@ use lib.ListN.{length, getD, drop}
 use borrow.Author.Tests.{eq-eqb, ne-eqb}
 use Rattle.definitions.specs.Lists.{_and_, empty?}
 use Rattle.definitions.specs.Result.{Result, done, refused, unless-refused, _>>=_}
-use Rattle.definitions.specs.Problem.{Bytes}
+use Rattle.definitions.specs.Problem.{Bytes, Parameters}
 use Rattle.definitions.specs.Layout.{Words}
 use Rattle.fields.specs.Scanning.{line-as, end-as}
 use Rattle.fields.specs.declared.End as line-end
@@ -20,7 +20,7 @@ use Rattle.fields.proofs.Positions.{nothing-left, byte-left}
 use Rattle.lines.specs.declared.Step.{Step}
 use Rattle.lines.specs.declared.Step.the-variants.{Refused}
 use Rattle.lines.specs.declared.Taken.{Taken}
-use Rattle.lines.specs.Steps.{Said, judged, with-shape, e-judged, step-as, taken-as}
+use Rattle.lines.specs.Steps.{Said, judged, with-shape, t-first, e-judged, e-first, by-letter, line-first, step-as, taken-as}
 
 pub refused-as : (r : Taken) (file : Bytes) (number place : ℕ) → r .step ≡ Refused number place → taken-as r file ≡ refused number place []
 refused-as r file number place e = ap (λ (x : Step). step-as x (r .numbers) file) e
@@ -73,3 +73,24 @@ some-left file at h = ap empty? (byte-left file at h)
 
 pub none-left : (file : Bytes) (at : ℕ) → length file ≤ at → empty? (drop at file) ≡ true
 none-left file at h = ap empty? (nothing-left file at h)
+
+-- ## The letter
+
+module _ (q : Parameters) (count r : ℕ) (before : Words) (file : Bytes) (at : ℕ) where
+  pub letter-none : length file ≤ at → refused 1 (count + 2) [] ≡ line-first q count r before (drop at file)
+  letter-none h = sym (ap (line-first q count r before) (nothing-left file at h))
+
+  module _ (h : at < length file) where
+    abbrev decided : Bool → Bool → Result Said
+    decided t e = by-letter t e (t-first q count r before (getD file at 0 ∷ drop (at + 1) file)) (e-first count (getD file at 0 ∷ drop (at + 1) file)) (refused 1 (count + 2) [])
+
+    pub letter-T : getD file at 0 ≡ 84 → t-first q count r before (drop at file) ≡ line-first q count r before (drop at file)
+    letter-T e = subst (λ (l : Bytes). t-first q count r before l ≡ line-first q count r before l) (sym (byte-left file at h)) (sym (λ i. decided (eq-eqb (getD file at 0) 84 e i) (eqb (getD file at 0) 69)))
+
+    pub letter-E : getD file at 0 ≡ 69 → e-first count (drop at file) ≡ line-first q count r before (drop at file)
+    letter-E e = subst (λ (l : Bytes). e-first count l ≡ line-first q count r before l) (sym (byte-left file at h))
+        (sym (λ i. decided (ne-eqb (getD file at 0) 84 (λ z. omega arith) i) (eq-eqb (getD file at 0) 69 e i)))
+
+    pub letter-other : (getD file at 0 ≡ 84 → ⊥) → (getD file at 0 ≡ 69 → ⊥) → refused 1 (count + 2) [] ≡ line-first q count r before (drop at file)
+    letter-other t e = subst (λ (l : Bytes). refused 1 (count + 2) [] ≡ line-first q count r before l) (sym (byte-left file at h))
+        (sym (λ i. decided (ne-eqb (getD file at 0) 84 t i) (ne-eqb (getD file at 0) 69 e i)))

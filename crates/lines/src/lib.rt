@@ -10,7 +10,6 @@ ghost use Rattle.definitions.specs.Problem.{prime-in-range?, in-ranges?, term-i
 ghost use Rattle.lines.specs.Tests.{parameters-of, term-in, begins?, follows?, above?, descends? as descends-definition, t-number, r-number};
 ghost use Rattle.lines.specs.Steps.{r-first, t-first, e-first, line-first, first-as, taken-as};
 ghost use Rattle.lines.specs.declared.Step.the-variants.{Refused};
-use fields::End as LineEnd;
 use orders::Comparison;
 
 // The numbers of the R line.
@@ -203,13 +202,7 @@ fn descends(code: u16, elements: u16, before: [u16; 11], w: [u16; 11]) -> bool
 }
 
 // The tests of a T line that has its shape.
-fn term_refusal(
-    q: Parameters,
-    count: usize,
-    elements: u16,
-    before: [u16; 11],
-    w: [u16; 11],
-) -> u16
+fn term_refusal(q: Parameters, count: usize, elements: u16, before: [u16; 11], w: [u16; 11]) -> u16
     ensures { λ r. ⌜ r ≡ t-number (parameters-of q) count elements before w ⌝ }
 {
     if 2048 <= count {

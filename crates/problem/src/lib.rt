@@ -122,10 +122,7 @@ pub fn read(file: &[u8], state: &mut [u16]) -> Reading
         },
         Outcome::Undone(number, place) => {
             terms::clear(state, 0);
-            Reading {
-                number,
-                place,
-            }
+            Reading { number, place }
         }
     }
 }

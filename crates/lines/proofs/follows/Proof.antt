@@ -1,33 +1,22 @@
 use borrow.Author.Needs.{needs}
 use native.Mathlib.Omega.{arith}
-use mathlib.Core.Path.{_≡_, refl, sym, ap, _∙_, subst}
-use mathlib.Core.List.{List, [], _∷_, _++_}
-use Prim.Native.Nat.{ℕ, suc, _+_, _-_, _*_, _<_, _≤_}
-use lib.ListN.{length, take, drop, getD, set, length-set}
+use mathlib.Core.Path.{sym, _∙_}
 use Rattle.lines.proofs.Deciding.{follows-large, follows-next, follows-other, follows-same}
 use Rattle.lines.proofs.follows.Statement.{statement}
 use Rattle.lines.proofs.follows.Tie as tie
-use Rattle.lines.proofs.follows.Reads as reads
-use Rattle.lines.proofs.follows.Lts as lts
-use Rattle.lines.proofs.begins.Reads as begins-reads
 
--- src/lib.rt:137:9
 returns : tie.Need-returns
 returns c = let a = c .before .args in follows-large (a .elements) (a .element) (omega arith)
 
--- src/lib.rt:139:8
 begins-requires : tie.Need-begins-requires
 begins-requires c κs = search needs
 
--- src/lib.rt:140:9
 returns-2 : tie.Need-returns-2
 returns-2 c = let a = c .before .before .before .args in follows-next (a .elements) (a .element) (omega arith) (sym (c .before .begins .ensures) ∙ c .if2 .taken)
 
--- src/lib.rt:143:9
 returns-3 : tie.Need-returns-3
 returns-3 c = let a = c .before .before .before .before .args in follows-other (a .elements) (a .element) (sym (c .before .before .begins .ensures) ∙ c .before .if2 .left) (λ q. omega arith)
 
--- src/lib.rt:133:1
 returns-4 : tie.Need-returns-4
 returns-4 c = let a = c .before .before .before .before .args in follows-same (a .elements) (a .element) (omega arith) (sym (c .before .before .begins .ensures) ∙ c .before .if2 .left) (omega arith)
 

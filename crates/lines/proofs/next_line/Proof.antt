@@ -1,60 +1,44 @@
 use borrow.Author.Needs.{needs}
 use native.Mathlib.Omega.{arith}
-use mathlib.Core.Path.{_≡_, refl, sym, ap, _∙_, subst}
-use mathlib.Core.List.{List, [], _∷_, _++_}
-use Prim.Native.Nat.{ℕ, suc, _+_, _-_, _*_, _<_, _≤_}
-use lib.ListN.{length, take, drop, getD, set, length-set}
+use mathlib.Core.Path.{_∙_}
+use Prim.Native.Nat.{_+_}
+use Rattle.lines.specs.Tests.{parameters-of}
+use Rattle.lines.proofs.Judging.{refused-as, letter-none, letter-T, letter-E, letter-other}
 use Rattle.lines.proofs.next_line.Statement.{statement}
 use Rattle.lines.proofs.next_line.Tie as tie
-use Rattle.lines.proofs.next_line.Reads as reads
-use Rattle.lines.proofs.next_line.Lts as lts
-use Rattle.lines.proofs.end_line.Reads as end-line-reads
-use Rattle.lines.proofs.refused.Reads as refused-reads
-use Rattle.lines.proofs.term_line.Reads as term-line-reads
 
--- src/lib.rt:313:27
 add-refused : tie.Need-add-refused
 add-refused c = search needs
 
--- src/lib.rt:313:9
 refused-requires : tie.Need-refused-requires
 refused-requires c κs = search needs
 
--- src/lib.rt:313:9
 returns : tie.Need-returns
-returns c = omega arith
+returns c = let a = c .before .before .before .args in let file = a .file .now in let q = parameters-of (a .q) in refused-as (c .refused .result) file 1 (a .count + 2) (c .refused .ensures) ∙ letter-none q (a .count) (a .elements) (a .before) file (a .at) (omega arith)
 
--- src/lib.rt:315:18
 shared-slice-read-letter : tie.Need-shared-slice-read-letter
 shared-slice-read-letter c = search needs
 
--- src/lib.rt:317:17
 term-line-requires : tie.Need-term-line-requires
 term-line-requires c κs = search needs
 
--- src/lib.rt:318:17
 end-line-requires : tie.Need-end-line-requires
 end-line-requires c κs = search needs
 
--- src/lib.rt:319:25
 add-refused-2 : tie.Need-add-refused-2
 add-refused-2 c = search needs
 
--- src/lib.rt:319:14
 refused-requires-2 : tie.Need-refused-requires-2
 refused-requires-2 c κs = search needs
 
--- src/lib.rt:301:1
 returns-2 : tie.Need-returns-2
-returns-2 c = omega arith
+returns-2 c = let a = c .before .before .before .before .before .args in let file = a .file .now in let q = parameters-of (a .q) in c .term-line .ensures ∙ letter-T q (a .count) (a .elements) (a .before) file (a .at) (omega arith) (c .before .match .keys1)
 
--- src/lib.rt:301:1
 returns-3 : tie.Need-returns-3
-returns-3 c = omega arith
+returns-3 c = let a = c .before .before .before .before .before .args in let file = a .file .now in let q = parameters-of (a .q) in c .end-line .ensures ∙ letter-E q (a .count) (a .elements) (a .before) file (a .at) (omega arith) (c .before .match .keys2)
 
--- src/lib.rt:301:1
 returns-4 : tie.Need-returns-4
-returns-4 c = omega arith
+returns-4 c = let a = c .before .before .before .before .before .args in let file = a .file .now in let q = parameters-of (a .q) in refused-as (c .refused2 .result) file 1 (a .count + 2) (c .refused2 .ensures) ∙ letter-other q (a .count) (a .elements) (a .before) file (a .at) (omega arith) (c .before .match .rest .0 .1) (c .before .match .rest .1)
 
 pub next-line-spec : {M : Type 1} → statement M
 next-line-spec =

@@ -1,36 +1,23 @@
 use borrow.Author.Needs.{needs}
-use native.Mathlib.Omega.{arith}
-use mathlib.Core.Path.{_≡_, refl, sym, ap, _∙_, subst}
-use mathlib.Core.List.{List, [], _∷_, _++_}
-use Prim.Native.Nat.{ℕ, suc, _+_, _-_, _*_, _<_, _≤_}
-use lib.ListN.{length, take, drop, getD, set, length-set}
+use mathlib.Core.Path.{sym, _∙_}
 use Rattle.definitions.specs.Limits.{document-01}
 use Rattle.definitions.specs.Problem.{in-ranges?}
 use Rattle.lines.specs.Tests.{unless, parameters-of}
 use Rattle.lines.proofs.parameters_refusal.Statement.{statement}
 use Rattle.lines.proofs.parameters_refusal.Tie as tie
-use Rattle.lines.proofs.parameters_refusal.Reads as reads
-use Rattle.lines.proofs.parameters_refusal.Lts as lts
-use Rattle.lines.proofs.parameters_in_range.Reads as parameters-in-range-reads
-use Rattle.lines.proofs.prime_in_range.Reads as prime-in-range-reads
 
--- src/lib.rt:84:8
 prime-in-range-requires : tie.Need-prime-in-range-requires
 prime-in-range-requires c κs = search needs
 
--- src/lib.rt:85:12
 parameters-in-range-requires : tie.Need-parameters-in-range-requires
 parameters-in-range-requires c κs = search needs
 
--- src/lib.rt:86:13
 returns : tie.Need-returns
 returns c = sym (λ i. unless ((sym (c .before .before .before .prime-in-range .ensures) ∙ c .before .before .if1 .taken) i) 2 (unless ((sym (c .before .parameters-in-range .ensures) ∙ c .if2 .taken) i) 3 0))
 
--- src/lib.rt:88:9
 returns-2 : tie.Need-returns-2
 returns-2 c = sym (λ i. unless ((sym (c .before .before .before .prime-in-range .ensures) ∙ c .before .before .if1 .taken) i) 2 (unless ((sym (c .before .parameters-in-range .ensures) ∙ c .if2 .left) i) 3 0))
 
--- src/lib.rt:80:1
 returns-3 : tie.Need-returns-3
 returns-3 c = let q = parameters-of (c .before .before .args .q) in sym (λ i. unless ((sym (c .before .prime-in-range .ensures) ∙ c .if1 .left) i) 2 (unless (in-ranges? document-01 q) 3 0))
 

@@ -1,52 +1,40 @@
 use borrow.Author.Needs.{needs}
 use native.Mathlib.Omega.{arith}
-use mathlib.Core.Path.{_≡_, refl, sym, ap, _∙_, subst}
-use mathlib.Core.List.{List, [], _∷_, _++_}
-use Prim.Native.Nat.{ℕ, suc, _+_, _-_, _*_, _<_, _≤_}
-use lib.ListN.{length, take, drop, getD, set, length-set}
+use mathlib.Core.Path.{sym, ap, _∙_}
+use lib.ListN.{drop}
+use Rattle.lines.specs.Tests.{parameters-of}
+use Rattle.definitions.specs.Monomial.{fits?}
+use Rattle.definitions.specs.Lists.{_and_}
+use Rattle.lines.proofs.Deciding.{coefficient-zero, coefficient-large, coefficient-good}
 use Rattle.lines.proofs.term_in_range.Statement.{statement}
 use Rattle.lines.proofs.term_in_range.Tie as tie
-use Rattle.lines.proofs.term_in_range.Reads as reads
-use Rattle.lines.proofs.term_in_range.Lts as lts
-use Rattle.lines.proofs.exponents.Reads as exponents-reads
-use Rattle.lines.proofs.fits.Reads as fits-reads
-use Rattle.lines.proofs.in_range.Reads as in-range-reads
 
--- src/lib.rt:169:13
 array-read-c : tie.Need-array-read-c
 array-read-c c = search needs
 
--- src/lib.rt:173:9
 returns : tie.Need-returns
-returns c = omega arith
+returns c = let q = parameters-of (c .before .args .q) in let w = c .before .args .t2 in coefficient-zero q w (omega arith)
 
--- src/lib.rt:176:9
 returns-2 : tie.Need-returns-2
-returns-2 c = omega arith
+returns-2 c = let q = parameters-of (c .before .before .args .q) in let w = c .before .before .args .t2 in coefficient-large q w (λ e. omega arith) (omega arith)
 
--- src/lib.rt:178:20
 array-read-in-range : tie.Need-array-read-in-range
 array-read-in-range c = search needs
 
--- src/lib.rt:178:8
 in-range-requires : tie.Need-in-range-requires
 in-range-requires c κs = search needs
 
--- src/lib.rt:179:21
 exponents-requires : tie.Need-exponents-requires
 exponents-requires c κs = search needs
 
--- src/lib.rt:179:9
 fits-requires : tie.Need-fits-requires
 fits-requires c κs = search needs
 
--- src/lib.rt:179:9
 returns-3 : tie.Need-returns-3
-returns-3 c = omega arith
+returns-3 c = let q = parameters-of (c .before .before .before .before .before .before .args .q) in let w = c .before .before .before .before .before .before .args .t2 in c .fits2 .ensures ∙ ap (fits? 255) (c .before .exponents .ensures) ∙ sym (coefficient-good q w (λ e. omega arith) (omega arith) ∙ (λ i. (sym (c .before .before .before .in-range .ensures) ∙ c .before .before .if3 .taken) i and fits? 255 (drop 3 w)))
 
--- src/lib.rt:166:1
 returns-4 : tie.Need-returns-4
-returns-4 c = omega arith
+returns-4 c = let q = parameters-of (c .before .before .before .before .args .q) in let w = c .before .before .before .before .args .t2 in sym (coefficient-good q w (λ e. omega arith) (omega arith) ∙ (λ i. (sym (c .before .in-range .ensures) ∙ c .if3 .left) i and fits? 255 (drop 3 w)))
 
 pub term-in-range-spec : {M : Type 1} → statement M
 term-in-range-spec =

@@ -1,52 +1,50 @@
 use borrow.Author.Needs.{needs}
 use native.Mathlib.Omega.{arith}
-use mathlib.Core.Path.{_≡_, refl, sym, ap, _∙_, subst}
-use mathlib.Core.List.{List, [], _∷_, _++_}
-use Prim.Native.Nat.{ℕ, suc, _+_, _-_, _*_, _<_, _≤_}
-use lib.ListN.{length, take, drop, getD, set, length-set}
+use mathlib.Core.Path.{sym, _∙_}
+use lib.ListN.{getD}
+use Rattle.lines.specs.Tests.{unless, parameters-of, term-in, follows?, descends?}
+use Rattle.definitions.specs.Problem.{term-in-range?}
+use Rattle.definitions.specs.Limits.{document-01}
+use borrow.Author.Tests.{lt-ltb, le-ltb}
 use Rattle.lines.proofs.term_refusal.Statement.{statement}
 use Rattle.lines.proofs.term_refusal.Tie as tie
-use Rattle.lines.proofs.term_refusal.Reads as reads
-use Rattle.lines.proofs.term_refusal.Lts as lts
-use Rattle.lines.proofs.descends.Reads as descends-reads
-use Rattle.lines.proofs.follows.Reads as follows-reads
-use Rattle.lines.proofs.term_in_range.Reads as term-in-range-reads
 
--- src/lib.rt:216:9
 returns : tie.Need-returns
-returns c = omega arith
+returns c =
+    let a = c .before .args in let q = parameters-of (a .q) in let w = a .t5 in
+    sym (λ i. unless (le-ltb (a .count) 2048 (omega arith) i) 8 (unless (follows? (a .elements) (getD w 0 0)) 5 (unless (term-in-range? document-01 q (term-in w)) 4 (unless (descends? (q .code) (a .elements) (a .before) w) 6 0))))
 
--- src/lib.rt:218:26
 array-read-follows : tie.Need-array-read-follows
 array-read-follows c = search needs
 
--- src/lib.rt:218:8
 follows-requires : tie.Need-follows-requires
 follows-requires c κs = search needs
 
--- src/lib.rt:219:12
 term-in-range-requires : tie.Need-term-in-range-requires
 term-in-range-requires c κs = search needs
 
--- src/lib.rt:221:16
 descends-requires : tie.Need-descends-requires
 descends-requires c κs = search needs
 
--- src/lib.rt:222:17
 returns-2 : tie.Need-returns-2
-returns-2 c = omega arith
+returns-2 c =
+    let a = c .before .before .before .before .before .before .before .args in let q = parameters-of (a .q) in let w = a .t5 in
+    sym (λ i. unless (lt-ltb (a .count) 2048 (omega arith) i) 8 (unless ((sym (c .before .before .before .before .before .follows .ensures) ∙ c .before .before .before .before .if2 .taken) i) 5 (unless ((sym (c .before .before .before .term-in-range .ensures) ∙ c .before .before .if3 .taken) i) 4 (unless ((sym (c .before .descends .ensures) ∙ c .if4 .taken) i) 6 0))))
 
--- src/lib.rt:224:13
 returns-3 : tie.Need-returns-3
-returns-3 c = omega arith
+returns-3 c =
+    let a = c .before .before .before .before .before .before .before .args in let q = parameters-of (a .q) in let w = a .t5 in
+    sym (λ i. unless (lt-ltb (a .count) 2048 (omega arith) i) 8 (unless ((sym (c .before .before .before .before .before .follows .ensures) ∙ c .before .before .before .before .if2 .taken) i) 5 (unless ((sym (c .before .before .before .term-in-range .ensures) ∙ c .before .before .if3 .taken) i) 4 (unless ((sym (c .before .descends .ensures) ∙ c .if4 .left) i) 6 0))))
 
--- src/lib.rt:226:9
 returns-4 : tie.Need-returns-4
-returns-4 c = omega arith
+returns-4 c =
+    let a = c .before .before .before .before .before .args in let q = parameters-of (a .q) in let w = a .t5 in
+    sym (λ i. unless (lt-ltb (a .count) 2048 (omega arith) i) 8 (unless ((sym (c .before .before .before .follows .ensures) ∙ c .before .before .if2 .taken) i) 5 (unless ((sym (c .before .term-in-range .ensures) ∙ c .if3 .left) i) 4 (unless (descends? (q .code) (a .elements) (a .before) w) 6 0))))
 
--- src/lib.rt:206:1
 returns-5 : tie.Need-returns-5
-returns-5 c = omega arith
+returns-5 c =
+    let a = c .before .before .before .args in let q = parameters-of (a .q) in let w = a .t5 in
+    sym (λ i. unless (lt-ltb (a .count) 2048 (omega arith) i) 8 (unless ((sym (c .before .follows .ensures) ∙ c .if2 .left) i) 5 (unless (term-in-range? document-01 q (term-in w)) 4 (unless (descends? (q .code) (a .elements) (a .before) w) 6 0))))
 
 pub term-refusal-spec : {M : Type 1} → statement M
 term-refusal-spec =
