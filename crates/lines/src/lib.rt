@@ -10,6 +10,7 @@ ghost use Rattle.definitions.specs.Problem.{prime-in-range?, in-ranges?, term-i
 ghost use Rattle.lines.specs.Tests.{parameters-of, term-in, begins?, follows?, above?, descends? as descends-definition, t-number, r-number};
 ghost use Rattle.lines.specs.Steps.{r-first, t-first, e-first, line-first, first-as, taken-as};
 ghost use Rattle.lines.specs.declared.Step.the-variants.{Refused};
+use fields::End as LineEnd;
 use orders::Comparison;
 
 // The numbers of the R line.
