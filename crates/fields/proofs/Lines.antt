@@ -10,9 +10,10 @@ use lib.Dec.{eqb, eqb·zero-suc, eqb·suc-zero, eqb·suc-suc}
 use lib.ListN.{length}
 use borrow.Author.Tests.{eq-eqb, ne-eqb}
 use Rattle.definitions.specs.Lists.{_and_, _then_, every, empty?}
-use Rattle.definitions.specs.Problem.{Bytes, newline, comma, onto, split, ended, lines, digit?, number, all-numbers, letter?, shaped-fields, shaped}
+use Rattle.definitions.specs.Problem.{Bytes, Line, newline, comma, onto, split, ended, lines, digit?, number, all-numbers, letter?, shaped-fields, shaped}
 use Rattle.definitions.proofs.Tests.{is-true, between-low}
-use Rattle.fields.specs.Scanning.{behind, shaped-of, shaped-first, digits, past-digits, number-first, kept, numbers-first}
+use Rattle.definitions.proofs.Results.{If-some, if-some-then, if-some-always}
+use Rattle.fields.specs.Scanning.{behind, shaped-of, shaped-first, digits, past-digits, number-first, kept, field-first, numbers-first}
 use Rattle.fields.proofs.Digits.{digits-on, digits-none, past-on, past-none, number-unwritten}
 
 -- ## The first line
@@ -358,3 +359,34 @@ module _ (limit letter count : ℕ) (after-digits : 57 < letter) where
       ∙ (λ i. line-by (λ f. kept (eq-eqb b letter e i and empty? f) (some (λ vs. vs))) limit count bytes)
       ∙ line-digits limit count alone alone-of-digits bytes
       ∙ digits-alone bytes
+
+-- ## For callers
+
+-- the first line, and the lines behind it
+pub first-of : (b : ℕ) (bytes : Bytes) → (line : Line) × (lines (b ∷ bytes) ≡ line ∷ lines (behind (b ∷ bytes)))
+first-of b bytes = ((before (b ∷ bytes), ended? (b ∷ bytes)), lines-first b bytes)
+
+abbrev Counts : ℕ → List ℕ × Bytes → Type 0
+Counts count r = length (r .0) ≡ count
+
+numbers-count : (limit count : ℕ) (bytes : Bytes) → If-some (Counts count) (numbers-first limit count bytes)
+numbers-count limit zero [] = tt
+numbers-count limit zero (b ∷ bytes) = go (eqb b newline)
+  where
+    go : (t : Bool) → If-some (Counts 0) (kept t (some ([], bytes)))
+    go true = refl
+    go false = tt
+numbers-count limit (suc count) bytes =
+    if-some-then (λ f. Unit {0}) (Counts (suc count)) (field-first limit bytes) (λ f. numbers-first limit count (f .1) then λ r. some (f .0 ∷ r .0, r .1))
+    (if-some-always (λ f. Unit {0}) (λ f. tt) (field-first limit bytes)) λ f u.
+    if-some-then (Counts count) (Counts (suc count)) (numbers-first limit count (f .1)) (λ r. some (f .0 ∷ r .0, r .1))
+    (numbers-count limit count (f .1)) (λ r e. ap suc e)
+
+-- a line has as many numbers as its shape asks for
+pub shaped-count : (limit letter count : ℕ) → 57 < letter → (bytes : Bytes) → If-some (λ (r : List ℕ × Bytes). length (r .0) ≡ count) (shaped-first limit letter count bytes)
+shaped-count limit letter count h [] = tt
+shaped-count limit letter count h (b ∷ bytes) = go (ℕ-discrete b letter)
+  where
+    go : Dec (b ≡ letter) → If-some (Counts count) (shaped-first limit letter count (b ∷ bytes))
+    go (yes e) = subst (If-some (Counts count)) (sym (letter-stands limit letter count h b bytes e)) (numbers-count limit count bytes)
+    go (no n) = subst (If-some (Counts count)) (sym (letter-differs limit letter count h b bytes n)) tt
