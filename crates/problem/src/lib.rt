@@ -37,7 +37,7 @@ fn store_row(state: &mut [u16], at: usize, w: [u16; 11])
 
 fn store(state: &mut [u16], count: usize, w: [u16; 11])
     requires { ⌜ (206095 ≤ length (now state)) × (count < 2048) × (getD w 0 0 ≤ 64) ⌝ }
-    ensures { λ _. ⌜ now (state .exit) ≡ stored (now (state .entry)) count w ⌝ }
+    ensures { λ _. ⌜ (now (state .exit) ≡ stored (now (state .entry)) count w) × (length w ≡ 11) ⌝ }
 {
     store_row(state, 1295 + count * 10, w);
     let element = w[0];

@@ -15,19 +15,19 @@ slice-write-state c = search needs
 
 -- src/lib.rt:369:5
 slice-write-state-2 : tie.Need-slice-write-state-2
-slice-write-state-2 c = omega arith
+slice-write-state-2 c = simp length-set (omega arith)
 
 -- src/lib.rt:370:5
 slice-write-state-3 : tie.Need-slice-write-state-3
-slice-write-state-3 c = omega arith
+slice-write-state-3 c = simp length-set (omega arith)
 
 -- src/lib.rt:371:5
 slice-write-state-4 : tie.Need-slice-write-state-4
-slice-write-state-4 c = omega arith
+slice-write-state-4 c = simp length-set (omega arith)
 
 -- src/lib.rt:372:5
 slice-write-state-5 : tie.Need-slice-write-state-5
-slice-write-state-5 c = omega arith
+slice-write-state-5 c = simp length-set (omega arith)
 
 -- src/lib.rt:360:1
 same-length : tie.Need-same-length

@@ -4,16 +4,18 @@ use mathlib.Core.Path.{_≡_, refl, sym, ap, _∙_, subst}
 use mathlib.Core.List.{List, [], _∷_, _++_}
 use Prim.Native.Nat.{ℕ, suc, _+_, _-_, _*_, _<_, _≤_}
 use lib.ListN.{length, take, drop, getD, set, length-set}
+use lib.ListN.{length-drop}
+use lib.Seq.{paste, paste-zero, paste-suc, getD-drop}
 use Rattle.problem.proofs.store_row.Statement.{statement}
 use Rattle.problem.proofs.store_row.Tie as tie
 use Rattle.problem.proofs.store_row.Reads as reads
 use Rattle.problem.proofs.store_row.Lts as lts
 
 abbrev Inv-loop : tie.InvT-loop
-Inv-loop state₀ at w j₀ state j = ?
+Inv-loop state₀ at w j₀ state j = (j ≤ 10) × (length w ≡ 11) × (length state ≡ length state₀) × (state ≡ paste state₀ at (drop 1 w) j)
 
 abbrev μ-loop : tie.MeasureT-loop
-μ-loop state₀ at w j₀ state j = ?
+μ-loop state₀ at w j₀ state j = 10 - j
 
 -- src/lib.rt:343:5
 loop-holds : tie.Need-loop-holds Inv-loop μ-loop
