@@ -1,3 +1,4 @@
 pub mod Laid
 pub mod Growing
 pub mod Following
+pub mod Keeping

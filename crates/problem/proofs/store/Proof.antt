@@ -53,7 +53,7 @@ slice-write-state c = search needs
 
 -- src/lib.rt:46:5
 slice-write-state-2 : tie.Need-slice-write-state-2
-slice-write-state-2 c = omega arith
+slice-write-state-2 c = simp length-set (omega arith)
 
 -- src/lib.rt:38:1
 same-length : tie.Need-same-length
@@ -61,7 +61,7 @@ same-length c = search needs
 
 -- src/lib.rt:38:1
 returns : tie.Need-returns
-returns c = omega arith
+returns c = let a = c .before .before .before .before .before .before .args in ((λ i. set (set (c .before .before .before .store-row .ensures i) (5 + c .size-of .ensures i) (a .count + 1)) 5 (getD (a .t3) 0 0)), omega arith)
 
 pub store-spec : {M : Type 1} → statement M
 store-spec =

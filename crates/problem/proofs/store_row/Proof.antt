@@ -19,7 +19,7 @@ abbrev μ-loop : tie.MeasureT-loop
 
 -- src/lib.rt:343:5
 loop-holds : tie.Need-loop-holds Inv-loop μ-loop
-loop-holds c = omega arith
+loop-holds c = (omega arith, omega arith, refl, paste-zero (c .args .state .now) (c .args .at) (drop 1 (c .args .t3)))
 
 -- src/lib.rt:344:27
 add-state : tie.Need-add-state Inv-loop μ-loop
@@ -55,7 +55,13 @@ loop-less c = omega arith
 
 -- src/lib.rt:343:5
 loop-again : tie.Need-loop-again Inv-loop μ-loop
-loop-again c = omega arith
+loop-again c =
+    let l = c .before .loop in let d = c .before .before .args .state .now in let w = c .before .before .args .t3 in let at = c .before .before .args .at in
+    let e : suc (l .j) ≡ l .j + 1 = omega arith in
+    let k : 1 + l .j ≡ l .j + 1 = omega arith in
+    let word : getD w (l .j + 1) 0 ≡ getD (drop 1 w) (l .j) 0 = sym (getD-drop 1 w (l .j) 0 ∙ ap (λ n. getD w n 0) k) in
+    (omega arith, l .inv .1, omega (arith, length-set (l .state) (at + l .j) (getD w (l .j + 1) 0)),
+      (λ i. set (l .inv .3 i) (at + l .j) (word i)) ∙ paste-suc d at (drop 1 w) (l .j) 0 (omega arith) (omega (arith, length-drop 1 w)) ∙ ap (paste d at (drop 1 w)) e)
 
 -- src/lib.rt:338:1
 same-length : tie.Need-same-length Inv-loop μ-loop
@@ -63,7 +69,7 @@ same-length c = omega arith
 
 -- src/lib.rt:338:1
 returns : tie.Need-returns Inv-loop μ-loop
-returns c = omega arith
+returns c = let l = c .before .loop in let e : l .j ≡ 10 = omega arith in l .inv .3 ∙ ap (paste (c .before .before .args .state .now) (c .before .before .args .at) (drop 1 (c .before .before .args .t3))) e
 
 pub store-row-spec : {M : Type 1} → statement M
 store-row-spec =
