@@ -2,7 +2,7 @@
 use mathlib.Core.Path.{_≡_, refl, sym, ap, _∙_, subst}
 use mathlib.Core.Bool.{Bool, true, false, not, _||_}
 use mathlib.Core.Option.{Option, none, some}
-use mathlib.Core.List.{List, [], _∷_, _++_}
+use mathlib.Core.List.{[], _∷_, _++_}
 use Prim.Native.Nat.{ℕ, zero, suc, _+_, _-_, _<_, _≤_}
 use native.Mathlib.Omega.{arith}
 use native.Mathlib.Decide.{ℕ-discrete}
@@ -12,9 +12,8 @@ use lib.Seq.{drop-append-le}
 use borrow.Author.Tests.{le-leb, lt-leb, eq-eqb, ne-eqb}
 use Rattle.definitions.specs.Limits.{document-01}
 use Rattle.definitions.specs.Lists.{_and_, _then_, last, empty?, between}
-use Rattle.definitions.specs.Monomial.{Term, Level}
-use Rattle.definitions.specs.Order.{compare-over, greater?}
-use Rattle.definitions.specs.Result.{Result, done, refused, unfinished, unless-refused, _>>=_}
+use Rattle.definitions.specs.Monomial.{Level}
+use Rattle.definitions.specs.Result.{Result, done, refused, unless-refused, _>>=_}
 use Rattle.definitions.specs.Problem.{
   Bytes,
   Line,
@@ -41,13 +40,12 @@ use Rattle.definitions.specs.Problem.{
   first-line,
   problem,
 }
-use Rattle.definitions.specs.Problem as definition
 use Rattle.definitions.specs.Layout.{Words, padded}
 use Rattle.definitions.proofs.Tests.{is-true, and-left, between-high}
 use Rattle.definitions.proofs.Results.{If-done, If-some}
 use Rattle.fields.specs.Scanning.{behind, shaped-of, shaped-first, in-eleven}
 use Rattle.fields.proofs.Lines.{first-of, lines-none, letter-differs, shaped-count}
-use Rattle.lines.specs.Tests.{term-in, unless, begins?, goes-on?, follows?, above?, descends?, t-number, r-number}
+use Rattle.lines.specs.Tests.{term-in, unless, begins?, follows?, above?, descends?, t-number}
 use Rattle.lines.specs.Steps.{Said, judged, with-shape, r-judged, r-first, t-judged, t-first, e-judged, e-first, by-letter, line-first}
 use Rattle.problem.proofs.Growing.{follows-says}
 
@@ -128,8 +126,8 @@ module _ (q : Parameters) (few : q .n ≤ 8) (count : ℕ) (f : Level) (r : ℕ)
   unfolding guarded
   t-line-judged place v l =
       (λ i. guarded (ltb count 2048) ((eqb (first i) (suc (held .elements i)) || (eqb (first i) (held .elements i) and not (none-yet i))) and leb (first i) 64)
-          (term-in-range? document-01 q (term i)) (eqb (first i) (suc (held .elements i)) || below? (q .code) (last-term (last f)) (term i)) place
-          (with-term (eqb (first i) (suc (held .elements i))) f (term i)))
+      (term-in-range? document-01 q (term i)) (eqb (first i) (suc (held .elements i)) || below? (q .code) (last-term (last f)) (term i)) place
+      (with-term (eqb (first i) (suc (held .elements i))) f (term i)))
       ∙ guarded-same (ltb count 2048) (follows? r (getD w 0 0)) (term-in-range? document-01 q (term-in w)) (begins? r (getD w 0 0) || below? (q .code) (last-term (last f)) (term-in w)) (descends? (q .code) r before w) place (more w) (descends-same w)
       ∙ guarded-number (ltb count 2048) (follows? r (getD w 0 0)) (term-in-range? document-01 q (term-in w)) (descends? (q .code) r before w) place (more w)
     where
@@ -162,7 +160,7 @@ module _ (q : Parameters) (few : q .n ≤ 8) (count : ℕ) (f : Level) (r : ℕ)
   -- a T line that has the shape
   term-step : (v : Words) (rest : Bytes) → length v ≡ 3 + q .n
       → (t-line document-01 q (count + 2) count f v >>= λ grown. body document-01 q (suc (count + 2)) (suc count) grown (lines rest))
-        ≡ (t-judged q count r before (padded 11 v, rest) >>= goes-on)
+      ≡ (t-judged q count r before (padded 11 v, rest) >>= goes-on)
   term-step v rest l = ap (λ x. x >>= λ grown. body document-01 q (suc (count + 2)) (suc count) grown (lines rest)) (t-line-judged (count + 2) v l) ∙ go (t-number q count r before (padded 11 v))
     where
       next : suc (count + 2) ≡ count + 3
@@ -176,7 +174,7 @@ module _ (q : Parameters) (few : q .n ≤ 8) (count : ℕ) (f : Level) (r : ℕ)
   -- an E line that has the shape
   end-step : (v : Words) (rest : Bytes) → e-line (count + 2) count (lines rest) f (some v) ≡ (e-judged count (padded 11 v, rest) >>= goes-on)
   end-step v rest =
-      (λ i. ends (not (eqb (sym (getD-padded v 0) i) 0) and eqb (sym (getD-padded v 0) i) count) (lines-none rest i) (next i) )
+      (λ i. ends (not (eqb (sym (getD-padded v 0) i) 0) and eqb (sym (getD-padded v 0) i) count) (lines-none rest i) (next i))
       ∙ go (not (eqb (getD (padded 11 v) 0 0) 0) and eqb (getD (padded 11 v) 0 0) count) (empty? rest)
     where
       next : suc (count + 2) ≡ count + 3

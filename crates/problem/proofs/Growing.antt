@@ -3,17 +3,17 @@ use mathlib.Core.Path.{_≡_, refl, sym, ap, _∙_, subst}
 use mathlib.Core.Bool.{Bool, true, false, not, _||_}
 use mathlib.Core.Option.{Option, none, some}
 use mathlib.Core.List.{List, [], _∷_, _++_, append-assoc, append-nil}
-use Prim.Native.Nat.{ℕ, zero, suc, _+_, _-_, _*_, _<_, _≤_}
+use Prim.Native.Nat.{ℕ, suc, _+_, _-_, _≤_}
 use native.Mathlib.Omega.{arith}
-use lib.Dec.{T, leb, eqb, eqb·suc-zero}
-use lib.ListN.{length, take, drop, getD, length-append}
+use lib.Dec.{leb, eqb}
+use lib.ListN.{length, take, length-append}
 use lib.Seq.{take-all}
 use borrow.Author.Tests.{eqb-true, leb-true}
-use Rattle.definitions.specs.Lists.{_and_, last, empty?}
+use Rattle.definitions.specs.Lists.{_and_, last}
 use Rattle.definitions.specs.Monomial.{Term, Vector, Level}
 use Rattle.definitions.specs.Problem.{last-term, extend, with-term}
 use Rattle.definitions.specs.State.{terms-of}
-use Rattle.definitions.specs.Layout.{Words, row-of, rows-of, ends-from, joined}
+use Rattle.definitions.specs.Layout.{row-of, rows-of, ends-from, joined}
 use Rattle.definitions.proofs.Rows.{rows-of-append}
 use Rattle.lines.specs.Tests.{begins?, goes-on?, follows?}
 

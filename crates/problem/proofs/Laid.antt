@@ -1,14 +1,14 @@
 -- The words of a state whose level 0 is being read: parameters, count, ends and rows in a row, zeros behind the ends and behind the rows.
-use mathlib.Core.Path.{_≡_, refl, sym, ap, _∙_}
-use mathlib.Core.List.{List, [], _∷_, _++_, append-assoc, append-nil}
-use Prim.Native.Nat.{ℕ, zero, suc, _+_, _-_, _*_, _<_, _≤_}
+use mathlib.Core.Path.{_≡_, sym, ap, _∙_}
+use mathlib.Core.List.{[], _∷_, _++_, append-assoc, append-nil}
+use Prim.Native.Nat.{ℕ, suc, _+_, _-_, _*_, _<_, _≤_}
 use native.Mathlib.Omega.{arith}
-use lib.ListN.{length, take, drop, getD, set, replicate, length-append, length-drop, length-replicate, replicate-append-replicate, drop-of-length-le}
+use lib.ListN.{length, take, drop, getD, set, replicate, length-append, length-drop, length-replicate, replicate-append-replicate}
 use lib.Seq.{paste, take-at, take-all, take-append-le, drop-at, drop-append-add, set-append-left, set-split, length-take-le}
 use Rattle.definitions.specs.Limits.{document-01}
 use Rattle.definitions.specs.Monomial.{Level}
 use Rattle.definitions.specs.Problem.{Parameters}
-use Rattle.definitions.specs.Layout.{Words, rows-of, padded, ends-from, joined, header-of, all-rows, encode}
+use Rattle.definitions.specs.Layout.{Words, rows-of, padded, ends-from, joined, header-of, all-rows}
 use Rattle.definitions.proofs.RoundTrip.{length-padded}
 use Rattle.problem.specs.Reading.{words-read, state-read, stored, begun}
 
@@ -118,7 +118,7 @@ flat ends rows a b c d m n e k =
     (λ i. ((append-nil (ends ++ replicate a 0) i ++ replicate b 0) ++ append-nil (rows ++ replicate c 0) i) ++ replicate d 0)
     ∙ append-assoc ((ends ++ replicate a 0) ++ replicate b 0) (rows ++ replicate c 0) (replicate d 0)
     ∙ (λ i. (append-assoc ends (replicate a 0) (replicate b 0) ∙ ap (λ l. ends ++ l) (zeros-meet a b m e)) i
-        ++ (append-assoc rows (replicate c 0) (replicate d 0) ∙ ap (λ l. rows ++ l) (zeros-meet c d n k)) i)
+    ++ (append-assoc rows (replicate c 0) (replicate d 0) ∙ ap (λ l. rows ++ l) (zeros-meet c d n k)) i)
 
 pub words-laid : (q : Parameters) (f : Level) (size : ℕ) → 206095 ≤ size → length (ends-from 0 f) ≤ 128 → length (rows-of (joined f)) ≤ 20480 → words-read size (q, f) ≡ laid-level q f size
 words-laid q f size h le lr =

@@ -2,3 +2,4 @@ pub mod Laid
 pub mod Growing
 pub mod Following
 pub mod Keeping
+pub mod Answering

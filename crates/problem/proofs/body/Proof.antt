@@ -1,9 +1,9 @@
 use borrow.Author.Needs.{needs}
 use native.Mathlib.Omega.{arith}
 use mathlib.Core.Path.{_≡_, refl, sym, ap, _∙_, subst}
-use mathlib.Core.List.{List, [], _∷_, _++_}
-use Prim.Native.Nat.{ℕ, suc, _+_, _-_, _*_, _<_, _≤_}
-use lib.ListN.{length, take, drop, getD, set, length-set}
+use mathlib.Core.List.{[]}
+use Prim.Native.Nat.{_+_, _-_, _<_, _≤_}
+use lib.ListN.{length, drop, getD}
 use Rattle.definitions.specs.Limits.{document-01}
 use Rattle.definitions.specs.Monomial.{Level}
 use Rattle.definitions.specs.Problem.{lines, body}
@@ -23,10 +23,6 @@ use lib.ListN.{replicate}
 use mathlib.Core.Option.{some}
 use Rattle.problem.proofs.body.Statement.{statement}
 use Rattle.problem.proofs.body.Tie as tie
-use Rattle.problem.proofs.body.Reads as reads
-use Rattle.problem.proofs.body.Lts as lts
-use Rattle.lines.proofs.next_line.Reads as next-line-reads
-use Rattle.problem.proofs.store.Reads as store-reads
 
 abbrev Inv-loop : tie.InvT-loop
 Inv-loop file from q state₀ at₀ count₀ elements₀ before₀ state at count elements before =
@@ -35,19 +31,15 @@ Inv-loop file from q state₀ at₀ count₀ elements₀ before₀ state at coun
 abbrev μ-loop : tie.MeasureT-loop
 μ-loop file from q state₀ at₀ count₀ elements₀ before₀ state at count elements before = 2048 - count
 
--- src/lib.rt:73:5
 loop-holds : tie.Need-loop-holds Inv-loop μ-loop
 loop-holds c = let a = c .before .before .args in (omega arith, refl, ([], none-so-far (parameters-of (a .q)) (length (a .state .now)) (replicate 11 0) (a .state .now) (omega arith) (c .before .before .pre .2), refl))
 
--- src/lib.rt:74:13
 next-line-requires : tie.Need-next-line-requires Inv-loop μ-loop
 next-line-requires c κs = omega arith
 
--- src/lib.rt:78:24
 enum-known-step : tie.Need-enum-known-step Inv-loop μ-loop
 enum-known-step c = search needs
 
--- src/lib.rt:79:17
 store-requires : tie.Need-store-requires Inv-loop μ-loop
 store-requires c κs =
     let a = c .before .before .before .before .before .before .before .before .before .args in let l = c .before .before .before .before .before .before .loop in let file = a .file .now in let q = parameters-of (a .q) in let t = c .before .before .before .before .before .next-line .result in let w = t .numbers in let size = length (a .state .now) in
@@ -57,15 +49,12 @@ store-requires c κs =
     let room : l .count < 2048 = ltb-true (l .count) 2048 (passed .0) in
     (omega arith, omega arith, follows-says (l .elements) (getD w 0 0) (begins? (l .elements) (getD w 0 0)) refl (passed .1) .2)
 
--- src/lib.rt:80:28
 array-read-elements : tie.Need-array-read-elements Inv-loop μ-loop
 array-read-elements c = omega arith
 
--- src/lib.rt:83:17
 add-count : tie.Need-add-count Inv-loop μ-loop
 add-count c = omega arith
 
--- src/lib.rt:73:5
 loop-less : tie.Need-loop-less Inv-loop μ-loop
 loop-less c =
     let a = c .before .before .before .before .before .before .before .before .before .before .before .before .args in let l = c .before .before .before .before .before .before .before .before .before .loop in let file = a .file .now in let q = parameters-of (a .q) in let t = c .before .before .before .before .before .before .before .before .next-line .result in let w = t .numbers in let size = length (a .state .now) in
@@ -75,7 +64,6 @@ loop-less c =
     let room : l .count < 2048 = ltb-true (l .count) 2048 (passed .0) in
     omega arith
 
--- src/lib.rt:73:5
 loop-again : tie.Need-loop-again Inv-loop μ-loop
 loop-again c =
     let a = c .before .before .before .before .before .before .before .before .before .before .before .before .args in let l = c .before .before .before .before .before .before .before .before .before .loop in let file = a .file .now in let q = parameters-of (a .q) in let t = c .before .before .before .before .before .before .before .before .next-line .result in let w = t .numbers in let size = length (a .state .now) in
@@ -83,36 +71,35 @@ loop-again c =
     let said : line-first q (l .count) (l .elements) (l .before) (drop (l .at) file) ≡ done (some (w, drop next file)) = sym (c .before .before .before .before .before .before .before .before .next-line .ensures) ∙ ap (λ (x : Step). step-as x w file) (c .before .before .before .before .before .step .given .1) in
     let passed = if-done-says (Passed (l .count) (l .elements)) (line-first q (l .count) (l .elements) (l .before) (drop (l .at) file)) (line-passed q (l .count) (l .elements) (l .before) (drop (l .at) file)) (some (w, drop next file)) said in
     let room : l .count < 2048 = ltb-true (l .count) 2048 (passed .0) in
-    let f = l .inv .2 .0 in
-    (omega arith, omega arith, (with-term (begins? (l .elements) (getD w 0 0)) f (term-in w),
-      subst (λ z. So-far q size (with-term (begins? (l .elements) (getD w 0 0)) f (term-in w)) (l .count + 1) (getD w 0 0) w z) (sym (c .before .before .store .ensures .0))
-      (one-more q size f (l .count) (l .elements) (l .before) (l .state) (l .inv .2 .1) (omega arith) w room (c .before .before .store .ensures .1) (passed .1)),
-      goes-on-term q size f (l .count) (l .elements) (l .before) (l .state) (l .inv .2 .1) (omega arith) (c .before .before .before .before .before .before .before .before .before .before .before .before .pre .0) (l .inv .0) (drop (a .from) file) (drop (l .at) file) (l .inv .2 .2) w (drop next file) said))
+    let f = l .inv .2 .0 in (
+      omega arith,
+      omega arith,
+      (
+        with-term (begins? (l .elements) (getD w 0 0)) f (term-in w),
+        subst (λ z. So-far q size (with-term (begins? (l .elements) (getD w 0 0)) f (term-in w)) (l .count + 1) (getD w 0 0) w z) (sym (c .before .before .store .ensures .0))
+            (one-more q size f (l .count) (l .elements) (l .before) (l .state) (l .inv .2 .1) (omega arith) w room (c .before .before .store .ensures .1) (passed .1)),
+        goes-on-term q size f (l .count) (l .elements) (l .before) (l .state) (l .inv .2 .1) (omega arith) (c .before .before .before .before .before .before .before .before .before .before .before .before .pre .0) (l .inv .0) (drop (a .from) file) (drop (l .at) file) (l .inv .2 .2) w (drop next file) said,
+      ),
+    )
 
--- src/lib.rt:85:26
 enum-told : tie.Need-enum-told Inv-loop μ-loop
 enum-told c = search needs
 
--- src/lib.rt:85:26
 same-length : tie.Need-same-length Inv-loop μ-loop
 same-length c = omega arith
 
--- src/lib.rt:85:26
 returns : tie.Need-returns Inv-loop μ-loop
 returns c =
     let a = c .before .before .before .before .before .before .before .args in let l = c .before .before .before .before .loop in let file = a .file .now in let q = parameters-of (a .q) in let t = c .before .before .before .next-line .result in let w = t .numbers in let size = length (a .state .now) in
     goes-on-end q size (l .inv .2 .0) (l .count) (l .elements) (l .before) (l .state) (l .inv .2 .1) (omega arith) (c .before .before .before .before .before .before .before .pre .0) (l .inv .0) (drop (a .from) file) (drop (l .at) file) (l .inv .2 .2)
     (sym (c .before .before .before .next-line .ensures) ∙ ap (λ (x : Step). step-as x w file) (c .enum-told .given .1))
 
--- src/lib.rt:86:27
 enum-known-step-2 : tie.Need-enum-known-step-2 Inv-loop μ-loop
 enum-known-step-2 c = search needs
 
--- src/lib.rt:86:45
 same-length-2 : tie.Need-same-length-2 Inv-loop μ-loop
 same-length-2 c = omega arith
 
--- src/lib.rt:86:45
 returns-2 : tie.Need-returns-2 Inv-loop μ-loop
 returns-2 c =
     let a = c .before .before .before .before .before .before .before .before .args in let l = c .before .before .before .before .before .loop in let file = a .file .now in let q = parameters-of (a .q) in let t = c .before .before .before .before .next-line .result in let w = t .numbers in let size = length (a .state .now) in
