@@ -34,7 +34,9 @@ fn proved(file: &[u8], state: &mut [u16]) -> (u16, usize) {
 fn largest_file(code: u16) -> Vec<u8> {
     let mut seed = 1_u64;
     let mut below = |bound: u64| {
-        seed = seed.wrapping_mul(6_364_136_223_846_793_005).wrapping_add(1_442_695_040_888_963_407);
+        seed = seed
+            .wrapping_mul(6_364_136_223_846_793_005)
+            .wrapping_add(1_442_695_040_888_963_407);
         (seed >> 33) % bound
     };
     let mut terms: Vec<[u64; 8]> = Vec::new();
@@ -48,7 +50,9 @@ fn largest_file(code: u16) -> Vec<u8> {
     terms.sort_by(|a, b| match code {
         1 => b.cmp(a),
         2 => degree(b).cmp(&degree(a)).then(b.cmp(a)),
-        _ => degree(b).cmp(&degree(a)).then_with(|| a.iter().rev().cmp(b.iter().rev())),
+        _ => degree(b)
+            .cmp(&degree(a))
+            .then_with(|| a.iter().rev().cmp(b.iter().rev())),
     });
     let mut file = format!("R,32749,8,{code},1\n");
     // 14 bytes for R's line and 7 for E's leave 21 too few
@@ -68,7 +72,9 @@ fn median(mut times: Vec<Duration>) -> Duration {
 }
 
 fn main() {
-    let turns: usize = std::env::args().nth(1).map_or(2_000, |n| n.parse().expect("a count of turns"));
+    let turns: usize = std::env::args()
+        .nth(1)
+        .map_or(2_000, |n| n.parse().expect("a count of turns"));
     let mut state = vec![0_u16; plain::STATE];
     for code in 1..=3 {
         let file = largest_file(code);
