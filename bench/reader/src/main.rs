@@ -1,0 +1,102 @@
+//! Times the proved reader beside a plain Rust reader on the largest file that is accepted: 2,048 T lines, 65,536 bytes.
+//! Both read the same bytes into the same buffer, in turns; the ratio is that of the medians. One argument: how many turns.
+
+mod plain;
+
+use std::time::{Duration, Instant};
+
+extern "C" {
+    fn reader_read(
+        file: *const u8,
+        file_length: usize,
+        state: *mut u16,
+        state_length: usize,
+        place: *mut usize,
+    ) -> u16;
+}
+
+fn proved(file: &[u8], state: &mut [u16]) -> (u16, usize) {
+    let mut place = 0;
+    // SAFETY: the pointers and lengths are those of slices that live through the call
+    let number = unsafe {
+        reader_read(
+            file.as_ptr(),
+            file.len(),
+            state.as_mut_ptr(),
+            state.len(),
+            &mut place,
+        )
+    };
+    (number, place)
+}
+
+/// One element of 2,048 terms, descending in the order of the code, every line 32 bytes long but some shorter by a digit.
+fn largest_file(code: u16) -> Vec<u8> {
+    let mut seed = 1_u64;
+    let mut below = |bound: u64| {
+        seed = seed
+            .wrapping_mul(6_364_136_223_846_793_005)
+            .wrapping_add(1_442_695_040_888_963_407);
+        (seed >> 33) % bound
+    };
+    let mut terms: Vec<[u64; 8]> = Vec::new();
+    while terms.len() < 2_048 {
+        let e: [u64; 8] = std::array::from_fn(|i| if i < 4 { 10 + below(90) } else { below(10) });
+        if !terms.contains(&e) {
+            terms.push(e);
+        }
+    }
+    let degree = |e: &[u64; 8]| e.iter().sum::<u64>();
+    terms.sort_by(|a, b| match code {
+        1 => b.cmp(a),
+        2 => degree(b).cmp(&degree(a)).then(b.cmp(a)),
+        _ => degree(b)
+            .cmp(&degree(a))
+            .then_with(|| a.iter().rev().cmp(b.iter().rev())),
+    });
+    let mut file = format!("R,32749,8,{code},1\n");
+    // 14 bytes for R's line and 7 for E's leave 21 too few
+    for (i, e) in terms.iter().enumerate() {
+        let coefficient = if i < 21 { 1_000 } else { 10_000 } + below(9_000);
+        let exponents: Vec<String> = e.iter().map(u64::to_string).collect();
+        file.push_str(&format!("T,1,{coefficient},1,{}\n", exponents.join(",")));
+    }
+    file.push_str("E,2048\n");
+    assert_eq!(file.len(), 65_536);
+    file.into_bytes()
+}
+
+fn median(mut times: Vec<Duration>) -> Duration {
+    times.sort();
+    times[times.len() / 2]
+}
+
+fn main() {
+    let turns: usize = std::env::args()
+        .nth(1)
+        .map_or(2_000, |n| n.parse().expect("a count of turns"));
+    let mut state = vec![0_u16; plain::STATE];
+    for code in 1..=3 {
+        let file = largest_file(code);
+        assert_eq!(proved(&file, &mut state), (0, 0));
+        let words = state.clone();
+        assert_eq!(plain::read(&file, &mut state), (0, 0));
+        assert!(state == words, "the words differ");
+        let (mut ours, mut theirs) = (Vec::new(), Vec::new());
+        for _ in 0..turns {
+            let start = Instant::now();
+            std::hint::black_box(proved(std::hint::black_box(&file), &mut state));
+            ours.push(start.elapsed());
+            let start = Instant::now();
+            std::hint::black_box(plain::read(std::hint::black_box(&file), &mut state));
+            theirs.push(start.elapsed());
+        }
+        let (ours, theirs) = (median(ours), median(theirs));
+        println!(
+            "order {code}: proved {:.1} us, plain {:.1} us, ratio {:.2}",
+            ours.as_secs_f64() * 1e6,
+            theirs.as_secs_f64() * 1e6,
+            ours.as_secs_f64() / theirs.as_secs_f64()
+        );
+    }
+}

@@ -1,0 +1,133 @@
+//! One file through both readers: number, place and every word of the state.
+
+use crate::proved;
+use reference::buffers::{state_words, write_state};
+use reference::engine::{Basis, State};
+use reference::random::Random;
+use reference::reader::read_problem;
+use reference::Limits;
+
+/// What `spoil` changes in one answer of the proved reader, so that the comparison itself is tried.
+#[derive(Clone, Copy, PartialEq, Eq)]
+pub enum Spoiled {
+    Number,
+    Place,
+    Word,
+}
+
+/// The buffers of both sides, and how many files met each number.
+pub struct Compare {
+    limits: Limits,
+    random: Random,
+    state: Vec<u16>,
+    expected: Vec<u16>,
+    /// files so far
+    pub files: u64,
+    /// files so far by number, 0 to 16
+    pub met: [u64; 17],
+    /// the file at which to spoil an answer
+    pub spoil: Option<(u64, Spoiled)>,
+}
+
+/// Words that a longer buffer may have behind the state.
+const MORE: usize = 64;
+
+impl Compare {
+    pub fn new(seed: u64) -> Compare {
+        let limits = Limits::document_01();
+        let words = state_words(&limits) + MORE;
+        Compare {
+            limits,
+            random: Random::new(seed),
+            state: vec![0xaaaa; words],
+            expected: vec![0; words],
+            files: 0,
+            met: [0; 17],
+            spoil: None,
+        }
+    }
+
+    /// Reads the file both ways into a buffer of the state's length or a little more.
+    pub fn file(&mut self, file: &[u8]) {
+        let more = match self.random.below(4) {
+            0 => self.random.below(MORE as u64 + 1) as usize,
+            _ => 0,
+        };
+        let words = state_words(&self.limits) + more;
+        // what stood in the buffer before must not matter
+        for _ in 0..16 {
+            let at = self.random.below(words as u64) as usize;
+            self.state[at] = self.random.bits() as u16;
+        }
+        if self.files.is_multiple_of(1024) {
+            self.state.fill(self.random.bits() as u16);
+        }
+        let mut answer = proved::read(file, &mut self.state[..words]);
+        if let Some((at, what)) = self.spoil {
+            if at == self.files {
+                match what {
+                    Spoiled::Number => answer.0 ^= 1,
+                    Spoiled::Place => answer.1 += 1,
+                    Spoiled::Word => self.state[words - 1] ^= 1,
+                }
+            }
+        }
+        let read = read_problem(&self.limits, file);
+        let expected = match &read {
+            Ok(_) => (0, 0),
+            Err(refusal) => (refusal.number, refusal.place),
+        };
+        if answer != expected {
+            self.differ(file, &format!("answered {answer:?}, expected {expected:?}"));
+        }
+        match read {
+            Ok(problem) => {
+                let held = State {
+                    basis: Some(Basis {
+                        parameters: problem.parameters,
+                        levels: vec![problem.elements],
+                    }),
+                };
+                write_state(&self.limits, &held, &mut self.expected[..words]);
+                if self.state[..words] != self.expected[..words] {
+                    self.differ(file, "the state's words differ");
+                }
+            }
+            Err(_) => {
+                if self.state[..words].iter().fold(0, |all, word| all | word) != 0 {
+                    self.differ(file, "a refused file left words behind");
+                }
+            }
+        }
+        self.count(expected.0);
+    }
+
+    /// A buffer that is too short: 16, and no word changes.
+    pub fn short_buffer(&mut self, file: &[u8], words: usize) {
+        assert!(words < state_words(&self.limits));
+        for word in &mut self.state[..words] {
+            *word = self.random.bits() as u16;
+        }
+        let before = self.state[..words].to_vec();
+        let answer = proved::read(file, &mut self.state[..words]);
+        if answer != (16, 0) || self.state[..words] != before {
+            self.differ(
+                file,
+                &format!("answered {answer:?} for a buffer of {words} words"),
+            );
+        }
+        self.count(16);
+    }
+
+    fn count(&mut self, number: u64) {
+        self.files += 1;
+        self.met[number as usize] += 1;
+    }
+
+    fn differ(&self, file: &[u8], what: &str) -> ! {
+        let shown = &file[..file.len().min(2_000)];
+        println!("file {} ({} bytes): {what}", self.files, file.len());
+        println!("{}", shown.escape_ascii());
+        std::process::exit(1);
+    }
+}

@@ -1,0 +1,209 @@
+//! The proved reader against the unrelated implementation: number, place and every word, file by file.
+//!
+//!     test-reader [FILES [SEED]]        at least so many files (200,000 without it)
+//!     test-reader spoil number|place|word   spoils one answer: the run must find it and exit with 1
+
+mod compare;
+mod files;
+mod proved;
+
+use compare::{Compare, Spoiled};
+use files::{changed_at, fields_of, random_problem, with_field, FIELDS, WRITTEN};
+use reference::generate::files::{damage, edited_file, exact_length_file, exact_t_lines_file};
+use reference::generate::problems::problem_file;
+use reference::random::Random;
+
+const FILES: u64 = 200_000;
+const SEED: u64 = 20_250_101;
+
+fn main() {
+    let arguments: Vec<String> = std::env::args().skip(1).collect();
+    let mut spoil = None;
+    let (mut wanted, mut seed) = (FILES, SEED);
+    match arguments.iter().map(String::as_str).collect::<Vec<_>>()[..] {
+        ["spoil", what] => {
+            let what = match what {
+                "number" => Spoiled::Number,
+                "place" => Spoiled::Place,
+                "word" => Spoiled::Word,
+                _ => panic!("spoil number, place or word"),
+            };
+            spoil = Some((700, what));
+        }
+        [] => {}
+        [files] => wanted = files.parse().expect("how many files"),
+        [files, from] => {
+            wanted = files.parse().expect("how many files");
+            seed = from.parse().expect("a seed");
+        }
+        _ => panic!("at most two arguments"),
+    }
+    let mut compare = Compare::new(seed);
+    compare.spoil = spoil;
+    let mut random = Random::new(seed);
+
+    every_change(&mut compare);
+    every_field(&mut compare);
+    short_buffers(&mut compare);
+    at_the_limits(&mut compare, &mut random);
+    // a long run cuts the longest file off at every byte, a short one here and there
+    cut_off(
+        &mut compare,
+        &mut random,
+        if wanted < 1_000_000 { 61 } else { 1 },
+    );
+    let systematic = compare.files;
+    while compare.files < wanted {
+        random_file(&mut compare, &mut random);
+    }
+
+    println!(
+        "reader: {} files agree in number, place and words ({systematic} systematic, seed {seed})",
+        compare.files
+    );
+    for (number, files) in compare.met.iter().enumerate() {
+        if *files > 0 {
+            println!("  {number}: {files}");
+        }
+    }
+    // a run in which a refusal never comes tests too little
+    for number in [0, 1, 2, 3, 4, 5, 6, 7, 8, 16] {
+        assert!(compare.met[number] >= 20, "number {number} came too seldom");
+    }
+}
+
+/// Each small file, cut off, flipped, deleted, doubled, replaced and inserted at every byte.
+fn every_change(compare: &mut Compare) {
+    compare.file(b"");
+    compare.file(b"\n");
+    for file in WRITTEN.map(str::as_bytes) {
+        compare.file(file);
+        for at in 0..file.len() {
+            changed_at(file, at, |changed| compare.file(changed));
+        }
+        for byte in 0..=255 {
+            let mut longer = file.to_vec();
+            longer.push(byte);
+            compare.file(&longer);
+        }
+    }
+}
+
+/// Each field of each small file at, about and past every limit.
+fn every_field(compare: &mut Compare) {
+    for file in WRITTEN.map(str::as_bytes) {
+        for (line, fields) in fields_of(file).into_iter().enumerate() {
+            for field in 0..=fields {
+                for text in FIELDS {
+                    compare.file(&with_field(file, line, field, text));
+                }
+            }
+        }
+    }
+}
+
+/// 16 before all else, and no word changes.
+fn short_buffers(compare: &mut Compare) {
+    for file in WRITTEN.map(str::as_bytes) {
+        for words in [0, 1, 5, 1_295, 206_093, 206_094] {
+            compare.short_buffer(file, words);
+        }
+    }
+    compare.short_buffer(&vec![b'0'; 65_537], 206_094);
+}
+
+/// Files of about 65,536 bytes, of about 2,048 T lines, of about 64 elements; and these damaged.
+fn at_the_limits(compare: &mut Compare, random: &mut Random) {
+    for length in 65_533..=65_539 {
+        let file = exact_length_file(random, length);
+        assert_eq!(file.len(), length);
+        compare.file(&file);
+        for back in 1..=40 {
+            compare.file(&file[..length - back]);
+        }
+        for _ in 0..40 {
+            let mut damaged = file.clone();
+            damage(random, &mut damaged);
+            compare.file(&damaged);
+        }
+    }
+    for lines in 2_046..=2_051 {
+        let file = exact_t_lines_file(random, lines);
+        compare.file(&file);
+        // the last T line, and E's, by each field and cut off at each byte
+        let last = fields_of(&file).len() - 1;
+        for line in [last - 2, last - 1, last] {
+            for field in 0..=fields_of(&file)[line] {
+                for text in [
+                    "0", "1", "2", "3", "65", "256", "2047", "2048", "2049", "65536", "01", "",
+                ] {
+                    compare.file(&with_field(&file, line, field, text));
+                }
+            }
+        }
+        for back in 1..=60 {
+            compare.file(&file[..file.len() - back]);
+        }
+        for _ in 0..60 {
+            let mut damaged = file.clone();
+            damage(random, &mut damaged);
+            compare.file(&damaged);
+        }
+    }
+    // one byte over and over
+    for byte in [b'0', b'9', b',', b'\n', b'R', b'T', 0, 255] {
+        for length in [1, 2, 65_535, 65_536, 65_537, 70_000] {
+            compare.file(&vec![byte; length]);
+        }
+    }
+    // numbers of many digits
+    for digit in [b'0', b'1', b'9'] {
+        for digits in [1, 5, 6, 19, 20, 21, 60_000] {
+            let mut file = b"R,7,1,1,1\nT,1,1,1,".to_vec();
+            file.resize(file.len() + digits, digit);
+            file.extend(b"\nE,1\n");
+            compare.file(&file);
+        }
+    }
+}
+
+/// A file of 65,536 bytes, cut off.
+fn cut_off(compare: &mut Compare, random: &mut Random, apart: usize) {
+    let file = exact_length_file(random, 65_536);
+    for length in (0..=65_536).step_by(apart) {
+        compare.file(&file[..length]);
+    }
+}
+
+fn random_file(compare: &mut Compare, random: &mut Random) {
+    let mut file = match random.below(4) {
+        0 => edited_file(random),
+        _ => problem_file(&random_problem(random)),
+    };
+    if random.chance(30) {
+        compare.file(&file);
+    }
+    // at every byte
+    if random.below(250) == 0 {
+        for length in 0..file.len() {
+            compare.file(&file[..length]);
+        }
+    }
+    let kinds = fields_of(&file);
+    match random.below(3) {
+        0 => {
+            let line = random.below(kinds.len() as u64) as usize;
+            let field = random.between(0, kinds[line] as u64) as usize;
+            if file.ends_with(b"\n") {
+                let text: &str = random.pick::<&str>(&FIELDS);
+                file = with_field(&file, line, field, text);
+            }
+        }
+        _ => {
+            for _ in 0..random.between(1, 3) {
+                damage(random, &mut file);
+            }
+        }
+    }
+    compare.file(&file);
+}
