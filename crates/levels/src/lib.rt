@@ -1,0 +1,245 @@
+// The state as words: the soundness test behind 11.
+// Knows: crate definitions' Layout and State, with document 01's limits (docs/BUFFERS.md).
+ghost use mathlib.Core.Path.{_≡_};
+ghost use mathlib.Core.Bool.{not};
+ghost use Prim.Native.Nat.{_+_, _-_, _*_, _≤_, _<_};
+ghost use lib.ListN.{length, take};
+ghost use Rattle.definitions.specs.Limits.{document-01};
+ghost use Rattle.definitions.specs.Lists.{_and_, between as between-definition};
+ghost use Rattle.definitions.specs.Monomial.{divides?};
+ghost use Rattle.definitions.specs.Order.{greater?};
+ghost use Rattle.definitions.specs.Problem.{prime-in-range?, in-ranges?};
+ghost use Rattle.definitions.specs.Layout.{holds-state?};
+ghost use Rattle.orders.specs.Images.{comparison-of, exponents-raw, key-of, compare-keys, table-of, table-order, Tabled};
+ghost use Rattle.levels.specs.Places.{parameters-of, parameters-at, count-below};
+ghost use Rattle.levels.specs.Holding.{exponent-limits as limits-definition, limit-at, bounds-of, row-holds?, follows?, all-hold?, vector-holds?, vectors-hold?, level-holds?, level-test?};
+use orders::Comparison;
+use orders::Image;
+
+// p, n, the order code, s.
+pub struct Parameters {
+    pub p: u16,
+    pub n: u16,
+    pub code: u16,
+    pub s: u16,
+}
+
+// What a row's words are held to: the greatest coefficient and component, the greatest of each exponent.
+pub struct Bounds {
+    pub top: u16,
+    pub components: u16,
+    pub exponents: [u16; 8],
+}
+
+pub fn place(x: u16) -> usize
+    ensures { λ r. ⌜ r ≡ x ⌝ }
+{
+    x as usize
+}
+
+fn both(a: bool, b: bool) -> bool
+    ensures { λ r. ⌜ r ≡ (a and b) ⌝ }
+{
+    if a {
+        return b;
+    }
+    false
+}
+
+fn fails(a: bool) -> bool
+    ensures { λ r. ⌜ r ≡ not a ⌝ }
+{
+    if a {
+        return false;
+    }
+    true
+}
+
+fn between(a: u16, x: u16, b: u16) -> bool
+    ensures { λ r. ⌜ r ≡ between-definition a x b ⌝ }
+{
+    if x < a {
+        return false;
+    }
+    x <= b
+}
+
+// ## Parameters
+
+pub fn read_parameters(state: &[u16]) -> Parameters
+    requires { ⌜ 5 ≤ length (now state) ⌝ }
+    ensures { λ q. ⌜ parameters-of q ≡ parameters-at (now (state .entry)) ⌝ }
+{
+    Parameters {
+        p: state[0],
+        n: state[1],
+        code: state[2],
+        s: state[3],
+    }
+}
+
+fn prime_in_range(p: u16) -> bool
+    ensures { λ r. ⌜ r ≡ prime-in-range? document-01 p ⌝ }
+{
+    if 32767 < p {
+        return false;
+    }
+    field::is_prime(p)
+}
+
+fn in_ranges(q: Parameters) -> bool
+    ensures { λ r. ⌜ r ≡ in-ranges? document-01 (parameters-of q) ⌝ }
+{
+    let n = between(1, q.n, 8);
+    let code = between(1, q.code, 3);
+    let s = between(1, q.s, 16);
+    both(n, both(code, s))
+}
+
+// ## Rows
+
+// The greatest value of exponent j.
+fn limit(n: u16, j: usize) -> u16
+    ensures { λ r. ⌜ r ≡ limit-at n j ⌝ }
+{
+    if j < place(n) {
+        return 255;
+    }
+    0
+}
+
+fn exponent_limits(n: u16) -> [u16; 8]
+    ensures { λ r. ⌜ r ≡ limits-definition n ⌝ }
+{
+    let mut w = [0u16; 8];
+    let mut j = 0;
+    while j < 8 {
+        w[j] = limit(n, j);
+        j += 1;
+    }
+    w
+}
+
+fn less_one(p: u16) -> u16
+    ensures { λ r. ⌜ r ≡ p - 1 ⌝ }
+{
+    if p == 0 {
+        return 0;
+    }
+    p - 1
+}
+
+fn row_bounds(p: u16, n: u16, components: u16) -> Bounds
+    ensures { λ b. ⌜ b ≡ bounds-of p n components ⌝ }
+{
+    let top = less_one(p);
+    let exponents = exponent_limits(n);
+    Bounds {
+        top,
+        components,
+        exponents,
+    }
+}
+
+// Whether each of the eight words from at on is at most its limit.
+fn within(level: &[u16], at: usize, w: [u16; 8]) -> bool
+    requires { ⌜ at + 8 ≤ length (now level) ⌝ }
+    ensures { λ r. ⌜ r ≡ divides? (exponents-raw (now (level .entry)) at) w ⌝ }
+{
+    let mut mark: u16 = 0;
+    let mut j = 0;
+    while j < 8 {
+        mark = monomial::mark_above(mark, level[at + j], w[j]);
+        j += 1;
+    }
+    mark == 0
+}
+
+fn row_holds(level: &[u16], i: usize, b: Bounds) -> bool
+    requires { ⌜ i * 10 + 10 ≤ length (now level) ⌝ }
+    ensures { λ r. ⌜ r ≡ row-holds? b (now (level .entry)) i ⌝ }
+{
+    let at = i * 10;
+    let w = b.exponents;
+    let c = between(1, level[at], b.top);
+    let m = between(1, level[at + 1], b.components);
+    let e = within(level, at + 2, w);
+    both(c, both(m, e))
+}
+
+// ## Vectors
+
+fn is_greater(c: Comparison) -> bool
+    ensures { λ r. ⌜ r ≡ greater? (comparison-of c) ⌝ }
+{
+    match c {
+        Comparison::Greater => true,
+        Comparison::Equal => false,
+        Comparison::Smaller => false,
+    }
+}
+
+// Row i is in range and below the row with the image before it.
+fn follows(level: &[u16], i: usize, b: Bounds, code: u16, before: Image, image: Image) -> bool
+    requires { ⌜ i * 10 + 10 ≤ length (now level) ⌝ }
+    ensures { λ r. ⌜ r ≡ (row-holds? b (now (level .entry)) i and greater? (compare-keys code (key-of before) (key-of image))) ⌝ }
+{
+    let x = row_holds(level, i, b);
+    let c = orders::compare_images(code, before, image);
+    both(x, is_greater(c))
+}
+
+// The rows behind row `from`, up to row `to`.
+fn rest_holds(level: &[u16], from: usize, to: usize, b: Bounds, code: u16, table: &[u16], n: usize) -> bool
+    requires { ⌜ (from < to) × (to * 10 ≤ length (now level)) × (n * 10 ≤ length (now table)) × Tabled n (now table) ⌝ }
+    ensures { λ r. ⌜ r ≡ all-hold? (follows? b (table-order code (table-of n (now (table .entry)))) (now (level .entry))) (from + 1) (to - (from + 1)) ⌝ }
+{
+    let mut before = tables::image_at(level, from, table, n);
+    let mut i = from + 1;
+    while i < to {
+        let image = tables::image_at(level, i, table, n);
+        if fails(follows(level, i, b, code, before, image)) {
+            return false;
+        }
+        before = image;
+        i += 1;
+    }
+    true
+}
+
+// The vector from row `from` up to row `to`, of at most so many terms.
+fn vector_holds(level: &[u16], from: usize, to: usize, most: usize, b: Bounds, code: u16, table: &[u16], n: usize) -> bool
+    requires { ⌜ (20480 ≤ length (now level)) × (n * 10 ≤ length (now table)) × Tabled n (now table) ⌝ }
+    ensures { λ r. ⌜ r ≡ vector-holds? b most (table-order code (table-of n (now (table .entry)))) (now (level .entry)) from to ⌝ }
+{
+    if to <= from {
+        return false;
+    }
+    if 2048 < to {
+        return false;
+    }
+    if most < to - from {
+        return false;
+    }
+    let x = row_holds(level, from, b);
+    let y = rest_holds(level, from, to, b, code, table, n);
+    both(x, y)
+}
+
+// Vectors by their ends.
+fn vectors_hold(level: &[u16], ends: &[u16], r: usize, most: usize, b: Bounds, code: u16, table: &[u16], n: usize) -> bool
+    requires { ⌜ (r ≤ length (now ends)) × (20480 ≤ length (now level)) × (n * 10 ≤ length (now table)) × Tabled n (now table) ⌝ }
+    ensures { λ x. ⌜ x ≡ vectors-hold? b most (table-order code (table-of n (now (table .entry)))) (now (level .entry)) 0 (take r (now (ends .entry))) ⌝ }
+{
+    let mut from: usize = 0;
+    let mut j: usize = 0;
+    while j < r {
+        let to = place(ends[j]);
+        if fails(vector_holds(level, from, to, most, b, code, table, n)) {
+            return false;
+        }
+        from = to;
+        j += 1;
+    }
+    true
+}
