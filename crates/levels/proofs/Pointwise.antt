@@ -34,11 +34,11 @@ module _ {A : Type 0} (f : A → Bool) where
 module _ (f : ℕ → Bool) where
   pub holds-at : (i n : ℕ) → T (all-hold? f i n) → (k : ℕ) → i ≤ k → k < i + n → T (f k)
   holds-at i zero t k h l = absurd (omega arith)
-  holds-at i (suc n) t k h l = go (ℕ-discrete k i)
+  holds-at i (suc n) t k h l = go (ℕ-discrete k i) (holds-at (suc i) n (and-right (f i) (all-hold? f (suc i) n) t) k)
     where
-      go : Dec (k ≡ i) → T (f k)
-      go (yes e) = subst (λ j. T (f j)) (sym e) (and-left (f i) (all-hold? f (suc i) n) t)
-      go (no e) = holds-at (suc i) n (and-right (f i) (all-hold? f (suc i) n) t) k (omega arith) (omega arith)
+      go : Dec (k ≡ i) → (suc i ≤ k → k < suc i + n → T (f k)) → T (f k)
+      go (yes e) r = subst (λ j. T (f j)) (sym e) (and-left (f i) (all-hold? f (suc i) n) t)
+      go (no e) r = r (omega arith) (omega arith)
 
   pub holds-all : (i n : ℕ) → ((k : ℕ) → i ≤ k → k < i + n → T (f k)) → T (all-hold? f i n)
   holds-all i zero h = tt

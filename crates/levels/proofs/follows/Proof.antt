@@ -4,6 +4,8 @@ use mathlib.Core.Path.{_≡_, refl, sym, ap, _∙_, subst}
 use mathlib.Core.List.{List, [], _∷_, _++_}
 use Prim.Native.Nat.{ℕ, suc, _+_, _-_, _*_, _<_, _≤_}
 use lib.ListN.{length, take, drop, getD, set, length-set}
+use Rattle.definitions.specs.Lists.{_and_}
+use Rattle.definitions.specs.Order.{greater?}
 use Rattle.levels.proofs.follows.Statement.{statement}
 use Rattle.levels.proofs.follows.Tie as tie
 use Rattle.levels.proofs.follows.Reads as reads
@@ -31,7 +33,7 @@ both-requires c κs = search needs
 
 -- src/lib.rt:183:1
 returns : tie.Need-returns
-returns c = omega arith
+returns c = c .both .ensures ∙ (λ i. c .before .before .before .row-holds .ensures i and (c .before .is-greater .ensures ∙ ap greater? (c .before .before .compare-images .ensures)) i)
 
 pub follows-spec : {M : Type 1} → statement M
 follows-spec =

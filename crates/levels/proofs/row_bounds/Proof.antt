@@ -21,7 +21,7 @@ exponent-limits-requires c κs = search needs
 
 -- src/lib.rt:132:1
 returns : tie.Need-returns
-returns c = omega arith
+returns c = λ i. record { top = c .before .less-one .ensures i; components = c .before .before .args .components; exponents = c .exponent-limits .ensures i }
 
 pub row-bounds-spec : {M : Type 1} → statement M
 row-bounds-spec = tie.close (tie.spec less-one-requires exponent-limits-requires returns)

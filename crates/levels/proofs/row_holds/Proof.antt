@@ -4,6 +4,7 @@ use mathlib.Core.Path.{_≡_, refl, sym, ap, _∙_, subst}
 use mathlib.Core.List.{List, [], _∷_, _++_}
 use Prim.Native.Nat.{ℕ, suc, _+_, _-_, _*_, _<_, _≤_}
 use lib.ListN.{length, take, drop, getD, set, length-set}
+use Rattle.definitions.specs.Lists.{_and_}
 use Rattle.levels.proofs.row_holds.Statement.{statement}
 use Rattle.levels.proofs.row_holds.Tie as tie
 use Rattle.levels.proofs.row_holds.Reads as reads
@@ -62,7 +63,7 @@ both-requires-2 c κs = search needs
 
 -- src/lib.rt:158:1
 returns : tie.Need-returns
-returns c = omega arith
+returns c = c .both2 .ensures ∙ (λ i. c .before .before .before .before .before .between .ensures i and (c .before .both .ensures ∙ (λ j. c .before .before .before .between2 .ensures j and c .before .before .within .ensures j)) i)
 
 pub row-holds-spec : {M : Type 1} → statement M
 row-holds-spec =

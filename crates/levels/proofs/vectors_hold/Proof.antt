@@ -1,0 +1,81 @@
+use borrow.Author.Needs.{needs}
+use native.Mathlib.Omega.{arith}
+use mathlib.Core.Path.{_≡_, refl, sym, ap, _∙_, subst}
+use mathlib.Core.List.{List, [], _∷_, _++_}
+use Prim.Native.Nat.{ℕ, suc, _+_, _-_, _*_, _<_, _≤_}
+use lib.ListN.{length, take, drop, getD, set, length-set}
+use Rattle.levels.proofs.vectors_hold.Statement.{statement}
+use Rattle.levels.proofs.vectors_hold.Tie as tie
+use Rattle.levels.proofs.vectors_hold.Reads as reads
+use Rattle.levels.proofs.vectors_hold.Lts as lts
+use Rattle.levels.proofs.fails.Reads as fails-reads
+use Rattle.levels.proofs.place.Reads as place-reads
+use Rattle.levels.proofs.vector_holds.Reads as vector-holds-reads
+
+abbrev Inv-loop : tie.InvT-loop
+Inv-loop level ends r most b code table n from₀ j₀ from j = ?
+
+abbrev μ-loop : tie.MeasureT-loop
+μ-loop level ends r most b code table n from₀ j₀ from j = ?
+
+-- src/lib.rt:236:5
+loop-holds : tie.Need-loop-holds Inv-loop μ-loop
+loop-holds c = omega arith
+
+-- src/lib.rt:237:24
+mul-place : tie.Need-mul-place Inv-loop μ-loop
+mul-place c = omega arith
+
+-- src/lib.rt:237:24
+shared-slice-read-place : tie.Need-shared-slice-read-place Inv-loop μ-loop
+shared-slice-read-place c = omega arith
+
+-- src/lib.rt:237:13
+place-requires : tie.Need-place-requires Inv-loop μ-loop
+place-requires c κs = omega arith
+
+-- src/lib.rt:238:18
+vector-holds-requires : tie.Need-vector-holds-requires Inv-loop μ-loop
+vector-holds-requires c κs = omega arith
+
+-- src/lib.rt:238:12
+fails-requires : tie.Need-fails-requires Inv-loop μ-loop
+fails-requires c κs = omega arith
+
+-- src/lib.rt:239:13
+returns : tie.Need-returns Inv-loop μ-loop
+returns c = omega arith
+
+-- src/lib.rt:242:9
+add-j : tie.Need-add-j Inv-loop μ-loop
+add-j c = omega arith
+
+-- src/lib.rt:236:5
+loop-less : tie.Need-loop-less Inv-loop μ-loop
+loop-less c = omega arith
+
+-- src/lib.rt:236:5
+loop-again : tie.Need-loop-again Inv-loop μ-loop
+loop-again c = omega arith
+
+-- src/lib.rt:230:1
+returns-2 : tie.Need-returns-2 Inv-loop μ-loop
+returns-2 c = omega arith
+
+pub vectors-hold-spec : {M : Type 1} → statement M
+vectors-hold-spec =
+    tie.close
+    (tie.spec
+    Inv-loop
+    μ-loop
+    loop-holds
+    mul-place
+    shared-slice-read-place
+    place-requires
+    vector-holds-requires
+    fails-requires
+    returns
+    add-j
+    loop-less
+    loop-again
+    returns-2)
