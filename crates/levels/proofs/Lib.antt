@@ -1,2 +1,3 @@
 pub mod Pointwise
 pub mod RowTests
+pub mod Walking

@@ -11,7 +11,7 @@ ghost use Rattle.definitions.specs.Order.{greater?};
 ghost use Rattle.definitions.specs.Problem.{prime-in-range?, in-ranges?};
 ghost use Rattle.definitions.specs.Layout.{holds-state?};
 ghost use Rattle.orders.specs.Images.{comparison-of, exponents-raw, key-of, compare-keys, table-of, table-order, Tabled};
-ghost use Rattle.levels.specs.Places.{parameters-of, parameters-at, count-below};
+ghost use Rattle.levels.specs.Places.{parameters-of, parameters-at, count-at, count-below};
 ghost use Rattle.levels.specs.Holding.{exponent-limits as limits-definition, limit-at, bounds-of, row-holds?, follows?, all-hold?, vector-holds?, vectors-hold?, level-holds?, level-test?};
 use orders::Comparison;
 use orders::Image;
@@ -242,4 +242,57 @@ fn vectors_hold(level: &[u16], ends: &[u16], r: usize, most: usize, b: Bounds, c
         j += 1;
     }
     true
+}
+
+// ## Levels
+
+// How many vectors level k has.
+pub fn count_of(state: &[u16], k: usize) -> usize
+    requires { ⌜ (206095 ≤ length (now state)) × (k < 10) ⌝ }
+    ensures { λ r. ⌜ r ≡ count-at (now (state .entry)) k ⌝ }
+{
+    place(state[5 + k * 129])
+}
+
+// How many the level below has.
+fn count_under(state: &[u16], k: usize) -> usize
+    requires { ⌜ (206095 ≤ length (now state)) × (k ≤ 10) ⌝ }
+    ensures { λ r. ⌜ r ≡ count-below (now (state .entry)) k ⌝ }
+{
+    if k == 0 {
+        return 0;
+    }
+    place(state[5 + (k - 1) * 129])
+}
+
+// Level k: from low to high vectors, of at most so many terms each.
+fn level_holds(state: &[u16], k: usize, low: u16, high: u16, most: usize, b: Bounds, code: u16, table: &[u16], n: usize) -> bool
+    requires { ⌜ (206095 ≤ length (now state)) × (k < 10) × (high ≤ 128) × (n * 10 ≤ length (now table)) × Tabled n (now table) ⌝ }
+    ensures { λ r. ⌜ r ≡ level-holds? low high most b (table-order code (table-of n (now (table .entry)))) (now (state .entry)) k ⌝ }
+{
+    let at = 5 + k * 129;
+    let count = state[at];
+    if fails(between(low, count, high)) {
+        return false;
+    }
+    let start = 1295 + k * 20480;
+    let r = place(count);
+    let ends = at + 1;
+    vectors_hold(&state[start..], &state[ends..], r, most, b, code, table, n)
+}
+
+// Level k, over the table of images of its module.
+fn level_test(state: &[u16], k: usize, table: &[u16], n: usize) -> bool
+    requires { ⌜ (206095 ≤ length (now state)) × (k < 10) × (n * 10 ≤ length (now table)) × Tabled n (now table) ⌝ }
+    ensures { λ r. ⌜ r ≡ level-test? (now (state .entry)) k (table-of n (now (table .entry))) ⌝ }
+{
+    let p = state[0];
+    let v = state[1];
+    let code = state[2];
+    if k == 0 {
+        let b = row_bounds(p, v, state[3]);
+        return level_holds(state, k, 1, 64, 2048, b, code, table, n);
+    }
+    let b = row_bounds(p, v, state[5 + (k - 1) * 129]);
+    level_holds(state, k, 0, 128, 512, b, code, table, n)
 }

@@ -4,6 +4,12 @@ use mathlib.Core.Path.{_≡_, refl, sym, ap, _∙_, subst}
 use mathlib.Core.List.{List, [], _∷_, _++_}
 use Prim.Native.Nat.{ℕ, suc, _+_, _-_, _*_, _<_, _≤_}
 use lib.ListN.{length, take, drop, getD, set, length-set}
+use Rattle.definitions.specs.Lists.{_and_}
+use lib.Dec.{leb}
+use mathlib.Core.Bool.{Bool}
+use borrow.Author.Tests.{lt-ltb, le-ltb, le-leb, lt-leb}
+use Rattle.orders.specs.Images.{table-of, table-order}
+use Rattle.levels.specs.Holding.{row-holds?, follows?, all-hold?}
 use Rattle.levels.proofs.vector_holds.Statement.{statement}
 use Rattle.levels.proofs.vector_holds.Tie as tie
 use Rattle.levels.proofs.vector_holds.Reads as reads
@@ -14,11 +20,19 @@ use Rattle.levels.proofs.row_holds.Reads as row-holds-reads
 
 -- src/lib.rt:216:9
 returns : tie.Need-returns
-returns c = omega arith
+returns c =
+    let a = c .before .before .before .args in
+    let O = table-order (a .code) (table-of (a .n) (a .table .now)) in
+    let R : Bool = row-holds? (a .b) (a .level .now) (a .from) and all-hold? (follows? (a .b) O (a .level .now)) (suc (a .from)) (a .to - suc (a .from)) in
+    λ i. sym (le-ltb (a .from) (a .to) (c .if1 .taken)) i and leb (a .to) 2048 and leb (a .to - a .from) (a .most) and R
 
 -- src/lib.rt:219:9
 returns-2 : tie.Need-returns-2
-returns-2 c = omega arith
+returns-2 c =
+    let a = c .before .before .before .before .args in
+    let O = table-order (a .code) (table-of (a .n) (a .table .now)) in
+    let R : Bool = row-holds? (a .b) (a .level .now) (a .from) and all-hold? (follows? (a .b) O (a .level .now)) (suc (a .from)) (a .to - suc (a .from)) in
+    λ i. sym (lt-ltb (a .from) (a .to) (c .before .if1 .left)) i and sym (lt-leb (a .to) 2048 (c .if2 .taken)) i and leb (a .to - a .from) (a .most) and R
 
 -- src/lib.rt:221:15
 sub-if3 : tie.Need-sub-if3
@@ -26,7 +40,11 @@ sub-if3 c = search needs
 
 -- src/lib.rt:222:9
 returns-3 : tie.Need-returns-3
-returns-3 c = omega arith
+returns-3 c =
+    let a = c .before .before .before .before .before .args in
+    let O = table-order (a .code) (table-of (a .n) (a .table .now)) in
+    let R : Bool = row-holds? (a .b) (a .level .now) (a .from) and all-hold? (follows? (a .b) O (a .level .now)) (suc (a .from)) (a .to - suc (a .from)) in
+    λ i. sym (lt-ltb (a .from) (a .to) (c .before .before .if1 .left)) i and sym (le-leb (a .to) 2048 (c .before .if2 .left)) i and sym (lt-leb (a .to - a .from) (a .most) (c .if3 .taken)) i and R
 
 -- src/lib.rt:224:9
 row-holds-requires : tie.Need-row-holds-requires
@@ -34,7 +52,7 @@ row-holds-requires c κs = search needs
 
 -- src/lib.rt:225:9
 rest-holds-requires : tie.Need-rest-holds-requires
-rest-holds-requires c κs = search needs
+rest-holds-requires c κs = (omega arith, omega arith, omega arith, c .before .before .before .before .before .before .pre .2)
 
 -- src/lib.rt:226:5
 both-requires : tie.Need-both-requires
@@ -42,7 +60,13 @@ both-requires c κs = search needs
 
 -- src/lib.rt:211:1
 returns-4 : tie.Need-returns-4
-returns-4 c = omega arith
+returns-4 c =
+    let a = c .before .before .before .before .before .before .before .before .args in
+    let O = table-order (a .code) (table-of (a .n) (a .table .now)) in
+    let R : Bool = row-holds? (a .b) (a .level .now) (a .from) and all-hold? (follows? (a .b) O (a .level .now)) (suc (a .from)) (a .to - suc (a .from)) in
+    let z : a .from + 1 ≡ suc (a .from) = omega arith in
+    c .both .ensures
+    ∙ (λ i. sym (lt-ltb (a .from) (a .to) (c .before .before .before .before .before .if1 .left)) i and sym (le-leb (a .to) 2048 (c .before .before .before .before .if2 .left)) i and sym (le-leb (a .to - a .from) (a .most) (c .before .before .before .if3 .left)) i and c .before .before .row-holds .ensures i and (c .before .rest-holds .ensures ∙ ap (λ k. all-hold? (follows? (a .b) O (a .level .now)) k (a .to - k)) z) i)
 
 pub vector-holds-spec : {M : Type 1} → statement M
 vector-holds-spec =

@@ -1,0 +1,124 @@
+use borrow.Author.Needs.{needs}
+use native.Mathlib.Omega.{arith}
+use mathlib.Core.Path.{_≡_, refl, sym, ap, _∙_, subst}
+use mathlib.Core.List.{List, [], _∷_, _++_}
+use Prim.Native.Nat.{ℕ, suc, _+_, _-_, _*_, _<_, _≤_}
+use lib.ListN.{length, take, drop, getD, set, length-set}
+use Rattle.levels.proofs.level_holds.Statement.{statement}
+use Rattle.levels.proofs.level_holds.Tie as tie
+use Rattle.levels.proofs.level_holds.Reads as reads
+use Rattle.levels.proofs.level_holds.Lts as lts
+use Rattle.levels.proofs.between.Reads as between-reads
+use Rattle.levels.proofs.fails.Reads as fails-reads
+use Rattle.levels.proofs.place.Reads as place-reads
+use Rattle.levels.proofs.vectors_hold.Reads as vectors-hold-reads
+
+-- src/lib.rt:273:18
+mul-at : tie.Need-mul-at
+mul-at c = search needs
+
+-- src/lib.rt:273:14
+add-at : tie.Need-add-at
+add-at c = search needs
+
+-- src/lib.rt:274:17
+mul-count : tie.Need-mul-count
+mul-count c = search needs
+
+-- src/lib.rt:274:17
+shared-slice-read-count : tie.Need-shared-slice-read-count
+shared-slice-read-count c = search needs
+
+-- src/lib.rt:275:14
+between-requires : tie.Need-between-requires
+between-requires c κs = search needs
+
+-- src/lib.rt:275:8
+fails-requires : tie.Need-fails-requires
+fails-requires c κs = search needs
+
+-- src/lib.rt:276:9
+returns : tie.Need-returns
+returns c = omega arith
+
+-- src/lib.rt:278:24
+mul-start : tie.Need-mul-start
+mul-start c = search needs
+
+-- src/lib.rt:278:17
+add-start : tie.Need-add-start
+add-start c = search needs
+
+-- src/lib.rt:279:9
+place-requires : tie.Need-place-requires
+place-requires c κs = search needs
+
+-- src/lib.rt:280:16
+add-ends : tie.Need-add-ends
+add-ends c = search needs
+
+-- src/lib.rt:281:18
+mul-vectors-hold : tie.Need-mul-vectors-hold
+mul-vectors-hold c = search needs
+
+-- src/lib.rt:281:18
+sub-vectors-hold : tie.Need-sub-vectors-hold
+sub-vectors-hold c = search needs
+
+-- src/lib.rt:281:18
+part-vectors-hold-start : tie.Need-part-vectors-hold-start
+part-vectors-hold-start c = search needs
+
+-- src/lib.rt:281:18
+part-vectors-hold-end : tie.Need-part-vectors-hold-end
+part-vectors-hold-end c = search needs
+
+-- src/lib.rt:281:35
+mul-vectors-hold-2 : tie.Need-mul-vectors-hold-2
+mul-vectors-hold-2 c = search needs
+
+-- src/lib.rt:281:35
+sub-vectors-hold-2 : tie.Need-sub-vectors-hold-2
+sub-vectors-hold-2 c = search needs
+
+-- src/lib.rt:281:35
+part-vectors-hold-start-2 : tie.Need-part-vectors-hold-start-2
+part-vectors-hold-start-2 c = search needs
+
+-- src/lib.rt:281:35
+part-vectors-hold-end-2 : tie.Need-part-vectors-hold-end-2
+part-vectors-hold-end-2 c = search needs
+
+-- src/lib.rt:281:5
+vectors-hold-requires : tie.Need-vectors-hold-requires
+vectors-hold-requires c κs = omega arith
+
+-- src/lib.rt:269:1
+returns-2 : tie.Need-returns-2
+returns-2 c = omega arith
+
+pub level-holds-spec : {M : Type 1} → statement M
+level-holds-spec =
+    tie.close
+    (tie.spec
+    mul-at
+    add-at
+    mul-count
+    shared-slice-read-count
+    between-requires
+    fails-requires
+    returns
+    mul-start
+    add-start
+    place-requires
+    add-ends
+    mul-vectors-hold
+    sub-vectors-hold
+    part-vectors-hold-start
+    part-vectors-hold-end
+    mul-vectors-hold-2
+    sub-vectors-hold-2
+    part-vectors-hold-start-2
+    part-vectors-hold-end-2
+    vectors-hold-requires
+    returns-2)
