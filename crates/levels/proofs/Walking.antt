@@ -5,8 +5,8 @@ use mathlib.Core.List.{List, [], _∷_}
 use Prim.Native.Nat.{ℕ, zero, suc, _+_, _-_, _<_, _≤_}
 use native.Mathlib.Omega.{arith}
 use lib.Dec.{leb, ltb}
-use lib.ListN.{length, getD, take, drop, drop-of-length-le}
-use lib.Seq.{drop-cons}
+use lib.ListN.{length, getD, take, drop, length-drop, drop-of-length-le}
+use lib.Seq.{drop-cons, take-all}
 use borrow.Author.Tests.{lt-ltb, le-ltb, le-leb, lt-leb}
 use Rattle.definitions.specs.Lists.{_and_}
 use Rattle.definitions.specs.Monomial.{Monomial}
@@ -49,3 +49,11 @@ below-basis s k e = ap (count-below s) (sym e)
 pub below-above : (s : Words) (k : ℕ) → (k ≡ 0 → ⊥) → count-at s (k - 1) ≡ count-below s k
 below-above s zero n = absurd (n refl)
 below-above s (suc k) n = let z : suc k - 1 ≡ k = omega arith in ap (count-at s) z
+
+-- ## The rest of a slice from a word on
+
+pub whole-part : (a : ℕ) (s : Words) → take (length s - a) (drop a s) ≡ drop a s
+whole-part a s = take-all (length s - a) (drop a s) (omega (arith, length-drop a s))
+
+pub length-part : (a : ℕ) (s : Words) → length (take (length s - a) (drop a s)) ≡ length s - a
+length-part a s = ap length (whole-part a s) ∙ length-drop a s

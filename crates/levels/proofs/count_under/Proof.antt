@@ -4,6 +4,7 @@ use mathlib.Core.Path.{_≡_, refl, sym, ap, _∙_, subst}
 use mathlib.Core.List.{List, [], _∷_, _++_}
 use Prim.Native.Nat.{ℕ, suc, _+_, _-_, _*_, _<_, _≤_}
 use lib.ListN.{length, take, drop, getD, set, length-set}
+use Rattle.levels.proofs.Walking.{below-basis, below-above}
 use Rattle.levels.proofs.count_under.Statement.{statement}
 use Rattle.levels.proofs.count_under.Tie as tie
 use Rattle.levels.proofs.count_under.Reads as reads
@@ -12,7 +13,7 @@ use Rattle.levels.proofs.place.Reads as place-reads
 
 -- src/lib.rt:263:9
 returns : tie.Need-returns
-returns c = search needs
+returns c = below-basis (c .before .before .args .state .now) (c .before .before .args .k) (c .if1 .taken)
 
 -- src/lib.rt:265:22
 sub-place : tie.Need-sub-place
@@ -40,7 +41,7 @@ place-requires c κs = search needs
 
 -- src/lib.rt:258:1
 returns-2 : tie.Need-returns-2
-returns-2 c = omega arith
+returns-2 c = c .place .ensures ∙ below-above (c .before .before .before .before .args .state .now) (c .before .before .before .before .args .k) (c .before .before .if1 .left)
 
 pub count-under-spec : {M : Type 1} → statement M
 count-under-spec =

@@ -4,6 +4,17 @@ use mathlib.Core.Path.{_≡_, refl, sym, ap, _∙_, subst}
 use mathlib.Core.List.{List, [], _∷_, _++_}
 use Prim.Native.Nat.{ℕ, suc, _+_, _-_, _*_, _<_, _≤_}
 use lib.ListN.{length, take, drop, getD, set, length-set}
+use Rattle.definitions.specs.Lists.{_and_}
+use mathlib.Core.Bool.{false}
+use borrow.Author.Tests.{not-true, not-false}
+use Rattle.definitions.specs.Limits.{document-01}
+use Rattle.definitions.specs.Layout.{ends-at}
+use Rattle.orders.specs.Images.{table-of, table-order}
+use Rattle.levels.specs.Places.{rows-from}
+use Rattle.levels.specs.Holding.{vectors-hold?}
+use mathlib.Core.Bool.{true}
+use Rattle.definitions.proofs.Tests.{is-true, between-high}
+use Rattle.levels.proofs.Walking.{whole-part, length-part}
 use Rattle.levels.proofs.level_holds.Statement.{statement}
 use Rattle.levels.proofs.level_holds.Tie as tie
 use Rattle.levels.proofs.level_holds.Reads as reads
@@ -39,7 +50,10 @@ fails-requires c κs = search needs
 
 -- src/lib.rt:276:9
 returns : tie.Need-returns
-returns c = omega arith
+returns c =
+    let a = c .before .before .before .before .before .before .args in
+    let e : c .before .before .between .result ≡ false = not-true (c .before .before .between .result) (sym (c .before .fails .ensures) ∙ c .if1 .taken) in
+    λ i. (sym e ∙ c .before .before .between .ensures) i and vectors-hold? (a .b) (a .most) (table-order (a .code) (table-of (a .n) (a .table .now))) (rows-from (a .state .now) (a .k)) 0 (ends-at document-01 (a .state .now) (a .k))
 
 -- src/lib.rt:278:24
 mul-start : tie.Need-mul-start
@@ -91,11 +105,23 @@ part-vectors-hold-end-2 c = search needs
 
 -- src/lib.rt:281:5
 vectors-hold-requires : tie.Need-vectors-hold-requires
-vectors-hold-requires c κs = omega arith
+vectors-hold-requires c κs =
+    let a = c .before .before .before .before .before .before .before .before .before .args in
+    let s = a .state .now in
+    let e : c .before .before .before .before .before .between .result ≡ true = not-false (c .before .before .before .before .before .between .result) (sym (c .before .before .before .before .fails .ensures) ∙ c .before .before .before .if1 .left) in
+    let r : c .before .before .place .result ≤ a .high = omega (arith, c .before .before .place .ensures, between-high (a .low) (getD s (5 + a .k * 129) 0) (a .high) (is-true (sym (c .before .before .before .before .before .between .ensures) ∙ e))) in
+    (omega (arith, length-part (5 + a .k * 129 + 1) s), omega (arith, length-part (1295 + a .k * 20480) s), omega arith, c .before .before .before .before .before .before .before .before .before .pre .4)
 
 -- src/lib.rt:269:1
 returns-2 : tie.Need-returns-2
-returns-2 c = omega arith
+returns-2 c =
+    let a = c .before .before .before .before .before .before .before .before .before .before .args in
+    let s = a .state .now in
+    let O = table-order (a .code) (table-of (a .n) (a .table .now)) in
+    let e : c .before .before .before .before .before .before .between .result ≡ true = not-false (c .before .before .before .before .before .before .between .result) (sym (c .before .before .before .before .before .fails .ensures) ∙ c .before .before .before .before .if1 .left) in
+    let z : 5 + a .k * 129 + 1 ≡ suc (5 + a .k * 129) = omega arith in
+    let es : take (c .before .before .before .place .result) (take (length s - (5 + a .k * 129 + 1)) (drop (5 + a .k * 129 + 1) s)) ≡ ends-at document-01 s (a .k) = (λ i. take (c .before .before .before .place .ensures i) ((whole-part (5 + a .k * 129 + 1) s ∙ ap (λ n. drop n s) z) i)) in
+    c .vectors-hold .ensures ∙ (λ i. vectors-hold? (a .b) (a .most) O (whole-part (1295 + a .k * 20480) s i) 0 (es i)) ∙ (λ i. (sym e ∙ c .before .before .before .before .before .before .between .ensures) i and vectors-hold? (a .b) (a .most) O (rows-from s (a .k)) 0 (ends-at document-01 s (a .k)))
 
 pub level-holds-spec : {M : Type 1} → statement M
 level-holds-spec =

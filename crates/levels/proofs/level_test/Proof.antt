@@ -4,6 +4,9 @@ use mathlib.Core.Path.{_≡_, refl, sym, ap, _∙_, subst}
 use mathlib.Core.List.{List, [], _∷_, _++_}
 use Prim.Native.Nat.{ℕ, suc, _+_, _-_, _*_, _<_, _≤_}
 use lib.ListN.{length, take, drop, getD, set, length-set}
+use Rattle.orders.specs.Images.{table-of, table-order}
+use Rattle.levels.specs.Holding.{level-holds?}
+use Rattle.levels.proofs.Walking.{test-basis, test-above}
 use Rattle.levels.proofs.level_test.Statement.{statement}
 use Rattle.levels.proofs.level_test.Tie as tie
 use Rattle.levels.proofs.level_test.Reads as reads
@@ -33,11 +36,15 @@ row-bounds-requires c κs = search needs
 
 -- src/lib.rt:294:9
 level-holds-requires : tie.Need-level-holds-requires
-level-holds-requires c κs = search needs
+level-holds-requires c κs = (omega arith, omega arith, omega arith, omega arith, c .before .before .before .before .before .before .before .before .pre .3)
 
 -- src/lib.rt:294:9
 returns : tie.Need-returns
-returns c = omega arith
+returns c =
+    let a = c .before .before .before .before .before .before .before .before .before .args in
+    let s = a .state .now in
+    let T = table-of (a .n) (a .table .now) in
+    c .level-holds .ensures ∙ ap (λ b. level-holds? 1 64 2048 b (table-order (getD s 2 0) T) s (a .k)) (c .before .row-bounds .ensures) ∙ test-basis s (a .k) T (c .before .before .before .if1 .taken)
 
 -- src/lib.rt:296:41
 sub-row-bounds : tie.Need-sub-row-bounds
@@ -65,11 +72,15 @@ row-bounds-requires-2 c κs = search needs
 
 -- src/lib.rt:297:5
 level-holds-requires-2 : tie.Need-level-holds-requires-2
-level-holds-requires-2 c κs = search needs
+level-holds-requires-2 c κs = (omega arith, omega arith, omega arith, omega arith, c .before .before .before .before .before .before .before .before .pre .3)
 
 -- src/lib.rt:285:1
 returns-2 : tie.Need-returns-2
-returns-2 c = omega arith
+returns-2 c =
+    let a = c .before .before .before .before .before .before .before .before .before .args in
+    let s = a .state .now in
+    let T = table-of (a .n) (a .table .now) in
+    c .level-holds2 .ensures ∙ ap (λ b. level-holds? 0 128 512 b (table-order (getD s 2 0) T) s (a .k)) (c .before .row-bounds2 .ensures) ∙ test-above s (a .k) T (c .before .before .before .if1 .left)
 
 pub level-test-spec : {M : Type 1} → statement M
 level-test-spec =
