@@ -1,3 +1,5 @@
 pub mod Pointwise
 pub mod RowTests
 pub mod Walking
+pub mod Advancing
+pub mod Climbing

@@ -11,8 +11,10 @@ ghost use Rattle.definitions.specs.Order.{greater?};
 ghost use Rattle.definitions.specs.Problem.{prime-in-range?, in-ranges?};
 ghost use Rattle.definitions.specs.Layout.{holds-state?};
 ghost use Rattle.orders.specs.Images.{comparison-of, exponents-raw, key-of, compare-keys, table-of, table-order, Tabled};
-ghost use Rattle.levels.specs.Places.{parameters-of, parameters-at, count-at, count-below};
-ghost use Rattle.levels.specs.Holding.{exponent-limits as limits-definition, limit-at, bounds-of, row-holds?, follows?, all-hold?, vector-holds?, vectors-hold?, level-holds?, level-test?};
+ghost use Rattle.levels.specs.Places.{parameters-of, parameters-at, count-at, count-below, rows-from, ends-from};
+ghost use Rattle.levels.specs.Holding.{exponent-limits as limits-definition, limit-at, bounds-of, row-holds?, follows?, all-hold?, vector-holds?, vectors-hold?, level-holds?, level-test?, levels-hold?};
+ghost use Rattle.levels.specs.Tabled.{Ready, Advanced};
+ghost use Rattle.tables.specs.Cuts.{Cut};
 use orders::Comparison;
 use orders::Image;
 
@@ -295,4 +297,60 @@ fn level_test(state: &[u16], k: usize, table: &[u16], n: usize) -> bool
     }
     let b = row_bounds(p, v, state[5 + (k - 1) * 129]);
     level_holds(state, k, 0, 128, 512, b, code, table, n)
+}
+
+// ## Tables of images
+
+// The table over levels 0 to k − 1 goes from above to below, the one over level k too is made from it.
+fn advance(below: &mut [u16], above: &mut [u16], state: &[u16], k: usize)
+    requires { ⌜ (206095 ≤ length (now state)) × (k < 10) × (1280 ≤ length (now below)) × (1280 ≤ length (now above)) × (count-below (now state) k ≤ 128) × (count-at (now state) k ≤ 128) × Cut (count-at (now state) k) (rows-from (now state) k) (ends-from (now state) k) × Tabled (count-below (now state) k) (now above) ⌝ }
+    ensures { λ _. ⌜ Advanced (now (state .entry)) k (now (above .entry)) (now (below .exit)) (now (above .exit)) ⌝ }
+{
+    let n = count_under(state, k);
+    terms::copy(below, 0, above, n * 10);
+    let r = count_of(state, k);
+    let start = 1295 + k * 20480;
+    let ends = 6 + k * 129;
+    tables::fill_images(above, &state[start..], &state[ends..], r, below, n);
+}
+
+// Levels 0 to h − 1, each over the table of the ones below it.
+fn levels_hold(below: &mut [u16], above: &mut [u16], state: &[u16], h: usize) -> bool
+    requires { ⌜ (206095 ≤ length (now state)) × (h ≤ 10) × (1280 ≤ length (now below)) × (1280 ≤ length (now above)) ⌝ }
+    ensures { λ r. ⌜ r ≡ levels-hold? (now (state .entry)) h ⌝ }
+{
+    let mut k: usize = 0;
+    while k < h {
+        let n = count_under(state, k);
+        if fails(level_test(state, k, above, n)) {
+            return false;
+        }
+        advance(below, above, state, k);
+        k += 1;
+    }
+    true
+}
+
+// ## The state
+
+// Whether the contents are those of a state with an accepted basis: the test behind 11.
+pub fn sound(state: &[u16]) -> bool
+    requires { ⌜ 206095 ≤ length (now state) ⌝ }
+    ensures { λ r. ⌜ r ≡ holds-state? document-01 (now (state .entry)) ⌝ }
+{
+    let h = place(state[4]);
+    if h == 0 {
+        return false;
+    }
+    if 10 < h {
+        return false;
+    }
+    let q = read_parameters(state);
+    let ranges = in_ranges(q);
+    if fails(both(prime_in_range(q.p), ranges)) {
+        return false;
+    }
+    let mut below = [0u16; 1280];
+    let mut above = [0u16; 1280];
+    levels_hold(&mut below, &mut above, state, h)
 }
