@@ -3,3 +3,5 @@ pub mod RowTests
 pub mod Walking
 pub mod Advancing
 pub mod Climbing
+pub mod VectorTests
+pub mod StateTests
