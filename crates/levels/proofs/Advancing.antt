@@ -1,7 +1,6 @@
 -- A level that passes the test can be cut into its vectors, and the tables of images grow by it.
 use mathlib.Core.Path.{_≡_, refl, sym, ap, _∙_, subst}
-use mathlib.Core.Bool.{Bool, true, false}
-use mathlib.Core.List.{List, [], _∷_, _++_}
+use mathlib.Core.List.{[], _∷_, _++_}
 use Prim.Native.Nat.{ℕ, zero, suc, _+_, _-_, _*_, _<_, _≤_}
 use native.Mathlib.Nat.{not-suc-le-zero, le-of-suc-le-suc}
 use native.Mathlib.Omega.{arith}
@@ -9,12 +8,12 @@ use lib.Dec.{T, leb, ltb, leb→le, ltb→lt}
 use lib.ListN.{length, getD, take, drop, length-drop}
 use lib.Seq.{paste, getD-take, length-take-le}
 use Rattle.definitions.specs.Limits.{document-01}
-use Rattle.definitions.specs.Lists.{_and_, between}
-use Rattle.definitions.specs.Monomial.{Exponents, Monomial}
+use Rattle.definitions.specs.Lists.{between}
+use Rattle.definitions.specs.Monomial.{Monomial}
 use Rattle.definitions.specs.Order.{Comparison}
-use Rattle.definitions.specs.Layout.{Words, ends-at, levels-at}
+use Rattle.definitions.specs.Layout.{Words, ends-at}
 use Rattle.definitions.proofs.Tests.{and-left, and-right, between-high}
-use Rattle.orders.specs.Images.{Table, entry-at, exponents-raw, table-of, table-order, Tabled}
+use Rattle.orders.specs.Images.{Table, entry-at, table-of, table-order, Tabled}
 use Rattle.orders.specs.Levels.{table-over, images}
 use Rattle.terms.proofs.Moving.{getD-paste-in}
 use Rattle.tables.specs.Cuts.{start-of, Cut, cut-level}
@@ -55,8 +54,8 @@ module _ (s : Words) (long : 206095 ≤ length s) where
       let f : count-at s k ≤ length (ends-from s k) = omega (arith, length-drop (suc (5 + k * 129)) s) in
       let n : length (ends-at document-01 s k) ≡ count-at s k = length-take-le (count-at s k) (ends-from s k) f in
       let w : (j : ℕ) → j < count-at s k → (start-of (ends-from s k) j < getD (ends-from s k) j 0) × (getD (ends-from s k) j 0 ≤ 2048) = λ j g.
-        let x = vectors-cut b most order (rows-from s k) 0 (ends-at document-01 s k) v j (omega arith) in
-        (omega (arith, x .0, begin-taken (ends-from s k) (count-at s k) j g, getD-take (count-at s k) (ends-from s k) j 0 g), omega (arith, x .1, getD-take (count-at s k) (ends-from s k) j 0 g)) in
+      let x = vectors-cut b most order (rows-from s k) 0 (ends-at document-01 s k) v j (omega arith) in
+      (omega (arith, x .0, begin-taken (ends-from s k) (count-at s k) j g, getD-take (count-at s k) (ends-from s k) j 0 g), omega (arith, x .1, getD-take (count-at s k) (ends-from s k) j 0 g)) in
       (omega arith, record { ends-fit = f; rows-fit = λ j g. omega (arith, w j g .1, length-drop (1295 + k * 20480) s); filled = λ j g. w j g .0 })
 
   pub test-cut : (k : ℕ) (T′ : Table) → k < 10 → T (level-test? s k T′) → (count-at s k ≤ 128) × Cut (count-at s k) (rows-from s k) (ends-from s k)

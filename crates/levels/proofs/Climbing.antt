@@ -1,15 +1,13 @@
 -- Levels that pass the test, from level 0 upwards.
-use mathlib.Core.Path.{_≡_, refl, sym, ap, _∙_, subst}
-use mathlib.Core.Bool.{Bool, true, false}
+use mathlib.Core.Path.{_≡_, sym, subst}
+use mathlib.Core.Bool.{Bool, false}
 use Prim.Native.Nat.{ℕ, zero, suc, _+_, _<_, _≤_}
 use native.Mathlib.Omega.{arith}
 use native.Mathlib.Decide.{ℕ-discrete}
 use lib.Dec.{T}
 use Rattle.definitions.specs.Limits.{document-01}
-use Rattle.definitions.specs.Lists.{_and_}
 use Rattle.definitions.specs.Layout.{Words, levels-at}
-use Rattle.definitions.proofs.Tests.{and-left, and-right, and-both, is-true, false-is}
-use Rattle.orders.specs.Images.{Table}
+use Rattle.definitions.proofs.Tests.{and-left, and-right, and-both, false-is}
 use Rattle.orders.specs.Levels.{images}
 use Rattle.levels.specs.Holding.{level-test?, levels-hold?}
 

@@ -1,14 +1,14 @@
 -- Tests over lists and ranges, by what holds at each place.
 use mathlib.Core.Path.{_≡_, refl, sym, ap, _∙_, subst}
-use mathlib.Core.Bool.{Bool, true, false, not}
-use mathlib.Core.List.{List, [], _∷_, _++_}
+use mathlib.Core.Bool.{Bool, true, false}
+use mathlib.Core.List.{List, [], _∷_}
 use Prim.Native.Nat.{ℕ, zero, suc, _+_, _-_, _<_, _≤_}
 use native.Mathlib.Nat.{not-suc-le-zero, le-of-suc-le-suc}
 use native.Mathlib.Omega.{arith}
 use native.Mathlib.Decide.{ℕ-discrete}
 use lib.Dec.{T}
 use lib.ListN.{length, getD}
-use Rattle.definitions.specs.Lists.{_and_, every}
+use Rattle.definitions.specs.Lists.{every}
 use Rattle.definitions.specs.Monomial.{Monomial, Term, Vector}
 use Rattle.definitions.specs.Order.{Comparison, greater?}
 use Rattle.definitions.specs.Vectors.{strictly-descending?}

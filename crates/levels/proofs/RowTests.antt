@@ -1,7 +1,7 @@
 -- A row's words in range, as the code tests them and as the definitions do.
 use mathlib.Core.Path.{_≡_, refl, sym, ap, _∙_, subst}
 use mathlib.Core.Bool.{Bool, true, false, not}
-use mathlib.Core.List.{List, [], _∷_}
+use mathlib.Core.List.{[], _∷_}
 use Prim.Native.Nat.{ℕ, zero, suc, _+_, _-_, _*_, _<_, _≤_}
 use native.Mathlib.Nat.{not-suc-le-zero, le-of-suc-le-suc}
 use native.Mathlib.Omega.{arith}
@@ -10,13 +10,13 @@ use lib.ListN.{length, getD, take, drop, length-take, length-drop}
 use lib.Seq.{getD-take, getD-drop}
 use borrow.Author.Tests.{lt-ltb, le-ltb, eq-eqb}
 use Rattle.definitions.specs.Limits.{document-01}
-use Rattle.definitions.specs.Lists.{_and_, every, between, choose}
+use Rattle.definitions.specs.Lists.{every, between, choose}
 use Rattle.definitions.specs.Monomial.{Exponents, Term, fits?, divides?}
 use Rattle.definitions.specs.Problem.{Parameters}
-use Rattle.definitions.specs.State.{term-sound?, exponents-sound?}
+use Rattle.definitions.specs.State.{term-sound?}
 use Rattle.definitions.specs.Layout.{Words, byte, exponents-at, row-at}
 use Rattle.definitions.proofs.Tests.{and-left, and-right, and-both, is-true, every-at}
-use Rattle.definitions.proofs.Sound.{Sound-term, term-says, term-shown}
+use Rattle.definitions.proofs.Sound.{term-says, term-shown}
 use Rattle.definitions.proofs.Rows.{byte-small, getD-exponents}
 use Rattle.tables.proofs.Imaging.{byte-bound}
 use Rattle.orders.specs.Images.{exponents-raw}

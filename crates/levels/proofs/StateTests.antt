@@ -1,14 +1,13 @@
 -- All levels of a state, as the code tests them and as the definitions do: the two tests are one.
 use mathlib.Core.Path.{_≡_, refl, sym, ap, _∙_, subst}
-use mathlib.Core.Bool.{Bool, true, false}
-use mathlib.Core.List.{List, [], _∷_}
-use Prim.Native.Nat.{ℕ, zero, suc, _+_, _-_, _*_, _<_, _≤_}
+use mathlib.Core.List.{List, []}
+use Prim.Native.Nat.{ℕ, zero, suc, _+_, _*_, _<_, _≤_}
 use native.Mathlib.Omega.{arith}
 use lib.Dec.{T, leb, leb→le, le→leb}
-use lib.ListN.{length, getD, take, drop, length-drop}
+use lib.ListN.{length, getD, length-drop}
 use lib.Seq.{length-take-le}
 use Rattle.definitions.specs.Limits.{document-01}
-use Rattle.definitions.specs.Lists.{_and_, every, last, between}
+use Rattle.definitions.specs.Lists.{every, last, between}
 use Rattle.definitions.specs.Monomial.{Monomial, Level}
 use Rattle.definitions.specs.Order.{Comparison, compare-over}
 use Rattle.definitions.specs.Problem.{Parameters, prime-in-range?, in-ranges?}
@@ -21,7 +20,7 @@ use Rattle.orders.specs.Levels.{images}
 use Rattle.orders.proofs.Induced.{All-led, no-levels, table-order-is, sound-led}
 use Rattle.levels.specs.declared.Bounds.{Bounds}
 use Rattle.levels.specs.Places.{parameters-at, count-at, rows-from, ends-from}
-use Rattle.levels.specs.Holding.{bounds-of, vectors-hold?, level-holds?, level-test?, levels-hold?}
+use Rattle.levels.specs.Holding.{bounds-of, vectors-hold?, level-holds?, levels-hold?}
 use Rattle.levels.proofs.VectorTests.{All-fit, fit-said, fit-shown, end-of, last-end-is, ascends-within, terms-cut, length-vectors, vectors-ascend, vectors-fit, vectors-said, vectors-shown}
 use Rattle.levels.proofs.Climbing.{own-test?}
 

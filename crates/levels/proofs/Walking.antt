@@ -1,21 +1,18 @@
 -- The vectors of a level, one after the other; the two kinds of level.
 use mathlib.Core.Path.{_≡_, refl, sym, ap, _∙_}
-use mathlib.Core.Bool.{Bool, true, false}
-use mathlib.Core.List.{List, [], _∷_}
+use mathlib.Core.Bool.{true, false}
+use mathlib.Core.List.{_∷_}
 use Prim.Native.Nat.{ℕ, zero, suc, _+_, _-_, _<_, _≤_}
 use native.Mathlib.Omega.{arith}
-use lib.Dec.{leb, ltb}
 use lib.ListN.{length, getD, take, drop, length-drop, drop-of-length-le}
 use lib.Seq.{drop-cons, take-all}
-use borrow.Author.Tests.{lt-ltb, le-ltb, le-leb, lt-leb}
-use Rattle.definitions.specs.Lists.{_and_}
 use Rattle.definitions.specs.Monomial.{Monomial}
 use Rattle.definitions.specs.Order.{Comparison}
 use Rattle.definitions.specs.Layout.{Words}
 use Rattle.orders.specs.Images.{Table, table-order}
 use Rattle.levels.specs.declared.Bounds.{Bounds}
 use Rattle.levels.specs.Places.{count-at, count-below}
-use Rattle.levels.specs.Holding.{bounds-of, row-holds?, follows?, all-hold?, vector-holds?, vectors-hold?, level-holds?, level-test?}
+use Rattle.levels.specs.Holding.{bounds-of, vector-holds?, vectors-hold?, level-holds?, level-test?}
 
 module _ (b : Bounds) (most : ℕ) (order : Monomial → Monomial → Comparison) (s : Words) where
   pub vectors-on : (es : Words) (j a e : ℕ) → j < length es → getD es j 0 ≡ e → vector-holds? b most order s a e ≡ true → vectors-hold? b most order s a (drop j es) ≡ vectors-hold? b most order s e (drop (j + 1) es)

@@ -1,19 +1,18 @@
 -- The soundness test in the direction in which the code runs: row by row, each compared with the one before, level by level upwards.
-use mathlib.Core.Bool.{Bool, true, false}
+use mathlib.Core.Bool.{Bool, true}
 use mathlib.Core.List.{[], _∷_}
 use Prim.Native.Nat.{ℕ, zero, suc, _+_, _-_, _*_}
 use lib.Dec.{leb, ltb}
-use lib.ListN.{getD, take}
+use lib.ListN.{getD}
 use Rattle.definitions.specs.Limits.{document-01}
-use Rattle.definitions.specs.Lists.{_and_, between, choose}
+use Rattle.definitions.specs.Lists.{between, choose}
 use Rattle.definitions.specs.Monomial.{Exponents, Monomial, divides?}
 use Rattle.definitions.specs.Order.{Comparison, greater?}
-use Rattle.definitions.specs.Problem as definition
 use Rattle.definitions.specs.Layout.{Words, row-at, ends-at, levels-at}
 use Rattle.orders.specs.Images.{Table, exponents-raw, table-order}
 use Rattle.orders.specs.Levels.{images}
 use Rattle.levels.specs.declared.Bounds.{Bounds}
-use Rattle.levels.specs.Places.{parameters-at, count-at, rows-from}
+use Rattle.levels.specs.Places.{count-at, rows-from}
 
 -- an exponent is at most 255, one past n is zero
 abbrev pub limit-at : ℕ → ℕ → ℕ

@@ -1,6 +1,5 @@
 -- Where a state's numbers stand, with document 01's limits.
-use mathlib.Core.List.{[], _∷_}
-use Prim.Native.Nat.{ℕ, zero, suc, _+_, _*_}
+use Prim.Native.Nat.{ℕ, zero, suc}
 use lib.ListN.{getD, drop}
 use Rattle.definitions.specs.Limits.{document-01}
 use Rattle.definitions.specs.Problem as definition

@@ -5,7 +5,7 @@ ghost use mathlib.Core.Bool.{not};
 ghost use Prim.Native.Nat.{_+_, _-_, _*_, _≤_, _<_};
 ghost use lib.ListN.{length, take};
 ghost use Rattle.definitions.specs.Limits.{document-01};
-ghost use Rattle.definitions.specs.Lists.{_and_, between as between-definition};
+ghost use Rattle.definitions.specs.Lists.{between as between-definition};
 ghost use Rattle.definitions.specs.Monomial.{divides?};
 ghost use Rattle.definitions.specs.Order.{greater?};
 ghost use Rattle.definitions.specs.Problem.{prime-in-range?, in-ranges?};
@@ -13,7 +13,7 @@ ghost use Rattle.definitions.specs.Layout.{holds-state?};
 ghost use Rattle.orders.specs.Images.{comparison-of, exponents-raw, key-of, compare-keys, table-of, table-order, Tabled};
 ghost use Rattle.levels.specs.Places.{parameters-of, parameters-at, count-at, count-below, rows-from, ends-from};
 ghost use Rattle.levels.specs.Holding.{exponent-limits as limits-definition, limit-at, bounds-of, row-holds?, follows?, all-hold?, vector-holds?, vectors-hold?, level-holds?, level-test?, levels-hold?};
-ghost use Rattle.levels.specs.Tabled.{Ready, Advanced};
+ghost use Rattle.levels.specs.Tabled.{Advanced};
 ghost use Rattle.tables.specs.Cuts.{Cut};
 use orders::Comparison;
 use orders::Image;
@@ -192,7 +192,15 @@ fn follows(level: &[u16], i: usize, b: Bounds, code: u16, before: Image, image: 
 }
 
 // The rows behind row `from`, up to row `to`.
-fn rest_holds(level: &[u16], from: usize, to: usize, b: Bounds, code: u16, table: &[u16], n: usize) -> bool
+fn rest_holds(
+    level: &[u16],
+    from: usize,
+    to: usize,
+    b: Bounds,
+    code: u16,
+    table: &[u16],
+    n: usize,
+) -> bool
     requires { ⌜ (from < to) × (to * 10 ≤ length (now level)) × (n * 10 ≤ length (now table)) × Tabled n (now table) ⌝ }
     ensures { λ r. ⌜ r ≡ all-hold? (follows? b (table-order code (table-of n (now (table .entry)))) (now (level .entry))) (from + 1) (to - (from + 1)) ⌝ }
 {
@@ -210,7 +218,16 @@ fn rest_holds(level: &[u16], from: usize, to: usize, b: Bounds, code: u16, table
 }
 
 // The vector from row `from` up to row `to`, of at most so many terms.
-fn vector_holds(level: &[u16], from: usize, to: usize, most: usize, b: Bounds, code: u16, table: &[u16], n: usize) -> bool
+fn vector_holds(
+    level: &[u16],
+    from: usize,
+    to: usize,
+    most: usize,
+    b: Bounds,
+    code: u16,
+    table: &[u16],
+    n: usize,
+) -> bool
     requires { ⌜ (20480 ≤ length (now level)) × (n * 10 ≤ length (now table)) × Tabled n (now table) ⌝ }
     ensures { λ r. ⌜ r ≡ vector-holds? b most (table-order code (table-of n (now (table .entry)))) (now (level .entry)) from to ⌝ }
 {
@@ -229,7 +246,16 @@ fn vector_holds(level: &[u16], from: usize, to: usize, most: usize, b: Bounds, c
 }
 
 // Vectors by their ends.
-fn vectors_hold(level: &[u16], ends: &[u16], r: usize, most: usize, b: Bounds, code: u16, table: &[u16], n: usize) -> bool
+fn vectors_hold(
+    level: &[u16],
+    ends: &[u16],
+    r: usize,
+    most: usize,
+    b: Bounds,
+    code: u16,
+    table: &[u16],
+    n: usize,
+) -> bool
     requires { ⌜ (r ≤ length (now ends)) × (20480 ≤ length (now level)) × (n * 10 ≤ length (now table)) × Tabled n (now table) ⌝ }
     ensures { λ x. ⌜ x ≡ vectors-hold? b most (table-order code (table-of n (now (table .entry)))) (now (level .entry)) 0 (take r (now (ends .entry))) ⌝ }
 {
@@ -268,7 +294,17 @@ fn count_under(state: &[u16], k: usize) -> usize
 }
 
 // Level k: from low to high vectors, of at most so many terms each.
-fn level_holds(state: &[u16], k: usize, low: u16, high: u16, most: usize, b: Bounds, code: u16, table: &[u16], n: usize) -> bool
+fn level_holds(
+    state: &[u16],
+    k: usize,
+    low: u16,
+    high: u16,
+    most: usize,
+    b: Bounds,
+    code: u16,
+    table: &[u16],
+    n: usize,
+) -> bool
     requires { ⌜ (206095 ≤ length (now state)) × (k < 10) × (high ≤ 128) × (n * 10 ≤ length (now table)) × Tabled n (now table) ⌝ }
     ensures { λ r. ⌜ r ≡ level-holds? low high most b (table-order code (table-of n (now (table .entry)))) (now (state .entry)) k ⌝ }
 {

@@ -1,84 +1,58 @@
 use borrow.Author.Needs.{needs}
 use native.Mathlib.Omega.{arith}
-use mathlib.Core.Path.{_≡_, refl, sym, ap, _∙_, subst}
-use mathlib.Core.List.{List, [], _∷_, _++_}
-use Prim.Native.Nat.{ℕ, suc, _+_, _-_, _*_, _<_, _≤_}
-use lib.ListN.{length, take, drop, getD, set, length-set}
+use Prim.Native.Nat.{_≤_}
 use Rattle.levels.proofs.Advancing.{cut-parts, advanced, copied-tabled}
 use Rattle.levels.proofs.advance.Statement.{statement}
 use Rattle.levels.proofs.advance.Tie as tie
-use Rattle.levels.proofs.advance.Reads as reads
-use Rattle.levels.proofs.advance.Lts as lts
-use Rattle.levels.proofs.count_of.Reads as count-of-reads
-use Rattle.levels.proofs.count_under.Reads as count-under-reads
-use Rattle.tables.proofs.fill_images.Reads as fill-images-reads
-use Rattle.terms.proofs.copy.Reads as copy-reads
 
--- src/lib.rt:309:9
 count-under-requires : tie.Need-count-under-requires
 count-under-requires c κs = search needs
 
--- src/lib.rt:310:34
 mul-copy : tie.Need-mul-copy
 mul-copy c = search needs
 
--- src/lib.rt:310:5
 copy-requires : tie.Need-copy-requires
 copy-requires c κs = search needs
 
--- src/lib.rt:311:9
 count-of-requires : tie.Need-count-of-requires
 count-of-requires c κs = search needs
 
--- src/lib.rt:312:24
 mul-start : tie.Need-mul-start
 mul-start c = search needs
 
--- src/lib.rt:312:17
 add-start : tie.Need-add-start
 add-start c = search needs
 
--- src/lib.rt:313:20
 mul-ends : tie.Need-mul-ends
 mul-ends c = search needs
 
--- src/lib.rt:313:16
 add-ends : tie.Need-add-ends
 add-ends c = search needs
 
--- src/lib.rt:314:32
 mul-fill-images : tie.Need-mul-fill-images
 mul-fill-images c = search needs
 
--- src/lib.rt:314:32
 sub-fill-images : tie.Need-sub-fill-images
 sub-fill-images c = search needs
 
--- src/lib.rt:314:32
 part-fill-images-start : tie.Need-part-fill-images-start
 part-fill-images-start c = search needs
 
--- src/lib.rt:314:32
 part-fill-images-end : tie.Need-part-fill-images-end
 part-fill-images-end c = search needs
 
--- src/lib.rt:314:49
 mul-fill-images-2 : tie.Need-mul-fill-images-2
 mul-fill-images-2 c = search needs
 
--- src/lib.rt:314:49
 sub-fill-images-2 : tie.Need-sub-fill-images-2
 sub-fill-images-2 c = search needs
 
--- src/lib.rt:314:49
 part-fill-images-start-2 : tie.Need-part-fill-images-start-2
 part-fill-images-start-2 c = search needs
 
--- src/lib.rt:314:49
 part-fill-images-end-2 : tie.Need-part-fill-images-end-2
 part-fill-images-end-2 c = search needs
 
--- src/lib.rt:314:5
 fill-images-requires : tie.Need-fill-images-requires
 fill-images-requires c κs =
     let a = c .before .before .before .before .before .before .before .before .before .before .before .before .before .before .args in
@@ -86,15 +60,12 @@ fill-images-requires c κs =
     let n = c .before .before .before .before .before .before .before .before .before .before .count-under .result in
     (omega arith, omega arith, cut-parts s (a .k) (c .before .before .before .before .count-of .result) (c .before .before .before .before .count-of .ensures) (c .before .before .before .before .before .before .before .before .before .before .before .before .before .before .pre .6), omega arith, copied-tabled s (a .k) n (a .below .now) (a .above .now) (c .before .before .before .before .before .before .before .copy .last .0) (c .before .before .before .before .before .before .before .before .before .before .count-under .ensures) (omega arith) (omega arith) (c .before .before .before .before .before .before .before .copy .ensures) (c .before .before .before .before .before .before .before .before .before .before .before .before .before .before .pre .7))
 
--- src/lib.rt:305:1
 same-length : tie.Need-same-length
 same-length c = search needs
 
--- src/lib.rt:305:1
 same-length-2 : tie.Need-same-length-2
 same-length-2 c = search needs
 
--- src/lib.rt:305:1
 returns : tie.Need-returns
 returns c =
     let a = c .before .before .before .before .before .before .before .before .before .before .before .before .before .before .before .before .before .args in

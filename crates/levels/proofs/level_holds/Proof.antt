@@ -1,10 +1,8 @@
 use borrow.Author.Needs.{needs}
 use native.Mathlib.Omega.{arith}
-use mathlib.Core.Path.{_≡_, refl, sym, ap, _∙_, subst}
-use mathlib.Core.List.{List, [], _∷_, _++_}
-use Prim.Native.Nat.{ℕ, suc, _+_, _-_, _*_, _<_, _≤_}
-use lib.ListN.{length, take, drop, getD, set, length-set}
-use Rattle.definitions.specs.Lists.{_and_}
+use mathlib.Core.Path.{_≡_, sym, ap, _∙_}
+use Prim.Native.Nat.{suc, _+_, _-_, _*_, _≤_}
+use lib.ListN.{length, take, drop, getD}
 use mathlib.Core.Bool.{false}
 use borrow.Author.Tests.{not-true, not-false}
 use Rattle.definitions.specs.Limits.{document-01}
@@ -17,93 +15,67 @@ use Rattle.definitions.proofs.Tests.{is-true, between-high}
 use Rattle.levels.proofs.Walking.{whole-part, length-part}
 use Rattle.levels.proofs.level_holds.Statement.{statement}
 use Rattle.levels.proofs.level_holds.Tie as tie
-use Rattle.levels.proofs.level_holds.Reads as reads
-use Rattle.levels.proofs.level_holds.Lts as lts
-use Rattle.levels.proofs.between.Reads as between-reads
-use Rattle.levels.proofs.fails.Reads as fails-reads
-use Rattle.levels.proofs.place.Reads as place-reads
-use Rattle.levels.proofs.vectors_hold.Reads as vectors-hold-reads
 
--- src/lib.rt:273:18
 mul-at : tie.Need-mul-at
 mul-at c = search needs
 
--- src/lib.rt:273:14
 add-at : tie.Need-add-at
 add-at c = search needs
 
--- src/lib.rt:274:17
 mul-count : tie.Need-mul-count
 mul-count c = search needs
 
--- src/lib.rt:274:17
 shared-slice-read-count : tie.Need-shared-slice-read-count
 shared-slice-read-count c = search needs
 
--- src/lib.rt:275:14
 between-requires : tie.Need-between-requires
 between-requires c κs = search needs
 
--- src/lib.rt:275:8
 fails-requires : tie.Need-fails-requires
 fails-requires c κs = search needs
 
--- src/lib.rt:276:9
 returns : tie.Need-returns
 returns c =
     let a = c .before .before .before .before .before .before .args in
     let e : c .before .before .between .result ≡ false = not-true (c .before .before .between .result) (sym (c .before .fails .ensures) ∙ c .if1 .taken) in
     λ i. (sym e ∙ c .before .before .between .ensures) i and vectors-hold? (a .b) (a .most) (table-order (a .code) (table-of (a .n) (a .table .now))) (rows-from (a .state .now) (a .k)) 0 (ends-at document-01 (a .state .now) (a .k))
 
--- src/lib.rt:278:24
 mul-start : tie.Need-mul-start
 mul-start c = search needs
 
--- src/lib.rt:278:17
 add-start : tie.Need-add-start
 add-start c = search needs
 
--- src/lib.rt:279:9
 place-requires : tie.Need-place-requires
 place-requires c κs = search needs
 
--- src/lib.rt:280:16
 add-ends : tie.Need-add-ends
 add-ends c = search needs
 
--- src/lib.rt:281:18
 mul-vectors-hold : tie.Need-mul-vectors-hold
 mul-vectors-hold c = search needs
 
--- src/lib.rt:281:18
 sub-vectors-hold : tie.Need-sub-vectors-hold
 sub-vectors-hold c = search needs
 
--- src/lib.rt:281:18
 part-vectors-hold-start : tie.Need-part-vectors-hold-start
 part-vectors-hold-start c = search needs
 
--- src/lib.rt:281:18
 part-vectors-hold-end : tie.Need-part-vectors-hold-end
 part-vectors-hold-end c = search needs
 
--- src/lib.rt:281:35
 mul-vectors-hold-2 : tie.Need-mul-vectors-hold-2
 mul-vectors-hold-2 c = search needs
 
--- src/lib.rt:281:35
 sub-vectors-hold-2 : tie.Need-sub-vectors-hold-2
 sub-vectors-hold-2 c = search needs
 
--- src/lib.rt:281:35
 part-vectors-hold-start-2 : tie.Need-part-vectors-hold-start-2
 part-vectors-hold-start-2 c = search needs
 
--- src/lib.rt:281:35
 part-vectors-hold-end-2 : tie.Need-part-vectors-hold-end-2
 part-vectors-hold-end-2 c = search needs
 
--- src/lib.rt:281:5
 vectors-hold-requires : tie.Need-vectors-hold-requires
 vectors-hold-requires c κs =
     let a = c .before .before .before .before .before .before .before .before .before .args in
@@ -112,7 +84,6 @@ vectors-hold-requires c κs =
     let r : c .before .before .place .result ≤ a .high = omega (arith, c .before .before .place .ensures, between-high (a .low) (getD s (5 + a .k * 129) 0) (a .high) (is-true (sym (c .before .before .before .before .before .between .ensures) ∙ e))) in
     (omega (arith, length-part (5 + a .k * 129 + 1) s), omega (arith, length-part (1295 + a .k * 20480) s), omega arith, c .before .before .before .before .before .before .before .before .before .pre .4)
 
--- src/lib.rt:269:1
 returns-2 : tie.Need-returns-2
 returns-2 c =
     let a = c .before .before .before .before .before .before .before .before .before .before .args in

@@ -1,44 +1,31 @@
 use borrow.Author.Needs.{needs}
 use native.Mathlib.Omega.{arith}
-use mathlib.Core.Path.{_≡_, refl, sym, ap, _∙_, subst}
-use mathlib.Core.List.{List, [], _∷_, _++_}
-use Prim.Native.Nat.{ℕ, suc, _+_, _-_, _*_, _<_, _≤_}
-use lib.ListN.{length, take, drop, getD, set, length-set}
+use mathlib.Core.Path.{ap, _∙_}
+use lib.ListN.{getD}
 use Rattle.orders.specs.Images.{table-of, table-order}
 use Rattle.levels.specs.Holding.{level-holds?}
 use Rattle.levels.proofs.Walking.{test-basis, test-above}
 use Rattle.levels.proofs.level_test.Statement.{statement}
 use Rattle.levels.proofs.level_test.Tie as tie
-use Rattle.levels.proofs.level_test.Reads as reads
-use Rattle.levels.proofs.level_test.Lts as lts
-use Rattle.levels.proofs.level_holds.Reads as level-holds-reads
-use Rattle.levels.proofs.row_bounds.Reads as row-bounds-reads
 
--- src/lib.rt:289:13
 shared-slice-read-p : tie.Need-shared-slice-read-p
 shared-slice-read-p c = search needs
 
--- src/lib.rt:290:13
 shared-slice-read-v : tie.Need-shared-slice-read-v
 shared-slice-read-v c = search needs
 
--- src/lib.rt:291:16
 shared-slice-read-code : tie.Need-shared-slice-read-code
 shared-slice-read-code c = search needs
 
--- src/lib.rt:293:34
 shared-slice-read-row-bounds : tie.Need-shared-slice-read-row-bounds
 shared-slice-read-row-bounds c = search needs
 
--- src/lib.rt:293:13
 row-bounds-requires : tie.Need-row-bounds-requires
 row-bounds-requires c κs = search needs
 
--- src/lib.rt:294:9
 level-holds-requires : tie.Need-level-holds-requires
 level-holds-requires c κs = (omega arith, omega arith, omega arith, omega arith, c .before .before .before .before .before .before .before .before .pre .3)
 
--- src/lib.rt:294:9
 returns : tie.Need-returns
 returns c =
     let a = c .before .before .before .before .before .before .before .before .before .args in
@@ -46,35 +33,27 @@ returns c =
     let T = table-of (a .n) (a .table .now) in
     c .level-holds .ensures ∙ ap (λ b. level-holds? 1 64 2048 b (table-order (getD s 2 0) T) s (a .k)) (c .before .row-bounds .ensures) ∙ test-basis s (a .k) T (c .before .before .before .if1 .taken)
 
--- src/lib.rt:296:41
 sub-row-bounds : tie.Need-sub-row-bounds
 sub-row-bounds c = search needs
 
--- src/lib.rt:296:40
 mul-row-bounds : tie.Need-mul-row-bounds
 mul-row-bounds c = search needs
 
--- src/lib.rt:296:36
 add-row-bounds : tie.Need-add-row-bounds
 add-row-bounds c = search needs
 
--- src/lib.rt:296:30
 mul-row-bounds-2 : tie.Need-mul-row-bounds-2
 mul-row-bounds-2 c = search needs
 
--- src/lib.rt:296:30
 shared-slice-read-row-bounds-2 : tie.Need-shared-slice-read-row-bounds-2
 shared-slice-read-row-bounds-2 c = search needs
 
--- src/lib.rt:296:9
 row-bounds-requires-2 : tie.Need-row-bounds-requires-2
 row-bounds-requires-2 c κs = search needs
 
--- src/lib.rt:297:5
 level-holds-requires-2 : tie.Need-level-holds-requires-2
 level-holds-requires-2 c κs = (omega arith, omega arith, omega arith, omega arith, c .before .before .before .before .before .before .before .before .pre .3)
 
--- src/lib.rt:285:1
 returns-2 : tie.Need-returns-2
 returns-2 c =
     let a = c .before .before .before .before .before .before .before .before .before .args in

@@ -1,9 +1,7 @@
-use borrow.Author.Needs.{needs}
 use native.Mathlib.Omega.{arith}
 use mathlib.Core.Path.{_≡_, refl, sym, ap, _∙_, subst}
-use mathlib.Core.List.{List, [], _∷_, _++_}
-use Prim.Native.Nat.{ℕ, suc, _+_, _-_, _*_, _<_, _≤_}
-use lib.ListN.{length, take, drop, getD, set, length-set}
+use Prim.Native.Nat.{_-_, _≤_}
+use lib.ListN.{length}
 use lib.Dec.{T}
 use borrow.Author.Tests.{not-true, not-false}
 use Rattle.definitions.proofs.Tests.{is-true, true-is}
@@ -17,12 +15,6 @@ use Rattle.levels.proofs.Advancing.{test-cut, ready-none, ready-more, r
 use Rattle.levels.proofs.Climbing.{own-test?, climb-one, climb-fails}
 use Rattle.levels.proofs.levels_hold.Statement.{statement}
 use Rattle.levels.proofs.levels_hold.Tie as tie
-use Rattle.levels.proofs.levels_hold.Reads as reads
-use Rattle.levels.proofs.levels_hold.Lts as lts
-use Rattle.levels.proofs.advance.Reads as advance-reads
-use Rattle.levels.proofs.count_under.Reads as count-under-reads
-use Rattle.levels.proofs.fails.Reads as fails-reads
-use Rattle.levels.proofs.level_test.Reads as level-test-reads
 
 abbrev Inv-loop : tie.InvT-loop
 Inv-loop below₀ above₀ state h k₀ below above k = (k ≤ h) × (length below ≡ length below₀) × (length above ≡ length above₀) × T (levels-hold? state k) × Ready state k above
@@ -30,33 +22,26 @@ Inv-loop below₀ above₀ state h k₀ below above k = (k ≤ h) × (length bel
 abbrev μ-loop : tie.MeasureT-loop
 μ-loop below₀ above₀ state h k₀ below above k = h - k
 
--- src/lib.rt:323:5
 loop-holds : tie.Need-loop-holds Inv-loop μ-loop
 loop-holds c = (omega arith, refl, refl, tt, ready-none (c .before .before .before .args .state .now) (c .before .before .before .args .above .now))
 
--- src/lib.rt:324:13
 count-under-requires : tie.Need-count-under-requires Inv-loop μ-loop
 count-under-requires c κs = omega arith
 
--- src/lib.rt:325:18
 level-test-requires : tie.Need-level-test-requires Inv-loop μ-loop
 level-test-requires c κs =
     let l = c .before .before .before .loop in
     (omega arith, omega arith, omega (arith, c .before .count-under .ensures, l .inv .4 .few), subst (λ n. Tabled n (l .above)) (sym (c .before .count-under .ensures)) (ready-tabled (c .before .before .before .before .before .before .before .args .state .now) (l .k) (l .above) (omega arith) (l .inv .4)))
 
--- src/lib.rt:325:12
 fails-requires : tie.Need-fails-requires Inv-loop μ-loop
 fails-requires c κs = omega arith
 
--- src/lib.rt:326:13
 same-length : tie.Need-same-length Inv-loop μ-loop
 same-length c = omega arith
 
--- src/lib.rt:326:13
 same-length-2 : tie.Need-same-length-2 Inv-loop μ-loop
 same-length-2 c = omega arith
 
--- src/lib.rt:326:13
 returns : tie.Need-returns Inv-loop μ-loop
 returns c =
     let a = c .before .before .before .before .before .before .before .before .before .before .args in
@@ -65,7 +50,6 @@ returns c =
     let own : c .before .before .level-test .result ≡ own-test? s (l .k) = c .before .before .level-test .ensures ∙ ap (level-test? s (l .k)) (ap (λ n. table-of n (l .above)) (c .before .before .before .before .count-under .ensures) ∙ l .inv .4 .made) in
     sym (climb-fails s (a .h) (l .k) (omega arith) (sym own ∙ not-true (c .before .before .level-test .result) (sym (c .before .fails .ensures) ∙ c .if1 .taken)))
 
--- src/lib.rt:328:9
 advance-requires : tie.Need-advance-requires Inv-loop μ-loop
 advance-requires c κs =
     let a = c .before .before .before .before .before .before .before .before .before .before .before .before .args in
@@ -76,15 +60,12 @@ advance-requires c κs =
     let cut = test-cut s (c .before .before .before .before .before .before .before .before .before .before .before .before .pre .0) (l .k) (images (levels-at document-01 s (l .k))) (omega arith) u in
     (omega arith, omega arith, omega arith, omega arith, l .inv .4 .few, cut .0, cut .1, ready-tabled s (l .k) (l .above) (omega arith) (l .inv .4))
 
--- src/lib.rt:329:9
 add-k : tie.Need-add-k Inv-loop μ-loop
 add-k c = omega arith
 
--- src/lib.rt:323:5
 loop-less : tie.Need-loop-less Inv-loop μ-loop
 loop-less c = omega arith
 
--- src/lib.rt:323:5
 loop-again : tie.Need-loop-again Inv-loop μ-loop
 loop-again c =
     let a = c .before .before .before .before .before .before .before .before .before .before .before .before .before .before .before .before .before .args in
@@ -95,15 +76,12 @@ loop-again c =
     let cut = test-cut s (c .before .before .before .before .before .before .before .before .before .before .before .before .before .before .before .before .before .pre .0) (l .k) (images (levels-at document-01 s (l .k))) (omega arith) u in
     (omega arith, omega arith, omega arith, climb-one s (l .k) (l .inv .3) u, ready-more s (l .k) (l .above) (c .before .before .before .before .advance .last .0) (c .before .before .before .before .advance .last .1 .0) (cut .0) (l .inv .4) (c .before .before .before .before .advance .ensures))
 
--- src/lib.rt:318:1
 same-length-3 : tie.Need-same-length-3 Inv-loop μ-loop
 same-length-3 c = omega arith
 
--- src/lib.rt:318:1
 same-length-4 : tie.Need-same-length-4 Inv-loop μ-loop
 same-length-4 c = omega arith
 
--- src/lib.rt:318:1
 returns-2 : tie.Need-returns-2 Inv-loop μ-loop
 returns-2 c =
     let l = c .before .loop in

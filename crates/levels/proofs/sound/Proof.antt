@@ -1,76 +1,79 @@
 use borrow.Author.Needs.{needs}
 use native.Mathlib.Omega.{arith}
-use mathlib.Core.Path.{_≡_, refl, sym, ap, _∙_, subst}
-use mathlib.Core.List.{List, [], _∷_, _++_}
-use Prim.Native.Nat.{ℕ, suc, _+_, _-_, _*_, _<_, _≤_}
-use lib.ListN.{length, take, drop, getD, set, length-set}
+use mathlib.Core.Path.{_≡_, sym, ap, _∙_, subst}
+use Prim.Native.Nat.{_≤_}
+use lib.ListN.{getD}
+use lib.Dec.{T}
+use borrow.Author.Tests.{not-true, not-false}
+use Rattle.definitions.proofs.Tests.{is-true, false-is, and-left, and-right, and-both}
+use Rattle.definitions.specs.Limits.{document-01}
+use Rattle.definitions.specs.Problem.{Parameters, prime-in-range?, in-ranges?}
+use Rattle.definitions.specs.Layout.{holds-state?}
+use Rattle.levels.specs.Places.{parameters-at}
+use Rattle.levels.specs.Holding.{levels-hold?}
+use Rattle.levels.proofs.Pointwise.{same-test}
+use Rattle.levels.proofs.StateTests.{holds-shown, holds-said}
 use Rattle.levels.proofs.sound.Statement.{statement}
 use Rattle.levels.proofs.sound.Tie as tie
-use Rattle.levels.proofs.sound.Reads as reads
-use Rattle.levels.proofs.sound.Lts as lts
-use Rattle.levels.proofs.both.Reads as both-reads
-use Rattle.levels.proofs.fails.Reads as fails-reads
-use Rattle.levels.proofs.in_ranges.Reads as in-ranges-reads
-use Rattle.levels.proofs.levels_hold.Reads as levels-hold-reads
-use Rattle.levels.proofs.place.Reads as place-reads
-use Rattle.levels.proofs.prime_in_range.Reads as prime-in-range-reads
-use Rattle.levels.proofs.read_parameters.Reads as read-parameters-reads
 
--- src/lib.rt:341:19
 shared-slice-read-place : tie.Need-shared-slice-read-place
 shared-slice-read-place c = search needs
 
--- src/lib.rt:341:9
 place-requires : tie.Need-place-requires
 place-requires c κs = search needs
 
--- src/lib.rt:343:9
 returns : tie.Need-returns
-returns c = omega arith
+returns c = let s = c .before .before .before .before .args .state .now in sym (false-is (holds-state? document-01 s) (λ t. let x = holds-said s (c .before .before .before .before .pre) t in omega (arith, c .before .place .ensures, c .if1 .taken)))
 
--- src/lib.rt:346:9
 returns-2 : tie.Need-returns-2
-returns-2 c = omega arith
+returns-2 c = let s = c .before .before .before .before .before .args .state .now in sym (false-is (holds-state? document-01 s) (λ t. let x = holds-said s (c .before .before .before .before .before .pre) t in omega (arith, c .before .before .place .ensures, c .if2 .taken)))
 
--- src/lib.rt:348:9
 read-parameters-requires : tie.Need-read-parameters-requires
 read-parameters-requires c κs = search needs
 
--- src/lib.rt:349:9
 in-ranges-requires : tie.Need-in-ranges-requires
 in-ranges-requires c κs = search needs
 
--- src/lib.rt:350:19
 prime-in-range-requires : tie.Need-prime-in-range-requires
 prime-in-range-requires c κs = search needs
 
--- src/lib.rt:350:14
 both-requires : tie.Need-both-requires
 both-requires c κs = search needs
 
--- src/lib.rt:350:8
 fails-requires : tie.Need-fails-requires
 fails-requires c κs = search needs
 
--- src/lib.rt:351:9
 returns-3 : tie.Need-returns-3
-returns-3 c = omega arith
+returns-3 c =
+    let s = c .before .before .before .before .before .before .before .before .before .before .before .args .state .now in
+    let q : prime-in-range? document-01 (c .before .before .before .before .before .read-parameters .result .p) ≡ prime-in-range? document-01 (getD s 0 0) = ap (λ (u : Parameters). prime-in-range? document-01 (u .p)) (c .before .before .before .before .before .read-parameters .ensures) in
+    let r : c .before .before .both .result ≡ (prime-in-range? document-01 (getD s 0 0) and in-ranges? document-01 (parameters-at s)) = c .before .before .both .ensures ∙ (λ i. (c .before .before .before .prime-in-range .ensures ∙ q) i and (c .before .before .before .before .in-ranges .ensures ∙ ap (in-ranges? document-01) (c .before .before .before .before .before .read-parameters .ensures)) i) in
+    sym (false-is (holds-state? document-01 s) (λ t.
+    let x = holds-said s (c .before .before .before .before .before .before .before .before .before .before .before .pre) t in
+    subst T (sym r ∙ not-true (c .before .before .both .result) (sym (c .before .fails .ensures) ∙ c .if3 .taken)) (and-both (prime-in-range? document-01 (getD s 0 0)) (in-ranges? document-01 (parameters-at s)) (x .2) (x .3))))
 
--- src/lib.rt:355:17
 slice-aggregate-levels-hold : tie.Need-slice-aggregate-levels-hold
 slice-aggregate-levels-hold c = search needs
 
--- src/lib.rt:355:29
 slice-aggregate-levels-hold-2 : tie.Need-slice-aggregate-levels-hold-2
 slice-aggregate-levels-hold-2 c = search needs
 
--- src/lib.rt:355:5
 levels-hold-requires : tie.Need-levels-hold-requires
 levels-hold-requires c κs = search needs
 
--- src/lib.rt:337:1
 returns-4 : tie.Need-returns-4
-returns-4 c = omega arith
+returns-4 c =
+    let s = c .before .before .before .before .before .before .before .before .before .before .before .before .before .before .before .before .args .state .now in
+    let q : prime-in-range? document-01 (c .before .before .before .before .before .before .before .before .before .before .read-parameters .result .p) ≡ prime-in-range? document-01 (getD s 0 0) = ap (λ (u : Parameters). prime-in-range? document-01 (u .p)) (c .before .before .before .before .before .before .before .before .before .before .read-parameters .ensures) in
+    let r : c .before .before .before .before .before .before .before .both .result ≡ (prime-in-range? document-01 (getD s 0 0) and in-ranges? document-01 (parameters-at s)) = c .before .before .before .before .before .before .before .both .ensures ∙ (λ i. (c .before .before .before .before .before .before .before .before .prime-in-range .ensures ∙ q) i and (c .before .before .before .before .before .before .before .before .before .in-ranges .ensures ∙ ap (in-ranges? document-01) (c .before .before .before .before .before .before .before .before .before .before .read-parameters .ensures)) i) in
+    let u : T (prime-in-range? document-01 (getD s 0 0) and in-ranges? document-01 (parameters-at s)) = is-true (sym r ∙ not-false (c .before .before .before .before .before .before .before .both .result) (sym (c .before .before .before .before .before .before .fails .ensures) ∙ c .before .before .before .before .before .if3 .left)) in
+    let h = c .before .before .before .before .before .before .before .before .before .before .before .before .before .place .result in
+    let l : 1 ≤ h = omega (arith, c .before .before .before .before .before .before .before .before .before .before .before .before .if1 .left) in
+    let m : h ≤ 10 = c .before .before .before .before .before .before .before .before .before .before .before .if2 .left in
+    c .before .before .levels-hold .ensures
+    ∙ same-test (levels-hold? s h) (holds-state? document-01 s)
+    (λ t. holds-shown s (c .before .before .before .before .before .before .before .before .before .before .before .before .before .before .before .before .pre) h (sym (c .before .before .before .before .before .before .before .before .before .before .before .before .before .place .ensures)) l m (and-left (prime-in-range? document-01 (getD s 0 0)) (in-ranges? document-01 (parameters-at s)) u) (and-right (prime-in-range? document-01 (getD s 0 0)) (in-ranges? document-01 (parameters-at s)) u) t)
+    (λ t. subst (λ n. T (levels-hold? s n)) (sym (c .before .before .before .before .before .before .before .before .before .before .before .before .before .place .ensures)) (holds-said s (c .before .before .before .before .before .before .before .before .before .before .before .before .before .before .before .before .pre) t .4))
 
 pub sound-spec : {M : Type 1} → statement M
 sound-spec =

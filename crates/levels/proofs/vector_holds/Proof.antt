@@ -1,10 +1,7 @@
 use borrow.Author.Needs.{needs}
 use native.Mathlib.Omega.{arith}
-use mathlib.Core.Path.{_≡_, refl, sym, ap, _∙_, subst}
-use mathlib.Core.List.{List, [], _∷_, _++_}
-use Prim.Native.Nat.{ℕ, suc, _+_, _-_, _*_, _<_, _≤_}
-use lib.ListN.{length, take, drop, getD, set, length-set}
-use Rattle.definitions.specs.Lists.{_and_}
+use mathlib.Core.Path.{_≡_, sym, ap, _∙_}
+use Prim.Native.Nat.{suc, _+_, _-_}
 use lib.Dec.{leb}
 use mathlib.Core.Bool.{Bool}
 use borrow.Author.Tests.{lt-ltb, le-ltb, le-leb, lt-leb}
@@ -12,13 +9,7 @@ use Rattle.orders.specs.Images.{table-of, table-order}
 use Rattle.levels.specs.Holding.{row-holds?, follows?, all-hold?}
 use Rattle.levels.proofs.vector_holds.Statement.{statement}
 use Rattle.levels.proofs.vector_holds.Tie as tie
-use Rattle.levels.proofs.vector_holds.Reads as reads
-use Rattle.levels.proofs.vector_holds.Lts as lts
-use Rattle.levels.proofs.both.Reads as both-reads
-use Rattle.levels.proofs.rest_holds.Reads as rest-holds-reads
-use Rattle.levels.proofs.row_holds.Reads as row-holds-reads
 
--- src/lib.rt:216:9
 returns : tie.Need-returns
 returns c =
     let a = c .before .before .before .args in
@@ -26,7 +17,6 @@ returns c =
     let R : Bool = row-holds? (a .b) (a .level .now) (a .from) and all-hold? (follows? (a .b) O (a .level .now)) (suc (a .from)) (a .to - suc (a .from)) in
     λ i. sym (le-ltb (a .from) (a .to) (c .if1 .taken)) i and leb (a .to) 2048 and leb (a .to - a .from) (a .most) and R
 
--- src/lib.rt:219:9
 returns-2 : tie.Need-returns-2
 returns-2 c =
     let a = c .before .before .before .before .args in
@@ -34,11 +24,9 @@ returns-2 c =
     let R : Bool = row-holds? (a .b) (a .level .now) (a .from) and all-hold? (follows? (a .b) O (a .level .now)) (suc (a .from)) (a .to - suc (a .from)) in
     λ i. sym (lt-ltb (a .from) (a .to) (c .before .if1 .left)) i and sym (lt-leb (a .to) 2048 (c .if2 .taken)) i and leb (a .to - a .from) (a .most) and R
 
--- src/lib.rt:221:15
 sub-if3 : tie.Need-sub-if3
 sub-if3 c = search needs
 
--- src/lib.rt:222:9
 returns-3 : tie.Need-returns-3
 returns-3 c =
     let a = c .before .before .before .before .before .args in
@@ -46,19 +34,15 @@ returns-3 c =
     let R : Bool = row-holds? (a .b) (a .level .now) (a .from) and all-hold? (follows? (a .b) O (a .level .now)) (suc (a .from)) (a .to - suc (a .from)) in
     λ i. sym (lt-ltb (a .from) (a .to) (c .before .before .if1 .left)) i and sym (le-leb (a .to) 2048 (c .before .if2 .left)) i and sym (lt-leb (a .to - a .from) (a .most) (c .if3 .taken)) i and R
 
--- src/lib.rt:224:9
 row-holds-requires : tie.Need-row-holds-requires
 row-holds-requires c κs = search needs
 
--- src/lib.rt:225:9
 rest-holds-requires : tie.Need-rest-holds-requires
 rest-holds-requires c κs = (omega arith, omega arith, omega arith, c .before .before .before .before .before .before .pre .2)
 
--- src/lib.rt:226:5
 both-requires : tie.Need-both-requires
 both-requires c κs = search needs
 
--- src/lib.rt:211:1
 returns-4 : tie.Need-returns-4
 returns-4 c =
     let a = c .before .before .before .before .before .before .before .before .args in

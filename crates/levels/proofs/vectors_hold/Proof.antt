@@ -1,9 +1,7 @@
-use borrow.Author.Needs.{needs}
 use native.Mathlib.Omega.{arith}
-use mathlib.Core.Path.{_≡_, refl, sym, ap, _∙_, subst}
-use mathlib.Core.List.{List, [], _∷_, _++_}
-use Prim.Native.Nat.{ℕ, suc, _+_, _-_, _*_, _<_, _≤_}
-use lib.ListN.{length, take, drop, getD, set, length-set}
+use mathlib.Core.Path.{_≡_, refl, sym, _∙_}
+use Prim.Native.Nat.{_-_, _≤_}
+use lib.ListN.{length, take, drop, getD}
 use lib.Seq.{length-take-le, getD-take}
 use borrow.Author.Tests.{not-true, not-false}
 use Rattle.orders.specs.Images.{table-of, table-order}
@@ -11,11 +9,6 @@ use Rattle.levels.specs.Holding.{vectors-hold?}
 use Rattle.levels.proofs.Walking.{vectors-on, vectors-stop, vectors-end}
 use Rattle.levels.proofs.vectors_hold.Statement.{statement}
 use Rattle.levels.proofs.vectors_hold.Tie as tie
-use Rattle.levels.proofs.vectors_hold.Reads as reads
-use Rattle.levels.proofs.vectors_hold.Lts as lts
-use Rattle.levels.proofs.fails.Reads as fails-reads
-use Rattle.levels.proofs.place.Reads as place-reads
-use Rattle.levels.proofs.vector_holds.Reads as vector-holds-reads
 
 abbrev Inv-loop : tie.InvT-loop
 Inv-loop level ends r most b code table n from₀ j₀ from j = (j ≤ r) × (vectors-hold? b most (table-order code (table-of n table)) level 0 (take r ends) ≡ vectors-hold? b most (table-order code (table-of n table)) level from (drop j (take r ends)))
@@ -23,31 +16,24 @@ Inv-loop level ends r most b code table n from₀ j₀ from j = (j ≤ r) × (ve
 abbrev μ-loop : tie.MeasureT-loop
 μ-loop level ends r most b code table n from₀ j₀ from j = r - j
 
--- src/lib.rt:236:5
 loop-holds : tie.Need-loop-holds Inv-loop μ-loop
 loop-holds c = (omega arith, refl)
 
--- src/lib.rt:237:24
 mul-place : tie.Need-mul-place Inv-loop μ-loop
 mul-place c = omega arith
 
--- src/lib.rt:237:24
 shared-slice-read-place : tie.Need-shared-slice-read-place Inv-loop μ-loop
 shared-slice-read-place c = omega arith
 
--- src/lib.rt:237:13
 place-requires : tie.Need-place-requires Inv-loop μ-loop
 place-requires c κs = omega arith
 
--- src/lib.rt:238:18
 vector-holds-requires : tie.Need-vector-holds-requires Inv-loop μ-loop
 vector-holds-requires c κs = (omega arith, omega arith, c .before .before .before .before .before .before .before .pre .3)
 
--- src/lib.rt:238:12
 fails-requires : tie.Need-fails-requires Inv-loop μ-loop
 fails-requires c κs = omega arith
 
--- src/lib.rt:239:13
 returns : tie.Need-returns Inv-loop μ-loop
 returns c =
     let a = c .before .before .before .before .before .before .before .before .before .before .args in
@@ -58,15 +44,12 @@ returns c =
     let q : getD es (l .j) 0 ≡ c .before .before .before .place .result = getD-take (a .r) (a .ends .now) (l .j) 0 (omega arith) ∙ sym (c .before .before .before .place .ensures) in
     sym (l .inv .1 ∙ vectors-stop (a .b) (a .most) O (a .level .now) es (l .j) (l .from) (c .before .before .before .place .result) (omega arith) q (sym (c .before .before .vector-holds .ensures) ∙ not-true (c .before .before .vector-holds .result) (sym (c .before .fails .ensures) ∙ c .if1 .taken)))
 
--- src/lib.rt:242:9
 add-j : tie.Need-add-j Inv-loop μ-loop
 add-j c = omega arith
 
--- src/lib.rt:236:5
 loop-less : tie.Need-loop-less Inv-loop μ-loop
 loop-less c = omega arith
 
--- src/lib.rt:236:5
 loop-again : tie.Need-loop-again Inv-loop μ-loop
 loop-again c =
     let a = c .before .before .before .before .before .before .before .before .before .before .args in
@@ -77,7 +60,6 @@ loop-again c =
     let q : getD es (l .j) 0 ≡ c .before .before .before .place .result = getD-take (a .r) (a .ends .now) (l .j) 0 (omega arith) ∙ sym (c .before .before .before .place .ensures) in
     (omega arith, l .inv .1 ∙ vectors-on (a .b) (a .most) O (a .level .now) es (l .j) (l .from) (c .before .before .before .place .result) (omega arith) q (sym (c .before .before .vector-holds .ensures) ∙ not-false (c .before .before .vector-holds .result) (sym (c .before .fails .ensures) ∙ c .if1 .left)))
 
--- src/lib.rt:230:1
 returns-2 : tie.Need-returns-2 Inv-loop μ-loop
 returns-2 c =
     let a = c .before .before .before .before .before .args in

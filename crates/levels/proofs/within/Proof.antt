@@ -1,9 +1,7 @@
-use borrow.Author.Needs.{needs}
 use native.Mathlib.Omega.{arith}
-use mathlib.Core.Path.{_≡_, refl, sym, ap, _∙_, subst}
-use mathlib.Core.List.{List, [], _∷_, _++_}
-use Prim.Native.Nat.{ℕ, suc, _+_, _-_, _*_, _<_, _≤_}
-use lib.ListN.{length, take, drop, getD, set, length-set}
+use mathlib.Core.Path.{_≡_, refl, sym, ap, subst}
+use Prim.Native.Nat.{ℕ, _+_, _-_, _≤_}
+use lib.ListN.{length, getD}
 use Rattle.orders.specs.Images.{exponents-raw}
 use Rattle.lists.specs.Marking.{Marked, marked-none, marked-more}
 use lib.Dec.{ltb}
@@ -12,9 +10,6 @@ use Rattle.monomial.proofs.Scans.{divides-marked}
 use Rattle.orders.proofs.Comparing.{getD-raw}
 use Rattle.levels.proofs.within.Statement.{statement}
 use Rattle.levels.proofs.within.Tie as tie
-use Rattle.levels.proofs.within.Reads as reads
-use Rattle.levels.proofs.within.Lts as lts
-use Rattle.monomial.proofs.mark_above.Reads as mark-above-reads
 
 abbrev Inv-loop : tie.InvT-loop
 Inv-loop level at w mark₀ j₀ mark j = (j ≤ 8) × (length w ≡ 8) × Marked (λ k. ltb (getD w k 0) (getD (exponents-raw level at) k 0)) j mark
@@ -22,43 +17,33 @@ Inv-loop level at w mark₀ j₀ mark j = (j ≤ 8) × (length w ≡ 8) × Marke
 abbrev μ-loop : tie.MeasureT-loop
 μ-loop level at w mark₀ j₀ mark j = 8 - j
 
--- src/lib.rt:151:5
 loop-holds : tie.Need-loop-holds Inv-loop μ-loop
 loop-holds c = (omega arith, omega arith, marked-none _)
 
--- src/lib.rt:152:49
 add-mark-above : tie.Need-add-mark-above Inv-loop μ-loop
 add-mark-above c = omega arith
 
--- src/lib.rt:152:43
 mul-mark-above : tie.Need-mul-mark-above Inv-loop μ-loop
 mul-mark-above c = omega arith
 
--- src/lib.rt:152:43
 shared-slice-read-mark-above : tie.Need-shared-slice-read-mark-above Inv-loop μ-loop
 shared-slice-read-mark-above c = omega arith
 
--- src/lib.rt:152:58
 mul-mark-above-2 : tie.Need-mul-mark-above-2 Inv-loop μ-loop
 mul-mark-above-2 c = omega arith
 
--- src/lib.rt:152:58
 array-read-mark-above : tie.Need-array-read-mark-above Inv-loop μ-loop
 array-read-mark-above c = omega arith
 
--- src/lib.rt:152:9
 mark-above-requires : tie.Need-mark-above-requires Inv-loop μ-loop
 mark-above-requires c κs = omega arith
 
--- src/lib.rt:153:9
 add-j : tie.Need-add-j Inv-loop μ-loop
 add-j c = omega arith
 
--- src/lib.rt:151:5
 loop-less : tie.Need-loop-less Inv-loop μ-loop
 loop-less c = omega arith
 
--- src/lib.rt:151:5
 loop-again : tie.Need-loop-again Inv-loop μ-loop
 loop-again c =
     let l = c .before .before .before .loop in
@@ -69,7 +54,6 @@ loop-again c =
     let q : ltb (getD w (l .j) 0) (getD s (at + l .j) 0) ≡ f (l .j) = ap (ltb (getD w (l .j) 0)) (sym (getD-raw s at (l .j) (omega arith))) in
     (omega arith, l .inv .1, subst (Marked f (l .j + 1)) (sym (c .mark-above .ensures)) (marked-more f (l .j) (l .mark) (ltb (getD w (l .j) 0) (getD s (at + l .j) 0)) q (l .inv .2)))
 
--- src/lib.rt:145:1
 returns : tie.Need-returns Inv-loop μ-loop
 returns c =
     let l = c .before .loop in
