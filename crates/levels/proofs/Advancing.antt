@@ -8,7 +8,7 @@ use lib.Dec.{T, leb, ltb, leb→le, ltb→lt}
 use lib.ListN.{length, getD, take, drop, length-drop}
 use lib.Seq.{paste, getD-take, length-take-le}
 use Rattle.definitions.specs.Limits.{document-01}
-use Rattle.definitions.specs.Lists.{between}
+use Rattle.definitions.specs.Lists.{_and_, between}
 use Rattle.definitions.specs.Monomial.{Monomial}
 use Rattle.definitions.specs.Order.{Comparison}
 use Rattle.definitions.specs.Layout.{Words, ends-at}

@@ -8,7 +8,7 @@ use native.Mathlib.Omega.{arith}
 use native.Mathlib.Decide.{ℕ-discrete}
 use lib.Dec.{T}
 use lib.ListN.{length, getD}
-use Rattle.definitions.specs.Lists.{every}
+use Rattle.definitions.specs.Lists.{_and_, every}
 use Rattle.definitions.specs.Monomial.{Monomial, Term, Vector}
 use Rattle.definitions.specs.Order.{Comparison, greater?}
 use Rattle.definitions.specs.Vectors.{strictly-descending?}

@@ -10,7 +10,7 @@ use lib.ListN.{length, getD, take, drop, length-take, length-drop}
 use lib.Seq.{getD-take, getD-drop}
 use borrow.Author.Tests.{lt-ltb, le-ltb, eq-eqb}
 use Rattle.definitions.specs.Limits.{document-01}
-use Rattle.definitions.specs.Lists.{every, between, choose}
+use Rattle.definitions.specs.Lists.{_and_, every, between, choose}
 use Rattle.definitions.specs.Monomial.{Exponents, Term, fits?, divides?}
 use Rattle.definitions.specs.Problem.{Parameters}
 use Rattle.definitions.specs.State.{term-sound?}

@@ -7,7 +7,7 @@ use lib.Dec.{T, leb, leb→le, le→leb}
 use lib.ListN.{length, getD, length-drop}
 use lib.Seq.{length-take-le}
 use Rattle.definitions.specs.Limits.{document-01}
-use Rattle.definitions.specs.Lists.{every, last, between}
+use Rattle.definitions.specs.Lists.{_and_, every, last, between}
 use Rattle.definitions.specs.Monomial.{Monomial, Level}
 use Rattle.definitions.specs.Order.{Comparison, compare-over}
 use Rattle.definitions.specs.Problem.{Parameters, prime-in-range?, in-ranges?}

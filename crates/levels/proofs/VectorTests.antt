@@ -9,7 +9,7 @@ use native.Mathlib.Decide.{ℕ-discrete}
 use lib.Dec.{T, leb, ltb, leb→le, le→leb, lt→ltb, ltb→lt, nltb→le}
 use lib.ListN.{length, getD, take, drop}
 use Rattle.definitions.specs.Limits.{document-01}
-use Rattle.definitions.specs.Lists.{every, last}
+use Rattle.definitions.specs.Lists.{_and_, every, last}
 use Rattle.definitions.specs.Monomial.{Monomial, Vector, Level, fits?, no-term}
 use Rattle.definitions.specs.Order.{Comparison, greater?, compare-over}
 use Rattle.definitions.specs.Problem.{Parameters}

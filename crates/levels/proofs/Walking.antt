@@ -6,6 +6,7 @@ use Prim.Native.Nat.{ℕ, zero, suc, _+_, _-_, _<_, _≤_}
 use native.Mathlib.Omega.{arith}
 use lib.ListN.{length, getD, take, drop, length-drop, drop-of-length-le}
 use lib.Seq.{drop-cons, take-all}
+use Rattle.definitions.specs.Lists.{_and_}
 use Rattle.definitions.specs.Monomial.{Monomial}
 use Rattle.definitions.specs.Order.{Comparison}
 use Rattle.definitions.specs.Layout.{Words}

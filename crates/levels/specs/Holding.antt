@@ -5,7 +5,7 @@ use Prim.Native.Nat.{ℕ, zero, suc, _+_, _-_, _*_}
 use lib.Dec.{leb, ltb}
 use lib.ListN.{getD}
 use Rattle.definitions.specs.Limits.{document-01}
-use Rattle.definitions.specs.Lists.{between, choose}
+use Rattle.definitions.specs.Lists.{_and_, between, choose}
 use Rattle.definitions.specs.Monomial.{Exponents, Monomial, divides?}
 use Rattle.definitions.specs.Order.{Comparison, greater?}
 use Rattle.definitions.specs.Layout.{Words, row-at, ends-at, levels-at}

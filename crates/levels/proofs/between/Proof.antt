@@ -1,6 +1,7 @@
 use mathlib.Core.Path.{sym}
 use borrow.Author.Tests.{lt-leb, le-leb}
 use lib.Dec.{leb}
+use Rattle.definitions.specs.Lists.{_and_}
 use Rattle.levels.proofs.between.Statement.{statement}
 use Rattle.levels.proofs.between.Tie as tie
 

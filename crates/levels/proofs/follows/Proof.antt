@@ -1,5 +1,6 @@
 use borrow.Author.Needs.{needs}
 use mathlib.Core.Path.{ap, _∙_}
+use Rattle.definitions.specs.Lists.{_and_}
 use Rattle.definitions.specs.Order.{greater?}
 use Rattle.levels.proofs.follows.Statement.{statement}
 use Rattle.levels.proofs.follows.Tie as tie

@@ -1,5 +1,6 @@
 use borrow.Author.Needs.{needs}
 use mathlib.Core.Path.{_∙_}
+use Rattle.definitions.specs.Lists.{_and_}
 use Rattle.levels.proofs.in_ranges.Statement.{statement}
 use Rattle.levels.proofs.in_ranges.Tie as tie
 

@@ -5,6 +5,7 @@ use Prim.Native.Nat.{suc, _+_, _-_, _*_, _≤_}
 use lib.ListN.{length, take, drop, getD}
 use mathlib.Core.Bool.{false}
 use borrow.Author.Tests.{not-true, not-false}
+use Rattle.definitions.specs.Lists.{_and_}
 use Rattle.definitions.specs.Limits.{document-01}
 use Rattle.definitions.specs.Layout.{ends-at}
 use Rattle.orders.specs.Images.{table-of, table-order}

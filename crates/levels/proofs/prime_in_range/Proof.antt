@@ -1,6 +1,7 @@
 use borrow.Author.Needs.{needs}
 use mathlib.Core.Path.{sym, _∙_}
 use borrow.Author.Tests.{lt-leb, le-leb}
+use Rattle.definitions.specs.Lists.{_and_}
 use Rattle.definitions.specs.Field.{prime?}
 use Rattle.levels.proofs.prime_in_range.Statement.{statement}
 use Rattle.levels.proofs.prime_in_range.Tie as tie

@@ -3,6 +3,7 @@ use mathlib.Core.Path.{_≡_, refl, sym, ap, _∙_}
 use Prim.Native.Nat.{ℕ, _+_, _-_, _<_, _≤_}
 use mathlib.Core.Bool.{Bool}
 use borrow.Author.Tests.{not-true, not-false}
+use Rattle.definitions.specs.Lists.{_and_}
 use Rattle.definitions.specs.Order.{greater?}
 use Rattle.definitions.specs.Layout.{row-at}
 use Rattle.orders.specs.Images.{key, key-of, compare-keys, table-of, table-order}

@@ -5,6 +5,7 @@ use Prim.Native.Nat.{_≤_}
 use lib.ListN.{getD}
 use lib.Dec.{T}
 use borrow.Author.Tests.{not-true, not-false}
+use Rattle.definitions.specs.Lists.{_and_}
 use Rattle.definitions.proofs.Tests.{is-true, false-is, and-left, and-right, and-both}
 use Rattle.definitions.specs.Limits.{document-01}
 use Rattle.definitions.specs.Problem.{Parameters, prime-in-range?, in-ranges?}

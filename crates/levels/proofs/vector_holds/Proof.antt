@@ -5,6 +5,7 @@ use Prim.Native.Nat.{suc, _+_, _-_}
 use lib.Dec.{leb}
 use mathlib.Core.Bool.{Bool}
 use borrow.Author.Tests.{lt-ltb, le-ltb, le-leb, lt-leb}
+use Rattle.definitions.specs.Lists.{_and_}
 use Rattle.orders.specs.Images.{table-of, table-order}
 use Rattle.levels.specs.Holding.{row-holds?, follows?, all-hold?}
 use Rattle.levels.proofs.vector_holds.Statement.{statement}
