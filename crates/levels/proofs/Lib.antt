@@ -5,3 +5,4 @@ pub mod Advancing
 pub mod Climbing
 pub mod VectorTests
 pub mod StateTests
+pub mod Sounding
