@@ -1,0 +1,106 @@
+use borrow.Author.Needs.{needs}
+use native.Mathlib.Omega.{arith}
+use mathlib.Core.Path.{_≡_, refl, sym, ap, _∙_, subst}
+use mathlib.Core.List.{List, [], _∷_, _++_}
+use Prim.Native.Nat.{ℕ, suc, _+_, _-_, _*_, _<_, _≤_}
+use lib.ListN.{length, take, drop, getD, set, length-set}
+use Rattle.writing.proofs.append.Statement.{statement}
+use Rattle.writing.proofs.append.Tie as tie
+use Rattle.writing.proofs.append.Reads as reads
+use Rattle.writing.proofs.append.Lts as lts
+use Rattle.writing.proofs.copy_rows.Reads as copy-rows-reads
+
+-- src/lib.rt:35:24
+mul-start : tie.Need-mul-start
+mul-start c = search needs
+
+-- src/lib.rt:35:17
+add-start : tie.Need-add-start
+add-start c = search needs
+
+-- src/lib.rt:36:16
+add-stop : tie.Need-add-stop
+add-stop c = search needs
+
+-- src/lib.rt:37:15
+mul-copy-rows : tie.Need-mul-copy-rows
+mul-copy-rows c = search needs
+
+-- src/lib.rt:37:15
+sub-copy-rows : tie.Need-sub-copy-rows
+sub-copy-rows c = search needs
+
+-- src/lib.rt:37:15
+part-copy-rows-start : tie.Need-part-copy-rows-start
+part-copy-rows-start c = search needs
+
+-- src/lib.rt:37:15
+part-copy-rows-end : tie.Need-part-copy-rows-end
+part-copy-rows-end c = search needs
+
+-- src/lib.rt:37:5
+copy-rows-requires : tie.Need-copy-rows-requires
+copy-rows-requires c κs = search needs
+
+-- src/lib.rt:38:16
+add-end : tie.Need-add-end
+add-end c = search needs
+
+-- src/lib.rt:38:15
+cast-end : tie.Need-cast-end
+cast-end c = search needs
+
+-- src/lib.rt:39:15
+mul-state : tie.Need-mul-state
+mul-state c = search needs
+
+-- src/lib.rt:39:11
+add-state : tie.Need-add-state
+add-state c = search needs
+
+-- src/lib.rt:39:11
+add-state-2 : tie.Need-add-state-2
+add-state-2 c = search needs
+
+-- src/lib.rt:39:11
+add-state-3 : tie.Need-add-state-3
+add-state-3 c = search needs
+
+-- src/lib.rt:39:5
+mul-state-2 : tie.Need-mul-state-2
+mul-state-2 c = search needs
+
+-- src/lib.rt:39:5
+slice-write-state : tie.Need-slice-write-state
+slice-write-state c = search needs
+
+-- src/lib.rt:31:1
+same-length : tie.Need-same-length
+same-length c = search needs
+
+-- src/lib.rt:31:1
+returns : tie.Need-returns
+returns c = omega arith
+
+pub append-spec : {M : Type 1} → statement M
+append-spec =
+    tie.close
+    (tie.spec
+    mul-start
+    add-start
+    add-stop
+    mul-copy-rows
+    sub-copy-rows
+    part-copy-rows-start
+    part-copy-rows-end
+    copy-rows-requires
+    add-end
+    cast-end
+    mul-state
+    add-state
+    add-state-2
+    add-state-3
+    mul-state-2
+    slice-write-state
+    same-length
+    returns)
