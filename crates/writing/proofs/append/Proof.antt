@@ -4,6 +4,10 @@ use mathlib.Core.Path.{_≡_, refl, sym, ap, _∙_, subst}
 use mathlib.Core.List.{List, [], _∷_, _++_}
 use Prim.Native.Nat.{ℕ, suc, _+_, _-_, _*_, _<_, _≤_}
 use lib.ListN.{length, take, drop, getD, set, length-set}
+use lib.Seq.{paste}
+use Rattle.definitions.specs.Layout.{rows, rows-of}
+use Rattle.writing.proofs.Copying.{length-spelled}
+use Rattle.writing.proofs.Parts.{paste-part}
 use Rattle.writing.proofs.append.Statement.{statement}
 use Rattle.writing.proofs.append.Tie as tie
 use Rattle.writing.proofs.append.Reads as reads
@@ -80,7 +84,16 @@ same-length c = search needs
 
 -- src/lib.rt:31:1
 returns : tie.Need-returns
-returns c = omega arith
+returns c =
+    let a = c .before .before .before .before .before .before .args in
+    let s = a .state .now in
+    let k = a .k in
+    let n : 1295 + k * 20480 + 20480 - (1295 + k * 20480) ≡ 20480 = omega arith in
+    let w = rows-of (rows (a .value .now) 0 (a .v)) in
+    let p : take (1295 + k * 20480) s ++ (c .before .before .copy-rows .last .0 ++ drop (1295 + k * 20480 + 20480 - (1295 + k * 20480)) (drop (1295 + k * 20480) s)) ≡ paste s (1295 + k * 20480 + a .used * 10) w (a .v * 10) =
+      (λ i. take (1295 + k * 20480) s ++ ((c .before .before .copy-rows .ensures ∙ (λ j. paste (take (n j) (drop (1295 + k * 20480) s)) (a .used * 10) w (a .v * 10))) i ++ drop (n i) (drop (1295 + k * 20480) s)))
+      ∙ paste-part s w (1295 + k * 20480) 20480 (a .used * 10) (a .v * 10) (omega (arith, c .before .before .before .before .before .before .pre .0, c .before .before .before .before .before .before .pre .1)) (omega (arith, c .before .before .before .before .before .before .pre .3)) (omega (arith, length-spelled (a .value .now) 0 (a .v))) in
+    ap (λ l. set l (5 + k * 129 + 1 + a .count) (a .used + a .v)) p
 
 pub append-spec : {M : Type 1} → statement M
 append-spec =

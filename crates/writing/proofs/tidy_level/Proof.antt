@@ -6,6 +6,9 @@ use Prim.Native.Nat.{ℕ, suc, _+_, _-_, _*_, _<_, _≤_}
 use lib.ListN.{length, take, drop, getD, set, length-set}
 use Rattle.tables.specs.Cuts.{start-of}
 use Rattle.levels.specs.Places.{ends-from}
+use Rattle.levels.specs.Places.{count-at}
+use Rattle.writing.specs.Growing.{block-cleared}
+use Rattle.writing.proofs.Parts.{block-by}
 use Rattle.writing.proofs.tidy_level.Statement.{statement}
 use Rattle.writing.proofs.tidy_level.Tie as tie
 use Rattle.writing.proofs.tidy_level.Reads as reads
@@ -100,7 +103,14 @@ same-length c = search needs
 
 -- src/lib.rt:56:1
 returns : tie.Need-returns
-returns c = ?
+returns c =
+    let a = c .before .before .before .before .before .before .before .before .before .before .before .before .before .args in
+    let s = a .state .now in
+    let k = a .k in
+    let n : 5 + k * 129 + 129 - (5 + k * 129) ≡ 129 = omega arith in
+    let m : 1295 + k * 20480 + 20480 - (1295 + k * 20480) ≡ 20480 = omega arith in
+    let b = block-by s s (c .before .before .before .before .before .before .clear .last .0) (5 + k * 129) 129 (5 + k * 129 + 129 - (5 + k * 129)) (1 + count-at s k) (1 + c .before .before .before .before .before .before .before .before .before .before .count-of .result) refl n (ap (λ r. 1 + r) (c .before .before .before .before .before .before .before .before .before .before .count-of .ensures)) (c .before .before .before .before .before .before .clear .ensures) in
+    block-by (take (5 + k * 129) s ++ (c .before .before .before .before .before .before .clear .last .0 ++ drop (5 + k * 129 + 129 - (5 + k * 129)) (drop (5 + k * 129) s))) (block-cleared (5 + k * 129) 129 (1 + count-at s k) s) (c .before .before .clear2 .last .0) (1295 + k * 20480) 20480 (1295 + k * 20480 + 20480 - (1295 + k * 20480)) (start-of (ends-from s k) (count-at s k) * 10) (c .before .before .before .before .before .before .before .before .end-of .result * 10) b m (ap (λ r. r * 10) (c .before .before .before .before .before .before .before .before .end-of .ensures ∙ ap (start-of (ends-from s k)) (c .before .before .before .before .before .before .before .before .before .before .count-of .ensures))) (c .before .before .clear2 .ensures)
 
 pub tidy-level-spec : {M : Type 1} → statement M
 tidy-level-spec =
