@@ -35,7 +35,7 @@ module _ (s : Words) (long : 206095 ≤ length s) where
   room k h = omega (arith, length-drop (1295 + k * 20480) s)
 
   -- a level has as many vectors as its count says
-  level-count : (k : ℕ) → k < 10 → count-at s k ≤ 128 → length (level-at document-01 s k) ≡ count-at s k
+  pub level-count : (k : ℕ) → k < 10 → count-at s k ≤ 128 → length (level-at document-01 s k) ≡ count-at s k
   level-count k h c = length-vectors (rows-from s k) 0 (es k) ∙ length-take-le (count-at s k) (ends-from s k) (omega (arith, length-drop (suc (5 + k * 129)) s))
 
   -- ## Words
@@ -67,7 +67,7 @@ module _ (s : Words) (long : 206095 ≤ length s) where
     level-vectors below agree = vectors-said q components most (rows-from s k) (room k h) order below agree 0 (es k) level-walked
 
   -- the parts of the words' test
-  words-parts : (k : ℕ) → T (words-sound? document-01 s k) → (count-at s k ≤ 128) × T (ascending? 2048 0 (ends-at document-01 s k)) × All-fit (rows-from s k) 0 (end-of 0 (ends-at document-01 s k))
+  pub words-parts : (k : ℕ) → T (words-sound? document-01 s k) → (count-at s k ≤ 128) × T (ascending? 2048 0 (ends-at document-01 s k)) × All-fit (rows-from s k) 0 (end-of 0 (ends-at document-01 s k))
   words-parts k t =
       let f = exponents-fit? (rows-from s k) (last-end (last (es k))) in
       let u = and-right (leb (count-at s k) 128) (ascending? 2048 0 (es k) and f) t in (

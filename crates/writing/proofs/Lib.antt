@@ -1,2 +1,4 @@
 pub mod Copying
 pub mod Parts
+pub mod Blocks
+pub mod Spelled
