@@ -2,3 +2,4 @@ pub mod Copying
 pub mod Parts
 pub mod Blocks
 pub mod Spelled
+pub mod Assembling

@@ -11,6 +11,7 @@ ghost use Rattle.definitions.specs.Layout.{rows, rows-of, padded, encode, decod
 ghost use Rattle.tables.specs.Cuts.{start-of};
 ghost use Rattle.levels.specs.Places.{count-at, ends-from};
 ghost use Rattle.writing.specs.Growing.{words-so-far?, appended, finished, tidied};
+ghost use Rattle.writing.specs.Settled.{Tidied-to};
 
 // ## A vector more
 
@@ -65,4 +66,54 @@ fn tidy_level(state: &mut [u16], k: usize)
     let c = 1295 + k * 20480;
     let d = c + 20480;
     terms::clear(&mut state[c..d], used * 10);
+}
+
+// The unused places of levels 0 to h − 1.
+fn tidy(state: &mut [u16], h: usize)
+    requires { ⌜ (206095 ≤ length (now state)) × (h ≤ 10) × T (all-words-sound? document-01 (now state) h) ⌝ }
+    ensures { λ _. ⌜ Tidied-to (now (state .entry)) (now (state .exit)) h ⌝ }
+{
+    let mut k: usize = 0;
+    while k < h {
+        tidy_level(state, k);
+        k += 1;
+    }
+}
+
+// All unused places of a state with h complete levels.
+fn settle(state: &mut [u16], h: usize)
+    requires { ⌜ (206095 ≤ length (now state)) × (h ≤ 10) × (getD (now state) 4 0 ≡ h) × T (all-words-sound? document-01 (now state) h) ⌝ }
+    ensures { λ _. ⌜ now (state .exit) ≡ encode document-01 (length (now (state .entry))) (decode document-01 (now (state .entry))) ⌝ }
+{
+    tidy(state, h);
+    let a = 5 + h * 129;
+    terms::clear(&mut state[a..1295], 0);
+    terms::clear(state, 1295 + h * 20480);
+}
+
+// Level k is complete with its vectors so far; levels above it are dropped, unused places zeroed.
+pub fn finish(state: &mut [u16], k: usize, count: usize)
+    requires { ⌜ (206095 ≤ length (now state)) × (k < 10) × T (all-words-sound? document-01 (now state) k) × T (words-so-far? (now state) k count) ⌝ }
+    ensures { λ _. ⌜ now (state .exit) ≡ encode document-01 (length (now (state .entry))) (finished (now (state .entry)) k count) ⌝ }
+{
+    let r = count as u16;
+    let h = (k + 1) as u16;
+    state[5 + k * 129] = r;
+    state[4] = h;
+    settle(state, k + 1);
+}
+
+// ## A vector read out
+
+// Vector v of level k in rows from the beginning of out, zeros behind it.
+pub fn fetch_rows(out: &mut [u16], state: &[u16], k: usize, v: usize)
+    requires { ⌜ (206095 ≤ length (now state)) × T (holds-state? document-01 (now state)) × (1 ≤ k) × (k < getD (now state) 4 0) × (1 ≤ v) × (v ≤ count-at (now state) k) × (5120 ≤ length (now out)) ⌝ }
+    ensures { λ _. ⌜ now (out .exit) ≡ padded (length (now (out .entry))) (rows-of (vector-of (level-at document-01 (now (state .entry)) k) v)) ⌝ }
+{
+    let from = end_of(state, k, v - 1);
+    let to = end_of(state, k, v);
+    let n = (to - from) * 10;
+    let start = 1295 + k * 20480 + from * 10;
+    terms::copy(out, 0, &state[start..], n);
+    terms::clear(out, n);
 }
