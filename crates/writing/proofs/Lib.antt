@@ -3,3 +3,4 @@ pub mod Parts
 pub mod Blocks
 pub mod Spelled
 pub mod Assembling
+pub mod Fetching

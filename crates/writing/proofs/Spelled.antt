@@ -22,8 +22,8 @@ use Rattle.levels.specs.Places.{count-at, rows-from, ends-from}
 use Rattle.levels.proofs.RowTests.{Fits}
 use Rattle.levels.proofs.VectorTests.{All-fit, end-of, ascends-past, ascends-within}
 use Rattle.levels.proofs.StateTests.{words-parts}
-use Rattle.writing.specs.Settled.{used-at}
-use Rattle.writing.proofs.Blocks.{Sized}
+use Rattle.writing.specs.Settled.{used-at, Tidied-to}
+use Rattle.writing.proofs.Blocks.{Sized, used-same}
 
 -- ## Rows
 
@@ -127,3 +127,13 @@ all-sound-at s (suc h) t k l = go (native.Mathlib.Decide.ℕ-discrete k h) (all-
     go : Dec (k ≡ h) → (k < h → T (words-sound? document-01 s k)) → T (words-sound? document-01 s k)
     go (yes e) r = subst (λ j. T (words-sound? document-01 s j)) (sym e) (and-left (words-sound? document-01 s h) (all-words-sound? document-01 s h) t)
     go (no e) r = r (omega arith)
+
+pub all-sized : (s : Words) → 206095 ≤ length s → (h : ℕ) → h ≤ 10 → T (all-words-sound? document-01 s h) → (k : ℕ) → k < h → Sized s k
+all-sized s long h l t k m = sound-sized s long k (omega arith) (all-sound-at s h t k m)
+
+-- .. also where the levels below it have been tidied
+pub sized-at : (s z : Words) → 206095 ≤ length s → (h : ℕ) → h ≤ 10 → T (all-words-sound? document-01 s h) → (k : ℕ) → k < h → Tidied-to s z k → Sized z k
+sized-at s z long h l t k m d =
+    let c = all-sized s long h l t k m in
+    let e : count-at z k ≡ count-at s k = d .counts-left (5 + k * 129) (omega arith) (omega arith) in
+    (omega arith, omega (arith, used-same s z k e (λ i a b. d .counts-left i a (omega arith))))

@@ -3,7 +3,7 @@
 ghost use mathlib.Core.Path.{_≡_};
 ghost use Prim.Native.Nat.{_+_, _-_, _*_, _≤_, _<_};
 ghost use lib.Dec.{T};
-ghost use lib.ListN.{length, getD};
+ghost use lib.ListN.{length, getD, take, drop};
 ghost use lib.Seq.{paste};
 ghost use Rattle.definitions.specs.Limits.{document-01};
 ghost use Rattle.definitions.specs.Monomial.{vector-of};
@@ -105,6 +105,15 @@ pub fn finish(state: &mut [u16], k: usize, count: usize)
 
 // ## A vector read out
 
+// The n words from start on at the beginning of out, zeros behind them.
+fn copy_out(out: &mut [u16], state: &[u16], start: usize, n: usize)
+    requires { ⌜ (start + n ≤ length (now state)) × (n ≤ length (now out)) ⌝ }
+    ensures { λ _. ⌜ now (out .exit) ≡ padded (length (now (out .entry))) (take n (drop start (now (state .entry)))) ⌝ }
+{
+    terms::copy(out, 0, &state[start..], n);
+    terms::clear(out, n);
+}
+
 // Vector v of level k in rows from the beginning of out, zeros behind it.
 pub fn fetch_rows(out: &mut [u16], state: &[u16], k: usize, v: usize)
     requires { ⌜ (206095 ≤ length (now state)) × T (holds-state? document-01 (now state)) × (1 ≤ k) × (k < getD (now state) 4 0) × (1 ≤ v) × (v ≤ count-at (now state) k) × (5120 ≤ length (now out)) ⌝ }
@@ -112,8 +121,5 @@ pub fn fetch_rows(out: &mut [u16], state: &[u16], k: usize, v: usize)
 {
     let from = end_of(state, k, v - 1);
     let to = end_of(state, k, v);
-    let n = (to - from) * 10;
-    let start = 1295 + k * 20480 + from * 10;
-    terms::copy(out, 0, &state[start..], n);
-    terms::clear(out, n);
+    copy_out(out, state, 1295 + k * 20480 + from * 10, (to - from) * 10);
 }

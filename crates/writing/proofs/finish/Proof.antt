@@ -1,0 +1,76 @@
+use borrow.Author.Needs.{needs}
+use native.Mathlib.Omega.{arith}
+use mathlib.Core.Path.{_≡_, refl, sym, ap, _∙_, subst}
+use mathlib.Core.List.{List, [], _∷_, _++_}
+use Prim.Native.Nat.{ℕ, suc, _+_, _-_, _*_, _<_, _≤_}
+use lib.ListN.{length, take, drop, getD, set, length-set}
+use Rattle.writing.proofs.finish.Statement.{statement}
+use Rattle.writing.proofs.finish.Tie as tie
+use Rattle.writing.proofs.finish.Reads as reads
+use Rattle.writing.proofs.finish.Lts as lts
+use Rattle.writing.proofs.settle.Reads as settle-reads
+
+-- src/lib.rt:99:13
+cast-r : tie.Need-cast-r
+cast-r c = omega arith
+
+-- src/lib.rt:100:14
+add-h : tie.Need-add-h
+add-h c = search needs
+
+-- src/lib.rt:100:13
+cast-h : tie.Need-cast-h
+cast-h c = search needs
+
+-- src/lib.rt:101:15
+mul-state : tie.Need-mul-state
+mul-state c = search needs
+
+-- src/lib.rt:101:11
+add-state : tie.Need-add-state
+add-state c = search needs
+
+-- src/lib.rt:101:5
+mul-state-2 : tie.Need-mul-state-2
+mul-state-2 c = search needs
+
+-- src/lib.rt:101:5
+slice-write-state : tie.Need-slice-write-state
+slice-write-state c = search needs
+
+-- src/lib.rt:102:5
+slice-write-state-2 : tie.Need-slice-write-state-2
+slice-write-state-2 c = omega arith
+
+-- src/lib.rt:103:19
+add-settle : tie.Need-add-settle
+add-settle c = search needs
+
+-- src/lib.rt:103:5
+settle-requires : tie.Need-settle-requires
+settle-requires c κs = omega arith
+
+-- src/lib.rt:95:1
+same-length : tie.Need-same-length
+same-length c = omega arith
+
+-- src/lib.rt:95:1
+returns : tie.Need-returns
+returns c = omega arith
+
+pub finish-spec : {M : Type 1} → statement M
+finish-spec =
+    tie.close
+    (tie.spec
+    cast-r
+    add-h
+    cast-h
+    mul-state
+    add-state
+    mul-state-2
+    slice-write-state
+    slice-write-state-2
+    add-settle
+    settle-requires
+    same-length
+    returns)
