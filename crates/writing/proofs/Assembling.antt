@@ -186,3 +186,61 @@ module _ (s z : Words) (h : ℕ) (long : 206095 ≤ length s) (same-long : lengt
   settled-encodes =
       let n : length s - (1295 + h * 20480) ≡ length s - length (padded 1295 header ++ tail) = omega (arith, length-append (padded 1295 header) tail, length-padded 1295 header (omega (arith, head-long)), tail-long) in
       sym (take-append-drop 1295 z) ∙ (λ i. low-is i ++ high-is i) ∙ sym (append-assoc (padded 1295 header) tail (replicate (length s - (1295 + h * 20480)) 0)) ∙ ap (λ k. (padded 1295 header ++ tail) ++ replicate k 0) n
+
+-- what clearing the words behind the counts and behind the rows of tidied levels leaves
+pub settled-by : (s z : Words) (h : ℕ) → 206095 ≤ length s → h ≤ 10 → getD s 4 0 ≡ h → T (all-words-sound? document-01 s h) → Tidied-to s z h
+    → cleared (block-cleared (5 + h * 129) (1295 - (5 + h * 129)) 0 z) (1295 + h * 20480) ≡ encode document-01 (length s) (decode document-01 s)
+settled-by s z h long l e t d =
+    settled-encodes s out h long (out-long ∙ mid-long ∙ d .long) l e t
+    (λ i a b. under i (omega arith) ∙ mid-under i (omega arith) ∙ d .front i a b)
+    made
+    (λ i a b. under i (omega arith) ∙ block-zero A N 0 z fit (omega arith) i (omega arith) (omega arith))
+    (λ i a b. cleared-over mid B wide i a)
+    ∙ (λ i. encode document-01 (length s) (record { parameters = Rattle.levels.specs.Places.parameters-at s; levels = levels-at document-01 s (sym e i) }))
+  where
+    A : ℕ
+    A = 5 + h * 129
+
+    N : ℕ
+    N = 1295 - (5 + h * 129)
+
+    B : ℕ
+    B = 1295 + h * 20480
+
+    mid : Words
+    mid = block-cleared (5 + h * 129) (1295 - (5 + h * 129)) 0 z
+
+    out : Words
+    out = cleared (block-cleared (5 + h * 129) (1295 - (5 + h * 129)) 0 z) (1295 + h * 20480)
+
+    fit : 5 + h * 129 + (1295 - (5 + h * 129)) ≤ length z
+    fit = omega (arith, d .long)
+
+    mid-long : length (block-cleared (5 + h * 129) (1295 - (5 + h * 129)) 0 z) ≡ length z
+    mid-long = length-block A N 0 z fit (omega arith)
+
+    wide : 1295 + h * 20480 ≤ length (block-cleared (5 + h * 129) (1295 - (5 + h * 129)) 0 z)
+    wide = omega (arith, mid-long, d .long)
+
+    out-long : length (cleared (block-cleared (5 + h * 129) (1295 - (5 + h * 129)) 0 z) (1295 + h * 20480)) ≡ length (block-cleared (5 + h * 129) (1295 - (5 + h * 129)) 0 z)
+    out-long = length-cleared mid B wide
+
+    under : (i : ℕ) → i < 1295 + h * 20480 → getD (cleared (block-cleared (5 + h * 129) (1295 - (5 + h * 129)) 0 z) (1295 + h * 20480)) i 0 ≡ getD (block-cleared (5 + h * 129) (1295 - (5 + h * 129)) 0 z) i 0
+    under i a = cleared-under mid B wide i a
+
+    mid-under : (i : ℕ) → i < 5 + h * 129 → getD (block-cleared (5 + h * 129) (1295 - (5 + h * 129)) 0 z) i 0 ≡ getD z i 0
+    mid-under i a = block-under A N 0 z fit (omega arith) i (omega arith)
+
+    mid-over : (i : ℕ) → 1295 ≤ i → getD (block-cleared (5 + h * 129) (1295 - (5 + h * 129)) 0 z) i 0 ≡ getD z i 0
+    mid-over i a = block-over A N 0 z fit (omega arith) i (omega arith)
+
+    made : (j : ℕ) → j < h → Tidy s (cleared (block-cleared (5 + h * 129) (1295 - (5 + h * 129)) 0 z) (1295 + h * 20480)) j
+    made j m =
+        let o = d .made j m in
+        let c = sound-sized s long j (omega arith) (all-sound-at s h t j m) in
+        record {
+          counts = λ i a b. under i (omega arith) ∙ mid-under i (omega arith) ∙ o .counts i a b;
+          no-counts = λ i a b. under i (omega arith) ∙ mid-under i (omega arith) ∙ o .no-counts i a b;
+          terms = λ i a b. under i (omega arith) ∙ mid-over i (omega arith) ∙ o .terms i a b;
+          no-terms = λ i a b. under i (omega arith) ∙ mid-over i (omega arith) ∙ o .no-terms i a b;
+        }

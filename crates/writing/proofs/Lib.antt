@@ -4,3 +4,4 @@ pub mod Blocks
 pub mod Spelled
 pub mod Assembling
 pub mod Fetching
+pub mod Local
