@@ -157,3 +157,6 @@ module _ (s : Words) (k count : ℕ) (long : 206095 ≤ length s) (inside : k < 
         parameters = record { p = other 0 (λ e. omega arith) (λ e. omega arith) i; n = other 1 (λ e. omega arith) (λ e. omega arith) i; code = other 2 (λ e. omega arith) (λ e. omega arith) i; s = other 3 (λ e. omega arith) (λ e. omega arith) i };
         levels = (ap (levels-at document-01 z) (new-height ∙ y) ∙ (λ j. vectors-at (rows-kept j) 0 (take (new-count j) (ends-kept j)) ∷ under .0 j)) i;
       })
+
+pub so-far-few : (s : Words) (k count : ℕ) → T (words-so-far? s k count) → count ≤ 128
+so-far-few s k count t = leb→le count 128 (and-left (leb count 128) (ascending? 2048 0 (take count (ends-from s k)) and exponents-fit? (rows-from s k) (last-end (last (take count (ends-from s k))))) t)

@@ -4,6 +4,11 @@ use mathlib.Core.Path.{_≡_, refl, sym, ap, _∙_, subst}
 use mathlib.Core.List.{List, [], _∷_, _++_}
 use Prim.Native.Nat.{ℕ, suc, _+_, _-_, _*_, _<_, _≤_}
 use lib.ListN.{length, take, drop, getD, set, length-set}
+use lib.ListN.{length-drop}
+use lib.Seq.{paste}
+use Rattle.terms.specs.Rows.{cleared}
+use Rattle.levels.proofs.Walking.{whole-part, length-part}
+use Rattle.writing.proofs.Fetching.{padded-out}
 use Rattle.writing.proofs.copy_out.Statement.{statement}
 use Rattle.writing.proofs.copy_out.Tie as tie
 use Rattle.writing.proofs.copy_out.Reads as reads
@@ -29,7 +34,7 @@ part-copy-end c = search needs
 
 -- src/lib.rt:113:5
 copy-requires : tie.Need-copy-requires
-copy-requires c κs = search needs
+copy-requires c κs = (omega arith, omega (arith, length-part (c .before .before .before .before .args .start) (c .before .before .before .before .args .state .now)))
 
 -- src/lib.rt:114:5
 clear-requires : tie.Need-clear-requires
@@ -41,7 +46,11 @@ same-length c = search needs
 
 -- src/lib.rt:109:1
 returns : tie.Need-returns
-returns c = omega arith
+returns c =
+    let a = c .before .before .before .before .before .before .before .before .before .before .before .args in
+    let s = a .state .now in
+    c .before .before .clear .ensures ∙ ap (λ l. cleared l (a .n)) (c .before .before .before .before .before .before .copy .ensures ∙ ap (λ p. paste (a .out .now) 0 p (a .n)) (whole-part (a .start) s))
+    ∙ padded-out (a .out .now) (take (a .n) (drop (a .start) s)) (drop (a .start) s) (a .n) (omega (arith, c .before .before .before .before .before .before .before .before .before .before .before .pre .1)) (omega (arith, length-drop (a .start) s, c .before .before .before .before .before .before .before .before .before .before .before .pre .0)) refl
 
 pub copy-out-spec : {M : Type 1} → statement M
 copy-out-spec =

@@ -4,6 +4,9 @@ use mathlib.Core.Path.{_≡_, refl, sym, ap, _∙_, subst}
 use mathlib.Core.List.{List, [], _∷_, _++_}
 use Prim.Native.Nat.{ℕ, suc, _+_, _-_, _*_, _<_, _≤_}
 use lib.ListN.{length, take, drop, getD, set, length-set}
+use Rattle.definitions.specs.Limits.{document-01}
+use Rattle.definitions.specs.Layout.{encode}
+use Rattle.writing.proofs.Local.{so-far-few, new-height, new-words, new-state}
 use Rattle.writing.proofs.finish.Statement.{statement}
 use Rattle.writing.proofs.finish.Tie as tie
 use Rattle.writing.proofs.finish.Reads as reads
@@ -12,7 +15,7 @@ use Rattle.writing.proofs.settle.Reads as settle-reads
 
 -- src/lib.rt:99:13
 cast-r : tie.Need-cast-r
-cast-r c = omega arith
+cast-r c = omega (arith, so-far-few (c .before .args .state .now) (c .before .args .k) (c .before .args .count) (c .before .pre .3))
 
 -- src/lib.rt:100:14
 add-h : tie.Need-add-h
@@ -40,7 +43,12 @@ slice-write-state c = search needs
 
 -- src/lib.rt:102:5
 slice-write-state-2 : tie.Need-slice-write-state-2
-slice-write-state-2 c = omega arith
+slice-write-state-2 c =
+    let a = c .before .args in
+    let s = a .state .now in
+    let n : length (set s (5 + a .k * 129) (a .count)) ≡ length s = length-set s (5 + a .k * 129) (a .count) in
+    let m : length (set (set s (5 + a .k * 129) (a .count)) 4 (a .k + 1)) ≡ length s = length-set (set s (5 + a .k * 129) (a .count)) 4 (a .k + 1) ∙ n in
+    omega (arith, c .before .pre .0)
 
 -- src/lib.rt:103:19
 add-settle : tie.Need-add-settle
@@ -48,15 +56,30 @@ add-settle c = search needs
 
 -- src/lib.rt:103:5
 settle-requires : tie.Need-settle-requires
-settle-requires c κs = omega arith
+settle-requires c κs =
+    let a = c .before .before .args in
+    let s = a .state .now in
+    let n : length (set s (5 + a .k * 129) (a .count)) ≡ length s = length-set s (5 + a .k * 129) (a .count) in
+    let m : length (set (set s (5 + a .k * 129) (a .count)) 4 (a .k + 1)) ≡ length s = length-set (set s (5 + a .k * 129) (a .count)) 4 (a .k + 1) ∙ n in
+    (omega (arith, c .before .before .pre .0), omega (arith, c .before .before .pre .1), new-height s (a .k) (a .count) (c .before .before .pre .0) (c .before .before .pre .1) (c .before .before .pre .2) (c .before .before .pre .3), new-words s (a .k) (a .count) (c .before .before .pre .0) (c .before .before .pre .1) (c .before .before .pre .2) (c .before .before .pre .3))
 
 -- src/lib.rt:95:1
 same-length : tie.Need-same-length
-same-length c = omega arith
+same-length c =
+    let a = c .before .before .before .before .before .args in
+    let s = a .state .now in
+    let n : length (set s (5 + a .k * 129) (a .count)) ≡ length s = length-set s (5 + a .k * 129) (a .count) in
+    let m : length (set (set s (5 + a .k * 129) (a .count)) 4 (a .k + 1)) ≡ length s = length-set (set s (5 + a .k * 129) (a .count)) 4 (a .k + 1) ∙ n in
+    omega (arith, c .before .before .settle .kept .0)
 
 -- src/lib.rt:95:1
 returns : tie.Need-returns
-returns c = omega arith
+returns c =
+    let a = c .before .before .before .before .before .args in
+    let s = a .state .now in
+    let n : length (set s (5 + a .k * 129) (a .count)) ≡ length s = length-set s (5 + a .k * 129) (a .count) in
+    let m : length (set (set s (5 + a .k * 129) (a .count)) 4 (a .k + 1)) ≡ length s = length-set (set s (5 + a .k * 129) (a .count)) 4 (a .k + 1) ∙ n in
+    c .before .before .settle .ensures ∙ (λ i. encode document-01 (m i) (new-state s (a .k) (a .count) (c .before .before .before .before .before .pre .0) (c .before .before .before .before .before .pre .1) (c .before .before .before .before .before .pre .2) (c .before .before .before .before .before .pre .3) i))
 
 pub finish-spec : {M : Type 1} → statement M
 finish-spec =

@@ -4,6 +4,9 @@ use mathlib.Core.Path.{_≡_, refl, sym, ap, _∙_, subst}
 use mathlib.Core.List.{List, [], _∷_, _++_}
 use Prim.Native.Nat.{ℕ, suc, _+_, _-_, _*_, _<_, _≤_}
 use lib.ListN.{length, take, drop, getD, set, length-set}
+use Rattle.terms.specs.Rows.{cleared}
+use Rattle.writing.proofs.Parts.{block-by}
+use Rattle.writing.proofs.Assembling.{settled-by}
 use Rattle.writing.proofs.settle.Statement.{statement}
 use Rattle.writing.proofs.settle.Tie as tie
 use Rattle.writing.proofs.settle.Reads as reads
@@ -61,7 +64,12 @@ same-length c = search needs
 
 -- src/lib.rt:84:1
 returns : tie.Need-returns
-returns c = omega arith
+returns c =
+    let a = c .before .before .before .before .before .before .before .before .before .before .before .before .before .args in
+    let s = a .state .now in
+    let h = a .h in
+    let b = block-by (c .before .before .before .before .before .before .before .before .before .before .tidy .last .0) (c .before .before .before .before .before .before .before .before .before .before .tidy .last .0) (c .before .before .before .before .before .before .clear .last .0) (5 + h * 129) (1295 - (5 + h * 129)) (1295 - (5 + h * 129)) 0 0 refl refl refl (c .before .before .before .before .before .before .clear .ensures) in
+    c .before .before .clear2 .ensures ∙ ap (λ l. cleared l (1295 + h * 20480)) b ∙ settled-by s (c .before .before .before .before .before .before .before .before .before .before .tidy .last .0) h (c .before .before .before .before .before .before .before .before .before .before .before .before .before .pre .0) (c .before .before .before .before .before .before .before .before .before .before .before .before .before .pre .1) (c .before .before .before .before .before .before .before .before .before .before .before .before .before .pre .2) (c .before .before .before .before .before .before .before .before .before .before .before .before .before .pre .3) (c .before .before .before .before .before .before .before .before .before .before .tidy .ensures)
 
 pub settle-spec : {M : Type 1} → statement M
 settle-spec =
