@@ -5,3 +5,4 @@ pub mod Spelled
 pub mod Assembling
 pub mod Fetching
 pub mod Local
+pub mod Appending

@@ -24,10 +24,10 @@ use Rattle.writing.specs.Settled.{Same}
 
 -- ## Rows that stay
 
-row-stays : (s z : Words) (i : ℕ) → Same z s (i * 10) (i * 10 + 10) → row-at z i ≡ row-at s i
+pub row-stays : (s z : Words) (i : ℕ) → Same z s (i * 10) (i * 10 + 10) → row-at z i ≡ row-at s i
 row-stays s z i f = same-row s z i i (λ j h. f (i * 10 + j) (omega arith) (omega arith))
 
-fits-stays : (s z : Words) (i : ℕ) → i * 10 + 10 ≤ length s → i * 10 + 10 ≤ length z → Same z s (i * 10) (i * 10 + 10) → Fits s i → Fits z i
+pub fits-stays : (s z : Words) (i : ℕ) → i * 10 + 10 ≤ length s → i * 10 + 10 ≤ length z → Same z s (i * 10) (i * 10 + 10) → Fits s i → Fits z i
 fits-stays s z i h l f t = subst (λ e. T (Rattle.definitions.specs.Monomial.fits? 255 e)) (sym same) t
   where
     n : (w : Words) → i * 10 + 10 ≤ length w → length (take 8 (drop (i * 10 + 2) w)) ≡ 8
