@@ -8,7 +8,7 @@ use Rattle.definitions.specs.Limits.{document-01}
 use Rattle.definitions.specs.Lists.{_and_, between}
 use Rattle.definitions.specs.Field.{prime?}
 use Rattle.definitions.specs.Reducer.{heads}
-use Rattle.definitions.specs.Layout.{Words, rows, level-at, levels-at, holds-state?}
+use Rattle.definitions.specs.Layout.{Words, rows, levels-at, holds-state?}
 use Rattle.definitions.proofs.Tests.{and-right, between-high}
 use Rattle.orders.specs.Levels.{images}
 use Rattle.reducers.specs.Search.{Small, Spanned}

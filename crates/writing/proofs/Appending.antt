@@ -1,30 +1,29 @@
 -- A vector appended: the level so far has one vector more, everything else stays.
 use mathlib.Core.Path.{_≡_, refl, sym, ap, _∙_, subst}
 use mathlib.Core.Bool.{Bool, true, false, not}
-use mathlib.Core.List.{List, [], _∷_, _++_, append-assoc}
+use mathlib.Core.List.{[], _∷_, _++_, append-assoc}
 use Prim.Native.Nat.{ℕ, zero, suc, _+_, _-_, _*_, _<_, _≤_}
 use native.Mathlib.Nat.{not-suc-le-zero, le-of-suc-le-suc}
 use native.Mathlib.Omega.{arith}
 use lib.Dec.{T, leb, ltb, leb→le, le→leb, ltb→lt, lt→ltb, nltb→le}
-use lib.ListN.{length, take, drop, getD, set, length-drop, length-set, List·getD-append}
+use lib.ListN.{length, take, drop, getD, length-drop, length-set, List·getD-append}
 use lib.Seq.{paste, length-paste, take-all, take-suc, drop-at, drop-drop, drop-set-lt, ext-getD, getD-take, getD-drop, getD-append-add, getD-set-same, getD-set-other, length-take-le}
 use Rattle.definitions.specs.Limits.{document-01}
 use Rattle.definitions.specs.Lists.{_and_, last}
-use Rattle.definitions.specs.Monomial.{Exponents, Term, Vector, Level, fits?}
-use Rattle.definitions.specs.State.{State}
-use Rattle.definitions.specs.Layout.{Words, row-at, rows, row-of, rows-of, vectors-at, ascending?, levels-at, last-end, exponents-fit?, all-words-sound?}
+use Rattle.definitions.specs.Monomial.{Exponents, Vector, fits?}
+use Rattle.definitions.specs.Layout.{Words, rows, row-of, rows-of, vectors-at, ascending?, levels-at, last-end, exponents-fit?, all-words-sound?}
 use Rattle.definitions.proofs.Tests.{and-left, and-right, and-both}
-use Rattle.definitions.proofs.Rows.{Eight, Eights, no-terms, one-more, length-row, length-rows-of, rows-spelled}
-use Rattle.terms.proofs.Moving.{getD-paste-in, getD-paste-below, getD-paste-above}
+use Rattle.definitions.proofs.Rows.{Eights, no-terms, one-more, length-row, length-rows-of, rows-spelled}
+use Rattle.terms.proofs.Moving.{getD-paste-in, getD-paste-below}
 use Rattle.tables.specs.Cuts.{start-of}
-use Rattle.levels.specs.Places.{parameters-at, rows-from, ends-from}
+use Rattle.levels.specs.Places.{rows-from, ends-from}
 use Rattle.levels.proofs.Pointwise.{every-all}
 use Rattle.levels.proofs.RowTests.{Fits}
-use Rattle.levels.proofs.VectorTests.{All-fit, fit-said, fit-shown, end-of, last-end-is, ascends-within}
-use Rattle.writing.specs.Growing.{level-so-far, words-so-far?, appended, finished}
+use Rattle.levels.proofs.VectorTests.{All-fit, fit-said, fit-shown, end-of, last-end-is}
+use Rattle.writing.specs.Growing.{level-so-far, words-so-far?, appended}
 use Rattle.writing.specs.Settled.{Same}
 use Rattle.writing.proofs.Spelled.{end-is-start}
-use Rattle.writing.proofs.Local.{fits-stays, vectors-stay, row-stays, levels-local, so-far-few}
+use Rattle.writing.proofs.Local.{fits-stays, vectors-stay, row-stays, levels-local}
 
 -- ## One end more
 
@@ -188,10 +187,10 @@ module _ (s : Words) (k count used : ℕ) (v : Vector) (n : ℕ) (long : 206095 
           let h : used ≤ i = g tt in
           let c : length (take 8 (drop (i * 10 + 2) Q)) ≡ 8 = length-take-le 8 (drop (i * 10 + 2) Q) (omega (arith, length-drop (i * 10 + 2) Q, Q-long)) in
           every-all (λ w. leb w 255) (take 8 (drop (i * 10 + 2) Q)) 0 (λ u l.
-            let b : u < 8 = omega arith in
-            let e : 1295 + k * 20480 + (i * 10 + 2 + u) ≡ a + ((i - used) * 10 + 2 + u) = omega arith in
-            le→leb (getD (take 8 (drop (i * 10 + 2) Q)) u 0) 255 (subst (λ w. w ≤ 255) (sym (getD-take 8 (drop (i * 10 + 2) Q) u 0 b ∙ getD-drop (i * 10 + 2) Q u 0 ∙ getD-drop (1295 + k * 20480) z (i * 10 + 2 + u) 0 ∙ ap (λ j. getD z j 0) e ∙ row-word ((i - used) * 10 + 2 + u) (omega arith)))
-            (small-rows v eights (i - used) (omega (arith, size)) u b)))
+          let b : u < 8 = omega arith in
+          let e : 1295 + k * 20480 + (i * 10 + 2 + u) ≡ a + ((i - used) * 10 + 2 + u) = omega arith in
+          le→leb (getD (take 8 (drop (i * 10 + 2) Q)) u 0) 255 (subst (λ w. w ≤ 255) (sym (getD-take 8 (drop (i * 10 + 2) Q) u 0 b ∙ getD-drop (i * 10 + 2) Q u 0 ∙ getD-drop (1295 + k * 20480) z (i * 10 + 2 + u) 0 ∙ ap (λ j. getD z j 0) e ∙ row-word ((i - used) * 10 + 2 + u) (omega arith)))
+          (small-rows v eights (i - used) (omega (arith, size)) u b)))
 
   pub appended-words : T (words-so-far? (appended s k count used v n) k (count + 1))
   appended-words =

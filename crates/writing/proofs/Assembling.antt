@@ -1,5 +1,5 @@
 -- A settled state is the encoding of what it says.
-use mathlib.Core.Path.{_≡_, refl, sym, ap, _∙_, subst}
+use mathlib.Core.Path.{_≡_, refl, sym, ap, _∙_}
 use mathlib.Core.Bool.{Bool, true, false, not}
 use mathlib.Core.List.{List, [], _∷_, _++_, append-assoc, append-nil, reverse, reverse-cons}
 use Prim.Native.Nat.{ℕ, zero, suc, _+_, _-_, _*_, _<_, _≤_}
@@ -9,8 +9,7 @@ use lib.ListN.{length, take, drop, getD, replicate, length-append, length-drop, 
 use lib.Seq.{take-add, drop-drop, ext-getD, getD-take, getD-drop, getD-append-add, length-take-le}
 use Rattle.definitions.specs.Limits.{document-01}
 use Rattle.definitions.specs.Monomial.{Level}
-use Rattle.definitions.specs.Layout as layout
-use Rattle.definitions.specs.Layout.{Words, rows-of, padded, joined, counts-of, all-counts, all-rows, header-of, encode, decode, ends-at, level-at, levels-at, words-sound?, all-words-sound?}
+use Rattle.definitions.specs.Layout.{Words, rows-of, padded, joined, counts-of, all-counts, all-rows, encode, decode, ends-at, level-at, levels-at, words-sound?, all-words-sound?}
 use Rattle.definitions.proofs.RoundTrip.{length-padded}
 use Rattle.terms.specs.Rows.{cleared}
 use Rattle.tables.proofs.Spanning.{zero-everywhere}

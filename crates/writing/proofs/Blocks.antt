@@ -1,8 +1,8 @@
 -- What stands where after a block was cleared; a level's unused places.
 use mathlib.Core.Path.{_≡_, refl, sym, ap, _∙_, subst}
 use mathlib.Core.Bool.{Bool, true, false, not}
-use mathlib.Core.List.{List, [], _∷_, _++_}
-use Prim.Native.Nat.{ℕ, zero, suc, _+_, _-_, _*_, _<_, _≤_}
+use mathlib.Core.List.{_++_}
+use Prim.Native.Nat.{ℕ, _+_, _-_, _*_, _<_, _≤_}
 use native.Mathlib.Omega.{arith}
 use native.Mathlib.Decide.{ℕ-discrete}
 use lib.Dec.{T, ltb, ltb→lt, nltb→le}
@@ -14,7 +14,7 @@ use Rattle.tables.specs.Cuts.{start-of}
 use Rattle.tables.proofs.Spanning.{zero-everywhere}
 use Rattle.levels.specs.Places.{count-at, ends-from}
 use Rattle.writing.specs.Growing.{block-cleared, tidied}
-use Rattle.writing.specs.Settled.{Same, Zero, used-at, Tidy, Tidied-to}
+use Rattle.writing.specs.Settled.{Same, used-at, Tidy, Tidied-to}
 use Rattle.writing.proofs.Copying.{end-at, end-none}
 
 -- ## Cleared from a word on

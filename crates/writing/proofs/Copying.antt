@@ -1,13 +1,13 @@
 -- Rows copied one behind the other; where a level's last end stands.
 use mathlib.Core.Path.{_≡_, refl, sym, ap, _∙_}
-use mathlib.Core.List.{List, [], _∷_, _++_, append-assoc, append-nil}
-use Prim.Native.Nat.{ℕ, zero, suc, _+_, _-_, _*_, _<_, _≤_}
+use mathlib.Core.List.{[], _∷_, _++_, append-assoc, append-nil}
+use Prim.Native.Nat.{ℕ, zero, suc, _+_, _*_, _≤_}
 use native.Mathlib.Omega.{arith}
 use lib.ListN.{length, take, drop, getD, length-append}
 use lib.Seq.{paste, take-paste, drop-paste, drop-drop, take-all, getD-drop}
 use Rattle.definitions.specs.Monomial.{Term, Vector}
 use Rattle.definitions.specs.Layout.{Words, row-at, rows, row-of, rows-of}
-use Rattle.definitions.proofs.Rows.{Eight, Eights, no-terms, one-more, length-rows, length-rows-of, rows-of-append, rows-last, rows-first, getD-exponents, length-row}
+use Rattle.definitions.proofs.Rows.{Eight, Eights, no-terms, one-more, length-rows, length-rows-of, rows-of-append, rows-last, getD-exponents, length-row}
 use Rattle.terms.specs.Rows.{written}
 use Rattle.terms.proofs.Stored.{row-is}
 use Rattle.terms.proofs.Spelling.{eight-small}
@@ -54,7 +54,7 @@ copied-more d value used j t h e =
     let x : 0 + j ≡ j = omega arith in
     let old : Words = paste d (used * 10) (rows-of (rows value 0 j)) (j * 10) in
     let r : rows-of (rows value 0 (j + 1)) ≡ rows-of (rows value 0 j) ++ row-of (row-at value j) =
-      ap rows-of (rows-last value 0 j ∙ ap (λ i. rows value 0 j ++ row-at value i ∷ []) x) ∙ rows-of-append (rows value 0 j) (row-at value j ∷ []) ∙ ap (λ w. rows-of (rows value 0 j) ++ w) (append-nil (row-of (row-at value j))) in
+    ap rows-of (rows-last value 0 j ∙ ap (λ i. rows value 0 j ++ row-at value i ∷ []) x) ∙ rows-of-append (rows value 0 j) (row-at value j ∷ []) ∙ ap (λ w. rows-of (rows value 0 j) ++ w) (append-nil (row-of (row-at value j))) in
     (λ i. paste old (y i) (row-of (e i)) 10)
     ∙ paste-joined d (rows-of (rows value 0 j)) (row-of (row-at value j)) (used * 10) (j * 10) 10 (length-spelled value 0 j) (length-row (row-at value j) (eight-row value j)) h
     ∙ (λ i. paste d (used * 10) (sym r i) (z i))

@@ -6,3 +6,4 @@ pub mod Assembling
 pub mod Fetching
 pub mod Local
 pub mod Appending
+pub mod Growth

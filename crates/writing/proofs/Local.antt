@@ -1,7 +1,6 @@
 -- A level depends on its own words only.
 use mathlib.Core.Path.{_≡_, refl, sym, ap, _∙_, subst}
-use mathlib.Core.Bool.{Bool}
-use mathlib.Core.List.{List, [], _∷_, _++_}
+use mathlib.Core.List.{[], _∷_}
 use Prim.Native.Nat.{ℕ, zero, suc, _+_, _-_, _*_, _<_, _≤_}
 use native.Mathlib.Omega.{arith}
 use lib.Dec.{T, leb, ltb, leb→le, le→leb, ltb→lt}
@@ -9,17 +8,15 @@ use lib.ListN.{length, take, drop, getD, set, length-drop, length-set}
 use lib.Seq.{ext-getD, getD-take, getD-drop, getD-set-same, getD-set-other, drop-set-lt, length-take-le}
 use Rattle.definitions.specs.Limits.{document-01}
 use Rattle.definitions.specs.Lists.{_and_, last}
-use Rattle.definitions.specs.Monomial.{Level}
-use Rattle.definitions.specs.State.{State}
-use Rattle.definitions.specs.Layout.{Words, row-at, rows, vectors-at, ascending?, ends-at, level-at, levels-at, decode, last-end, exponents-fit?, words-sound?, all-words-sound?}
+use Rattle.definitions.specs.Layout.{Words, row-at, vectors-at, ascending?, ends-at, level-at, levels-at, decode, last-end, exponents-fit?, words-sound?, all-words-sound?}
 use Rattle.definitions.proofs.Tests.{and-left, and-right, and-both}
 use Rattle.definitions.proofs.Rows.{rows-same}
 use Rattle.terms.proofs.Stored.{same-row}
-use Rattle.levels.specs.Places.{parameters-at, count-at, rows-from, ends-from}
+use Rattle.levels.specs.Places.{count-at, rows-from, ends-from}
 use Rattle.levels.proofs.RowTests.{Fits}
 use Rattle.levels.proofs.VectorTests.{All-fit, fit-shown, end-of, last-end-is, ascends-past, ascends-within}
 use Rattle.levels.proofs.StateTests.{words-parts}
-use Rattle.writing.specs.Growing.{level-so-far, words-so-far?, finished}
+use Rattle.writing.specs.Growing.{words-so-far?, finished}
 use Rattle.writing.specs.Settled.{Same}
 
 -- ## Rows that stay

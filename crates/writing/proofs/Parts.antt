@@ -1,9 +1,9 @@
 -- A part of a list that is lent, changed and put back.
-use mathlib.Core.Path.{_≡_, refl, sym, ap, _∙_}
-use mathlib.Core.List.{List, [], _∷_, _++_, append-assoc}
-use Prim.Native.Nat.{ℕ, _+_, _-_, _*_, _<_, _≤_}
+use mathlib.Core.Path.{_≡_, sym, ap, _∙_}
+use mathlib.Core.List.{_++_, append-assoc}
+use Prim.Native.Nat.{ℕ, _+_, _≤_}
 use native.Mathlib.Omega.{arith}
-use lib.ListN.{length, take, drop, getD, length-append, length-drop, take-append-drop}
+use lib.ListN.{length, take, drop, length-drop, take-append-drop}
 use lib.Seq.{paste, take-take, take-add, drop-drop, drop-append-le, length-take-le}
 use Rattle.definitions.specs.Layout.{Words}
 use Rattle.terms.specs.Rows.{cleared}
@@ -16,7 +16,7 @@ paste-part s w b n a m h l k =
     let z : b + (a + m) ≡ b + a + m = omega arith in
     let t : length (take n D) ≡ n = length-take-le n D (omega (arith, length-drop b s)) in
     let e : drop (a + m) (take n D) ++ drop n D ≡ drop (b + a + m) s =
-      sym (drop-append-le (a + m) (take n D) (drop n D) (omega arith)) ∙ ap (drop (a + m)) (take-append-drop n D) ∙ drop-drop (a + m) b s ∙ ap (λ j. drop j s) z in
+    sym (drop-append-le (a + m) (take n D) (drop n D) (omega arith)) ∙ ap (drop (a + m)) (take-append-drop n D) ∙ drop-drop (a + m) b s ∙ ap (λ j. drop j s) z in
     ap (λ x. take b s ++ x) (append-assoc (take a (take n D) ++ take m w) (drop (a + m) (take n D)) (drop n D) ∙ (λ i. (take-take a n D (omega arith) i ++ take m w) ++ e i))
     ∙ sym (append-assoc (take b s) (take a D ++ take m w) (drop (b + a + m) s))
     ∙ ap (λ x. x ++ drop (b + a + m) s) (sym (append-assoc (take b s) (take a D) (take m w)) ∙ ap (λ x. x ++ take m w) (sym (take-add b a s)))

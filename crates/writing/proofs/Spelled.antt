@@ -1,20 +1,18 @@
 -- A level's vectors as its words spell them: rows, ends.
 use mathlib.Core.Path.{_≡_, refl, sym, ap, _∙_, subst}
-use mathlib.Core.Bool.{Bool, true, false}
-use mathlib.Core.List.{List, [], _∷_, _++_, append-nil}
+use mathlib.Core.List.{[], _∷_, _++_, append-nil}
 use Prim.Native.Nat.{ℕ, zero, suc, _+_, _-_, _*_, _<_, _≤_}
 use native.Mathlib.Nat.{le-of-suc-le-suc}
 use native.Mathlib.Omega.{arith}
 use lib.Dec.{T, leb, ltb, ltb→lt, leb→le}
-use lib.ListN.{length, take, drop, getD, length-append, length-drop}
-use lib.Seq.{take-add, take-all, drop-drop, ext-getD, getD-take, getD-drop, length-take-le}
+use lib.ListN.{length, take, drop, getD, length-drop}
+use lib.Seq.{take-add, drop-drop, ext-getD, getD-take, getD-drop, length-take-le}
 use Rattle.definitions.specs.Limits.{document-01}
 use Rattle.definitions.specs.Lists.{_and_, last}
-use Rattle.definitions.specs.Monomial.{Term, Vector, Level, fits?}
 use Rattle.definitions.specs.Layout as layout
 use Rattle.definitions.specs.Layout.{Words, row-at, rows, row-of, rows-of, joined, vectors-at, ends-at, level-at, ascending?, words-sound?, all-words-sound?}
 use Rattle.definitions.proofs.Tests.{and-left, and-right, every-at}
-use Rattle.definitions.proofs.Rows.{length-rows, rows-of-append, rows-last, getD-exponents, byte-small}
+use Rattle.definitions.proofs.Rows.{length-rows, rows-of-append, getD-exponents, byte-small}
 use Rattle.terms.proofs.Stored.{row-is}
 use Rattle.tables.specs.Cuts.{start-of}
 use Rattle.tables.proofs.Cutting.{begin-from}

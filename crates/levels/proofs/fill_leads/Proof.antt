@@ -1,116 +1,93 @@
 use borrow.Author.Needs.{needs}
 use native.Mathlib.Omega.{arith}
-use mathlib.Core.Path.{_≡_, refl, sym, ap, _∙_, subst}
-use mathlib.Core.List.{List, [], _∷_, _++_}
-use Prim.Native.Nat.{ℕ, suc, _+_, _-_, _*_, _<_, _≤_}
-use lib.ListN.{length, take, drop, getD, set, length-set}
+use Prim.Native.Nat.{_<_, _≤_}
+use lib.ListN.{getD}
 use Rattle.levels.proofs.Advancing.{cut-parts}
 use Rattle.levels.proofs.Sounding.{height, prime-above, complete-cut, components-few, led}
 use Rattle.levels.proofs.fill_leads.Statement.{statement}
 use Rattle.levels.proofs.fill_leads.Tie as tie
-use Rattle.levels.proofs.fill_leads.Reads as reads
-use Rattle.levels.proofs.fill_leads.Lts as lts
-use Rattle.levels.proofs.components_of.Reads as components-of-reads
-use Rattle.levels.proofs.count_of.Reads as count-of-reads
-use Rattle.tables.proofs.fill_heads.Reads as fill-heads-reads
-use Rattle.tables.proofs.fill_spans.Reads as fill-spans-reads
 
--- src/lib.rt:425:9
 count-of-requires : tie.Need-count-of-requires
 count-of-requires c κs =
     let h : getD (c .before .before .before .args .state .now) 4 0 ≤ 10 = height (c .before .before .before .args .state .now) (c .before .before .before .pre .0) (c .before .before .before .pre .1) in
     let m : c .before .before .before .args .k < 10 = omega (arith, c .before .before .before .pre .2) in
     omega (arith, c .before .before .before .pre .0)
 
--- src/lib.rt:426:24
 mul-start : tie.Need-mul-start
 mul-start c =
     let h : getD (c .before .before .before .before .args .state .now) 4 0 ≤ 10 = height (c .before .before .before .before .args .state .now) (c .before .before .before .before .pre .0) (c .before .before .before .before .pre .1) in
     let m : c .before .before .before .before .args .k < 10 = omega (arith, c .before .before .before .before .pre .2) in
     omega (arith, c .before .before .before .before .pre .0)
 
--- src/lib.rt:426:17
 add-start : tie.Need-add-start
 add-start c =
     let h : getD (c .before .before .before .before .args .state .now) 4 0 ≤ 10 = height (c .before .before .before .before .args .state .now) (c .before .before .before .before .pre .0) (c .before .before .before .before .pre .1) in
     let m : c .before .before .before .before .args .k < 10 = omega (arith, c .before .before .before .before .pre .2) in
     omega (arith, c .before .before .before .before .pre .0)
 
--- src/lib.rt:427:20
 mul-ends : tie.Need-mul-ends
 mul-ends c =
     let h : getD (c .before .before .before .before .args .state .now) 4 0 ≤ 10 = height (c .before .before .before .before .args .state .now) (c .before .before .before .before .pre .0) (c .before .before .before .before .pre .1) in
     let m : c .before .before .before .before .args .k < 10 = omega (arith, c .before .before .before .before .pre .2) in
     omega (arith, c .before .before .before .before .pre .0)
 
--- src/lib.rt:427:16
 add-ends : tie.Need-add-ends
 add-ends c =
     let h : getD (c .before .before .before .before .args .state .now) 4 0 ≤ 10 = height (c .before .before .before .before .args .state .now) (c .before .before .before .before .pre .0) (c .before .before .before .before .pre .1) in
     let m : c .before .before .before .before .args .k < 10 = omega (arith, c .before .before .before .before .pre .2) in
     omega (arith, c .before .before .before .before .pre .0)
 
--- src/lib.rt:428:13
 shared-slice-read-p : tie.Need-shared-slice-read-p
 shared-slice-read-p c = search needs
 
--- src/lib.rt:429:31
 mul-fill-heads : tie.Need-mul-fill-heads
 mul-fill-heads c =
     let h : getD (c .before .before .before .before .before .before .args .state .now) 4 0 ≤ 10 = height (c .before .before .before .before .before .before .args .state .now) (c .before .before .before .before .before .before .pre .0) (c .before .before .before .before .before .before .pre .1) in
     let m : c .before .before .before .before .before .before .args .k < 10 = omega (arith, c .before .before .before .before .before .before .pre .2) in
     omega (arith, c .before .before .before .before .before .before .pre .0)
 
--- src/lib.rt:429:31
 sub-fill-heads : tie.Need-sub-fill-heads
 sub-fill-heads c =
     let h : getD (c .before .before .before .before .before .before .args .state .now) 4 0 ≤ 10 = height (c .before .before .before .before .before .before .args .state .now) (c .before .before .before .before .before .before .pre .0) (c .before .before .before .before .before .before .pre .1) in
     let m : c .before .before .before .before .before .before .args .k < 10 = omega (arith, c .before .before .before .before .before .before .pre .2) in
     omega (arith, c .before .before .before .before .before .before .pre .0)
 
--- src/lib.rt:429:31
 part-fill-heads-start : tie.Need-part-fill-heads-start
 part-fill-heads-start c =
     let h : getD (c .before .before .before .before .before .before .args .state .now) 4 0 ≤ 10 = height (c .before .before .before .before .before .before .args .state .now) (c .before .before .before .before .before .before .pre .0) (c .before .before .before .before .before .before .pre .1) in
     let m : c .before .before .before .before .before .before .args .k < 10 = omega (arith, c .before .before .before .before .before .before .pre .2) in
     omega (arith, c .before .before .before .before .before .before .pre .0)
 
--- src/lib.rt:429:31
 part-fill-heads-end : tie.Need-part-fill-heads-end
 part-fill-heads-end c =
     let h : getD (c .before .before .before .before .before .before .args .state .now) 4 0 ≤ 10 = height (c .before .before .before .before .before .before .args .state .now) (c .before .before .before .before .before .before .pre .0) (c .before .before .before .before .before .before .pre .1) in
     let m : c .before .before .before .before .before .before .args .k < 10 = omega (arith, c .before .before .before .before .before .before .pre .2) in
     omega (arith, c .before .before .before .before .before .before .pre .0)
 
--- src/lib.rt:429:48
 mul-fill-heads-2 : tie.Need-mul-fill-heads-2
 mul-fill-heads-2 c =
     let h : getD (c .before .before .before .before .before .before .before .args .state .now) 4 0 ≤ 10 = height (c .before .before .before .before .before .before .before .args .state .now) (c .before .before .before .before .before .before .before .pre .0) (c .before .before .before .before .before .before .before .pre .1) in
     let m : c .before .before .before .before .before .before .before .args .k < 10 = omega (arith, c .before .before .before .before .before .before .before .pre .2) in
     omega (arith, c .before .before .before .before .before .before .before .pre .0)
 
--- src/lib.rt:429:48
 sub-fill-heads-2 : tie.Need-sub-fill-heads-2
 sub-fill-heads-2 c =
     let h : getD (c .before .before .before .before .before .before .before .args .state .now) 4 0 ≤ 10 = height (c .before .before .before .before .before .before .before .args .state .now) (c .before .before .before .before .before .before .before .pre .0) (c .before .before .before .before .before .before .before .pre .1) in
     let m : c .before .before .before .before .before .before .before .args .k < 10 = omega (arith, c .before .before .before .before .before .before .before .pre .2) in
     omega (arith, c .before .before .before .before .before .before .before .pre .0)
 
--- src/lib.rt:429:48
 part-fill-heads-start-2 : tie.Need-part-fill-heads-start-2
 part-fill-heads-start-2 c =
     let h : getD (c .before .before .before .before .before .before .before .args .state .now) 4 0 ≤ 10 = height (c .before .before .before .before .before .before .before .args .state .now) (c .before .before .before .before .before .before .before .pre .0) (c .before .before .before .before .before .before .before .pre .1) in
     let m : c .before .before .before .before .before .before .before .args .k < 10 = omega (arith, c .before .before .before .before .before .before .before .pre .2) in
     omega (arith, c .before .before .before .before .before .before .before .pre .0)
 
--- src/lib.rt:429:48
 part-fill-heads-end-2 : tie.Need-part-fill-heads-end-2
 part-fill-heads-end-2 c =
     let h : getD (c .before .before .before .before .before .before .before .args .state .now) 4 0 ≤ 10 = height (c .before .before .before .before .before .before .before .args .state .now) (c .before .before .before .before .before .before .before .pre .0) (c .before .before .before .before .before .before .before .pre .1) in
     let m : c .before .before .before .before .before .before .before .args .k < 10 = omega (arith, c .before .before .before .before .before .before .before .pre .2) in
     omega (arith, c .before .before .before .before .before .before .before .pre .0)
 
--- src/lib.rt:429:5
 fill-heads-requires : tie.Need-fill-heads-requires
 fill-heads-requires c κs =
     let s = c .before .before .before .before .before .before .before .before .args .state .now in
@@ -118,14 +95,12 @@ fill-heads-requires c κs =
     let n = components-few s (c .before .before .before .before .before .before .before .before .pre .0) (c .before .before .before .before .before .before .before .before .pre .1) (c .before .before .before .before .before .before .before .before .args .k) (c .before .before .before .before .before .before .before .before .pre .2) in
     (prime-above s (c .before .before .before .before .before .before .before .before .pre .0) (c .before .before .before .before .before .before .before .before .pre .1), omega (arith, c .before .before .before .before .count-of .ensures, c .before .before .before .before .before .before .before .before .pre .3), cut-parts s (c .before .before .before .before .before .before .before .before .args .k) (c .before .before .before .before .count-of .result) (c .before .before .before .before .count-of .ensures) (cut .1))
 
--- src/lib.rt:430:9
 components-of-requires : tie.Need-components-of-requires
 components-of-requires c κs =
     let h : getD (c .before .before .before .before .before .before .before .before .before .before .before .args .state .now) 4 0 ≤ 10 = height (c .before .before .before .before .before .before .before .before .before .before .before .args .state .now) (c .before .before .before .before .before .before .before .before .before .before .before .pre .0) (c .before .before .before .before .before .before .before .before .before .before .before .pre .1) in
     let m : c .before .before .before .before .before .before .before .before .before .before .before .args .k < 10 = omega (arith, c .before .before .before .before .before .before .before .before .before .before .before .pre .2) in
     omega (arith, c .before .before .before .before .before .before .before .before .before .before .before .pre .0)
 
--- src/lib.rt:431:31
 add-fill-spans : tie.Need-add-fill-spans
 add-fill-spans c =
     let s = c .before .before .before .before .before .before .before .before .before .before .before .before .before .args .state .now in
@@ -133,7 +108,6 @@ add-fill-spans c =
     let n = components-few s (c .before .before .before .before .before .before .before .before .before .before .before .before .before .pre .0) (c .before .before .before .before .before .before .before .before .before .before .before .before .before .pre .1) (c .before .before .before .before .before .before .before .before .before .before .before .before .before .args .k) (c .before .before .before .before .before .before .before .before .before .before .before .before .before .pre .2) in
     omega (arith, c .before .components-of .ensures)
 
--- src/lib.rt:431:5
 fill-spans-requires : tie.Need-fill-spans-requires
 fill-spans-requires c κs =
     let s = c .before .before .before .before .before .before .before .before .before .before .before .before .before .before .args .state .now in
@@ -141,15 +115,12 @@ fill-spans-requires c κs =
     let n = components-few s (c .before .before .before .before .before .before .before .before .before .before .before .before .before .before .pre .0) (c .before .before .before .before .before .before .before .before .before .before .before .before .before .before .pre .1) (c .before .before .before .before .before .before .before .before .before .before .before .before .before .before .args .k) (c .before .before .before .before .before .before .before .before .before .before .before .before .before .before .pre .2) in
     (omega (arith, c .before .before .components-of .ensures, c .before .before .before .before .before .before .before .before .before .before .before .before .before .before .pre .4), omega (arith, c .before .before .before .before .before .before .before .before .before .before .count-of .ensures, c .before .before .before .before .before .before .before .before .before .before .before .before .before .before .pre .3, c .before .before .before .before .before .fill-heads .kept .0), omega (arith, c .before .before .before .before .before .before .before .before .before .before .count-of .ensures))
 
--- src/lib.rt:421:1
 same-length : tie.Need-same-length
 same-length c = search needs
 
--- src/lib.rt:421:1
 same-length-2 : tie.Need-same-length-2
 same-length-2 c = search needs
 
--- src/lib.rt:421:1
 returns : tie.Need-returns
 returns c = led (c .before .before .before .before .before .before .before .before .before .before .before .before .before .before .before .before .before .args .state .now) (c .before .before .before .before .before .before .before .before .before .before .before .before .before .before .before .before .before .args .k) (c .before .before .before .before .before .before .before .before .before .before .before .before .before .count-of .result) (c .before .before .before .before .before .components-of .result) (c .before .before .before .before .before .before .before .before .fill-heads .last .0) (c .before .before .fill-spans .last .0) (c .before .before .before .before .before .before .before .before .before .before .before .before .before .count-of .ensures) (c .before .before .before .before .before .components-of .ensures) (c .before .before .before .before .before .before .before .before .fill-heads .ensures .0) (c .before .before .before .before .before .before .before .before .fill-heads .ensures .1) (c .before .before .fill-spans .ensures)
 

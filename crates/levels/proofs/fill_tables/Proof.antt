@@ -1,17 +1,12 @@
-use borrow.Author.Needs.{needs}
 use native.Mathlib.Omega.{arith}
-use mathlib.Core.Path.{_≡_, refl, sym, ap, _∙_, subst}
-use mathlib.Core.List.{List, [], _∷_, _++_}
-use Prim.Native.Nat.{ℕ, suc, _+_, _-_, _*_, _<_, _≤_}
-use lib.ListN.{length, take, drop, getD, set, length-set}
+use mathlib.Core.Path.{_≡_, refl, subst}
+use Prim.Native.Nat.{_-_, _<_, _≤_}
+use lib.ListN.{length, getD}
 use Rattle.levels.specs.Tabled.{Ready-pair}
 use Rattle.levels.proofs.Advancing.{ready-none, ready-tabled}
 use Rattle.levels.proofs.Sounding.{height, complete-cut, pair-above, pair-more}
 use Rattle.levels.proofs.fill_tables.Statement.{statement}
 use Rattle.levels.proofs.fill_tables.Tie as tie
-use Rattle.levels.proofs.fill_tables.Reads as reads
-use Rattle.levels.proofs.fill_tables.Lts as lts
-use Rattle.levels.proofs.advance.Reads as advance-reads
 
 abbrev Inv-loop : tie.InvT-loop
 Inv-loop below₀ above₀ state k j₀ below above j = (j ≤ k) × (length below ≡ length below₀) × (length above ≡ length above₀) × Ready-pair state j below above
@@ -19,11 +14,9 @@ Inv-loop below₀ above₀ state k j₀ below above j = (j ≤ k) × (length bel
 abbrev μ-loop : tie.MeasureT-loop
 μ-loop below₀ above₀ state k j₀ below above j = k - j
 
--- src/lib.rt:403:5
 loop-holds : tie.Need-loop-holds Inv-loop μ-loop
 loop-holds c = (omega arith, refl, refl, ready-none (c .before .before .before .args .state .now) (c .before .before .before .args .above .now))
 
--- src/lib.rt:404:9
 advance-requires : tie.Need-advance-requires Inv-loop μ-loop
 advance-requires c κs =
     let a = c .before .before .before .before .before .before .before .args in
@@ -35,15 +28,12 @@ advance-requires c κs =
     let cut = complete-cut s (c .before .before .before .before .before .before .before .pre .0) (c .before .before .before .before .before .before .before .pre .1) (l .j) m in
     (omega arith, omega arith, omega arith, omega arith, r .few, cut .0, cut .1, ready-tabled s (l .j) (l .above) (omega arith) r)
 
--- src/lib.rt:405:9
 add-j : tie.Need-add-j Inv-loop μ-loop
 add-j c = omega arith
 
--- src/lib.rt:403:5
 loop-less : tie.Need-loop-less Inv-loop μ-loop
 loop-less c = omega arith
 
--- src/lib.rt:403:5
 loop-again : tie.Need-loop-again Inv-loop μ-loop
 loop-again c =
     let a = c .before .before .before .before .before .before .before .before .before .before .before .before .args in
@@ -55,15 +45,12 @@ loop-again c =
     let cut = complete-cut s (c .before .before .before .before .before .before .before .before .before .before .before .before .pre .0) (c .before .before .before .before .before .before .before .before .before .before .before .before .pre .1) (l .j) m in
     (omega arith, omega arith, omega arith, pair-more s (l .j) (l .above) (c .before .before .before .before .advance .last .0) (c .before .before .before .before .advance .last .1 .0) (cut .0) r (c .before .before .before .before .advance .ensures))
 
--- src/lib.rt:398:1
 same-length : tie.Need-same-length Inv-loop μ-loop
 same-length c = omega arith
 
--- src/lib.rt:398:1
 same-length-2 : tie.Need-same-length-2 Inv-loop μ-loop
 same-length-2 c = omega arith
 
--- src/lib.rt:398:1
 returns : tie.Need-returns Inv-loop μ-loop
 returns c =
     let l = c .before .loop in

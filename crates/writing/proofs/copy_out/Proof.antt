@@ -1,9 +1,7 @@
 use borrow.Author.Needs.{needs}
 use native.Mathlib.Omega.{arith}
-use mathlib.Core.Path.{_≡_, refl, sym, ap, _∙_, subst}
-use mathlib.Core.List.{List, [], _∷_, _++_}
-use Prim.Native.Nat.{ℕ, suc, _+_, _-_, _*_, _<_, _≤_}
-use lib.ListN.{length, take, drop, getD, set, length-set}
+use mathlib.Core.Path.{refl, ap, _∙_}
+use lib.ListN.{take, drop}
 use lib.ListN.{length-drop}
 use lib.Seq.{paste}
 use Rattle.terms.specs.Rows.{cleared}
@@ -11,40 +9,28 @@ use Rattle.levels.proofs.Walking.{whole-part, length-part}
 use Rattle.writing.proofs.Fetching.{padded-out}
 use Rattle.writing.proofs.copy_out.Statement.{statement}
 use Rattle.writing.proofs.copy_out.Tie as tie
-use Rattle.writing.proofs.copy_out.Reads as reads
-use Rattle.writing.proofs.copy_out.Lts as lts
-use Rattle.terms.proofs.clear.Reads as clear-reads
-use Rattle.terms.proofs.copy.Reads as copy-reads
 
--- src/lib.rt:113:25
 mul-copy : tie.Need-mul-copy
 mul-copy c = search needs
 
--- src/lib.rt:113:25
 sub-copy : tie.Need-sub-copy
 sub-copy c = search needs
 
--- src/lib.rt:113:25
 part-copy-start : tie.Need-part-copy-start
 part-copy-start c = search needs
 
--- src/lib.rt:113:25
 part-copy-end : tie.Need-part-copy-end
 part-copy-end c = search needs
 
--- src/lib.rt:113:5
 copy-requires : tie.Need-copy-requires
 copy-requires c κs = (omega arith, omega (arith, length-part (c .before .before .before .before .args .start) (c .before .before .before .before .args .state .now)))
 
--- src/lib.rt:114:5
 clear-requires : tie.Need-clear-requires
 clear-requires c κs = search needs
 
--- src/lib.rt:109:1
 same-length : tie.Need-same-length
 same-length c = search needs
 
--- src/lib.rt:109:1
 returns : tie.Need-returns
 returns c =
     let a = c .before .before .before .before .before .before .before .before .before .before .before .args in

@@ -1,47 +1,35 @@
 use borrow.Author.Needs.{needs}
 use native.Mathlib.Omega.{arith}
-use mathlib.Core.Path.{_≡_, refl, sym, ap, _∙_, subst}
-use mathlib.Core.List.{List, [], _∷_, _++_}
-use Prim.Native.Nat.{ℕ, suc, _+_, _-_, _*_, _<_, _≤_}
-use lib.ListN.{length, take, drop, getD, set, length-set}
+use mathlib.Core.Path.{_≡_, _∙_}
+use Prim.Native.Nat.{_+_, _*_}
+use lib.ListN.{length, set, length-set}
 use Rattle.definitions.specs.Limits.{document-01}
 use Rattle.definitions.specs.Layout.{encode}
 use Rattle.writing.proofs.Local.{so-far-few, new-height, new-words, new-state}
 use Rattle.writing.proofs.finish.Statement.{statement}
 use Rattle.writing.proofs.finish.Tie as tie
-use Rattle.writing.proofs.finish.Reads as reads
-use Rattle.writing.proofs.finish.Lts as lts
-use Rattle.writing.proofs.settle.Reads as settle-reads
 
--- src/lib.rt:99:13
 cast-r : tie.Need-cast-r
 cast-r c = omega (arith, so-far-few (c .before .args .state .now) (c .before .args .k) (c .before .args .count) (c .before .pre .3))
 
--- src/lib.rt:100:14
 add-h : tie.Need-add-h
 add-h c = search needs
 
--- src/lib.rt:100:13
 cast-h : tie.Need-cast-h
 cast-h c = search needs
 
--- src/lib.rt:101:15
 mul-state : tie.Need-mul-state
 mul-state c = search needs
 
--- src/lib.rt:101:11
 add-state : tie.Need-add-state
 add-state c = search needs
 
--- src/lib.rt:101:5
 mul-state-2 : tie.Need-mul-state-2
 mul-state-2 c = search needs
 
--- src/lib.rt:101:5
 slice-write-state : tie.Need-slice-write-state
 slice-write-state c = search needs
 
--- src/lib.rt:102:5
 slice-write-state-2 : tie.Need-slice-write-state-2
 slice-write-state-2 c =
     let a = c .before .args in
@@ -50,11 +38,9 @@ slice-write-state-2 c =
     let m : length (set (set s (5 + a .k * 129) (a .count)) 4 (a .k + 1)) ≡ length s = length-set (set s (5 + a .k * 129) (a .count)) 4 (a .k + 1) ∙ n in
     omega (arith, c .before .pre .0)
 
--- src/lib.rt:103:19
 add-settle : tie.Need-add-settle
 add-settle c = search needs
 
--- src/lib.rt:103:5
 settle-requires : tie.Need-settle-requires
 settle-requires c κs =
     let a = c .before .before .args in
@@ -63,7 +49,6 @@ settle-requires c κs =
     let m : length (set (set s (5 + a .k * 129) (a .count)) 4 (a .k + 1)) ≡ length s = length-set (set s (5 + a .k * 129) (a .count)) 4 (a .k + 1) ∙ n in
     (omega (arith, c .before .before .pre .0), omega (arith, c .before .before .pre .1), new-height s (a .k) (a .count) (c .before .before .pre .0) (c .before .before .pre .1) (c .before .before .pre .2) (c .before .before .pre .3), new-words s (a .k) (a .count) (c .before .before .pre .0) (c .before .before .pre .1) (c .before .before .pre .2) (c .before .before .pre .3))
 
--- src/lib.rt:95:1
 same-length : tie.Need-same-length
 same-length c =
     let a = c .before .before .before .before .before .args in
@@ -72,7 +57,6 @@ same-length c =
     let m : length (set (set s (5 + a .k * 129) (a .count)) 4 (a .k + 1)) ≡ length s = length-set (set s (5 + a .k * 129) (a .count)) 4 (a .k + 1) ∙ n in
     omega (arith, c .before .before .settle .kept .0)
 
--- src/lib.rt:95:1
 returns : tie.Need-returns
 returns c =
     let a = c .before .before .before .before .before .args in

@@ -1,68 +1,48 @@
 use borrow.Author.Needs.{needs}
-use native.Mathlib.Omega.{arith}
-use mathlib.Core.Path.{_≡_, refl, sym, ap, _∙_, subst}
-use mathlib.Core.List.{List, [], _∷_, _++_}
-use Prim.Native.Nat.{ℕ, suc, _+_, _-_, _*_, _<_, _≤_}
-use lib.ListN.{length, take, drop, getD, set, length-set}
+use mathlib.Core.Path.{refl, ap, _∙_}
+use Prim.Native.Nat.{_+_, _-_, _*_}
 use Rattle.terms.specs.Rows.{cleared}
 use Rattle.writing.proofs.Parts.{block-by}
 use Rattle.writing.proofs.Assembling.{settled-by}
 use Rattle.writing.proofs.settle.Statement.{statement}
 use Rattle.writing.proofs.settle.Tie as tie
-use Rattle.writing.proofs.settle.Reads as reads
-use Rattle.writing.proofs.settle.Lts as lts
-use Rattle.terms.proofs.clear.Reads as clear-reads
-use Rattle.writing.proofs.tidy.Reads as tidy-reads
 
--- src/lib.rt:88:5
 tidy-requires : tie.Need-tidy-requires
 tidy-requires c κs = search needs
 
--- src/lib.rt:89:17
 mul-a : tie.Need-mul-a
 mul-a c = search needs
 
--- src/lib.rt:89:13
 add-a : tie.Need-add-a
 add-a c = search needs
 
--- src/lib.rt:90:18
 mul-clear : tie.Need-mul-clear
 mul-clear c = search needs
 
--- src/lib.rt:90:18
 sub-clear : tie.Need-sub-clear
 sub-clear c = search needs
 
--- src/lib.rt:90:18
 part-clear-start : tie.Need-part-clear-start
 part-clear-start c = search needs
 
--- src/lib.rt:90:18
 part-clear-end : tie.Need-part-clear-end
 part-clear-end c = search needs
 
--- src/lib.rt:90:5
 clear-requires : tie.Need-clear-requires
 clear-requires c κs = search needs
 
--- src/lib.rt:91:32
 mul-clear-2 : tie.Need-mul-clear-2
 mul-clear-2 c = search needs
 
--- src/lib.rt:91:25
 add-clear : tie.Need-add-clear
 add-clear c = search needs
 
--- src/lib.rt:91:5
 clear-requires-2 : tie.Need-clear-requires-2
 clear-requires-2 c κs = search needs
 
--- src/lib.rt:84:1
 same-length : tie.Need-same-length
 same-length c = search needs
 
--- src/lib.rt:84:1
 returns : tie.Need-returns
 returns c =
     let a = c .before .before .before .before .before .before .before .before .before .before .before .before .before .args in

@@ -1,17 +1,11 @@
-use borrow.Author.Needs.{needs}
 use native.Mathlib.Omega.{arith}
-use mathlib.Core.Path.{_≡_, refl, sym, ap, _∙_, subst}
-use mathlib.Core.List.{List, [], _∷_, _++_}
-use Prim.Native.Nat.{ℕ, suc, _+_, _-_, _*_, _<_, _≤_}
-use lib.ListN.{length, take, drop, getD, set, length-set}
+use mathlib.Core.Path.{_≡_, sym, subst}
+use Prim.Native.Nat.{_+_, _-_, _≤_}
 use Rattle.writing.specs.Settled.{Tidied-to}
 use Rattle.writing.proofs.Blocks.{tidied-none, tidied-more}
 use Rattle.writing.proofs.Spelled.{all-sized, sized-at}
 use Rattle.writing.proofs.tidy.Statement.{statement}
 use Rattle.writing.proofs.tidy.Tie as tie
-use Rattle.writing.proofs.tidy.Reads as reads
-use Rattle.writing.proofs.tidy.Lts as lts
-use Rattle.writing.proofs.tidy_level.Reads as tidy-level-reads
 
 abbrev Inv-loop : tie.InvT-loop
 Inv-loop state₀ h k₀ state k = (k ≤ h) × Tidied-to state₀ state k
@@ -19,11 +13,9 @@ Inv-loop state₀ h k₀ state k = (k ≤ h) × Tidied-to state₀ state k
 abbrev μ-loop : tie.MeasureT-loop
 μ-loop state₀ h k₀ state k = h - k
 
--- src/lib.rt:77:5
 loop-holds : tie.Need-loop-holds Inv-loop μ-loop
 loop-holds c = (omega arith, tidied-none (c .before .args .state .now))
 
--- src/lib.rt:78:9
 tidy-level-requires : tie.Need-tidy-level-requires Inv-loop μ-loop
 tidy-level-requires c κs =
     let a = c .before .before .before .before .args in
@@ -31,26 +23,21 @@ tidy-level-requires c κs =
     let z = sized-at (a .state .now) (l .state) (c .before .before .before .before .pre .0) (a .h) (c .before .before .before .before .pre .1) (c .before .before .before .before .pre .2) (l .k) (omega arith) (l .inv .1) in
     (omega (arith, l .inv .1 .long), omega arith, z .0, z .1)
 
--- src/lib.rt:79:9
 add-k : tie.Need-add-k Inv-loop μ-loop
 add-k c = omega arith
 
--- src/lib.rt:77:5
 loop-less : tie.Need-loop-less Inv-loop μ-loop
 loop-less c = omega arith
 
--- src/lib.rt:77:5
 loop-again : tie.Need-loop-again Inv-loop μ-loop
 loop-again c =
     let a = c .before .before .before .before .before .before .before .args in
     let l = c .before .before .before .before .before .loop in
     (omega arith, subst (λ z. Tidied-to (a .state .now) z (l .k + 1)) (sym (c .before .before .tidy-level .ensures)) (tidied-more (a .state .now) (l .state) (l .k) (c .before .before .before .before .before .before .before .pre .0) (omega arith) (λ j m. all-sized (a .state .now) (c .before .before .before .before .before .before .before .pre .0) (a .h) (c .before .before .before .before .before .before .before .pre .1) (c .before .before .before .before .before .before .before .pre .2) j (omega (arith, c .before .before .before .before .loop-test .taken))) (l .inv .1)))
 
--- src/lib.rt:72:1
 same-length : tie.Need-same-length Inv-loop μ-loop
 same-length c = omega (arith, c .before .loop .inv .1 .long)
 
--- src/lib.rt:72:1
 returns : tie.Need-returns Inv-loop μ-loop
 returns c =
     let l = c .before .loop in

@@ -1,9 +1,9 @@
 use borrow.Author.Needs.{needs}
 use native.Mathlib.Omega.{arith}
-use mathlib.Core.Path.{_≡_, refl, sym, ap, _∙_, subst}
-use mathlib.Core.List.{List, [], _∷_, _++_}
-use Prim.Native.Nat.{ℕ, suc, _+_, _-_, _*_, _<_, _≤_}
-use lib.ListN.{length, take, drop, getD, set, length-set}
+use mathlib.Core.Path.{_≡_, refl, ap, _∙_}
+use mathlib.Core.List.{_++_}
+use Prim.Native.Nat.{_+_, _-_, _*_}
+use lib.ListN.{take, drop}
 use Rattle.tables.specs.Cuts.{start-of}
 use Rattle.levels.specs.Places.{ends-from}
 use Rattle.levels.specs.Places.{count-at}
@@ -11,97 +11,70 @@ use Rattle.writing.specs.Growing.{block-cleared}
 use Rattle.writing.proofs.Parts.{block-by}
 use Rattle.writing.proofs.tidy_level.Statement.{statement}
 use Rattle.writing.proofs.tidy_level.Tie as tie
-use Rattle.writing.proofs.tidy_level.Reads as reads
-use Rattle.writing.proofs.tidy_level.Lts as lts
-use Rattle.levels.proofs.count_of.Reads as count-of-reads
-use Rattle.terms.proofs.clear.Reads as clear-reads
-use Rattle.writing.proofs.end_of.Reads as end-of-reads
 
--- src/lib.rt:60:9
 count-of-requires : tie.Need-count-of-requires
 count-of-requires c κs = search needs
 
--- src/lib.rt:61:9
 end-of-requires : tie.Need-end-of-requires
 end-of-requires c κs = search needs
 
--- src/lib.rt:62:17
 mul-a : tie.Need-mul-a
 mul-a c = search needs
 
--- src/lib.rt:62:13
 add-a : tie.Need-add-a
 add-a c = search needs
 
--- src/lib.rt:63:13
 add-b : tie.Need-add-b
 add-b c = search needs
 
--- src/lib.rt:64:18
 mul-clear : tie.Need-mul-clear
 mul-clear c = search needs
 
--- src/lib.rt:64:18
 sub-clear : tie.Need-sub-clear
 sub-clear c = search needs
 
--- src/lib.rt:64:18
 part-clear-start : tie.Need-part-clear-start
 part-clear-start c = search needs
 
--- src/lib.rt:64:18
 part-clear-end : tie.Need-part-clear-end
 part-clear-end c = search needs
 
--- src/lib.rt:64:36
 add-clear : tie.Need-add-clear
 add-clear c = search needs
 
--- src/lib.rt:64:5
 clear-requires : tie.Need-clear-requires
 clear-requires c κs = search needs
 
--- src/lib.rt:65:20
 mul-c : tie.Need-mul-c
 mul-c c = search needs
 
--- src/lib.rt:65:13
 add-c : tie.Need-add-c
 add-c c = search needs
 
--- src/lib.rt:66:13
 add-d : tie.Need-add-d
 add-d c = search needs
 
--- src/lib.rt:67:18
 mul-clear-2 : tie.Need-mul-clear-2
 mul-clear-2 c = search needs
 
--- src/lib.rt:67:18
 sub-clear-2 : tie.Need-sub-clear-2
 sub-clear-2 c = search needs
 
--- src/lib.rt:67:18
 part-clear-start-2 : tie.Need-part-clear-start-2
 part-clear-start-2 c = search needs
 
--- src/lib.rt:67:18
 part-clear-end-2 : tie.Need-part-clear-end-2
 part-clear-end-2 c = search needs
 
--- src/lib.rt:67:36
 mul-clear-3 : tie.Need-mul-clear-3
 mul-clear-3 c = omega (arith, c .before .before .before .before .before .end-of .ensures, c .before .before .before .before .before .before .before .before .before .before .pre .3, ap (start-of (ends-from (c .before .before .before .before .before .before .before .before .before .before .args .state .now) (c .before .before .before .before .before .before .before .before .before .before .args .k))) (c .before .before .before .before .before .before .before .count-of .ensures))
 
--- src/lib.rt:67:5
 clear-requires-2 : tie.Need-clear-requires-2
 clear-requires-2 c κs = search needs
 
--- src/lib.rt:56:1
 same-length : tie.Need-same-length
 same-length c = search needs
 
--- src/lib.rt:56:1
 returns : tie.Need-returns
 returns c =
     let a = c .before .before .before .before .before .before .before .before .before .before .before .before .before .args in
