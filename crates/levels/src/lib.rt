@@ -1,0 +1,432 @@
+// The state as words: the soundness test behind 11, and the tables that a lifting reads.
+// Knows: crate definitions' Layout and State, with document 01's limits (docs/BUFFERS.md).
+ghost use mathlib.Core.Path.{_≡_};
+ghost use mathlib.Core.Bool.{not};
+ghost use Prim.Native.Nat.{_+_, _-_, _*_, _≤_, _<_};
+ghost use lib.Dec.{T};
+ghost use lib.ListN.{length, take, getD};
+ghost use Rattle.definitions.specs.Limits.{document-01};
+ghost use Rattle.definitions.specs.Lists.{_and_, between as between-definition};
+ghost use Rattle.definitions.specs.Monomial.{divides?};
+ghost use Rattle.definitions.specs.Order.{greater?};
+ghost use Rattle.definitions.specs.Problem.{prime-in-range?, in-ranges?};
+ghost use Rattle.definitions.specs.Layout.{holds-state?};
+ghost use Rattle.orders.specs.Images.{comparison-of, exponents-raw, key-of, compare-keys, table-of, table-order, Tabled};
+ghost use Rattle.levels.specs.Places.{parameters-of, parameters-at, count-at, count-below, components-at, rows-from, ends-from};
+ghost use Rattle.levels.specs.Holding.{exponent-limits as limits-definition, limit-at, bounds-of, row-holds?, follows?, all-hold?, vector-holds?, vectors-hold?, level-holds?, level-test?, levels-hold?};
+ghost use Rattle.levels.specs.Tabled.{Advanced, Ready-pair, Led};
+ghost use Rattle.tables.specs.Cuts.{Cut};
+use orders::Comparison;
+use orders::Image;
+
+// p, n, the order code, s.
+pub struct Parameters {
+    pub p: u16,
+    pub n: u16,
+    pub code: u16,
+    pub s: u16,
+}
+
+// What a row's words are held to: the greatest coefficient and component, the greatest of each exponent.
+pub struct Bounds {
+    pub top: u16,
+    pub components: u16,
+    pub exponents: [u16; 8],
+}
+
+pub fn place(x: u16) -> usize
+    ensures { λ r. ⌜ r ≡ x ⌝ }
+{
+    x as usize
+}
+
+fn both(a: bool, b: bool) -> bool
+    ensures { λ r. ⌜ r ≡ (a and b) ⌝ }
+{
+    if a {
+        return b;
+    }
+    false
+}
+
+fn fails(a: bool) -> bool
+    ensures { λ r. ⌜ r ≡ not a ⌝ }
+{
+    if a {
+        return false;
+    }
+    true
+}
+
+fn between(a: u16, x: u16, b: u16) -> bool
+    ensures { λ r. ⌜ r ≡ between-definition a x b ⌝ }
+{
+    if x < a {
+        return false;
+    }
+    x <= b
+}
+
+// ## Parameters
+
+pub fn read_parameters(state: &[u16]) -> Parameters
+    requires { ⌜ 5 ≤ length (now state) ⌝ }
+    ensures { λ q. ⌜ parameters-of q ≡ parameters-at (now (state .entry)) ⌝ }
+{
+    Parameters {
+        p: state[0],
+        n: state[1],
+        code: state[2],
+        s: state[3],
+    }
+}
+
+fn prime_in_range(p: u16) -> bool
+    ensures { λ r. ⌜ r ≡ prime-in-range? document-01 p ⌝ }
+{
+    if 32767 < p {
+        return false;
+    }
+    field::is_prime(p)
+}
+
+fn in_ranges(q: Parameters) -> bool
+    ensures { λ r. ⌜ r ≡ in-ranges? document-01 (parameters-of q) ⌝ }
+{
+    let n = between(1, q.n, 8);
+    let code = between(1, q.code, 3);
+    let s = between(1, q.s, 16);
+    both(n, both(code, s))
+}
+
+// ## Rows
+
+// The greatest value of exponent j.
+fn limit(n: u16, j: usize) -> u16
+    ensures { λ r. ⌜ r ≡ limit-at n j ⌝ }
+{
+    if j < place(n) {
+        return 255;
+    }
+    0
+}
+
+fn exponent_limits(n: u16) -> [u16; 8]
+    ensures { λ r. ⌜ r ≡ limits-definition n ⌝ }
+{
+    let mut w = [0u16; 8];
+    let mut j = 0;
+    while j < 8 {
+        w[j] = limit(n, j);
+        j += 1;
+    }
+    w
+}
+
+fn less_one(p: u16) -> u16
+    ensures { λ r. ⌜ r ≡ p - 1 ⌝ }
+{
+    if p == 0 {
+        return 0;
+    }
+    p - 1
+}
+
+fn row_bounds(p: u16, n: u16, components: u16) -> Bounds
+    ensures { λ b. ⌜ b ≡ bounds-of p n components ⌝ }
+{
+    let top = less_one(p);
+    let exponents = exponent_limits(n);
+    Bounds {
+        top,
+        components,
+        exponents,
+    }
+}
+
+// Whether each of the eight words from at on is at most its limit.
+fn within(level: &[u16], at: usize, w: [u16; 8]) -> bool
+    requires { ⌜ at + 8 ≤ length (now level) ⌝ }
+    ensures { λ r. ⌜ r ≡ divides? (exponents-raw (now (level .entry)) at) w ⌝ }
+{
+    let mut mark: u16 = 0;
+    let mut j = 0;
+    while j < 8 {
+        mark = monomial::mark_above(mark, level[at + j], w[j]);
+        j += 1;
+    }
+    mark == 0
+}
+
+fn row_holds(level: &[u16], i: usize, b: Bounds) -> bool
+    requires { ⌜ i * 10 + 10 ≤ length (now level) ⌝ }
+    ensures { λ r. ⌜ r ≡ row-holds? b (now (level .entry)) i ⌝ }
+{
+    let at = i * 10;
+    let w = b.exponents;
+    let c = between(1, level[at], b.top);
+    let m = between(1, level[at + 1], b.components);
+    let e = within(level, at + 2, w);
+    both(c, both(m, e))
+}
+
+// ## Vectors
+
+fn is_greater(c: Comparison) -> bool
+    ensures { λ r. ⌜ r ≡ greater? (comparison-of c) ⌝ }
+{
+    match c {
+        Comparison::Greater => true,
+        Comparison::Equal => false,
+        Comparison::Smaller => false,
+    }
+}
+
+// Row i is in range and below the row with the image before it.
+fn follows(level: &[u16], i: usize, b: Bounds, code: u16, before: Image, image: Image) -> bool
+    requires { ⌜ i * 10 + 10 ≤ length (now level) ⌝ }
+    ensures { λ r. ⌜ r ≡ (row-holds? b (now (level .entry)) i and greater? (compare-keys code (key-of before) (key-of image))) ⌝ }
+{
+    let x = row_holds(level, i, b);
+    let c = orders::compare_images(code, before, image);
+    both(x, is_greater(c))
+}
+
+// The rows behind row `from`, up to row `to`.
+fn rest_holds(
+    level: &[u16],
+    from: usize,
+    to: usize,
+    b: Bounds,
+    code: u16,
+    table: &[u16],
+    n: usize,
+) -> bool
+    requires { ⌜ (from < to) × (to * 10 ≤ length (now level)) × (n * 10 ≤ length (now table)) × Tabled n (now table) ⌝ }
+    ensures { λ r. ⌜ r ≡ all-hold? (follows? b (table-order code (table-of n (now (table .entry)))) (now (level .entry))) (from + 1) (to - (from + 1)) ⌝ }
+{
+    let mut before = tables::image_at(level, from, table, n);
+    let mut i = from + 1;
+    while i < to {
+        let image = tables::image_at(level, i, table, n);
+        if fails(follows(level, i, b, code, before, image)) {
+            return false;
+        }
+        before = image;
+        i += 1;
+    }
+    true
+}
+
+// The vector from row `from` up to row `to`, of at most so many terms.
+fn vector_holds(
+    level: &[u16],
+    from: usize,
+    to: usize,
+    most: usize,
+    b: Bounds,
+    code: u16,
+    table: &[u16],
+    n: usize,
+) -> bool
+    requires { ⌜ (20480 ≤ length (now level)) × (n * 10 ≤ length (now table)) × Tabled n (now table) ⌝ }
+    ensures { λ r. ⌜ r ≡ vector-holds? b most (table-order code (table-of n (now (table .entry)))) (now (level .entry)) from to ⌝ }
+{
+    if to <= from {
+        return false;
+    }
+    if 2048 < to {
+        return false;
+    }
+    if most < to - from {
+        return false;
+    }
+    let x = row_holds(level, from, b);
+    let y = rest_holds(level, from, to, b, code, table, n);
+    both(x, y)
+}
+
+// Vectors by their ends.
+fn vectors_hold(
+    level: &[u16],
+    ends: &[u16],
+    r: usize,
+    most: usize,
+    b: Bounds,
+    code: u16,
+    table: &[u16],
+    n: usize,
+) -> bool
+    requires { ⌜ (r ≤ length (now ends)) × (20480 ≤ length (now level)) × (n * 10 ≤ length (now table)) × Tabled n (now table) ⌝ }
+    ensures { λ x. ⌜ x ≡ vectors-hold? b most (table-order code (table-of n (now (table .entry)))) (now (level .entry)) 0 (take r (now (ends .entry))) ⌝ }
+{
+    let mut from: usize = 0;
+    let mut j: usize = 0;
+    while j < r {
+        let to = place(ends[j]);
+        if fails(vector_holds(level, from, to, most, b, code, table, n)) {
+            return false;
+        }
+        from = to;
+        j += 1;
+    }
+    true
+}
+
+// ## Levels
+
+// How many vectors level k has.
+pub fn count_of(state: &[u16], k: usize) -> usize
+    requires { ⌜ (206095 ≤ length (now state)) × (k < 10) ⌝ }
+    ensures { λ r. ⌜ r ≡ count-at (now (state .entry)) k ⌝ }
+{
+    place(state[5 + k * 129])
+}
+
+// How many the level below has.
+fn count_under(state: &[u16], k: usize) -> usize
+    requires { ⌜ (206095 ≤ length (now state)) × (k ≤ 10) ⌝ }
+    ensures { λ r. ⌜ r ≡ count-below (now (state .entry)) k ⌝ }
+{
+    if k == 0 {
+        return 0;
+    }
+    place(state[5 + (k - 1) * 129])
+}
+
+// Level k: from low to high vectors, of at most so many terms each.
+fn level_holds(
+    state: &[u16],
+    k: usize,
+    low: u16,
+    high: u16,
+    most: usize,
+    b: Bounds,
+    code: u16,
+    table: &[u16],
+    n: usize,
+) -> bool
+    requires { ⌜ (206095 ≤ length (now state)) × (k < 10) × (high ≤ 128) × (n * 10 ≤ length (now table)) × Tabled n (now table) ⌝ }
+    ensures { λ r. ⌜ r ≡ level-holds? low high most b (table-order code (table-of n (now (table .entry)))) (now (state .entry)) k ⌝ }
+{
+    let at = 5 + k * 129;
+    let count = state[at];
+    if fails(between(low, count, high)) {
+        return false;
+    }
+    let start = 1295 + k * 20480;
+    let r = place(count);
+    let ends = at + 1;
+    vectors_hold(&state[start..], &state[ends..], r, most, b, code, table, n)
+}
+
+// Level k, over the table of images of its module.
+fn level_test(state: &[u16], k: usize, table: &[u16], n: usize) -> bool
+    requires { ⌜ (206095 ≤ length (now state)) × (k < 10) × (n * 10 ≤ length (now table)) × Tabled n (now table) ⌝ }
+    ensures { λ r. ⌜ r ≡ level-test? (now (state .entry)) k (table-of n (now (table .entry))) ⌝ }
+{
+    let p = state[0];
+    let v = state[1];
+    let code = state[2];
+    if k == 0 {
+        let b = row_bounds(p, v, state[3]);
+        return level_holds(state, k, 1, 64, 2048, b, code, table, n);
+    }
+    let b = row_bounds(p, v, state[5 + (k - 1) * 129]);
+    level_holds(state, k, 0, 128, 512, b, code, table, n)
+}
+
+// ## Tables of images
+
+// The table over levels 0 to k − 1 goes from above to below, the one over level k too is made from it.
+fn advance(below: &mut [u16], above: &mut [u16], state: &[u16], k: usize)
+    requires { ⌜ (206095 ≤ length (now state)) × (k < 10) × (1280 ≤ length (now below)) × (1280 ≤ length (now above)) × (count-below (now state) k ≤ 128) × (count-at (now state) k ≤ 128) × Cut (count-at (now state) k) (rows-from (now state) k) (ends-from (now state) k) × Tabled (count-below (now state) k) (now above) ⌝ }
+    ensures { λ _. ⌜ Advanced (now (state .entry)) k (now (above .entry)) (now (below .exit)) (now (above .exit)) ⌝ }
+{
+    let n = count_under(state, k);
+    terms::copy(below, 0, above, n * 10);
+    let r = count_of(state, k);
+    let start = 1295 + k * 20480;
+    let ends = 6 + k * 129;
+    tables::fill_images(above, &state[start..], &state[ends..], r, below, n);
+}
+
+// Levels 0 to h − 1, each over the table of the ones below it.
+fn levels_hold(below: &mut [u16], above: &mut [u16], state: &[u16], h: usize) -> bool
+    requires { ⌜ (206095 ≤ length (now state)) × (h ≤ 10) × (1280 ≤ length (now below)) × (1280 ≤ length (now above)) ⌝ }
+    ensures { λ r. ⌜ r ≡ levels-hold? (now (state .entry)) h ⌝ }
+{
+    let mut k: usize = 0;
+    while k < h {
+        let n = count_under(state, k);
+        if fails(level_test(state, k, above, n)) {
+            return false;
+        }
+        advance(below, above, state, k);
+        k += 1;
+    }
+    true
+}
+
+// ## The state
+
+// Whether the contents are those of a state with an accepted basis: the test behind 11.
+pub fn sound(state: &[u16]) -> bool
+    requires { ⌜ 206095 ≤ length (now state) ⌝ }
+    ensures { λ r. ⌜ r ≡ holds-state? document-01 (now (state .entry)) ⌝ }
+{
+    let h = place(state[4]);
+    if h == 0 {
+        return false;
+    }
+    if 10 < h {
+        return false;
+    }
+    let q = read_parameters(state);
+    let ranges = in_ranges(q);
+    if fails(both(prime_in_range(q.p), ranges)) {
+        return false;
+    }
+    let mut below = [0u16; 1280];
+    let mut above = [0u16; 1280];
+    levels_hold(&mut below, &mut above, state, h)
+}
+
+// ## What a lifting reads
+
+// The tables of images over levels 0 to k − 1, above, and over levels 0 to k − 2, below.
+pub fn fill_tables(below: &mut [u16], above: &mut [u16], state: &[u16], k: usize)
+    requires { ⌜ (206095 ≤ length (now state)) × T (holds-state? document-01 (now state)) × (k ≤ getD (now state) 4 0) × (1280 ≤ length (now below)) × (1280 ≤ length (now above)) ⌝ }
+    ensures { λ _. ⌜ Ready-pair (now (state .entry)) k (now (below .exit)) (now (above .exit)) ⌝ }
+{
+    let mut j: usize = 0;
+    while j < k {
+        advance(below, above, state, j);
+        j += 1;
+    }
+}
+
+// How many components level k's module has.
+pub fn components_of(state: &[u16], k: usize) -> usize
+    requires { ⌜ (206095 ≤ length (now state)) × (k ≤ 10) ⌝ }
+    ensures { λ r. ⌜ r ≡ components-at (now (state .entry)) k ⌝ }
+{
+    if k == 0 {
+        return place(state[3]);
+    }
+    place(state[5 + (k - 1) * 129])
+}
+
+// The leading rows of level k and the spans of its components.
+pub fn fill_leads(heads: &mut [u16], spans: &mut [u16], state: &[u16], k: usize)
+    requires { ⌜ (206095 ≤ length (now state)) × T (holds-state? document-01 (now state)) × (k < getD (now state) 4 0) × (1280 ≤ length (now heads)) × (258 ≤ length (now spans)) ⌝ }
+    ensures { λ _. ⌜ Led (now (state .entry)) k (now (heads .exit)) (now (spans .exit)) ⌝ }
+{
+    let r = count_of(state, k);
+    let start = 1295 + k * 20480;
+    let ends = 6 + k * 129;
+    let p = state[0];
+    tables::fill_heads(heads, &state[start..], &state[ends..], r, p);
+    let c = components_of(state, k);
+    tables::fill_spans(spans, c + 1, heads, r);
+}

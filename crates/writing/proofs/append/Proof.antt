@@ -1,0 +1,98 @@
+use borrow.Author.Needs.{needs}
+use native.Mathlib.Omega.{arith}
+use mathlib.Core.Path.{_≡_, ap, _∙_}
+use mathlib.Core.List.{_++_}
+use Prim.Native.Nat.{_+_, _-_, _*_}
+use lib.ListN.{take, drop, set}
+use lib.Seq.{paste}
+use Rattle.definitions.specs.Layout.{rows, rows-of}
+use Rattle.writing.proofs.Copying.{length-spelled}
+use Rattle.writing.proofs.Parts.{paste-part}
+use Rattle.writing.proofs.append.Statement.{statement}
+use Rattle.writing.proofs.append.Tie as tie
+
+mul-start : tie.Need-mul-start
+mul-start c = search needs
+
+add-start : tie.Need-add-start
+add-start c = search needs
+
+add-stop : tie.Need-add-stop
+add-stop c = search needs
+
+mul-copy-rows : tie.Need-mul-copy-rows
+mul-copy-rows c = search needs
+
+sub-copy-rows : tie.Need-sub-copy-rows
+sub-copy-rows c = search needs
+
+part-copy-rows-start : tie.Need-part-copy-rows-start
+part-copy-rows-start c = search needs
+
+part-copy-rows-end : tie.Need-part-copy-rows-end
+part-copy-rows-end c = search needs
+
+copy-rows-requires : tie.Need-copy-rows-requires
+copy-rows-requires c κs = search needs
+
+add-end : tie.Need-add-end
+add-end c = search needs
+
+cast-end : tie.Need-cast-end
+cast-end c = search needs
+
+mul-state : tie.Need-mul-state
+mul-state c = search needs
+
+add-state : tie.Need-add-state
+add-state c = search needs
+
+add-state-2 : tie.Need-add-state-2
+add-state-2 c = search needs
+
+add-state-3 : tie.Need-add-state-3
+add-state-3 c = search needs
+
+mul-state-2 : tie.Need-mul-state-2
+mul-state-2 c = search needs
+
+slice-write-state : tie.Need-slice-write-state
+slice-write-state c = search needs
+
+same-length : tie.Need-same-length
+same-length c = search needs
+
+returns : tie.Need-returns
+returns c =
+    let a = c .before .before .before .before .before .before .args in
+    let s = a .state .now in
+    let k = a .k in
+    let n : 1295 + k * 20480 + 20480 - (1295 + k * 20480) ≡ 20480 = omega arith in
+    let w = rows-of (rows (a .value .now) 0 (a .v)) in
+    let p : take (1295 + k * 20480) s ++ (c .before .before .copy-rows .last .0 ++ drop (1295 + k * 20480 + 20480 - (1295 + k * 20480)) (drop (1295 + k * 20480) s)) ≡ paste s (1295 + k * 20480 + a .used * 10) w (a .v * 10) =
+    (λ i. take (1295 + k * 20480) s ++ ((c .before .before .copy-rows .ensures ∙ (λ j. paste (take (n j) (drop (1295 + k * 20480) s)) (a .used * 10) w (a .v * 10))) i ++ drop (n i) (drop (1295 + k * 20480) s)))
+    ∙ paste-part s w (1295 + k * 20480) 20480 (a .used * 10) (a .v * 10) (omega (arith, c .before .before .before .before .before .before .pre .0, c .before .before .before .before .before .before .pre .1)) (omega (arith, c .before .before .before .before .before .before .pre .3)) (omega (arith, length-spelled (a .value .now) 0 (a .v))) in
+    ap (λ l. set l (5 + k * 129 + 1 + a .count) (a .used + a .v)) p
+
+pub append-spec : {M : Type 1} → statement M
+append-spec =
+    tie.close
+    (tie.spec
+    mul-start
+    add-start
+    add-stop
+    mul-copy-rows
+    sub-copy-rows
+    part-copy-rows-start
+    part-copy-rows-end
+    copy-rows-requires
+    add-end
+    cast-end
+    mul-state
+    add-state
+    add-state-2
+    add-state-3
+    mul-state-2
+    slice-write-state
+    same-length
+    returns)

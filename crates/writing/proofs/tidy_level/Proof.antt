@@ -1,0 +1,113 @@
+use borrow.Author.Needs.{needs}
+use native.Mathlib.Omega.{arith}
+use mathlib.Core.Path.{_≡_, refl, ap, _∙_}
+use mathlib.Core.List.{_++_}
+use Prim.Native.Nat.{_+_, _-_, _*_}
+use lib.ListN.{take, drop}
+use Rattle.tables.specs.Cuts.{start-of}
+use Rattle.levels.specs.Places.{ends-from}
+use Rattle.levels.specs.Places.{count-at}
+use Rattle.writing.specs.Growing.{block-cleared}
+use Rattle.writing.proofs.Parts.{block-by}
+use Rattle.writing.proofs.tidy_level.Statement.{statement}
+use Rattle.writing.proofs.tidy_level.Tie as tie
+
+count-of-requires : tie.Need-count-of-requires
+count-of-requires c κs = search needs
+
+end-of-requires : tie.Need-end-of-requires
+end-of-requires c κs = search needs
+
+mul-a : tie.Need-mul-a
+mul-a c = search needs
+
+add-a : tie.Need-add-a
+add-a c = search needs
+
+add-b : tie.Need-add-b
+add-b c = search needs
+
+mul-clear : tie.Need-mul-clear
+mul-clear c = search needs
+
+sub-clear : tie.Need-sub-clear
+sub-clear c = search needs
+
+part-clear-start : tie.Need-part-clear-start
+part-clear-start c = search needs
+
+part-clear-end : tie.Need-part-clear-end
+part-clear-end c = search needs
+
+add-clear : tie.Need-add-clear
+add-clear c = search needs
+
+clear-requires : tie.Need-clear-requires
+clear-requires c κs = search needs
+
+mul-c : tie.Need-mul-c
+mul-c c = search needs
+
+add-c : tie.Need-add-c
+add-c c = search needs
+
+add-d : tie.Need-add-d
+add-d c = search needs
+
+mul-clear-2 : tie.Need-mul-clear-2
+mul-clear-2 c = search needs
+
+sub-clear-2 : tie.Need-sub-clear-2
+sub-clear-2 c = search needs
+
+part-clear-start-2 : tie.Need-part-clear-start-2
+part-clear-start-2 c = search needs
+
+part-clear-end-2 : tie.Need-part-clear-end-2
+part-clear-end-2 c = search needs
+
+mul-clear-3 : tie.Need-mul-clear-3
+mul-clear-3 c = omega (arith, c .before .before .before .before .before .end-of .ensures, c .before .before .before .before .before .before .before .before .before .before .pre .3, ap (start-of (ends-from (c .before .before .before .before .before .before .before .before .before .before .args .state .now) (c .before .before .before .before .before .before .before .before .before .before .args .k))) (c .before .before .before .before .before .before .before .count-of .ensures))
+
+clear-requires-2 : tie.Need-clear-requires-2
+clear-requires-2 c κs = search needs
+
+same-length : tie.Need-same-length
+same-length c = search needs
+
+returns : tie.Need-returns
+returns c =
+    let a = c .before .before .before .before .before .before .before .before .before .before .before .before .before .args in
+    let s = a .state .now in
+    let k = a .k in
+    let n : 5 + k * 129 + 129 - (5 + k * 129) ≡ 129 = omega arith in
+    let m : 1295 + k * 20480 + 20480 - (1295 + k * 20480) ≡ 20480 = omega arith in
+    let b = block-by s s (c .before .before .before .before .before .before .clear .last .0) (5 + k * 129) 129 (5 + k * 129 + 129 - (5 + k * 129)) (1 + count-at s k) (1 + c .before .before .before .before .before .before .before .before .before .before .count-of .result) refl n (ap (λ r. 1 + r) (c .before .before .before .before .before .before .before .before .before .before .count-of .ensures)) (c .before .before .before .before .before .before .clear .ensures) in
+    block-by (take (5 + k * 129) s ++ (c .before .before .before .before .before .before .clear .last .0 ++ drop (5 + k * 129 + 129 - (5 + k * 129)) (drop (5 + k * 129) s))) (block-cleared (5 + k * 129) 129 (1 + count-at s k) s) (c .before .before .clear2 .last .0) (1295 + k * 20480) 20480 (1295 + k * 20480 + 20480 - (1295 + k * 20480)) (start-of (ends-from s k) (count-at s k) * 10) (c .before .before .before .before .before .before .before .before .end-of .result * 10) b m (ap (λ r. r * 10) (c .before .before .before .before .before .before .before .before .end-of .ensures ∙ ap (start-of (ends-from s k)) (c .before .before .before .before .before .before .before .before .before .before .count-of .ensures))) (c .before .before .clear2 .ensures)
+
+pub tidy-level-spec : {M : Type 1} → statement M
+tidy-level-spec =
+    tie.close
+    (tie.spec
+    count-of-requires
+    end-of-requires
+    mul-a
+    add-a
+    add-b
+    mul-clear
+    sub-clear
+    part-clear-start
+    part-clear-end
+    add-clear
+    clear-requires
+    mul-c
+    add-c
+    add-d
+    mul-clear-2
+    sub-clear-2
+    part-clear-start-2
+    part-clear-end-2
+    mul-clear-3
+    clear-requires-2
+    same-length
+    returns)

@@ -1,0 +1,125 @@
+// Writing the state: a finished vector appended, a level completed, unused places zeroed; and reading a vector out.
+// Knows: crate definitions' Layout (encode), with document 01's limits.
+ghost use mathlib.Core.Path.{_≡_};
+ghost use Prim.Native.Nat.{_+_, _-_, _*_, _≤_, _<_};
+ghost use lib.Dec.{T};
+ghost use lib.ListN.{length, getD, take, drop};
+ghost use lib.Seq.{paste};
+ghost use Rattle.definitions.specs.Limits.{document-01};
+ghost use Rattle.definitions.specs.Monomial.{vector-of};
+ghost use Rattle.definitions.specs.Layout.{rows, rows-of, padded, encode, decode, level-at, all-words-sound?, holds-state?};
+ghost use Rattle.tables.specs.Cuts.{start-of};
+ghost use Rattle.levels.specs.Places.{count-at, ends-from};
+ghost use Rattle.writing.specs.Growing.{words-so-far?, appended, finished, tidied};
+ghost use Rattle.writing.specs.Settled.{Tidied-to};
+
+// ## A vector more
+
+// The first v rows of a value, from row `used` on.
+fn copy_rows(d: &mut [u16], used: usize, value: &[u16], v: usize)
+    requires { ⌜ (v * 10 ≤ length (now value)) × ((used + v) * 10 ≤ length (now d)) ⌝ }
+    ensures { λ _. ⌜ now (d .exit) ≡ paste (now (d .entry)) (used * 10) (rows-of (rows (now (value .entry)) 0 v)) (v * 10) ⌝ }
+{
+    let mut j: usize = 0;
+    while j < v {
+        let t = terms::row(value, j);
+        terms::put(d, used + j, t);
+        j += 1;
+    }
+}
+
+// The first v rows of a value as vector count + 1 of level k, whose vectors so far use so many rows.
+pub fn append(state: &mut [u16], k: usize, count: usize, used: usize, value: &[u16], v: usize)
+    requires { ⌜ (206095 ≤ length (now state)) × (k < 10) × (count < 128) × (used + v ≤ 2048) × (v * 10 ≤ length (now value)) ⌝ }
+    ensures { λ _. ⌜ now (state .exit) ≡ appended (now (state .entry)) k count used (rows (now (value .entry)) 0 v) v ⌝ }
+{
+    let start = 1295 + k * 20480;
+    let stop = start + 20480;
+    copy_rows(&mut state[start..stop], used, value, v);
+    let end = (used + v) as u16;
+    state[5 + k * 129 + 1 + count] = end;
+}
+
+// ## Unused places
+
+// The end of the last of level k's first r vectors.
+fn end_of(state: &[u16], k: usize, r: usize) -> usize
+    requires { ⌜ (206095 ≤ length (now state)) × (k < 10) × (r ≤ 128) ⌝ }
+    ensures { λ x. ⌜ x ≡ start-of (ends-from (now (state .entry)) k) r ⌝ }
+{
+    if r == 0 {
+        return 0;
+    }
+    levels::place(state[5 + k * 129 + r])
+}
+
+// The unused places of level k.
+fn tidy_level(state: &mut [u16], k: usize)
+    requires { ⌜ (206095 ≤ length (now state)) × (k < 10) × (count-at (now state) k ≤ 128) × (start-of (ends-from (now state) k) (count-at (now state) k) ≤ 2048) ⌝ }
+    ensures { λ _. ⌜ now (state .exit) ≡ tidied (now (state .entry)) k ⌝ }
+{
+    let r = levels::count_of(state, k);
+    let used = end_of(state, k, r);
+    let a = 5 + k * 129;
+    let b = a + 129;
+    terms::clear(&mut state[a..b], 1 + r);
+    let c = 1295 + k * 20480;
+    let d = c + 20480;
+    terms::clear(&mut state[c..d], used * 10);
+}
+
+// The unused places of levels 0 to h − 1.
+fn tidy(state: &mut [u16], h: usize)
+    requires { ⌜ (206095 ≤ length (now state)) × (h ≤ 10) × T (all-words-sound? document-01 (now state) h) ⌝ }
+    ensures { λ _. ⌜ Tidied-to (now (state .entry)) (now (state .exit)) h ⌝ }
+{
+    let mut k: usize = 0;
+    while k < h {
+        tidy_level(state, k);
+        k += 1;
+    }
+}
+
+// All unused places of a state with h complete levels.
+fn settle(state: &mut [u16], h: usize)
+    requires { ⌜ (206095 ≤ length (now state)) × (h ≤ 10) × (getD (now state) 4 0 ≡ h) × T (all-words-sound? document-01 (now state) h) ⌝ }
+    ensures { λ _. ⌜ now (state .exit) ≡ encode document-01 (length (now (state .entry))) (decode document-01 (now (state .entry))) ⌝ }
+{
+    tidy(state, h);
+    let a = 5 + h * 129;
+    terms::clear(&mut state[a..1295], 0);
+    terms::clear(state, 1295 + h * 20480);
+}
+
+// Level k is complete with its vectors so far; levels above it are dropped, unused places zeroed.
+pub fn finish(state: &mut [u16], k: usize, count: usize)
+    requires { ⌜ (206095 ≤ length (now state)) × (k < 10) × T (all-words-sound? document-01 (now state) k) × T (words-so-far? (now state) k count) ⌝ }
+    ensures { λ _. ⌜ now (state .exit) ≡ encode document-01 (length (now (state .entry))) (finished (now (state .entry)) k count) ⌝ }
+{
+    let r = count as u16;
+    let h = (k + 1) as u16;
+    state[5 + k * 129] = r;
+    state[4] = h;
+    settle(state, k + 1);
+}
+
+// ## A vector read out
+
+// The n words from start on at the beginning of out, zeros behind them.
+fn copy_out(out: &mut [u16], state: &[u16], start: usize, n: usize)
+    requires { ⌜ (start + n ≤ length (now state)) × (n ≤ length (now out)) ⌝ }
+    ensures { λ _. ⌜ now (out .exit) ≡ padded (length (now (out .entry))) (take n (drop start (now (state .entry)))) ⌝ }
+{
+    terms::copy(out, 0, &state[start..], n);
+    terms::clear(out, n);
+}
+
+// Vector v of level k in rows from the beginning of out, zeros behind it.
+pub fn fetch_rows(out: &mut [u16], state: &[u16], k: usize, v: usize)
+    requires { ⌜ (206095 ≤ length (now state)) × T (holds-state? document-01 (now state)) × (1 ≤ k) × (k < getD (now state) 4 0) × (1 ≤ v) × (v ≤ count-at (now state) k) × (5120 ≤ length (now out)) ⌝ }
+    ensures { λ _. ⌜ now (out .exit) ≡ padded (length (now (out .entry))) (rows-of (vector-of (level-at document-01 (now (state .entry)) k) v)) ⌝ }
+{
+    let from = end_of(state, k, v - 1);
+    let to = end_of(state, k, v);
+    copy_out(out, state, 1295 + k * 20480 + from * 10, (to - from) * 10);
+}
