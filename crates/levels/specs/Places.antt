@@ -22,11 +22,6 @@ abbrev pub count-below : Words → ℕ → ℕ
 count-below s zero = 0
 count-below s (suc k) = count-at s k
 
--- how many components level k's module has
-abbrev pub components-at : Words → ℕ → ℕ
-components-at s zero = getD s 3 0
-components-at s (suc k) = count-at s k
-
 -- level k's rows, and the ends of its vectors
 abbrev pub rows-from : Words → ℕ → Words
 rows-from s k = drop (rows-place document-01 k) s

@@ -1,15 +1,12 @@
 -- The tables of images over the levels below level k, made one after the other.
 use mathlib.Core.Path.{_≡_}
-use Prim.Native.Nat.{ℕ, zero, suc, _+_, _*_, _≤_}
-use lib.ListN.{getD}
+use Prim.Native.Nat.{ℕ, _*_, _≤_}
 use Rattle.definitions.specs.Limits.{document-01}
-use Rattle.definitions.specs.Reducer.{heads}
-use Rattle.definitions.specs.Layout.{Words, rows, level-at, levels-at}
-use Rattle.reducers.specs.Search.{Small, Spanned}
+use Rattle.definitions.specs.Layout.{Words, level-at, levels-at}
 use Rattle.orders.specs.Images.{table-of}
 use Rattle.orders.specs.Levels.{table-over, images}
 use Rattle.tables.specs.Ranking.{Capped, Raised}
-use Rattle.levels.specs.Places.{count-at, count-below, components-at}
+use Rattle.levels.specs.Places.{count-at, count-below}
 
 -- the table over levels 0 to k − 1; an exponent grows by 255 with each level at the most
 pub record Ready (s : Words) (k : ℕ) (table : Words) : Type 0 where
@@ -23,14 +20,3 @@ pub record Advanced (s : Words) (k : ℕ) (old below above : Words) : Type 0 whe
   pub raised : Raised (count-below s k) old (count-at s k) above
   pub copied : table-of (count-below s k) below ≡ table-of (count-below s k) old
   pub kept : (b : ℕ) → Capped b (count-below s k) old → Capped b (count-below s k) below
-
--- the table over levels 0 to k − 1 above, and below it that without level k − 1
-abbrev pub Ready-pair : Words → ℕ → Words → Words → Type 0
-Ready-pair s zero below above = Ready s 0 above
-Ready-pair s (suc k) below above = Ready s (suc k) above × Ready s k below
-
--- the leading rows of level k, as the reducer rule reads them
-pub record Led (s : Words) (k : ℕ) (leads spans : Words) : Type 0 where
-  pub made : rows leads 0 (count-at s k) ≡ heads (getD s 0 0) (level-at document-01 s k)
-  pub small : Small (count-at s k) leads
-  pub spanned : Spanned (components-at s k + 1) (count-at s k) spans leads

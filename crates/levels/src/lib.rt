@@ -1,10 +1,9 @@
-// The state as words: the soundness test behind 11, and the tables that a lifting reads.
+// The state as words: the soundness test behind 11, and the tables of images that it makes as it goes.
 // Knows: crate definitions' Layout and State, with document 01's limits (docs/BUFFERS.md).
 ghost use mathlib.Core.Path.{_≡_};
 ghost use mathlib.Core.Bool.{not};
 ghost use Prim.Native.Nat.{_+_, _-_, _*_, _≤_, _<_};
-ghost use lib.Dec.{T};
-ghost use lib.ListN.{length, take, getD};
+ghost use lib.ListN.{length, take};
 ghost use Rattle.definitions.specs.Limits.{document-01};
 ghost use Rattle.definitions.specs.Lists.{_and_, between as between-definition};
 ghost use Rattle.definitions.specs.Monomial.{divides?};
@@ -12,9 +11,9 @@ ghost use Rattle.definitions.specs.Order.{greater?};
 ghost use Rattle.definitions.specs.Problem.{prime-in-range?, in-ranges?};
 ghost use Rattle.definitions.specs.Layout.{holds-state?};
 ghost use Rattle.orders.specs.Images.{comparison-of, exponents-raw, key-of, compare-keys, table-of, table-order, Tabled};
-ghost use Rattle.levels.specs.Places.{parameters-of, parameters-at, count-at, count-below, components-at, rows-from, ends-from};
+ghost use Rattle.levels.specs.Places.{parameters-of, parameters-at, count-at, count-below, rows-from, ends-from};
 ghost use Rattle.levels.specs.Holding.{exponent-limits as limits-definition, limit-at, bounds-of, row-holds?, follows?, all-hold?, vector-holds?, vectors-hold?, level-holds?, level-test?, levels-hold?};
-ghost use Rattle.levels.specs.Tabled.{Advanced, Ready-pair, Led};
+ghost use Rattle.levels.specs.Tabled.{Advanced};
 ghost use Rattle.tables.specs.Cuts.{Cut};
 use orders::Comparison;
 use orders::Image;
@@ -339,7 +338,7 @@ fn level_test(state: &[u16], k: usize, table: &[u16], n: usize) -> bool
 // ## Tables of images
 
 // The table over levels 0 to k − 1 goes from above to below, the one over level k too is made from it.
-fn advance(below: &mut [u16], above: &mut [u16], state: &[u16], k: usize)
+pub fn advance(below: &mut [u16], above: &mut [u16], state: &[u16], k: usize)
     requires { ⌜ (206095 ≤ length (now state)) × (k < 10) × (1280 ≤ length (now below)) × (1280 ≤ length (now above)) × (count-below (now state) k ≤ 128) × (count-at (now state) k ≤ 128) × Cut (count-at (now state) k) (rows-from (now state) k) (ends-from (now state) k) × Tabled (count-below (now state) k) (now above) ⌝ }
     ensures { λ _. ⌜ Advanced (now (state .entry)) k (now (above .entry)) (now (below .exit)) (now (above .exit)) ⌝ }
 {
@@ -390,43 +389,4 @@ pub fn sound(state: &[u16]) -> bool
     let mut below = [0u16; 1280];
     let mut above = [0u16; 1280];
     levels_hold(&mut below, &mut above, state, h)
-}
-
-// ## What a lifting reads
-
-// The tables of images over levels 0 to k − 1, above, and over levels 0 to k − 2, below.
-pub fn fill_tables(below: &mut [u16], above: &mut [u16], state: &[u16], k: usize)
-    requires { ⌜ (206095 ≤ length (now state)) × T (holds-state? document-01 (now state)) × (k ≤ getD (now state) 4 0) × (1280 ≤ length (now below)) × (1280 ≤ length (now above)) ⌝ }
-    ensures { λ _. ⌜ Ready-pair (now (state .entry)) k (now (below .exit)) (now (above .exit)) ⌝ }
-{
-    let mut j: usize = 0;
-    while j < k {
-        advance(below, above, state, j);
-        j += 1;
-    }
-}
-
-// How many components level k's module has.
-pub fn components_of(state: &[u16], k: usize) -> usize
-    requires { ⌜ (206095 ≤ length (now state)) × (k ≤ 10) ⌝ }
-    ensures { λ r. ⌜ r ≡ components-at (now (state .entry)) k ⌝ }
-{
-    if k == 0 {
-        return place(state[3]);
-    }
-    place(state[5 + (k - 1) * 129])
-}
-
-// The leading rows of level k and the spans of its components.
-pub fn fill_leads(heads: &mut [u16], spans: &mut [u16], state: &[u16], k: usize)
-    requires { ⌜ (206095 ≤ length (now state)) × T (holds-state? document-01 (now state)) × (k < getD (now state) 4 0) × (1280 ≤ length (now heads)) × (258 ≤ length (now spans)) ⌝ }
-    ensures { λ _. ⌜ Led (now (state .entry)) k (now (heads .exit)) (now (spans .exit)) ⌝ }
-{
-    let r = count_of(state, k);
-    let start = 1295 + k * 20480;
-    let ends = 6 + k * 129;
-    let p = state[0];
-    tables::fill_heads(heads, &state[start..], &state[ends..], r, p);
-    let c = components_of(state, k);
-    tables::fill_spans(spans, c + 1, heads, r);
 }

@@ -2,10 +2,11 @@ use borrow.Author.Needs.{needs}
 use native.Mathlib.Omega.{arith}
 use Prim.Native.Nat.{_<_, _≤_}
 use lib.ListN.{getD}
 use Rattle.levels.proofs.Advancing.{cut-parts}
-use Rattle.levels.proofs.Sounding.{height, prime-above, complete-cut, components-few, led}
-use Rattle.levels.proofs.fill_leads.Statement.{statement}
-use Rattle.levels.proofs.fill_leads.Tie as tie
+use Rattle.levels.proofs.Sounding.{height, prime-above, complete-cut}
+use Rattle.stages.proofs.Preparing.{components-few, led}
+use Rattle.stages.proofs.fill_leads.Statement.{statement}
+use Rattle.stages.proofs.fill_leads.Tie as tie
 
 count-of-requires : tie.Need-count-of-requires
 count-of-requires c κs =

@@ -2,11 +2,12 @@ use native.Mathlib.Omega.{arith}
 use mathlib.Core.Path.{_≡_, refl, subst}
 use Prim.Native.Nat.{_-_, _<_, _≤_}
 use lib.ListN.{length, getD}
-use Rattle.levels.specs.Tabled.{Ready-pair}
+use Rattle.stages.specs.Prepared.{Ready-pair}
 use Rattle.levels.proofs.Advancing.{ready-none, ready-tabled}
-use Rattle.levels.proofs.Sounding.{height, complete-cut, pair-above, pair-more}
-use Rattle.levels.proofs.fill_tables.Statement.{statement}
-use Rattle.levels.proofs.fill_tables.Tie as tie
+use Rattle.levels.proofs.Sounding.{height, complete-cut}
+use Rattle.stages.proofs.Preparing.{pair-above, pair-more}
+use Rattle.stages.proofs.fill_tables.Statement.{statement}
+use Rattle.stages.proofs.fill_tables.Tie as tie
 
 abbrev Inv-loop : tie.InvT-loop
 Inv-loop below₀ above₀ state k j₀ below above j = (j ≤ k) × (length below ≡ length below₀) × (length above ≡ length above₀) × Ready-pair state j below above

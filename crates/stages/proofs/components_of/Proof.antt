@@ -1,8 +1,8 @@
 use borrow.Author.Needs.{needs}
 use mathlib.Core.Path.{_∙_}
-use Rattle.levels.proofs.Sounding.{components-basis, components-above}
-use Rattle.levels.proofs.components_of.Statement.{statement}
-use Rattle.levels.proofs.components_of.Tie as tie
+use Rattle.stages.proofs.Preparing.{components-basis, components-above}
+use Rattle.stages.proofs.components_of.Statement.{statement}
+use Rattle.stages.proofs.components_of.Tie as tie
 
 shared-slice-read-place : tie.Need-shared-slice-read-place
 shared-slice-read-place c = search needs

@@ -1,0 +1,227 @@
+//! The proved soundness test against the unrelated implementation: sound states, and states with words altered anywhere.
+//!
+//!     test-levels [STATES [SEED]]   at least so many states (400,000 without it)
+//!     test-levels spoil             spoils one answer: the run must find it and exit with 1
+
+mod proved;
+mod states;
+
+use reference::buffers::{read_state, state_words, write_state, Layout, ROW};
+use reference::engine::{sound, Basis, State};
+use reference::generate::problems::{
+    problem_file, random_basis as random_problem, Size as ProblemSize,
+};
+use reference::lifting::Way;
+use reference::random::Random;
+use reference::Limits;
+use states::{full_basis, long_basis, random_basis, Size};
+
+const STATES: u64 = 400_000;
+const SEED: u64 = 20_250_202;
+
+struct Compare {
+    limits: Limits,
+    layout: Layout,
+    states: u64,
+    sound: u64,
+    spoiled: Option<u64>,
+}
+
+impl Compare {
+    /// Both answers to these words.
+    fn words(&mut self, state: &[u16], what: &str) -> bool {
+        let expected = read_state(&self.limits, state)
+            .basis
+            .is_some_and(|basis| sound(&self.limits, &basis));
+        let mut number = proved::number(state);
+        if self.spoiled == Some(self.states) {
+            number = 11 - number;
+        }
+        self.states += 1;
+        self.sound += u64::from(expected);
+        if number != if expected { 0 } else { 11 } {
+            println!(
+                "state {}: {what}: the proved test says {number}, the unrelated implementation says {}",
+                self.states,
+                if expected { "sound" } else { "not sound" }
+            );
+            std::process::exit(1);
+        }
+        expected
+    }
+
+    /// A sound state, and so many alterations of it.
+    fn altered(&mut self, random: &mut Random, basis: &Basis, state: &mut [u16], alterations: u64) {
+        write_state(
+            &self.limits,
+            &State {
+                basis: Some(basis.clone()),
+            },
+            state,
+        );
+        assert!(
+            self.words(state, "as made"),
+            "the generator makes sound states"
+        );
+        for _ in 0..alterations {
+            let before = alter(random, &self.layout, basis, state);
+            self.words(
+                state,
+                &format!("words {:?}", before.iter().map(|w| w.0).collect::<Vec<_>>()),
+            );
+            for (at, word) in before.into_iter().rev() {
+                state[at] = word;
+            }
+        }
+    }
+}
+
+/// Alters a word, or a whole row; gives what stood there.
+fn alter(
+    random: &mut Random,
+    layout: &Layout,
+    basis: &Basis,
+    state: &mut [u16],
+) -> Vec<(usize, u16)> {
+    let k = random.below(basis.levels.len() as u64) as usize;
+    let used: usize = basis.levels[k].iter().map(Vec::len).sum();
+    let row =
+        |random: &mut Random| layout.first_row(k) + ROW * random.below(used.max(1) as u64) as usize;
+    if random.chance(10) && used > 1 {
+        // the row before again, or two neighbours exchanged: equal or ascending neighbours
+        let at = layout.first_row(k) + ROW * random.between(1, used as u64 - 1) as usize;
+        let exchanged = random.chance(50);
+        let before: Vec<(usize, u16)> = (at - ROW..at + ROW).map(|i| (i, state[i])).collect();
+        for i in 1..ROW {
+            let old = state[at + i];
+            state[at + i] = state[at - ROW + i];
+            if exchanged {
+                state[at - ROW + i] = old;
+            }
+        }
+        return before;
+    }
+    let at = match random.below(100) {
+        0..=9 => random.below(5) as usize,
+        10..=24 => layout.count(k) + random.below(129) as usize,
+        25..=34 => layout.first_end(k) + random.below(basis.levels[k].len().max(1) as u64) as usize,
+        35..=89 => row(random) + random.below(ROW as u64) as usize,
+        _ => random.below(state.len() as u64) as usize,
+    };
+    let old = state[at];
+    state[at] = match random.below(12) {
+        0 => random.below(65_536) as u16,
+        1 => old.wrapping_add(1),
+        2 => old.wrapping_sub(1),
+        3 => random.below(4) as u16,
+        4 => *random.pick(&[0, 255, 256, 257, 65_535]),
+        5 => state[0].wrapping_sub(random.below(3) as u16),
+        6 => random.below(256) as u16,
+        7 => *random.pick(&[64, 65, 128, 129, 512, 513, 2_048, 2_049]),
+        8 => state[(at + ROW).min(state.len() - 1)],
+        9 => state[at.saturating_sub(ROW)],
+        10 => old ^ (1 << random.below(16)),
+        _ => old.wrapping_add(random.below(5) as u16).wrapping_sub(2),
+    };
+    vec![(at, old)]
+}
+
+/// The levels that lifting makes, over a random basis that is accepted.
+fn lifted(random: &mut Random, limits: &Limits) -> Option<Basis> {
+    let mut held = State::new();
+    let problem = random_problem(random, &ProblemSize::small());
+    held.read(limits, &problem_file(&problem), Some(20_000));
+    for k in 1..=random.below(4) {
+        held.lift(limits, k, Way::Hybrid(2), 0, Some(20_000));
+    }
+    held.basis
+}
+
+fn main() {
+    let arguments: Vec<String> = std::env::args().skip(1).collect();
+    let (mut wanted, mut seed, mut spoiled) = (STATES, SEED, None);
+    match arguments.iter().map(String::as_str).collect::<Vec<_>>()[..] {
+        ["spoil"] => spoiled = Some(4_321),
+        [] => {}
+        [states] => wanted = states.parse().expect("how many states"),
+        [states, from] => {
+            wanted = states.parse().expect("how many states");
+            seed = from.parse().expect("a seed");
+        }
+        _ => panic!("at most two arguments"),
+    }
+    let limits = Limits::document_01();
+    let layout = Layout::new(&limits);
+    let mut compare = Compare {
+        limits,
+        layout,
+        states: 0,
+        sound: 0,
+        spoiled,
+    };
+    let mut random = Random::new(seed);
+    let mut state = vec![0_u16; state_words(&compare.limits)];
+
+    // buffers of other lengths: too short is 16, longer ones are read as they are
+    for words in [0, 1, 1_295, state.len() - 1] {
+        assert_eq!(proved::number(&state[..words]), 16);
+    }
+    // no state at all
+    compare.words(&state, "all zero");
+    for order in 1..=3 {
+        let basis = full_basis(&mut random, order);
+        compare.altered(&mut random, &basis, &mut state, 60);
+        let basis = long_basis(&mut random);
+        compare.altered(&mut random, &basis, &mut state, 200);
+    }
+    let sizes = [
+        Size {
+            levels: 2,
+            vectors: 4,
+            terms: 4,
+            exponent: 2,
+        },
+        Size {
+            levels: 4,
+            vectors: 6,
+            terms: 6,
+            exponent: 3,
+        },
+        Size {
+            levels: 10,
+            vectors: 5,
+            terms: 8,
+            exponent: 4,
+        },
+        Size {
+            levels: 10,
+            vectors: 20,
+            terms: 12,
+            exponent: 2,
+        },
+    ];
+    let mut lifts = 0;
+    while compare.states < wanted {
+        let basis = if random.chance(15) {
+            match lifted(&mut random, &compare.limits) {
+                None => continue,
+                Some(basis) => {
+                    lifts += 1;
+                    basis
+                }
+            }
+        } else {
+            let size = *random.pick(&sizes);
+            random_basis(&mut random, &size)
+        };
+        compare.altered(&mut random, &basis, &mut state, 40);
+    }
+    println!(
+        "levels: {} states agree ({} sound, {} not, {lifts} bases lifted, seed {seed})",
+        compare.states,
+        compare.sound,
+        compare.states - compare.sound
+    );
+    // a run in which one of the answers hardly comes tests too little
+    assert!(compare.sound * 10 >= compare.states && compare.sound * 10 <= compare.states * 9);
+}

@@ -1,0 +1,175 @@
+//! Sound states: levels of any vectors that are in range and descend, lifted or not.
+
+use reference::engine::Basis;
+use reference::monomial::{Exponents, Level, Monomial, Parameters, Term, Vector};
+use reference::order::Modules;
+use reference::random::Random;
+
+const PRIMES: [u64; 8] = [2, 3, 5, 7, 101, 251, 32_719, 32_749];
+
+/// How large a state may become.
+#[derive(Clone, Copy)]
+pub struct Size {
+    pub levels: u64,
+    pub vectors: u64,
+    pub terms: u64,
+    /// exponents below this bound are the rule, so that images and components tie often
+    pub exponent: u64,
+}
+
+pub fn random_basis(random: &mut Random, size: &Size) -> Basis {
+    let parameters = Parameters {
+        p: *random.pick(&PRIMES),
+        n: random.between(1, 8),
+        order: random.between(1, 3),
+        s: if random.chance(80) {
+            random.between(1, 3)
+        } else {
+            random.between(1, 16)
+        },
+    };
+    let mut levels: Vec<Level> = Vec::new();
+    for k in 0..random.between(1, size.levels) as usize {
+        let components = match k {
+            0 => parameters.s,
+            _ => levels[k - 1].len() as u64,
+        };
+        let most = if k == 0 {
+            size.vectors.min(64)
+        } else {
+            size.vectors.min(128)
+        };
+        let count = match (k, components) {
+            (_, 0) => 0,
+            (0, _) => random.between(1, most),
+            _ => random.between(0, most),
+        };
+        let level = (0..count)
+            .map(|_| {
+                let terms = random.between(1, size.terms);
+                vector(
+                    random,
+                    &parameters,
+                    &levels,
+                    components,
+                    terms,
+                    size.exponent,
+                )
+            })
+            .collect();
+        levels.push(level);
+    }
+    Basis { parameters, levels }
+}
+
+/// Ten levels as full as they may be: 2,048 terms each.
+pub fn full_basis(random: &mut Random, order: u64) -> Basis {
+    let parameters = Parameters {
+        p: 32_749,
+        n: 8,
+        order,
+        s: 16,
+    };
+    let mut levels: Vec<Level> = Vec::new();
+    for k in 0..10 {
+        let (count, terms, components) = match k {
+            0 => (64, 32, 16),
+            _ => (128, 16, levels[k - 1].len() as u64),
+        };
+        let level = (0..count)
+            .map(|_| exact_vector(random, &parameters, &levels, components, terms))
+            .collect();
+        levels.push(level);
+    }
+    Basis { parameters, levels }
+}
+
+/// At the limits of counts and lengths: 512 terms in a vector, 2,048 in a level, 64 and 128 vectors.
+pub fn long_basis(random: &mut Random) -> Basis {
+    let parameters = Parameters {
+        p: 32_749,
+        n: 8,
+        order: random.between(1, 3),
+        s: 4,
+    };
+    let mut levels: Vec<Level> = Vec::new();
+    levels.push(vec![exact_vector(random, &parameters, &levels, 4, 2_048)]);
+    let four = (0..4)
+        .map(|_| exact_vector(random, &parameters, &levels, 1, 512))
+        .collect();
+    levels.push(four);
+    let many = (0..128)
+        .map(|_| exact_vector(random, &parameters, &levels, 4, 1))
+        .collect();
+    levels.push(many);
+    Basis { parameters, levels }
+}
+
+/// At most so many terms: monomials that come twice are left out.
+fn vector(
+    random: &mut Random,
+    parameters: &Parameters,
+    below: &[Level],
+    components: u64,
+    terms: u64,
+    exponent: u64,
+) -> Vector {
+    let mut monomials: Vec<Monomial> = (0..terms)
+        .map(|_| {
+            let bound = if random.chance(5) { 256 } else { exponent };
+            monomial(random, parameters, components, bound)
+        })
+        .collect();
+    descending(random, parameters, below, &mut monomials)
+}
+
+fn exact_vector(
+    random: &mut Random,
+    parameters: &Parameters,
+    below: &[Level],
+    components: u64,
+    terms: usize,
+) -> Vector {
+    let mut monomials = Vec::new();
+    let mut seen = std::collections::HashSet::new();
+    while monomials.len() < terms {
+        let m = monomial(random, parameters, components, 256);
+        if seen.insert(m) {
+            monomials.push(m);
+        }
+    }
+    descending(random, parameters, below, &mut monomials)
+}
+
+fn monomial(random: &mut Random, parameters: &Parameters, components: u64, bound: u64) -> Monomial {
+    let mut exponents: Exponents = [0; 8];
+    for e in exponents.iter_mut().take(parameters.n as usize) {
+        *e = random.below(bound);
+    }
+    Monomial {
+        component: random.between(1, components),
+        exponents,
+    }
+}
+
+fn descending(
+    random: &mut Random,
+    parameters: &Parameters,
+    below: &[Level],
+    monomials: &mut Vec<Monomial>,
+) -> Vector {
+    let modules = Modules::new(parameters.file_order(), below);
+    let mut keyed: Vec<_> = monomials
+        .iter()
+        .map(|m| (modules.key(below.len(), m), *m))
+        .collect();
+    keyed.sort_by(|a, b| b.0.cmp(&a.0));
+    keyed.dedup_by(|a, b| a.0 == b.0);
+    keyed
+        .into_iter()
+        .map(|(_, monomial)| Term {
+            coefficient: random.between(1, parameters.p - 1),
+            monomial,
+        })
+        .collect()
+}
