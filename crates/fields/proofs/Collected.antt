@@ -1,4 +1,4 @@
--- The numbers of a line while they are collected in an array of eleven.
+-- The numbers of a line while they are collected in an array of sixteen.
 use mathlib.Core.Path.{_≡_, refl, sym, ap, _∙_}
 use mathlib.Core.Option.{Option, none, some}
 use mathlib.Core.List.{List, [], _∷_, _++_, append-assoc, append-nil}
@@ -10,7 +10,7 @@ use lib.Seq.{take-suc-set, drop-set-lt, drop-drop, length-take-le}
 use Rattle.definitions.specs.Lists.{_then_}
 use Rattle.definitions.specs.Problem.{Bytes}
 use Rattle.definitions.specs.Layout.{Words, padded}
-use Rattle.fields.specs.Scanning.{field-first, line-end, numbers-first, line-as, end-as, in-eleven}
+use Rattle.fields.specs.Scanning.{field-first, line-end, numbers-first, line-as, end-as, in-sixteen}
 use Rattle.fields.specs.declared.End.{End}
 use Rattle.fields.specs.declared.End.the-variants.{Misshapen}
 use Rattle.fields.specs.declared.Line.{Line}
@@ -31,19 +31,19 @@ none-so-far numbers count bytes = let k : count ≡ count - 0 = omega arith in a
 
 -- zeros stand behind the first i
 abbrev pub Zeros-from : ℕ → Words → Type 0
-Zeros-from i numbers = drop i numbers ≡ replicate (11 - i) 0
+Zeros-from i numbers = drop i numbers ≡ replicate (16 - i) 0
 
 module _ (numbers : Words) (count i : ℕ) (bytes : Bytes) where
-  pub no-field : i < count → field-first 65535 bytes ≡ none → in-eleven (so-far numbers i (numbers-first 65535 (count - i) bytes)) ≡ none
+  pub no-field : i < count → field-first 65535 bytes ≡ none → in-sixteen (so-far numbers i (numbers-first 65535 (count - i) bytes)) ≡ none
   no-field h e =
       let k : count - i ≡ suc (count - suc i) = omega arith in
-      ap (λ n. in-eleven (so-far numbers i (numbers-first 65535 n bytes))) k
-      ∙ ap (λ o. in-eleven (so-far numbers i (o then λ f. numbers-first 65535 (count - suc i) (f .1) then λ r. some (f .0 ∷ r .0, r .1)))) e
+      ap (λ n. in-sixteen (so-far numbers i (numbers-first 65535 n bytes))) k
+      ∙ ap (λ o. in-sixteen (so-far numbers i (o then λ f. numbers-first 65535 (count - suc i) (f .1) then λ r. some (f .0 ∷ r .0, r .1)))) e
 
-  pub no-end : count ≤ i → line-end bytes ≡ none → in-eleven (so-far numbers i (numbers-first 65535 (count - i) bytes)) ≡ none
+  pub no-end : count ≤ i → line-end bytes ≡ none → in-sixteen (so-far numbers i (numbers-first 65535 (count - i) bytes)) ≡ none
   no-end h e =
       let k : count - i ≡ 0 = omega arith in
-      ap (λ n. in-eleven (so-far numbers i (numbers-first 65535 n bytes))) k ∙ ap (λ o. in-eleven (so-far numbers i o)) e
+      ap (λ n. in-sixteen (so-far numbers i (numbers-first 65535 n bytes))) k ∙ ap (λ o. in-sixteen (so-far numbers i o)) e
 
   -- one number more
   pub one-field : (v : ℕ) (rest : Bytes) → i < count → i < length numbers → field-first 65535 bytes ≡ some (v, rest)
@@ -64,22 +64,22 @@ module _ (numbers : Words) (count i : ℕ) (bytes : Bytes) where
       go (some r) = ap (λ (l : List ℕ). some (l, r .1)) (moved (r .0))
 
   -- the line's end: the array holds all numbers
-  pub all-fields : (rest : Bytes) → i ≤ count → count ≤ i → count ≤ 11 → length numbers ≡ 11 → Zeros-from i numbers → line-end bytes ≡ some ([], rest)
-      → some (numbers, rest) ≡ in-eleven (so-far numbers i (numbers-first 65535 (count - i) bytes))
+  pub all-fields : (rest : Bytes) → i ≤ count → count ≤ i → count ≤ 16 → length numbers ≡ 16 → Zeros-from i numbers → line-end bytes ≡ some ([], rest)
+      → some (numbers, rest) ≡ in-sixteen (so-far numbers i (numbers-first 65535 (count - i) bytes))
   all-fields rest h k few n z e =
       let q : count - i ≡ 0 = omega arith in
-      sym (ap (λ m. in-eleven (so-far numbers i (numbers-first 65535 m bytes))) q ∙ ap (λ o. in-eleven (so-far numbers i o)) e ∙ ap (λ (l : List ℕ). some (l, rest)) whole)
+      sym (ap (λ m. in-sixteen (so-far numbers i (numbers-first 65535 m bytes))) q ∙ ap (λ o. in-sixteen (so-far numbers i o)) e ∙ ap (λ (l : List ℕ). some (l, rest)) whole)
     where
       short : length (take i numbers) ≡ i
       short = length-take-le i numbers (omega arith)
 
-      whole : padded 11 (take i numbers ++ []) ≡ numbers
+      whole : padded 16 (take i numbers ++ []) ≡ numbers
       whole =
-          ap (padded 11) (append-nil (take i numbers)) ∙ ap (λ m. take i numbers ++ replicate (11 - m) 0) short
+          ap (padded 16) (append-nil (take i numbers)) ∙ ap (λ m. take i numbers ++ replicate (16 - m) 0) short
           ∙ ap (λ l. take i numbers ++ l) (sym z) ∙ take-append-drop i numbers
 
-pub zeros-behind : (numbers : Words) (i v : ℕ) → i < 11 → Zeros-from i numbers → Zeros-from (i + 1) (set numbers i v)
+pub zeros-behind : (numbers : Words) (i v : ℕ) → i < 16 → Zeros-from i numbers → Zeros-from (i + 1) (set numbers i v)
 zeros-behind numbers i v h z =
-    let k : 11 - i ≡ suc (11 - (i + 1)) = omega arith in
+    let k : 16 - i ≡ suc (16 - (i + 1)) = omega arith in
     let l : i < i + 1 = omega arith in
     drop-set-lt (i + 1) numbers i v l ∙ sym (drop-drop 1 i numbers) ∙ ap (drop 1) (z ∙ ap (λ n. replicate n 0) k)

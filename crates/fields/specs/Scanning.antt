@@ -96,7 +96,7 @@ end-as Misshapen numbers file = none
 abbrev pub line-as : Line → Bytes → Option (Words × Bytes)
 line-as r file = end-as (r .end) (r .numbers) file
 
--- a line has eleven numbers at the most: zeros stand for those that it does not have
-abbrev pub in-eleven : Option (List ℕ × Bytes) → Option (Words × Bytes)
-in-eleven none = none
-in-eleven (some r) = some (padded 11 (r .0), r .1)
+-- a line has sixteen numbers at the most: zeros stand for those that it does not have
+abbrev pub in-sixteen : Option (List ℕ × Bytes) → Option (Words × Bytes)
+in-sixteen none = none
+in-sixteen (some r) = some (padded 16 (r .0), r .1)

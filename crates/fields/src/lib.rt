@@ -3,7 +3,7 @@
 ghost use mathlib.Core.Path.{_≡_};
 ghost use Prim.Native.Nat.{_≤_, _<_};
 ghost use lib.ListN.{drop};
-ghost use Rattle.fields.specs.Scanning.{digit-or-ten, number-first, number-on, number-zero, numbers-first, shaped-first, field-as, line-as, in-eleven};
+ghost use Rattle.fields.specs.Scanning.{digit-or-ten, number-first, number-on, number-zero, numbers-first, shaped-first, field-as, line-as, in-sixteen};
 ghost use Rattle.fields.specs.declared.End.the-variants.{Misshapen};
 
 // A number and the position behind it.
@@ -21,7 +21,7 @@ pub enum End {
 // The numbers of such a line, zeros behind them.
 pub struct Line {
     pub end: End,
-    pub numbers: [u16; 11],
+    pub numbers: [u16; 16],
 }
 
 // A digit's value, 10 for any other byte.
@@ -73,7 +73,7 @@ fn number_zero(file: &[u8], at: usize) -> Field
 }
 
 // The number at a position.
-pub fn number(file: &[u8], at: usize) -> Field
+fn number(file: &[u8], at: usize) -> Field
     ensures { λ r. ⌜ field-as r (now (file .entry)) ≡ number-first 65535 (drop at (now (file .entry))) ⌝ }
 {
     if file.len() <= at {
@@ -95,16 +95,16 @@ fn misshapen() -> Line
 {
     Line {
         end: End::Misshapen,
-        numbers: [0; 11],
+        numbers: [0; 16],
     }
 }
 
 // Behind the letter: so many numbers, a comma before each, then byte 10.
 fn numbers(file: &[u8], from: usize, count: usize) -> Line
-    requires { ⌜ count ≤ 11 ⌝ }
-    ensures { λ r. ⌜ line-as r (now (file .entry)) ≡ in-eleven (numbers-first 65535 count (drop from (now (file .entry)))) ⌝ }
+    requires { ⌜ count ≤ 16 ⌝ }
+    ensures { λ r. ⌜ line-as r (now (file .entry)) ≡ in-sixteen (numbers-first 65535 count (drop from (now (file .entry)))) ⌝ }
 {
-    let mut numbers = [0u16; 11];
+    let mut numbers = [0u16; 16];
     let mut at = from;
     let mut i: usize = 0;
     while i < count {
@@ -135,8 +135,8 @@ fn numbers(file: &[u8], from: usize, count: usize) -> Line
 
 // The line at a position, held to a letter and a count of numbers.
 pub fn line_at(file: &[u8], at: usize, letter: u8, count: usize) -> Line
-    requires { ⌜ (57 < letter) × (count ≤ 11) ⌝ }
-    ensures { λ r. ⌜ line-as r (now (file .entry)) ≡ in-eleven (shaped-first 65535 letter count (drop at (now (file .entry)))) ⌝ }
+    requires { ⌜ (57 < letter) × (count ≤ 16) ⌝ }
+    ensures { λ r. ⌜ line-as r (now (file .entry)) ≡ in-sixteen (shaped-first 65535 letter count (drop at (now (file .entry)))) ⌝ }
 {
     if file.len() <= at {
         return misshapen();

@@ -5,7 +5,7 @@ use mathlib.Core.List.{[], _∷_}
 use Prim.Native.Nat.{ℕ, zero, suc, _-_, _<_, _≤_}
 use native.Mathlib.Omega.{arith}
 use lib.Dec.{leb, ltb, eqb, eqb·suc-suc}
-use lib.ListN.{length, getD, drop, drop-of-length-le}
+use lib.ListN.{length, getD, take, drop}
 use lib.Seq.{drop-cons}
 use borrow.Author.Tests.{lt-ltb, le-ltb, le-leb, lt-leb, eq-eqb, ne-eqb}
 use Rattle.definitions.specs.Limits.{document-01}
@@ -35,16 +35,16 @@ between-from a b c h = sym (λ i. le-leb a b h i and leb b c)
 
 module _ (q : Parameters) (w : Words) where
   pub coefficient-zero : getD w 1 0 ≡ 0 → false ≡ term-in-range? document-01 q (term-in w)
-  coefficient-zero e = sym (λ i. (lt-leb 1 (getD w 1 0) (omega arith) i and leb (getD w 1 0) (q .p - 1)) and between 1 (getD w 2 0) (q .s) and fits? 255 (drop 3 w))
+  coefficient-zero e = sym (λ i. (lt-leb 1 (getD w 1 0) (omega arith) i and leb (getD w 1 0) (q .p - 1)) and between 1 (getD w 2 0) (q .s) and fits? 255 (take 8 (drop 3 w)))
 
   pub coefficient-large : (getD w 1 0 ≡ 0 → ⊥) → q .p ≤ getD w 1 0 → false ≡ term-in-range? document-01 q (term-in w)
   coefficient-large n h =
-      sym ((λ i. (leb 1 (getD w 1 0) and lt-leb (getD w 1 0) (q .p - 1) (omega arith) i) and between 1 (getD w 2 0) (q .s) and fits? 255 (drop 3 w))
-      ∙ ap (λ t. t and between 1 (getD w 2 0) (q .s) and fits? 255 (drop 3 w)) (and-no (leb 1 (getD w 1 0))))
+      sym ((λ i. (leb 1 (getD w 1 0) and lt-leb (getD w 1 0) (q .p - 1) (omega arith) i) and between 1 (getD w 2 0) (q .s) and fits? 255 (take 8 (drop 3 w)))
+      ∙ ap (λ t. t and between 1 (getD w 2 0) (q .s) and fits? 255 (take 8 (drop 3 w))) (and-no (leb 1 (getD w 1 0))))
 
-  pub coefficient-good : (getD w 1 0 ≡ 0 → ⊥) → getD w 1 0 < q .p → term-in-range? document-01 q (term-in w) ≡ (between 1 (getD w 2 0) (q .s) and fits? 255 (drop 3 w))
+  pub coefficient-good : (getD w 1 0 ≡ 0 → ⊥) → getD w 1 0 < q .p → term-in-range? document-01 q (term-in w) ≡ (between 1 (getD w 2 0) (q .s) and fits? 255 (take 8 (drop 3 w)))
   coefficient-good n h =
-      λ i. (le-leb 1 (getD w 1 0) (omega arith) i and le-leb (getD w 1 0) (q .p - 1) (omega arith) i) and between 1 (getD w 2 0) (q .s) and fits? 255 (drop 3 w)
+      λ i. (le-leb 1 (getD w 1 0) (omega arith) i and le-leb (getD w 1 0) (q .p - 1) (omega arith) i) and between 1 (getD w 2 0) (q .s) and fits? 255 (take 8 (drop 3 w))
 
 -- ## The sequence of elements
 
@@ -68,15 +68,13 @@ module _ (r e : ℕ) where
 
 -- ## The eight exponents
 
-pub last-eight : (w : Words) → length w ≡ 11
-    → getD w 3 0 ∷ getD w 4 0 ∷ getD w 5 0 ∷ getD w 6 0 ∷ getD w 7 0 ∷ getD w 8 0 ∷ getD w 9 0 ∷ getD w 10 0 ∷ [] ≡ drop 3 w
+pub last-eight : (w : Words) → length w ≡ 16
+    → getD w 3 0 ∷ getD w 4 0 ∷ getD w 5 0 ∷ getD w 6 0 ∷ getD w 7 0 ∷ getD w 8 0 ∷ getD w 9 0 ∷ getD w 10 0 ∷ [] ≡ take 8 (drop 3 w)
 last-eight w l =
-    let e : length w ≤ 11 = omega arith in
-    sym (drop-cons w 3 0 (omega arith) ∙ ap (λ z. getD w 3 0 ∷ z) (drop-cons w 4 0 (omega arith) ∙ ap (λ z. getD w 4 0 ∷ z)
+    sym (ap (take 8) (drop-cons w 3 0 (omega arith) ∙ ap (λ z. getD w 3 0 ∷ z) (drop-cons w 4 0 (omega arith) ∙ ap (λ z. getD w 4 0 ∷ z)
     (drop-cons w 5 0 (omega arith) ∙ ap (λ z. getD w 5 0 ∷ z) (drop-cons w 6 0 (omega arith) ∙ ap (λ z. getD w 6 0 ∷ z)
     (drop-cons w 7 0 (omega arith) ∙ ap (λ z. getD w 7 0 ∷ z) (drop-cons w 8 0 (omega arith) ∙ ap (λ z. getD w 8 0 ∷ z)
-    (drop-cons w 9 0 (omega arith) ∙ ap (λ z. getD w 9 0 ∷ z) (drop-cons w 10 0 (omega arith) ∙ ap (λ z. getD w 10 0 ∷ z)
-    (drop-of-length-le w e)))))))))
+    (drop-cons w 9 0 (omega arith) ∙ ap (λ z. getD w 9 0 ∷ z) (drop-cons w 10 0 (omega arith))))))))))
 
 -- ## The order
 
@@ -89,11 +87,11 @@ greater-number a b = go (numbers a b) (numbers-say a b)
     go smaller h = sym (le-ltb b a (omega arith))
 
 module _ (code : ℕ) (before w : Words) where
-  pub above-greater : exponents-by code (drop 3 before) (drop 3 w) ≡ greater → true ≡ above? code before w
+  pub above-greater : exponents-by code (take 8 (drop 3 before)) (take 8 (drop 3 w)) ≡ greater → true ≡ above? code before w
   above-greater e = sym (λ i. greater? (or-at-tie (e i) (numbers (getD before 2 0) (getD w 2 0))))
 
-  pub above-smaller : exponents-by code (drop 3 before) (drop 3 w) ≡ smaller → false ≡ above? code before w
+  pub above-smaller : exponents-by code (take 8 (drop 3 before)) (take 8 (drop 3 w)) ≡ smaller → false ≡ above? code before w
   above-smaller e = sym (λ i. greater? (or-at-tie (e i) (numbers (getD before 2 0) (getD w 2 0))))
 
-  pub above-tie : exponents-by code (drop 3 before) (drop 3 w) ≡ equal → ltb (getD w 2 0) (getD before 2 0) ≡ above? code before w
+  pub above-tie : exponents-by code (take 8 (drop 3 before)) (take 8 (drop 3 w)) ≡ equal → ltb (getD w 2 0) (getD before 2 0) ≡ above? code before w
   above-tie e = sym ((λ i. greater? (or-at-tie (e i) (numbers (getD before 2 0) (getD w 2 0)))) ∙ greater-number (getD before 2 0) (getD w 2 0))

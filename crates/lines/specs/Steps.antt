@@ -10,7 +10,7 @@ use Rattle.definitions.specs.Result.{Result, done, refused, unless-refused, _>>
 use Rattle.definitions.specs.Problem as definition
 use Rattle.definitions.specs.Problem.{Bytes, letter-R, letter-T, letter-E}
 use Rattle.definitions.specs.Layout.{Words}
-use Rattle.fields.specs.Scanning.{shaped-first, in-eleven}
+use Rattle.fields.specs.Scanning.{shaped-first, in-sixteen}
 use Rattle.lines.specs.declared.Start.{Start}
 use Rattle.lines.specs.declared.Start.the-variants.{At, Barred}
 use Rattle.lines.specs.declared.First.{First}
@@ -35,7 +35,7 @@ r-judged line = judged (r-number (definition.parameters-of (line .0))) 1 (defini
 
 -- `R,p,n,order,s`: the parameters, and what stands behind the line
 abbrev pub r-first : Bytes → Result (definition.Parameters × Bytes)
-r-first bytes = with-shape (in-eleven (shaped-first 65535 letter-R 4 bytes)) 1 r-judged
+r-first bytes = with-shape (in-sixteen (shaped-first 65535 letter-R 4 bytes)) 1 r-judged
 
 -- what a line after R's says: a term, with what stands behind the line, or the end
 abbrev pub Said : Type 0
@@ -46,7 +46,7 @@ t-judged q count r before line = judged (t-number q count r before (line .0)) (c
 
 -- `T,element,coefficient,component,e1,..,en`, after so many T lines with r elements
 abbrev pub t-first : definition.Parameters → ℕ → ℕ → Words → Bytes → Result Said
-t-first q count r before bytes = with-shape (in-eleven (shaped-first 65535 letter-T (3 + q .n) bytes)) (count + 2) (t-judged q count r before)
+t-first q count r before bytes = with-shape (in-sixteen (shaped-first 65535 letter-T (3 + q .n) bytes)) (count + 2) (t-judged q count r before)
 
 abbrev pub e-judged : ℕ → Words × Bytes → Result Said
 e-judged count line =
@@ -56,7 +56,7 @@ e-judged count line =
 
 -- `E,count of T lines`, and nothing behind it
 abbrev pub e-first : ℕ → Bytes → Result Said
-e-first count bytes = with-shape (in-eleven (shaped-first 65535 letter-E 1 bytes)) (count + 2) (e-judged count)
+e-first count bytes = with-shape (in-sixteen (shaped-first 65535 letter-E 1 bytes)) (count + 2) (e-judged count)
 
 -- the letter decides
 abbrev pub by-letter : Bool → Bool → Result Said → Result Said → Result Said → Result Said

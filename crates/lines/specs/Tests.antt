@@ -1,9 +1,9 @@
--- The tests on one line, by the eleven numbers of its fields (zeros behind those that it has) and by what was read before it.
+-- The tests on one line, by the sixteen numbers of its fields (zeros behind those that it has) and by what was read before it.
 use mathlib.Core.Bool.{Bool, true, false, not, _||_}
 use mathlib.Core.List.{[]}
 use Prim.Native.Nat.{ℕ, suc}
 use lib.Dec.{leb, ltb, eqb}
-use lib.ListN.{getD, drop}
+use lib.ListN.{getD, take, drop}
 use Rattle.definitions.specs.Limits.{document-01}
 use Rattle.definitions.specs.Lists.{_and_}
 use Rattle.definitions.specs.Monomial.{Term}
@@ -18,7 +18,7 @@ parameters-of q = record { p = q .p; n = q .n; code = q .code; s = q .s }
 
 -- the term of a T line: "exponents past n are zero"
 abbrev pub term-in : Words → Term
-term-in w = (getD w 1 0, (drop 3 w, getD w 2 0))
+term-in w = (getD w 1 0, (take 8 (drop 3 w), getD w 2 0))
 
 -- a refusal's number: the first test that fails; 0 where none does
 abbrev pub unless : Bool → ℕ → ℕ → ℕ

@@ -2,7 +2,7 @@
 // Knows: crate definitions' Problem, tests and refusals of R, T and E lines. The sequence of lines is decided by `first_line` and `next_line` alone.
 ghost use mathlib.Core.Path.{_≡_};
 ghost use Prim.Native.Nat.{_≤_};
-ghost use lib.ListN.{drop};
+ghost use lib.ListN.{take, drop};
 ghost use Rattle.definitions.specs.Lists.{between};
 ghost use Rattle.definitions.specs.Limits.{document-01};
 ghost use Rattle.definitions.specs.Monomial.{fits?};
@@ -41,7 +41,7 @@ pub enum Step {
 
 pub struct Taken {
     pub step: Step,
-    pub numbers: [u16; 11],
+    pub numbers: [u16; 16],
 }
 
 fn in_range(least: u16, x: u16, most: u16) -> bool
@@ -145,8 +145,8 @@ fn follows(elements: u16, element: u16) -> bool
     element != 0
 }
 
-fn exponents(w: [u16; 11]) -> [u16; 8]
-    ensures { λ r. ⌜ r ≡ drop 3 w ⌝ }
+fn exponents(w: [u16; 16]) -> [u16; 8]
+    ensures { λ r. ⌜ r ≡ take 8 (drop 3 w) ⌝ }
 {
     [w[3], w[4], w[5], w[6], w[7], w[8], w[9], w[10]]
 }
@@ -163,7 +163,7 @@ fn fits(e: [u16; 8]) -> bool
     mark == 0
 }
 
-fn term_in_range(q: Parameters, w: [u16; 11]) -> bool
+fn term_in_range(q: Parameters, w: [u16; 16]) -> bool
     ensures { λ r. ⌜ r ≡ term-in-range? document-01 (parameters-of q) (term-in w) ⌝ }
 {
     let c = w[1];
@@ -182,7 +182,7 @@ fn term_in_range(q: Parameters, w: [u16; 11]) -> bool
 }
 
 // The term before is the greater one.
-fn above(code: u16, before: [u16; 11], w: [u16; 11]) -> bool
+fn above(code: u16, before: [u16; 16], w: [u16; 16]) -> bool
     ensures { λ r. ⌜ r ≡ above? code before w ⌝ }
 {
     let d = orders::by_code(code, exponents(before), exponents(w));
@@ -193,7 +193,7 @@ fn above(code: u16, before: [u16; 11], w: [u16; 11]) -> bool
     }
 }
 
-fn descends(code: u16, elements: u16, before: [u16; 11], w: [u16; 11]) -> bool
+fn descends(code: u16, elements: u16, before: [u16; 16], w: [u16; 16]) -> bool
     ensures { λ r. ⌜ r ≡ descends-definition code elements before w ⌝ }
 {
     if begins(elements, w[0]) {
@@ -203,7 +203,7 @@ fn descends(code: u16, elements: u16, before: [u16; 11], w: [u16; 11]) -> bool
 }
 
 // The tests of a T line that has its shape.
-fn term_refusal(q: Parameters, count: usize, elements: u16, before: [u16; 11], w: [u16; 11]) -> u16
+fn term_refusal(q: Parameters, count: usize, elements: u16, before: [u16; 16], w: [u16; 16]) -> u16
     ensures { λ r. ⌜ r ≡ t-number (parameters-of q) count elements before w ⌝ }
 {
     if 2048 <= count {
@@ -227,7 +227,7 @@ fn refused(number: u16, place: usize) -> Taken
 {
     Taken {
         step: Step::Refused(number, place),
-        numbers: [0; 11],
+        numbers: [0; 16],
     }
 }
 
@@ -243,7 +243,7 @@ fn term_line(
     q: Parameters,
     count: usize,
     elements: u16,
-    before: [u16; 11],
+    before: [u16; 16],
 ) -> Taken
     requires { ⌜ (q .n ≤ 8) × (count ≤ 2048) ⌝ }
     ensures { λ r. ⌜ taken-as r (now (file .entry)) ≡ t-first (parameters-of q) count elements before (drop at (now (file .entry))) ⌝ }
@@ -298,7 +298,7 @@ pub fn next_line(
     q: Parameters,
     count: usize,
     elements: u16,
-    before: [u16; 11],
+    before: [u16; 16],
 ) -> Taken
     requires { ⌜ (q .n ≤ 8) × (count ≤ 2048) ⌝ }
     ensures { λ r. ⌜ taken-as r (now (file .entry)) ≡ line-first (parameters-of q) count elements before (drop at (now (file .entry))) ⌝ }

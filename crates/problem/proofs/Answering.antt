@@ -3,12 +3,16 @@ use mathlib.Core.Path.{_≡_, refl, sym, ap, _∙_}
 use mathlib.Core.List.{[]}
 use Prim.Native.Nat.{ℕ, _-_, _<_, _≤_}
 use native.Mathlib.Omega.{arith}
+use lib.Dec.{T}
 use lib.ListN.{length, replicate, length-set, length-replicate}
 use Rattle.definitions.specs.Limits.{document-01}
 use Rattle.definitions.specs.Monomial.{Vector, Level}
-use Rattle.definitions.specs.Result.{Result, done, refused, unfinished, _>>=_}
+use Rattle.definitions.specs.Result.{Result, done, refused, unfinished, finished?, _>>=_}
 use Rattle.definitions.specs.Problem.{Bytes, Parameters, lines, body, problem}
 use Rattle.definitions.specs.Layout.{Words}
+use Rattle.definitions.proofs.Tests.{between-low, between-high}
+use Rattle.definitions.proofs.Numbers.{Numbered, gives, refuses, stops, open-yet, line-number?, problem-number}
+use Rattle.definitions.proofs.Finished.{problem-finished}
 use Rattle.terms.specs.Rows.{cleared}
 use Rattle.lines.specs.Steps.{r-first}
 use Rattle.problem.specs.Reading.{words-read, read-as, body-words, problem-words, begun, outcome-as}
@@ -79,3 +83,23 @@ module _ (size : ℕ) where
       go (done f) n = absurd (n refl)
       go (refused number place value) n = refl
       go unfinished n = refl
+
+  -- ## What the number says: 0 that the file is read, 1 to 8 its refusal
+
+  pub zero-is-read : (file : Bytes) → (read-as size (problem document-01 file)) .0 ≡ 0 → (f : Parameters × Level) × (problem document-01 file ≡ done f)
+  zero-is-read file z = go (problem-number document-01 file) (problem-finished document-01 file) z
+    where
+      go : {x : Result (Parameters × Level)} → Numbered line-number? x → T (finished? x) → (read-as size x) .0 ≡ 0 → (f : Parameters × Level) × (x ≡ done f)
+      go (gives {a}) t e = (a, refl)
+      go (refuses {number} h) t e = let l : 1 ≤ number = between-low 1 number 8 h in absurd (omega arith)
+      go (stops h) t e = absurd h
+      go open-yet t e = absurd t
+
+  pub at-most-eight : (file : Bytes) → (read-as size (problem document-01 file)) .0 ≤ 8
+  at-most-eight file = go (problem-number document-01 file)
+    where
+      go : {x : Result (Parameters × Level)} → Numbered line-number? x → (read-as size x) .0 ≤ 8
+      go (gives {a}) = omega arith
+      go (refuses {number} h) = between-high 1 number 8 h
+      go (stops h) = absurd h
+      go open-yet = omega arith

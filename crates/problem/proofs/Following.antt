@@ -7,8 +7,8 @@ use Prim.Native.Nat.{ℕ, zero, suc, _+_, _-_, _<_, _≤_}
 use native.Mathlib.Omega.{arith}
 use native.Mathlib.Decide.{ℕ-discrete}
 use lib.Dec.{T, leb, ltb, eqb, eqb·suc-zero}
-use lib.ListN.{length, getD, drop, replicate}
-use lib.Seq.{drop-append-le}
+use lib.ListN.{length, getD, take, drop, replicate, length-drop}
+use lib.Seq.{drop-append-le, take-append-add}
 use borrow.Author.Tests.{le-leb, lt-leb, eq-eqb, ne-eqb}
 use Rattle.definitions.specs.Limits.{document-01}
 use Rattle.definitions.specs.Lists.{_and_, _then_, last, empty?, between}
@@ -43,7 +43,7 @@ use Rattle.definitions.specs.Problem.{
 use Rattle.definitions.specs.Layout.{Words, padded}
 use Rattle.definitions.proofs.Tests.{is-true, and-left, between-high}
 use Rattle.definitions.proofs.Results.{If-done, If-some}
-use Rattle.fields.specs.Scanning.{behind, shaped-of, shaped-first, in-eleven}
+use Rattle.fields.specs.Scanning.{behind, shaped-of, shaped-first, in-sixteen}
 use Rattle.fields.proofs.Lines.{first-of, lines-none, letter-differs, shaped-count}
 use Rattle.lines.specs.Tests.{term-in, unless, begins?, follows?, above?, descends?, t-number}
 use Rattle.lines.specs.Steps.{Said, judged, with-shape, r-judged, r-first, t-judged, t-first, e-judged, e-first, by-letter, line-first}
@@ -61,19 +61,25 @@ getD-behind [] k i = getD-zeros k i
 getD-behind (x ∷ v) k zero = refl
 getD-behind (x ∷ v) k (suc i) = getD-behind v k i
 
-pub getD-padded : (v : Words) (i : ℕ) → getD (padded 11 v) i 0 ≡ getD v i 0
-getD-padded v i = getD-behind v (11 - length v) i
+pub getD-padded : (v : Words) (i : ℕ) → getD (padded 16 v) i 0 ≡ getD v i 0
+getD-padded v i = getD-behind v (16 - length v) i
+
+take-zeros : (k m : ℕ) → k ≤ m → take k (replicate {A = ℕ} m 0) ≡ replicate k 0
+take-zeros zero m h = refl
+take-zeros (suc k) zero h = absurd (omega arith)
+take-zeros (suc k) (suc m) h = ap (λ l. 0 ∷ l) (take-zeros k m (omega arith))
 
 -- "exponents past n are zero"
-term-padded : (n : ℕ) (v : Words) → n ≤ 8 → length v ≡ 3 + n → term-of n v ≡ term-in (padded 11 v)
+term-padded : (n : ℕ) (v : Words) → n ≤ 8 → length v ≡ 3 + n → term-of n v ≡ term-in (padded 16 v)
 term-padded n v h l = λ i. (sym (getD-padded v 1) i, (exponents i, sym (getD-padded v 2) i))
   where
-    exponents : drop 3 v ++ replicate (8 - n) 0 ≡ drop 3 (padded 11 v)
+    exponents : drop 3 v ++ replicate (8 - n) 0 ≡ take 8 (drop 3 (padded 16 v))
     exponents =
-        let e : 8 - n ≡ 11 - length v = omega arith in
-        ap (λ k. drop 3 v ++ replicate k 0) e ∙ sym (drop-append-le 3 v (replicate (11 - length v) 0) (omega arith))
+        let e : 8 ≡ length (drop 3 v) + (8 - n) = omega (arith, length-drop 3 v) in
+        sym (ap (take 8) (drop-append-le 3 v (replicate (16 - length v) 0) (omega arith)) ∙ ap (λ k. take k (drop 3 v ++ replicate (16 - length v) 0)) e
+        ∙ take-append-add (drop 3 v) (replicate (16 - length v) 0) (8 - n) ∙ ap (λ z. drop 3 v ++ z) (take-zeros (8 - n) (16 - length v) (omega arith)))
 
-parameters-padded : (v : Words) → parameters-of (padded 11 v) ≡ parameters-of v
+parameters-padded : (v : Words) → parameters-of (padded 16 v) ≡ parameters-of v
 parameters-padded v = λ i. record { p = getD-padded v 0 i; n = getD-padded v 1 i; code = getD-padded v 2 i; s = getD-padded v 3 i }
 
 -- ## Tests in a row, and the number of the first that fails
@@ -122,7 +128,7 @@ module _ (q : Parameters) (few : q .n ≤ 8) (count : ℕ) (f : Level) (r : ℕ)
       go false h = ap (λ o. below? (q .code) o (term-in w)) (held .last-one (h .1 refl .1))
 
   t-line-judged : (place : ℕ) (v : Words) → length v ≡ 3 + q .n
-      → t-line document-01 q place count f v ≡ judged (t-number q count r before (padded 11 v)) place (more (padded 11 v))
+      → t-line document-01 q place count f v ≡ judged (t-number q count r before (padded 16 v)) place (more (padded 16 v))
   unfolding guarded
   t-line-judged place v l =
       (λ i. guarded (ltb count 2048) ((eqb (first i) (suc (held .elements i)) || (eqb (first i) (held .elements i) and not (none-yet i))) and leb (first i) 64)
@@ -132,12 +138,12 @@ module _ (q : Parameters) (few : q .n ≤ 8) (count : ℕ) (f : Level) (r : ℕ)
       ∙ guarded-number (ltb count 2048) (follows? r (getD w 0 0)) (term-in-range? document-01 q (term-in w)) (descends? (q .code) r before w) place (more w)
     where
       w : Words
-      w = padded 11 v
+      w = padded 16 v
 
-      first : getD v 0 0 ≡ getD (padded 11 v) 0 0
+      first : getD v 0 0 ≡ getD (padded 16 v) 0 0
       first = sym (getD-padded v 0)
 
-      term : term-of (q .n) v ≡ term-in (padded 11 v)
+      term : term-of (q .n) v ≡ term-in (padded 16 v)
       term = term-padded (q .n) v few l
 
       none-yet : empty? f ≡ eqb r 0
@@ -160,22 +166,22 @@ module _ (q : Parameters) (few : q .n ≤ 8) (count : ℕ) (f : Level) (r : ℕ)
   -- a T line that has the shape
   term-step : (v : Words) (rest : Bytes) → length v ≡ 3 + q .n
       → (t-line document-01 q (count + 2) count f v >>= λ grown. body document-01 q (suc (count + 2)) (suc count) grown (lines rest))
-      ≡ (t-judged q count r before (padded 11 v, rest) >>= goes-on)
-  term-step v rest l = ap (λ x. x >>= λ grown. body document-01 q (suc (count + 2)) (suc count) grown (lines rest)) (t-line-judged (count + 2) v l) ∙ go (t-number q count r before (padded 11 v))
+      ≡ (t-judged q count r before (padded 16 v, rest) >>= goes-on)
+  term-step v rest l = ap (λ x. x >>= λ grown. body document-01 q (suc (count + 2)) (suc count) grown (lines rest)) (t-line-judged (count + 2) v l) ∙ go (t-number q count r before (padded 16 v))
     where
       next : suc (count + 2) ≡ count + 3
       next = omega arith
 
-      go : (number : ℕ) → (judged number (count + 2) (more (padded 11 v)) >>= λ grown. body document-01 q (suc (count + 2)) (suc count) grown (lines rest))
-          ≡ (judged {A = Said} number (count + 2) (some (padded 11 v, rest)) >>= goes-on)
-      go zero = ap (λ place. body document-01 q place (suc count) (more (padded 11 v)) (lines rest)) next
+      go : (number : ℕ) → (judged number (count + 2) (more (padded 16 v)) >>= λ grown. body document-01 q (suc (count + 2)) (suc count) grown (lines rest))
+          ≡ (judged {A = Said} number (count + 2) (some (padded 16 v, rest)) >>= goes-on)
+      go zero = ap (λ place. body document-01 q place (suc count) (more (padded 16 v)) (lines rest)) next
       go (suc number) = refl
 
   -- an E line that has the shape
-  end-step : (v : Words) (rest : Bytes) → e-line (count + 2) count (lines rest) f (some v) ≡ (e-judged count (padded 11 v, rest) >>= goes-on)
+  end-step : (v : Words) (rest : Bytes) → e-line (count + 2) count (lines rest) f (some v) ≡ (e-judged count (padded 16 v, rest) >>= goes-on)
   end-step v rest =
       (λ i. ends (not (eqb (sym (getD-padded v 0) i) 0) and eqb (sym (getD-padded v 0) i) count) (lines-none rest i) (next i))
-      ∙ go (not (eqb (getD (padded 11 v) 0 0) 0) and eqb (getD (padded 11 v) 0 0) count) (empty? rest)
+      ∙ go (not (eqb (getD (padded 16 v) 0 0) 0) and eqb (getD (padded 16 v) 0 0) count) (empty? rest)
     where
       next : suc (count + 2) ≡ count + 3
       next = omega arith
@@ -211,19 +217,19 @@ module _ (q : Parameters) (few : q .n ≤ 8) (count : ℕ) (f : Level) (r : ℕ)
     on-T : b ≡ 84 → stepped (shaped 65535 84 (3 + q .n) line) ≡ (t-first q count r before (b ∷ bytes) >>= goes-on)
     on-T t =
         go (shaped 65535 84 (3 + q .n) line) (subst (If-some (λ (p : Words × Bytes). length (p .0) ≡ 3 + q .n)) (first 84 (3 + q .n)) (shaped-count 65535 84 (3 + q .n) (omega arith) (b ∷ bytes)))
-        ∙ ap (λ o. with-shape (in-eleven o) (count + 2) (t-judged q count r before) >>= goes-on) (sym (first 84 (3 + q .n)))
+        ∙ ap (λ o. with-shape (in-sixteen o) (count + 2) (t-judged q count r before) >>= goes-on) (sym (first 84 (3 + q .n)))
       where
         go : (o : Option Words) → If-some (λ (p : Words × Bytes). length (p .0) ≡ 3 + q .n) (paired (behind (b ∷ bytes)) o)
-            → stepped o ≡ (with-shape (in-eleven (paired (behind (b ∷ bytes)) o)) (count + 2) (t-judged q count r before) >>= goes-on)
+            → stepped o ≡ (with-shape (in-sixteen (paired (behind (b ∷ bytes)) o)) (count + 2) (t-judged q count r before) >>= goes-on)
         go none l = refused-here (other 69 1 (omega arith) (λ d. omega arith))
         go (some v) l = term-step v (behind (b ∷ bytes)) l
 
     on-E : (b ≡ 84 → ⊥) → stepped (shaped 65535 84 (3 + q .n) line) ≡ (e-first count (b ∷ bytes) >>= goes-on)
     on-E t =
         ap stepped (other 84 (3 + q .n) (omega arith) t) ∙ go (shaped 65535 69 1 line)
-        ∙ ap (λ o. with-shape (in-eleven o) (count + 2) (e-judged count) >>= goes-on) (sym (first 69 1))
+        ∙ ap (λ o. with-shape (in-sixteen o) (count + 2) (e-judged count) >>= goes-on) (sym (first 69 1))
       where
-        go : (o : Option Words) → e-line (count + 2) count (lines (behind (b ∷ bytes))) f o ≡ (with-shape (in-eleven (paired (behind (b ∷ bytes)) o)) (count + 2) (e-judged count) >>= goes-on)
+        go : (o : Option Words) → e-line (count + 2) count (lines (behind (b ∷ bytes))) f o ≡ (with-shape (in-sixteen (paired (behind (b ∷ bytes)) o)) (count + 2) (e-judged count) >>= goes-on)
         go none = refl
         go (some v) = end-step v (behind (b ∷ bytes))
 
@@ -278,8 +284,8 @@ module _ (q : Parameters) (count r : ℕ) (before : Words) where
   line-passed (b ∷ bytes) = go (eqb b 84) (eqb b 69)
     where
       go : (t e : Bool) → If-done (Passed count r) (by-letter t e (t-first q count r before (b ∷ bytes)) (e-first count (b ∷ bytes)) (refused 1 (count + 2) []))
-      go true e = shape-passed (in-eleven (shaped-first 65535 84 (3 + q .n) (b ∷ bytes)))
-      go false true = end-passed (in-eleven (shaped-first 65535 69 1 (b ∷ bytes)))
+      go true e = shape-passed (in-sixteen (shaped-first 65535 84 (3 + q .n) (b ∷ bytes)))
+      go false true = end-passed (in-sixteen (shaped-first 65535 69 1 (b ∷ bytes)))
       go false false = tt
 
 -- ## The R line
@@ -292,11 +298,11 @@ goes-on-body a = body document-01 (a .0) 2 0 [] (lines (a .1)) >>= λ f. done (a
 r-guarded : Bool → Bool → Parameters → Result Parameters
 r-guarded a b q = unless-refused a 2 1 >>= λ u. unless-refused b 3 1 >>= λ u′. done q
 
-r-step : (v : Words) (rest : Bytes) → (r-line document-01 v >>= λ q. body document-01 q 2 0 [] (lines rest) >>= λ f. done (q, f)) ≡ (r-judged (padded 11 v, rest) >>= goes-on-body)
+r-step : (v : Words) (rest : Bytes) → (r-line document-01 v >>= λ q. body document-01 q 2 0 [] (lines rest) >>= λ f. done (q, f)) ≡ (r-judged (padded 16 v, rest) >>= goes-on-body)
 unfolding r-guarded
 r-step v rest =
     ap (λ (q : Parameters). r-guarded (prime-in-range? document-01 (q .p)) (in-ranges? document-01 q) q >>= λ q. body document-01 q 2 0 [] (lines rest) >>= λ f. done (q, f)) (sym (parameters-padded v))
-    ∙ go (parameters-of (padded 11 v)) (prime-in-range? document-01 (getD (padded 11 v) 0 0)) (in-ranges? document-01 (parameters-of (padded 11 v)))
+    ∙ go (parameters-of (padded 16 v)) (prime-in-range? document-01 (getD (padded 16 v) 0 0)) (in-ranges? document-01 (parameters-of (padded 16 v)))
   where
     go : (q : Parameters) (a b : Bool) → (r-guarded a b q >>= λ q. body document-01 q 2 0 [] (lines rest) >>= λ f. done (q, f)) ≡ (judged (unless a 2 (unless b 3 0)) 1 (q, rest) >>= goes-on-body)
     go q false b = refl
@@ -310,9 +316,9 @@ first-step (b ∷ bytes) = parted (first-of b bytes)
     parted : (line : Line) × (lines (b ∷ bytes) ≡ line ∷ lines (behind (b ∷ bytes))) → first-line document-01 (lines (b ∷ bytes)) ≡ (r-first (b ∷ bytes) >>= goes-on-body)
     parted (line, e) =
         ap (first-line document-01) e ∙ go (shaped 65535 82 4 line)
-        ∙ ap (λ ls. with-shape (in-eleven (shaped-of 65535 82 4 ls then λ v. some (v, behind (b ∷ bytes)))) 1 r-judged >>= goes-on-body) (sym e)
+        ∙ ap (λ ls. with-shape (in-sixteen (shaped-of 65535 82 4 ls then λ v. some (v, behind (b ∷ bytes)))) 1 r-judged >>= goes-on-body) (sym e)
       where
-        go : (o : Option Words) → after-r document-01 (lines (behind (b ∷ bytes))) o ≡ (with-shape (in-eleven (o then λ v. some (v, behind (b ∷ bytes)))) 1 r-judged >>= goes-on-body)
+        go : (o : Option Words) → after-r document-01 (lines (behind (b ∷ bytes))) o ≡ (with-shape (in-sixteen (o then λ v. some (v, behind (b ∷ bytes)))) 1 r-judged >>= goes-on-body)
         go none = refl
         go (some v) = r-step v (behind (b ∷ bytes))
 
@@ -324,7 +330,7 @@ problem-step file h = (λ i. unless-refused (le-leb (length file) 65536 h i) 1 0
 
 -- n is in range in what the R line says
 pub few-variables : (file : Bytes) → If-done (λ (a : Parameters × Bytes). a .0 .n ≤ 8) (r-first file)
-few-variables file = shape (in-eleven (shaped-first 65535 82 4 file))
+few-variables file = shape (in-sixteen (shaped-first 65535 82 4 file))
   where
     judge : (q : Parameters) (rest : Bytes) (a b : Bool) → in-ranges? document-01 q ≡ b → If-done (λ (a : Parameters × Bytes). a .0 .n ≤ 8) (judged (unless a 2 (unless b 3 0)) 1 (q, rest))
     judge q rest false b e = tt

@@ -6,7 +6,7 @@ use mathlib.Core.List.{[], _∷_, _++_}
 use Prim.Native.Nat.{ℕ, suc, _+_, _-_, _*_, _<_, _≤_}
 use native.Mathlib.Omega.{arith}
 use lib.ListN.{length, take, drop, getD, replicate, length-append, length-drop}
-use lib.Seq.{drop-cons}
+use lib.Seq.{drop-cons, length-take-le}
 use Rattle.definitions.specs.Limits.{document-01}
 use Rattle.definitions.specs.Monomial.{Level}
 use Rattle.definitions.specs.Problem.{Bytes, Parameters, lines, with-term, body}
@@ -37,18 +37,18 @@ none-so-far q size before state h e = record {
 }
 
 -- the row of a line's term
-row-in : (w : Words) → length w ≡ 11 → row-of (term-in w) ≡ drop 1 w
-row-in w l = sym (drop-cons w 1 0 (omega arith) ∙ ap (λ z. getD w 1 0 ∷ z) (drop-cons w 2 0 (omega arith)))
+row-in : (w : Words) → length w ≡ 16 → row-of (term-in w) ≡ take 10 (drop 1 w)
+row-in w l = sym (ap (take 10) (drop-cons w 1 0 (omega arith) ∙ ap (λ z. getD w 1 0 ∷ z) (drop-cons w 2 0 (omega arith))))
 
 module _ (q : Parameters) (size : ℕ) (f : Level) (count r : ℕ) (before state : Words) (k : So-far q size f count r before state) (h : 206095 ≤ size) where
   -- a term more
-  pub one-more : (w : Words) → count < 2048 → length w ≡ 11 → follows? r (getD w 0 0) ≡ true
+  pub one-more : (w : Words) → count < 2048 → length w ≡ 16 → follows? r (getD w 0 0) ≡ true
       → So-far q size (with-term (begins? r (getD w 0 0)) f (term-in w)) (count + 1) (getD w 0 0) w (stored state count w)
   one-more w c l s = record {
     held = record { elements = g .elements; last-one = λ n. g .last-one };
     few = g .few;
     terms = g .terms ∙ ap (λ n. n + 1) (k .terms);
-    rows = ap length (g .rows ∙ ap (λ z. rows-of (joined f) ++ z) (row-in w l)) ∙ length-append (rows-of (joined f)) (drop 1 w) ∙ omega (arith, k .rows, length-drop 1 w);
+    rows = ap length (g .rows ∙ ap (λ z. rows-of (joined f) ++ z) (row-in w l)) ∙ length-append (rows-of (joined f)) (take 10 (drop 1 w)) ∙ omega (arith, k .rows, length-take-le 10 (drop 1 w) (omega (arith, length-drop 1 w)));
     words =
         ap (λ z. stored z count w) (k .words)
         ∙ laid-stored q size (length f) (ends-from 0 f) (rows-of (joined f)) count w h (omega (arith, length-ends 0 f, k .held .elements, k .few)) l (k .rows) c (g .one) (g .low) (g .high) (omega (arith, g .few))

@@ -4,7 +4,7 @@ use mathlib.Core.List.{[], _∷_, _++_, append-assoc, append-nil}
 use Prim.Native.Nat.{ℕ, suc, _+_, _-_, _*_, _<_, _≤_}
 use native.Mathlib.Omega.{arith}
 use lib.ListN.{length, take, drop, getD, set, replicate, length-append, length-drop, length-replicate, replicate-append-replicate}
-use lib.Seq.{paste, take-at, take-all, take-append-le, drop-at, drop-append-add, set-append-left, set-split, length-take-le}
+use lib.Seq.{paste, take-at, take-all, take-append-le, take-take, drop-at, drop-append-add, set-append-left, set-split, length-take-le}
 use Rattle.definitions.specs.Limits.{document-01}
 use Rattle.definitions.specs.Monomial.{Level}
 use Rattle.definitions.specs.Problem.{Parameters}
@@ -97,13 +97,19 @@ module _ (q : Parameters) (size : ℕ) where
             ap (λ k. drop k (ends ++ zeros)) d ∙ drop-append-add ends zeros (e - length ends) ∙ ap (λ k. drop (e - length ends) (replicate k 0)) s
             ∙ zeros-drop (e - length ends) (1289 - e) ∙ ap (λ k. replicate (1289 - k) 0) (sym count)
 
+-- no more than ten words are pasted
+ten-words : (s : Words) (at : ℕ) (w : Words) → paste s at w 10 ≡ paste s at (take 10 w) 10
+ten-words s at w = ap (λ z. (take at s ++ z) ++ drop (at + 10) s) (sym (take-take 10 10 w (omega arith)))
+
 -- a term stored: a row more, the end of its element, the count of elements
-pub laid-stored : (q : Parameters) (size r : ℕ) (ends rows : Words) (count : ℕ) (w : Words) → 206095 ≤ size → length ends ≤ 128 → length w ≡ 11 → length rows ≡ count * 10 → count < 2048
+pub laid-stored : (q : Parameters) (size r : ℕ) (ends rows : Words) (count : ℕ) (w : Words) → 206095 ≤ size → length ends ≤ 128 → length w ≡ 16 → length rows ≡ count * 10 → count < 2048
     → 1 ≤ getD w 0 0 → getD w 0 0 - 1 ≤ length ends → length ends ≤ getD w 0 0 → getD w 0 0 ≤ 128
-    → stored (laid q r ends rows size) count w ≡ laid q (getD w 0 0) (take (getD w 0 0 - 1) ends ++ (count + 1) ∷ []) (rows ++ drop 1 w) size
+    → stored (laid q r ends rows size) count w ≡ laid q (getD w 0 0) (take (getD w 0 0 - 1) ends ++ (count + 1) ∷ []) (rows ++ take 10 (drop 1 w)) size
 laid-stored q size r ends rows count w h room lw lr few one low high most =
-    ap (λ s. set (set s (5 + getD w 0 0) (count + 1)) 5 (getD w 0 0)) (laid-row q size r ends rows room (drop 1 w) (1295 + count * 10) (length-drop 1 w ∙ omega arith) (omega arith) (omega arith))
-    ∙ ap (λ s. set s 5 (getD w 0 0)) (laid-end q size r ends (rows ++ drop 1 w) room (getD w 0 0) (count + 1) one low high most)
+    ap (λ s. set (set s (5 + getD w 0 0) (count + 1)) 5 (getD w 0 0))
+    (ten-words (laid q r ends rows size) (1295 + count * 10) (drop 1 w)
+    ∙ laid-row q size r ends rows room (take 10 (drop 1 w)) (1295 + count * 10) (length-take-le 10 (drop 1 w) (omega (arith, length-drop 1 w))) (omega arith) (omega arith))
+    ∙ ap (λ s. set s 5 (getD w 0 0)) (laid-end q size r ends (rows ++ take 10 (drop 1 w)) room (getD w 0 0) (count + 1) one low high most)
 
 -- ## The definitions' words
 

@@ -24,7 +24,7 @@ pub struct Reading {
 }
 
 // A row: coefficient, component, eight exponents.
-fn store_row(state: &mut [u16], at: usize, w: [u16; 11])
+fn store_row(state: &mut [u16], at: usize, w: [u16; 16])
     requires { ⌜ at + 10 ≤ length (now state) ⌝ }
     ensures { λ _. ⌜ now (state .exit) ≡ paste (now (state .entry)) at (drop 1 w) 10 ⌝ }
 {
@@ -35,9 +35,9 @@ fn store_row(state: &mut [u16], at: usize, w: [u16; 11])
     }
 }
 
-fn store(state: &mut [u16], count: usize, w: [u16; 11])
+fn store(state: &mut [u16], count: usize, w: [u16; 16])
     requires { ⌜ (206095 ≤ length (now state)) × (count < 2048) × (getD w 0 0 ≤ 64) ⌝ }
-    ensures { λ _. ⌜ (now (state .exit) ≡ stored (now (state .entry)) count w) × (length w ≡ 11) ⌝ }
+    ensures { λ _. ⌜ (now (state .exit) ≡ stored (now (state .entry)) count w) × (length w ≡ 16) ⌝ }
 {
     store_row(state, 1295 + count * 10, w);
     let element = w[0];
@@ -69,7 +69,7 @@ fn body(file: &[u8], from: usize, q: Parameters, state: &mut [u16]) -> Outcome
     let mut at = from;
     let mut count: usize = 0;
     let mut elements: u16 = 0;
-    let mut before = [0u16; 11];
+    let mut before = [0u16; 16];
     loop {
         let taken = lines::next_line(file, at, q, count, elements, before);
         let w = taken.numbers;

@@ -5,7 +5,7 @@ use lib.ListN.{drop}
 use Rattle.lines.specs.Steps.{r-judged}
 use Rattle.lines.specs.Tests.{r-number}
 use Rattle.definitions.specs.Problem.{parameters-of}
-use Rattle.fields.specs.Scanning.{shaped-first, in-eleven}
+use Rattle.fields.specs.Scanning.{shaped-first, in-sixteen}
 use Rattle.lines.proofs.Judging.{no-shape, has-shape, judged-refused, judged-done}
 use Rattle.lines.proofs.first_line.Statement.{statement}
 use Rattle.lines.proofs.first_line.Tie as tie
@@ -32,7 +32,7 @@ enum-told : tie.Need-enum-told
 enum-told c = search needs
 
 returns : tie.Need-returns
-returns c = let file = c .before .before .before .before .before .args .file .now in let l = c .before .before .before .line-at in no-shape (in-eleven (shaped-first 65535 82 4 file)) 1 r-judged file (l .result) (l .ensures) (c .enum-told .given .1)
+returns c = let file = c .before .before .before .before .before .args .file .now in let l = c .before .before .before .line-at in no-shape (in-sixteen (shaped-first 65535 82 4 file)) 1 r-judged file (l .result) (l .ensures) (c .enum-told .given .1)
 
 parameters-refusal-requires : tie.Need-parameters-refusal-requires
 parameters-refusal-requires c κs = search needs
@@ -41,13 +41,13 @@ returns-2 : tie.Need-returns-2
 returns-2 c =
     let file = c .before .before .before .before .before .before .before .before .args .file .now in let l = c .before .before .before .before .before .before .line-at in let w = l .result .numbers in let next = c .before .before .before .end .given .0 .0 in
     judged-refused 1 (parameters-of w, drop next file) (c .before .parameters-refusal .result) (r-number (parameters-of w)) (c .before .parameters-refusal .ensures) (λ q. omega arith)
-    ∙ has-shape (in-eleven (shaped-first 65535 82 4 file)) 1 r-judged file (l .result) (l .ensures) next (c .before .before .before .end .given .1)
+    ∙ has-shape (in-sixteen (shaped-first 65535 82 4 file)) 1 r-judged file (l .result) (l .ensures) next (c .before .before .before .end .given .1)
 
 returns-3 : tie.Need-returns-3
 returns-3 c =
     let file = c .before .before .before .before .before .before .before .before .args .file .now in let l = c .before .before .before .before .before .before .line-at in let w = l .result .numbers in let next = c .before .before .before .end .given .0 .0 in
     judged-done 1 (parameters-of w, drop next file) (c .before .parameters-refusal .result) (r-number (parameters-of w)) (c .before .parameters-refusal .ensures) (omega arith)
-    ∙ has-shape (in-eleven (shaped-first 65535 82 4 file)) 1 r-judged file (l .result) (l .ensures) next (c .before .before .before .end .given .1)
+    ∙ has-shape (in-sixteen (shaped-first 65535 82 4 file)) 1 r-judged file (l .result) (l .ensures) next (c .before .before .before .end .given .1)
 
 pub first-line-spec : {M : Type 1} → statement M
 first-line-spec =

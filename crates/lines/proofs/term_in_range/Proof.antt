@@ -1,7 +1,7 @@
 use borrow.Author.Needs.{needs}
 use native.Mathlib.Omega.{arith}
 use mathlib.Core.Path.{sym, ap, _∙_}
-use lib.ListN.{drop}
+use lib.ListN.{take, drop}
 use Rattle.lines.specs.Tests.{parameters-of}
 use Rattle.definitions.specs.Monomial.{fits?}
 use Rattle.definitions.specs.Lists.{_and_}
@@ -31,10 +31,10 @@ fits-requires : tie.Need-fits-requires
 fits-requires c κs = search needs
 
 returns-3 : tie.Need-returns-3
-returns-3 c = let q = parameters-of (c .before .before .before .before .before .before .args .q) in let w = c .before .before .before .before .before .before .args .t2 in c .fits2 .ensures ∙ ap (fits? 255) (c .before .exponents .ensures) ∙ sym (coefficient-good q w (λ e. omega arith) (omega arith) ∙ (λ i. (sym (c .before .before .before .in-range .ensures) ∙ c .before .before .if3 .taken) i and fits? 255 (drop 3 w)))
+returns-3 c = let q = parameters-of (c .before .before .before .before .before .before .args .q) in let w = c .before .before .before .before .before .before .args .t2 in c .fits2 .ensures ∙ ap (fits? 255) (c .before .exponents .ensures) ∙ sym (coefficient-good q w (λ e. omega arith) (omega arith) ∙ (λ i. (sym (c .before .before .before .in-range .ensures) ∙ c .before .before .if3 .taken) i and fits? 255 (take 8 (drop 3 w))))
 
 returns-4 : tie.Need-returns-4
-returns-4 c = let q = parameters-of (c .before .before .before .before .args .q) in let w = c .before .before .before .before .args .t2 in sym (coefficient-good q w (λ e. omega arith) (omega arith) ∙ (λ i. (sym (c .before .in-range .ensures) ∙ c .if3 .left) i and fits? 255 (drop 3 w)))
+returns-4 c = let q = parameters-of (c .before .before .before .before .args .q) in let w = c .before .before .before .before .args .t2 in sym (coefficient-good q w (λ e. omega arith) (omega arith) ∙ (λ i. (sym (c .before .in-range .ensures) ∙ c .if3 .left) i and fits? 255 (take 8 (drop 3 w))))
 
 pub term-in-range-spec : {M : Type 1} → statement M
 term-in-range-spec =

@@ -32,7 +32,7 @@ abbrev μ-loop : tie.MeasureT-loop
 μ-loop file from q state₀ at₀ count₀ elements₀ before₀ state at count elements before = 2048 - count
 
 loop-holds : tie.Need-loop-holds Inv-loop μ-loop
-loop-holds c = let a = c .before .before .args in (omega arith, refl, ([], none-so-far (parameters-of (a .q)) (length (a .state .now)) (replicate 11 0) (a .state .now) (omega arith) (c .before .before .pre .2), refl))
+loop-holds c = let a = c .before .before .args in (omega arith, refl, ([], none-so-far (parameters-of (a .q)) (length (a .state .now)) (replicate 16 0) (a .state .now) (omega arith) (c .before .before .pre .2), refl))
 
 next-line-requires : tie.Need-next-line-requires Inv-loop μ-loop
 next-line-requires c κs = omega arith

@@ -8,7 +8,7 @@ use Rattle.problem.proofs.store_row.Statement.{statement}
 use Rattle.problem.proofs.store_row.Tie as tie
 
 abbrev Inv-loop : tie.InvT-loop
-Inv-loop state₀ at w j₀ state j = (j ≤ 10) × (length w ≡ 11) × (length state ≡ length state₀) × (state ≡ paste state₀ at (drop 1 w) j)
+Inv-loop state₀ at w j₀ state j = (j ≤ 10) × (length w ≡ 16) × (length state ≡ length state₀) × (state ≡ paste state₀ at (drop 1 w) j)
 
 abbrev μ-loop : tie.MeasureT-loop
 μ-loop state₀ at w j₀ state j = 10 - j
