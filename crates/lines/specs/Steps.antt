@@ -12,7 +12,7 @@ use Rattle.definitions.specs.Problem.{Bytes, letter-R, letter-T, letter-E}
 use Rattle.definitions.specs.Layout.{Words}
 use Rattle.fields.specs.Scanning.{shaped-first, in-sixteen}
 use Rattle.lines.specs.declared.Start.{Start}
-use Rattle.lines.specs.declared.Start.the-variants.{At, Barred}
+use Rattle.lines.specs.declared.Start.the-variants.{At, Refused as Start-refused}
 use Rattle.lines.specs.declared.First.{First}
 use Rattle.lines.specs.declared.Step.{Step}
 use Rattle.lines.specs.declared.Step.the-variants.{Term, End, Refused}
@@ -73,7 +73,7 @@ line-first q count r before (b ∷ bytes) =
 
 abbrev pub start-as : Start → Parameters → Bytes → Result (definition.Parameters × Bytes)
 start-as (At next) q file = done (parameters-of q, drop next file)
-start-as (Barred number) q file = refused number 1 []
+start-as (Start-refused number) q file = refused number 1 []
 
 abbrev pub first-as : First → Bytes → Result (definition.Parameters × Bytes)
 first-as r file = start-as (r .start) (r .parameters) file

@@ -24,7 +24,7 @@ pub struct Parameters {
 // Behind the R line, or its refusal.
 pub enum Start {
     At(usize),
-    Barred(u16),
+    Refused(u16),
 }
 
 pub struct First {
@@ -104,14 +104,14 @@ pub fn first_line(file: &[u8]) -> First
     let end = line.end;
     let LineEnd::Behind(next) = end else {
         return First {
-            start: Start::Barred(1),
+            start: Start::Refused(1),
             parameters: q,
         };
     };
     let number = parameters_refusal(q);
     if number != 0 {
         return First {
-            start: Start::Barred(number),
+            start: Start::Refused(number),
             parameters: q,
         };
     }

@@ -11,7 +11,7 @@ use Rattle.definitions.specs.Problem.{Bytes, lines}
 use Rattle.definitions.specs.State.{State}
 use Rattle.definitions.specs.Layout.{Words, encode}
 use Rattle.problem.specs.declared.Outcome.{Outcome}
-use Rattle.problem.specs.declared.Outcome.the-variants.{Done, Undone}
+use Rattle.problem.specs.declared.Outcome.the-variants.{Done, Refused}
 use Rattle.problem.specs.declared.Reading.{Reading}
 
 -- The state with the file's elements as level 0, read and not accepted: what the definitions' acceptance starts from.
@@ -47,7 +47,7 @@ begun s q = set (set (set (set (set s 0 (q .p)) 1 (q .n)) 2 (q .code)) 3 (q .s))
 
 abbrev pub outcome-as : {A : Type 0} → Outcome → A → Result A
 outcome-as Done a = done a
-outcome-as (Undone number place) a = refused number place []
+outcome-as (Refused number place) a = refused number place []
 
 abbrev pub answer-as : Reading → Words → ℕ × ℕ × Words
 answer-as r s = (r .number, r .place, s)

@@ -14,7 +14,7 @@ use lines::Step;
 
 pub enum Outcome {
     Done,
-    Undone(u16, usize),
+    Refused(u16, usize),
 }
 
 // Number 0 and place 0, or a refusal.
@@ -83,7 +83,7 @@ fn body(file: &[u8], from: usize, q: Parameters, state: &mut [u16]) -> Outcome
                 count += 1;
             }
             Step::End => return Outcome::Done,
-            Step::Refused(number, place) => return Outcome::Undone(number, place),
+            Step::Refused(number, place) => return Outcome::Refused(number, place),
         }
     }
 }
@@ -94,7 +94,7 @@ fn read_lines(file: &[u8], state: &mut [u16]) -> Outcome
     ensures { λ r. ⌜ outcome-as r (now (state .exit)) ≡ problem-words (length (now (state .entry))) (now (file .entry)) ⌝ }
 {
     if 65536 < file.len() {
-        return Outcome::Undone(1, 0);
+        return Outcome::Refused(1, 0);
     }
     let first = lines::first_line(file);
     let q = first.parameters;
@@ -104,7 +104,7 @@ fn read_lines(file: &[u8], state: &mut [u16]) -> Outcome
             begin(state, q);
             body(file, next, q, state)
         }
-        Start::Barred(number) => Outcome::Undone(number, 1),
+        Start::Refused(number) => Outcome::Refused(number, 1),
     }
 }
 
@@ -120,7 +120,7 @@ pub fn read(file: &[u8], state: &mut [u16]) -> Reading
             number: 0,
             place: 0,
         },
-        Outcome::Undone(number, place) => {
+        Outcome::Refused(number, place) => {
             terms::clear(state, 0);
             Reading { number, place }
         }

@@ -184,7 +184,7 @@ fn random_file(compare: &mut Compare, random: &mut Random) {
         compare.file(&file);
     }
     // at every byte
-    if file.len() < 600 && random.below(60) == 0 {
+    if file.len() < 600 && random.below(400) == 0 {
         for length in 0..file.len() {
             compare.file(&file[..length]);
         }
