@@ -16,7 +16,7 @@ ghost use Rattle.writing.specs.Settled.{Tidied-to};
 // ## A vector more
 
 // The first v rows of a value, from row `used` on.
-fn copy_rows(d: &mut [u16], used: usize, value: &[u16], v: usize)
+pub fn copy_rows(d: &mut [u16], used: usize, value: &[u16], v: usize)
     requires { ⌜ (v * 10 ≤ length (now value)) × ((used + v) * 10 ≤ length (now d)) ⌝ }
     ensures { λ _. ⌜ now (d .exit) ≡ paste (now (d .entry)) (used * 10) (rows-of (rows (now (value .entry)) 0 v)) (v * 10) ⌝ }
 {

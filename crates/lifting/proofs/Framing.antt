@@ -1,0 +1,142 @@
+-- What lifting asks for and what it gives, over the ground that the code made of a state's level.
+use mathlib.Core.Path.{_≡_, refl, sym, ap, _∙_, subst, subst₃}
+use mathlib.Core.Bool.{Bool, true, false}
+use mathlib.Core.List.{List, [], _∷_}
+use Prim.Native.Nat.{ℕ, suc, _≤_}
+use native.Mathlib.Omega.{arith}
+use lib.Dec.{leb}
+use lib.ListN.{length, getD, take}
+use lib.Seq.{length-take-le}
+use Rattle.definitions.specs.Limits.{document-01}
+use Rattle.definitions.specs.Monomial.{Monomial, Level, leading, leading-monomials}
+use Rattle.definitions.specs.Result.{Result, done, refused, refusal, unfinished, _>>=_}
+use Rattle.definitions.specs.Reducer.{heads}
+use Rattle.definitions.specs.Run.{by-code}
+use Rattle.definitions.specs.Frame.{frame}
+use Rattle.definitions.specs.Lifting.{limited-frame, if-few, lift-all, accept-from}
+use Rattle.definitions.specs.Layout.{Words, rows, level-at}
+use Rattle.ending.specs.Well.{Well}
+use Rattle.orders.specs.Images.{table-of, table-order}
+use Rattle.levels.specs.Places.{count-at, rows-from, ends-from}
+use Rattle.levels.specs.Tabled.{Ready}
+use Rattle.levels.proofs.VectorTests.{length-vectors}
+use Rattle.stages.specs.Prepared.{Led}
+use Rattle.frame.specs.Generators.{monomials-of}
+use Rattle.frame.proofs.Components.{frame-components}
+use Rattle.reduce.specs.Grounds.{Tables, Family}
+use Rattle.reduce.specs.declared.Ground.{Ground}
+use Rattle.runs.specs.Stages.{Images, order-of, stage-of, strategy-of}
+use Rattle.runs.specs.declared.Strategy.{Strategy}
+use Rattle.lift.specs.Vectors.{Framed, lifts, accepted-of, Left}
+use Rattle.lift.specs.declared.Accepted.{Accepted}
+use Rattle.lift.specs.declared.Accepted.the-variants.{Yes, Refused as Accepted-refused, Stopped as Accepted-stopped}
+use Rattle.lifting.specs.Stages.{Base, ground-at, stage-at, strategy-at, Framed-by, accepted-with, value-in, Left-in}
+use Rattle.lifting.proofs.Readying.{tables-at, family-at, images-below, images-above, below-is, stage-is, well-at}
+
+-- ## Leading monomials
+
+monomials-heads : (p : ℕ) (f : Level) → monomials-of (heads p f) ≡ leading-monomials f
+monomials-heads p [] = refl
+monomials-heads p (f ∷ fs) = ap (λ l. leading f ∷ l) (monomials-heads p fs)
+
+length-leading : (f : Level) → length (leading-monomials f) ≡ length f
+length-leading [] = refl
+length-leading (f ∷ fs) = ap suc (length-leading fs)
+
+module _ (s : Words) (j : ℕ) (b : Base s j) where
+  pub leading-at : (leads spans : Words) → Led s j leads spans → monomials-of (rows leads 0 (count-at s j)) ≡ leading-monomials (level-at document-01 s j)
+  leading-at leads spans l = ap monomials-of (l .made) ∙ monomials-heads (getD s 0 0) (level-at document-01 s j)
+
+  length-level : length (leading-monomials (level-at document-01 s j)) ≡ count-at s j
+  length-level =
+      length-leading (level-at document-01 s j)
+      ∙ length-vectors (rows-from s j) 0 (take (count-at s j) (ends-from s j))
+      ∙ length-take-le (count-at s j) (ends-from s j) (family-at s j b .ends-fit)
+
+  framed-at : (count : ℕ) (words : Words) → Framed-by s j count words → Framed (ground-at s j) count words
+  framed-at count words f = record {
+    few = f .few;
+    fits = f .fits;
+    components = λ i h. let c = frame-components (getD s 2 0) (leading-monomials (level-at document-01 s j)) words count (f .terms) i h in (c .0, omega (arith, c .1, length-level));
+  }
+
+  -- ## What lifting asks for
+
+  module _ (leads spans below above : Words) (l : Led s j leads spans) (rb : Ready s j below) (ra : Ready s (suc j) above)
+      (hl : 1280 ≤ length leads) (hs : 258 ≤ length spans) (hb : 1280 ≤ length below) (ha : 1280 ≤ length above)
+      (g : Ground) (level ends : Words) (eg : g ≡ ground-at s j) (el : level ≡ rows-from s j) (ee : ends ≡ ends-from s j) where
+    abbrev Asked : ℕ → Words → Ground → Words → Words → Type 0
+    Asked count words g level ends =
+        Tables g leads spans × Family g level ends × Images (g .images) below × Images (g .r) above × Well (stage-of g level ends leads below (order-of g below)) ×
+        Framed g count words × (g .working ≡ 512) × (g .vector ≡ 512) × (g .room ≡ 2048)
+
+    pub asked : (count : ℕ) (words : Words) → Framed-by s j count words → Asked count words g level ends
+    asked count words f =
+        subst₃ (Asked count words) (sym eg) (sym el) (sym ee) (
+          tables-at s j b leads spans l hl hs,
+          family-at s j b,
+          images-below s j b below rb hb,
+          images-above s j b above ra ha,
+          well-at s j b leads spans below l rb,
+          framed-at count words f,
+          refl,
+          refl,
+          refl,
+        )
+
+    -- ## What it gives
+
+    stage-same : stage-of g level ends leads below (table-order (g .code) (table-of (g .r) above)) ≡ stage-at s j
+    stage-same =
+        (λ i. stage-of (eg i) (el i) (ee i) leads below (table-order (eg i .code) (table-of (eg i .r) above))) ∙ stage-is s j b leads spans below l rb above ra
+
+    strategy-same : (w : Strategy) → strategy-of g below w ≡ strategy-at s j w
+    strategy-same w =
+        (λ i. strategy-of (eg i) below w)
+        ∙ (λ i. record { drops = w .drops; pick = by-code (below-is s j b below rb i) (w .pick); stops = w .stops })
+
+    pub lifted-same : (w : Strategy) (n : ℕ) (ms : List Monomial) (x : Result Level)
+        → x ≡ lift-all (stage-of g level ends leads below (table-order (g .code) (table-of (g .r) above)))
+        (lifts (stage-of g level ends leads below (table-order (g .code) (table-of (g .r) above))) (strategy-of g below w) n) ([], 0) [] ms
+        → x ≡ lift-all (stage-at s j) (lifts (stage-at s j) (strategy-at s j w) n) ([], 0) [] ms
+    lifted-same w n ms x e = e ∙ (λ i. lift-all (stage-same i) (lifts (stage-same i) (strategy-same w i) n) ([], 0) [] ms)
+
+    pub accepted-same : (n : ℕ) (ms : List Monomial) (x : Result (Unit {0}))
+        → x ≡ accept-from (stage-of g level ends leads below (table-order (g .code) (table-of (g .r) above))) n 1 ms → x ≡ accept-from (stage-at s j) n 1 ms
+    accepted-same n ms x e = e ∙ (λ i. accept-from (stage-same i) n 1 ms)
+
+-- ## The frame first
+
+-- more frame terms than a level has vectors
+pub too-many : {A : Type 0} (code : ℕ) (f : Level) (F : List Monomial) (go : List Monomial → Result A) → F ≡ leading-monomials f
+    → refusal 15 ≡ if-few (leb (length (frame code F)) 128) (frame code F) → refusal 15 ≡ (limited-frame document-01 code f >>= go)
+too-many code f F go e h = ap (λ r. r >>= go) (h ∙ ap (λ ms. if-few (leb (length (frame code ms)) 128) (frame code ms)) e)
+
+pub few-enough : {A : Type 0} (code : ℕ) (f : Level) (F ms : List Monomial) (go : List Monomial → Result A) → F ≡ leading-monomials f
+    → done ms ≡ if-few (leb (length (frame code F)) 128) (frame code F) → go ms ≡ (limited-frame document-01 code f >>= go)
+few-enough code f F ms go e h = ap (λ r. r >>= go) (h ∙ ap (λ ms. if-few (leb (length (frame code ms)) 128) (frame code ms)) e)
+
+abbrev Says : List Monomial → Result (List Monomial) → Type 0
+Says F (done ms) = ms ≡ F
+Says F (refused number place value) = Unit {0}
+Says F unfinished = Unit {0}
+
+says : (F : List Monomial) (b : Bool) → Says F (if-few b F)
+says F true = refl
+says F false = tt
+
+-- the frame's terms are all of them
+pub whole-frame : (code : ℕ) (F G ms : List Monomial) → F ≡ G → done ms ≡ if-few (leb (length (frame code F)) 128) (frame code F) → ms ≡ frame code G
+whole-frame code F G ms e h = subst (Says (frame code F)) (sym h) (says (frame code F) (leb (length (frame code F)) 128)) ∙ ap (frame code) e
+
+-- ## A value without a reducer
+
+pub left-room : (g : Ground) (x : Accepted) (vector work : Words) → g .working ≡ 512 → Left g x → 5120 ≤ length vector → 5120 ≤ length work → Left-in x vector work
+left-room g Yes vector work e l h k = tt
+left-room g (Accepted-refused number place) vector work e l h k = tt
+left-room g (Accepted-stopped i n) vector work e l h k = (omega (arith, l, e), omega (arith, l, e))
+
+pub answer-same : (x : Accepted) (vector : Words) → accepted-with x (value-in x vector) ≡ accepted-of x vector
+answer-same Yes vector = refl
+answer-same (Accepted-refused number place) vector = refl
+answer-same (Accepted-stopped i n) vector = refl

@@ -1,0 +1,127 @@
+-- The tables of a sound state's level are what lifting over it asks for, and its stage is the definitions'.
+use mathlib.Core.Path.{_≡_, refl, sym, ap, _∙_, subst}
+use mathlib.Core.List.{List, _∷_}
+use Prim.Native.Nat.{ℕ, zero, suc, _+_, _-_, _*_, _<_, _≤_}
+use native.Mathlib.Nat.{not-suc-le-zero}
+use native.Mathlib.Omega.{arith}
+use native.Mathlib.Decide.{ℕ-discrete}
+use lib.Dec.{T, leb}
+use lib.ListN.{length, getD, take, drop}
+use Rattle.definitions.specs.Limits.{document-01}
+use Rattle.definitions.specs.Lists.{_and_}
+use Rattle.definitions.specs.Field.{prime?}
+use Rattle.definitions.specs.Monomial.{Monomial, Level}
+use Rattle.definitions.specs.Order.{Comparison, compare-over}
+use Rattle.definitions.specs.Reducer.{heads}
+use Rattle.definitions.specs.State.{levels-sound?, sound?}
+use Rattle.definitions.specs.Layout.{Words, level-at, levels-at, decode, all-words-sound?}
+use Rattle.definitions.proofs.Tests.{and-right}
+use Rattle.definitions.proofs.Sound.{sound-says, level-says}
+use Rattle.ending.specs.Well.{Well}
+use Rattle.ending.proofs.Soundness.{sound-well}
+use Rattle.orders.specs.Images.{table-of, table-order}
+use Rattle.orders.proofs.Induced.{All-led, one-level, table-order-is, sound-led}
+use Rattle.levels.specs.Places.{parameters-at, count-at, count-below, rows-from, ends-from}
+use Rattle.stages.specs.Prepared.{Led}
+use Rattle.stages.proofs.Preparing.{components-few}
+use Rattle.levels.specs.Tabled.{Ready}
+use Rattle.levels.proofs.Advancing.{ready-tabled}
+use Rattle.levels.proofs.Walking.{whole-part}
+use Rattle.levels.proofs.Sounding.{prime-above, complete-cut}
+use Rattle.levels.proofs.StateTests.{holds-said}
+use Rattle.reduce.specs.Grounds.{Tables, Family}
+use Rattle.runs.specs.Stages.{Images, order-of, stage-of}
+use Rattle.lifting.specs.Stages.{Base, ground-at, stage-at}
+
+-- the ends of a level's vectors, to the state's end
+pub ends-part : (s : Words) (j : ℕ) → take (length s - (6 + j * 129)) (drop (6 + j * 129) s) ≡ ends-from s j
+ends-part s j = let e : 6 + j * 129 ≡ suc (5 + j * 129) = omega arith in whole-part (6 + j * 129) s ∙ ap (λ n. drop n s) e
+
+module _ (s : Words) (j : ℕ) (b : Base s j) where
+  -- ## Sound levels
+
+  sound-state : T (sound? document-01 (decode document-01 s))
+  sound-state =
+      and-right (all-words-sound? document-01 s (getD s 4 0)) (sound? document-01 (decode document-01 s))
+      (and-right (leb (getD s 4 0) 10) (all-words-sound? document-01 s (getD s 4 0) and sound? document-01 (decode document-01 s)) (b .holds))
+
+  lower : (h : ℕ) → j < h → T (levels-sound? document-01 (parameters-at s) (levels-at document-01 s h)) → T (levels-sound? document-01 (parameters-at s) (levels-at document-01 s (suc j)))
+  lower zero l t = absurd (not-suc-le-zero l)
+  lower (suc zero) l t = let e : 1 ≡ suc j = omega arith in subst (λ n. T (levels-sound? document-01 (parameters-at s) (levels-at document-01 s n))) e t
+  lower (suc (suc h)) l t = go (ℕ-discrete (suc h) j) (lower (suc h))
+    where
+      go : Dec (suc h ≡ j) → (j < suc h → T (levels-sound? document-01 (parameters-at s) (levels-at document-01 s (suc h))) → T (levels-sound? document-01 (parameters-at s) (levels-at document-01 s (suc j))))
+          → T (levels-sound? document-01 (parameters-at s) (levels-at document-01 s (suc j)))
+      go (yes e) ih = subst (λ n. T (levels-sound? document-01 (parameters-at s) (levels-at document-01 s (suc n)))) e t
+      go (no ne) ih =
+          ih (omega arith)
+          (level-says document-01 (parameters-at s) (level-at document-01 s (suc h)) (level-at document-01 s h) (levels-at document-01 s h) t .under)
+
+  pub sound-levels : T (levels-sound? document-01 (parameters-at s) (levels-at document-01 s (suc j)))
+  sound-levels = lower (getD s 4 0) (b .has) (sound-says document-01 (decode document-01 s) sound-state .levels)
+
+  pub prime-at : T (prime? (getD s 0 0))
+  prime-at = and-right (leb (getD s 0 0) 32767) (prime? (getD s 0 0)) (holds-said s (b .long) (b .holds) .2)
+
+  led-levels : All-led (levels-at document-01 s (suc j))
+  led-levels = sound-led document-01 (parameters-at s) (levels-at document-01 s (suc j)) sound-levels
+
+  led-below : (ls : List Level) (f : Level) → All-led (f ∷ ls) → All-led ls
+  led-below ls f (one-level l m) = m
+
+  -- ## Tables
+
+  pub few-vectors : count-at s j ≤ 128
+  few-vectors = complete-cut s (b .long) (b .holds) j (b .has) .0
+
+  pub tables-at : (leads spans : Words) → Led s j leads spans → 1280 ≤ length leads → 258 ≤ length spans → Tables (ground-at s j) leads spans
+  tables-at leads spans l h k = record {
+    prime = omega (arith, prime-above s (b .long) (b .holds));
+    few = omega (arith, few-vectors);
+    heads-fit = omega (arith, few-vectors, h);
+    spans-fit = omega (arith, components-few s (b .long) (b .holds) j (b .has), k);
+    small = l .small;
+    spanned = l .spanned;
+  }
+
+  pub family-at : Family (ground-at s j) (rows-from s j) (ends-from s j)
+  family-at = let c = complete-cut s (b .long) (b .holds) j (b .has) .1 in record { ends-fit = c .ends-fit; rows-fit = c .rows-fit }
+
+  pub images-below : (below : Words) → Ready s j below → 1280 ≤ length below → Images (count-below s j) below
+  images-below below r h = record { fits = omega (arith, r .few, h); tabled = ready-tabled s j below (omega (arith, b .low)) r }
+
+  pub images-above : (above : Words) → Ready s (suc j) above → 1280 ≤ length above → Images (count-at s j) above
+  images-above above r h = record { fits = omega (arith, few-vectors, h); tabled = ready-tabled s (suc j) above (omega (arith, b .low)) r }
+
+  -- ## The stage
+
+  pub below-is : (below : Words) → Ready s j below → order-of (ground-at s j) below ≡ compare-over (getD s 2 0) (levels-at document-01 s j)
+  below-is below r =
+      ap (table-order (getD s 2 0)) (r .made)
+      ∙ (λ i m m′. table-order-is (getD s 2 0) (levels-at document-01 s j) (led-below (levels-at document-01 s j) (level-at document-01 s j) led-levels) m m′ i)
+
+  pub above-is : (above : Words) → Ready s (suc j) above → table-order (getD s 2 0) (table-of (count-at s j) above) ≡ compare-over (getD s 2 0) (levels-at document-01 s (suc j))
+  above-is above r =
+      ap (table-order (getD s 2 0)) (r .made) ∙ (λ i m m′. table-order-is (getD s 2 0) (levels-at document-01 s (suc j)) led-levels m m′ i)
+
+  module _ (leads spans below : Words) (l : Led s j leads spans) (rb : Ready s j below) where
+    stage-by : (order : Monomial → Monomial → Comparison) → order ≡ compare-over (getD s 2 0) (levels-at document-01 s (suc j))
+        → stage-of (ground-at s j) (rows-from s j) (ends-from s j) leads below order ≡ stage-at s j
+    stage-by order e = λ i. record {
+      reduction = record { limits = document-01; p = getD s 0 0; heads = l .made i };
+      family = level-at document-01 s j;
+      below = below-is below rb i;
+      above = e i;
+    }
+
+    pub stage-is : (above : Words) → Ready s (suc j) above
+        → stage-of (ground-at s j) (rows-from s j) (ends-from s j) leads below (table-order (getD s 2 0) (table-of (count-at s j) above)) ≡ stage-at s j
+    stage-is above ra = stage-by (table-order (getD s 2 0) (table-of (count-at s j) above)) (above-is above ra)
+
+    well-over : Well (stage-of (ground-at s j) (rows-from s j) (ends-from s j) leads below (compare-over (getD s 2 0) (levels-at document-01 s (suc j))))
+    well-over =
+        subst Well (sym (stage-by (compare-over (getD s 2 0) (levels-at document-01 s (suc j))) refl))
+        (sound-well document-01 (parameters-at s) (levels-at document-01 s (suc j)) prime-at (omega arith) sound-levels)
+
+    pub well-at : Well (stage-of (ground-at s j) (rows-from s j) (ends-from s j) leads below (order-of (ground-at s j) below))
+    well-at = let w = well-over in record { prime = w .prime; small = w .small; heads-are = w .heads-are; order = w .order; family = w .family }

@@ -1,0 +1,94 @@
+-- A state's level as the ground of a lifting, and what is said of the level over it.
+use mathlib.Core.Path.{_≡_}
+use mathlib.Core.List.{[]}
+use Prim.Native.Nat.{ℕ, suc, _+_, _*_, _<_, _≤_}
+use lib.Dec.{T}
+use lib.ListN.{length, getD}
+use Rattle.definitions.specs.Limits.{document-01}
+use Rattle.definitions.specs.Monomial.{Vector, Level, leading-monomials}
+use Rattle.definitions.specs.Result.{Result, done, refused, refusal, _>>=_}
+use Rattle.definitions.specs.Stage.{Stage, stage-over}
+use Rattle.definitions.specs.Run as definition
+use Rattle.definitions.specs.Run.{by-code}
+use Rattle.definitions.specs.Frame.{frame}
+use Rattle.definitions.specs.Lifting.{limited-frame, lift-all, accept}
+use Rattle.definitions.specs.Layout.{Words, rows, rows-of, padded, level-at, levels-at, holds-state?}
+use Rattle.levels.specs.Places.{count-at, count-below}
+use Rattle.stages.specs.Prepared.{components-at}
+use Rattle.reduce.specs.declared.Ground.{Ground}
+use Rattle.runs.specs.declared.Strategy.{Strategy}
+use Rattle.lift.specs.Vectors.{lifted-vectors, Kept, frame-terms, lifts, lifted-of, Whole}
+use Rattle.lift.specs.declared.Lifted.{Lifted}
+use Rattle.lift.specs.declared.Accepted.{Accepted}
+use Rattle.lift.specs.declared.Accepted.the-variants.{Yes, Refused as Accepted-refused, Stopped as Accepted-stopped}
+use Rattle.lifting.specs.declared.Leveled.{Leveled}
+use Rattle.lifting.specs.declared.Leveled.the-variants.{Vectors, Refused, Stopped}
+
+-- a sound state with level j complete
+pub record Base (s : Words) (j : ℕ) : Type 0 where
+  pub long : 206095 ≤ length s
+  pub holds : T (holds-state? document-01 s)
+  pub has : j < getD s 4 0
+  pub low : j < 10
+
+abbrev pub ground-at : Words → ℕ → Ground
+ground-at s j = record { p = getD s 0 0; code = getD s 2 0; r = count-at s j; components = components-at s j + 1; images = count-below s j; working = 512; vector = 512; tree = 4_096; room = 2_048 }
+
+-- the stage over levels 0 to j
+abbrev pub stage-at : Words → ℕ → Stage
+stage-at s j = stage-over document-01 (getD s 0 0) (getD s 2 0) (levels-at document-01 s (suc j))
+
+abbrev pub strategy-at : Words → ℕ → Strategy → definition.Strategy
+strategy-at s j w = record { drops = w .drops; pick = by-code (stage-at s j .below) (w .pick); stops = w .stops }
+
+-- the frame's rows, all of them
+pub record Framed-by (s : Words) (j count : ℕ) (words : Words) : Type 0 where
+  pub few : count ≤ 128
+  pub fits : count * 10 ≤ length words
+  pub terms : frame-terms words count ≡ frame (getD s 2 0) (leading-monomials (level-at document-01 s j))
+
+-- what lifting these frame terms gives; the value of one without a reducer is not kept
+abbrev pub lifted-over : Words → ℕ → Strategy → ℕ → Words → Lifted → Words → Type 0
+lifted-over s j w count words x out =
+    ((n : ℕ) × (v : Words) × (lifted-of x count out v ≡ lift-all (stage-at s j) (lifts (stage-at s j) (strategy-at s j w) n) ([], 0) [] (frame-terms words count))) × Whole (ground-at s j) count x out
+
+-- the frame formed first: 15; then its terms
+abbrev pub lift-over : Words → ℕ → Strategy → ℕ → Result Level
+lift-over s j w n =
+    limited-frame document-01 (getD s 2 0) (level-at document-01 s j) >>= λ ms.
+    lift-all (stage-at s j) (lifts (stage-at s j) (strategy-at s j w) n) ([], 0) [] ms
+
+abbrev pub leveled-of : Leveled → Words → Words → Result Level
+leveled-of (Vectors n used) out v = done (lifted-vectors out n)
+leveled-of (Refused number) out v = refusal number
+leveled-of (Stopped n) out v = refused 9 0 (rows v 0 n)
+
+abbrev pub Stored-as : Leveled → Words → Type 0
+Stored-as (Vectors n used) out = (used ≤ 2_048) × Kept n used out
+Stored-as (Refused number) out = Unit {0}
+Stored-as (Stopped n) out = Unit {0}
+
+abbrev pub accepted-over : Words → ℕ → Result (Unit {0})
+accepted-over s n = accept document-01 (getD s 0 0) (getD s 2 0) (level-at document-01 s 0) n
+
+abbrev pub accepted-with : Accepted → Vector → Result (Unit {0})
+accepted-with Yes v = done tt
+accepted-with (Accepted-refused number place) v = refused number place []
+accepted-with (Accepted-stopped i n) v = refused 9 i v
+
+-- "9 leaves in the work area the value where division stopped"
+abbrev pub Shown : Accepted → Vector → Words → Type 0
+Shown Yes v work = Unit {0}
+Shown (Accepted-refused number place) v work = Unit {0}
+Shown (Accepted-stopped i n) v work = work ≡ padded (length work) (rows-of v)
+
+-- the value where division stopped
+abbrev pub value-in : Accepted → Words → Vector
+value-in Yes vector = []
+value-in (Accepted-refused number place) vector = []
+value-in (Accepted-stopped i n) vector = rows vector 0 n
+
+abbrev pub Left-in : Accepted → Words → Words → Type 0
+Left-in Yes vector work = Unit {0}
+Left-in (Accepted-refused number place) vector work = Unit {0}
+Left-in (Accepted-stopped i n) vector work = (n * 10 ≤ length vector) × (n * 10 ≤ length work)

@@ -1,0 +1,246 @@
+// A complete level of a state made ready, and what stands over it lifted or divided.
+// Knows: crate definitions' Lifting over a state's words. Tables and frame are arrays of these functions' own frames, made once a call.
+ghost use mathlib.Core.Path.{_≡_};
+ghost use Prim.Native.Nat.{ℕ, suc, _*_, _≤_};
+ghost use lib.ListN.{length};
+ghost use Rattle.definitions.specs.Monomial.{Vector};
+ghost use Rattle.definitions.specs.Lifting.{accept-from};
+ghost use Rattle.definitions.specs.Layout.{Words, rows, rows-of, padded};
+ghost use Rattle.levels.specs.Places.{count-below};
+ghost use Rattle.levels.specs.Tabled.{Ready};
+ghost use Rattle.stages.specs.Prepared.{Led};
+ghost use Rattle.lift.specs.Vectors.{frame-terms};
+ghost use Rattle.lifting.specs.Stages.{Base, ground-at, stage-at, Framed-by, lifted-over, lift-over, leveled-of, Stored-as, accepted-over, accepted-with, Shown, Left-in, value-in};
+use lift::Accepted;
+use lift::Lifted;
+use reduce::Ground;
+use runs::Strategy;
+use sums::Stored;
+
+// How many vectors and rows they have; a refusal's number; a value without a reducer, which lifting does not meet.
+pub enum Leveled {
+    Vectors(usize, usize),
+    Refused(u16),
+    Stopped(usize),
+}
+
+fn images_of(state: &[u16], j: usize) -> usize
+    requires { ⌜ Base (now state) j ⌝ }
+    ensures { λ r. ⌜ r ≡ count-below (now (state .entry)) j ⌝ }
+{
+    if j == 0 {
+        return 0;
+    }
+    levels::count_of(state, j - 1)
+}
+
+fn ground_of(state: &[u16], j: usize) -> Ground
+    requires { ⌜ Base (now state) j ⌝ }
+    ensures { λ g. ⌜ g ≡ ground-at (now (state .entry)) j ⌝ }
+{
+    let r = levels::count_of(state, j);
+    let c = stages::components_of(state, j);
+    let images = images_of(state, j);
+    Ground {
+        p: state[0],
+        code: state[2],
+        r,
+        components: c + 1,
+        images,
+        working: 512,
+        vector: 512,
+        tree: 4096,
+        room: 2048,
+    }
+}
+
+// All frame terms over level j.
+fn lift_frame(
+    out: &mut [u16],
+    work: &mut [u16],
+    state: &[u16],
+    j: usize,
+    frame: &[u16],
+    count: usize,
+    heads: &[u16],
+    spans: &[u16],
+    below: &[u16],
+    above: &[u16],
+    w: Strategy,
+) -> Lifted
+    requires { ⌜ Base (now state) j × Led (now state) j (now heads) (now spans) × Ready (now state) j (now below) × Ready (now state) (suc j) (now above) × (1280 ≤ length (now heads)) × (258 ≤ length (now spans)) × (1280 ≤ length (now below)) × (1280 ≤ length (now above)) × Framed-by (now state) j count (now frame) × (20608 ≤ length (now out)) × (5120 ≤ length (now work)) ⌝ }
+    ensures { λ x. ⌜ lifted-over (now (state .entry)) j w count (now (frame .entry)) x (now (out .exit)) ⌝ }
+{
+    let mut vector = [0u16; 5120];
+    let g = ground_of(state, j);
+    let start = 1295 + j * 20480;
+    let ends = 6 + j * 129;
+    lift::lift_all(
+        out,
+        work,
+        &mut vector,
+        frame,
+        count,
+        &state[start..],
+        &state[ends..],
+        heads,
+        spans,
+        below,
+        above,
+        g,
+        w,
+    )
+}
+
+// The frame over level j, then all its terms.
+fn lift_with(
+    out: &mut [u16],
+    work: &mut [u16],
+    state: &[u16],
+    j: usize,
+    heads: &[u16],
+    spans: &[u16],
+    below: &[u16],
+    above: &[u16],
+    w: Strategy,
+) -> Leveled
+    requires { ⌜ Base (now state) j × Led (now state) j (now heads) (now spans) × Ready (now state) j (now below) × Ready (now state) (suc j) (now above) × (1280 ≤ length (now heads)) × (258 ≤ length (now spans)) × (1280 ≤ length (now below)) × (1280 ≤ length (now above)) × (20608 ≤ length (now out)) × (5120 ≤ length (now work)) ⌝ }
+    ensures { λ x. ⌜ ((n : ℕ) × (v : Words) × (leveled-of x (now (out .exit)) v ≡ lift-over (now (state .entry)) j w n)) × Stored-as x (now (out .exit)) ⌝ }
+{
+    let mut framed = [0u16; 1280];
+    let mut gens = [0u16; 1280];
+    let r = levels::count_of(state, j);
+    let code = state[2];
+    match frame::form(&mut framed, 128, &mut gens, heads, r, code) {
+        Stored::Full => Leveled::Refused(15),
+        Stored::Rows(n) => match lift_frame(
+            out,
+            work,
+            state,
+            j,
+            &framed,
+            n,
+            heads,
+            spans,
+            below,
+            above,
+            w,
+        ) {
+            Lifted::Rows(used) => Leveled::Vectors(n, used),
+            Lifted::Refused(x) => Leveled::Refused(x),
+            Lifted::Stopped(x) => Leveled::Stopped(x),
+        },
+    }
+}
+
+// The level over level j by division or hybrid.
+pub fn lift_level(
+    out: &mut [u16],
+    work: &mut [u16],
+    state: &[u16],
+    j: usize,
+    w: Strategy,
+) -> Leveled
+    requires { ⌜ Base (now state) j × (20608 ≤ length (now out)) × (5120 ≤ length (now work)) ⌝ }
+    ensures { λ x. ⌜ ((n : ℕ) × (v : Words) × (leveled-of x (now (out .exit)) v ≡ lift-over (now (state .entry)) j w n)) × Stored-as x (now (out .exit)) ⌝ }
+{
+    let mut heads = [0u16; 1280];
+    let mut spans = [0u16; 258];
+    let mut below = [0u16; 1280];
+    let mut above = [0u16; 1280];
+    stages::fill_leads(&mut heads, &mut spans, state, j);
+    stages::fill_tables(&mut below, &mut above, state, j + 1);
+    lift_with(out, work, state, j, &heads, &spans, &below, &above, w)
+}
+
+// Rows of another slice in front, zeros after them.
+fn show(work: &mut [u16], vector: &[u16], n: usize)
+    requires { ⌜ (n * 10 ≤ length (now vector)) × (n * 10 ≤ length (now work)) ⌝ }
+    ensures { λ _. ⌜ now (work .exit) ≡ padded (length (now (work .entry))) (rows-of (rows (now (vector .entry)) 0 n)) ⌝ }
+{
+    writing::copy_rows(work, 0, vector, n);
+    terms::clear(work, n * 10);
+}
+
+// A value without a reducer, shown in the work area.
+fn settle(work: &mut [u16], vector: &[u16], x: Accepted) -> Accepted
+    requires { ⌜ Left-in x (now vector) (now work) ⌝ }
+    ensures { λ y. ⌜ (y ≡ x) × Shown y (value-in x (now (vector .entry))) (now (work .exit)) ⌝ }
+{
+    match x {
+        Accepted::Yes => Accepted::Yes,
+        Accepted::Refused(number, place) => Accepted::Refused(number, place),
+        Accepted::Stopped(i, n) => {
+            show(work, vector, n);
+            Accepted::Stopped(i, n)
+        }
+    }
+}
+
+// Division of all frame terms over level 0.
+fn accept_frame(
+    work: &mut [u16],
+    state: &[u16],
+    frame: &[u16],
+    count: usize,
+    heads: &[u16],
+    spans: &[u16],
+    below: &[u16],
+    above: &[u16],
+) -> Accepted
+    requires { ⌜ Base (now state) 0 × Led (now state) 0 (now heads) (now spans) × Ready (now state) 0 (now below) × Ready (now state) 1 (now above) × (1280 ≤ length (now heads)) × (258 ≤ length (now spans)) × (1280 ≤ length (now below)) × (1280 ≤ length (now above)) × Framed-by (now state) 0 count (now frame) × (5120 ≤ length (now work)) ⌝ }
+    ensures { λ x. ⌜ ((n : ℕ) × (v : Vector) × (accepted-with x v ≡ accept-from (stage-at (now (state .entry)) 0) n 1 (frame-terms (now (frame .entry)) count)) × Shown x v (now (work .exit))) ⌝ }
+{
+    let mut vector = [0u16; 5120];
+    let g = ground_of(state, 0);
+    let x = lift::accept_all(
+        work,
+        &mut vector,
+        frame,
+        count,
+        &state[1295..],
+        &state[6..],
+        heads,
+        spans,
+        below,
+        above,
+        g,
+    );
+    settle(work, &vector, x)
+}
+
+// The frame over level 0, then the division of its terms.
+fn accept_with(
+    work: &mut [u16],
+    state: &[u16],
+    heads: &[u16],
+    spans: &[u16],
+    below: &[u16],
+    above: &[u16],
+) -> Accepted
+    requires { ⌜ Base (now state) 0 × Led (now state) 0 (now heads) (now spans) × Ready (now state) 0 (now below) × Ready (now state) 1 (now above) × (1280 ≤ length (now heads)) × (258 ≤ length (now spans)) × (1280 ≤ length (now below)) × (1280 ≤ length (now above)) × (5120 ≤ length (now work)) ⌝ }
+    ensures { λ x. ⌜ ((n : ℕ) × (v : Vector) × (accepted-with x v ≡ accepted-over (now (state .entry)) n) × Shown x v (now (work .exit))) ⌝ }
+{
+    let mut framed = [0u16; 1280];
+    let mut gens = [0u16; 1280];
+    let r = levels::count_of(state, 0);
+    let code = state[2];
+    match frame::form(&mut framed, 128, &mut gens, heads, r, code) {
+        Stored::Full => Accepted::Refused(15, 0),
+        Stored::Rows(n) => accept_frame(work, state, &framed, n, heads, spans, below, above),
+    }
+}
+
+// Acceptance of level 0 by division.
+pub fn accept_level(work: &mut [u16], state: &[u16]) -> Accepted
+    requires { ⌜ Base (now state) 0 × (5120 ≤ length (now work)) ⌝ }
+    ensures { λ x. ⌜ ((n : ℕ) × (v : Vector) × (accepted-with x v ≡ accepted-over (now (state .entry)) n) × Shown x v (now (work .exit))) ⌝ }
+{
+    let mut heads = [0u16; 1280];
+    let mut spans = [0u16; 258];
+    let mut below = [0u16; 1280];
+    let mut above = [0u16; 1280];
+    stages::fill_leads(&mut heads, &mut spans, state, 0);
+    stages::fill_tables(&mut below, &mut above, state, 1);
+    accept_with(work, state, &heads, &spans, &below, &above)
+}
