@@ -1,0 +1,67 @@
+-- One vector more, from its place in the slice.
+use mathlib.Core.Path.{_≡_, sym, ap, _∙_, subst}
+use mathlib.Core.List.{[], _∷_, _++_}
+use Prim.Native.Nat.{ℕ, suc, _+_, _-_, _*_, _<_, _≤_}
+use native.Mathlib.Omega.{arith}
+use lib.ListN.{length, getD, drop}
+use lib.Seq.{getD-drop}
+use Rattle.definitions.specs.Limits.{document-01}
+use Rattle.definitions.specs.Layout.{Words, rows, encode}
+use Rattle.definitions.proofs.Rows.{rows-same}
+use Rattle.terms.proofs.Stored.{same-row}
+use Rattle.tables.specs.Cuts.{start-of}
+use Rattle.tables.proofs.Cutting.{cut-more}
+use Rattle.writing.specs.Growing.{appended, finished}
+use Rattle.writing.specs.Grown.{Grown}
+use Rattle.writing.proofs.Growth.{grown-more, grown-finished}
+use Rattle.lift.specs.Vectors.{lifted-vectors}
+use Rattle.storing.specs.Stored.{Kept-apart, with-level}
+
+-- rows from row used on, of a slice that begins there
+rows-there : (out : Words) (used n : ℕ) → rows (drop 128 out) used n ≡ rows (drop (128 + used * 10) out) 0 n
+rows-there out used n =
+    sym (rows-same (drop 128 out) (drop (128 + used * 10) out) used 0 n λ k h.
+    same-row (drop 128 out) (drop (128 + used * 10) out) (used + k) (0 + k) λ j l.
+    let e : 128 + used * 10 + ((0 + k) * 10 + j) ≡ 128 + ((used + k) * 10 + j) = omega arith in
+    getD-drop (128 + used * 10) out ((0 + k) * 10 + j) 0 ∙ ap (λ i. getD out i 0) e ∙ sym (getD-drop 128 out ((used + k) * 10 + j) 0))
+
+module _ (s out : Words) (k count : ℕ) (long : 206095 ≤ length s) (inside : k < 10) (a : Kept-apart count out) where
+  -- what the loop has come to
+  abbrev pub Storing : Words → ℕ → ℕ → Type 0
+  Storing z i used = (i ≤ count) × (used ≡ start-of out i) × Grown s z k i used (lifted-vectors out i)
+
+  pub storing-on : (z : Words) (i used end : ℕ) (part z′ : Words) → i < count → Storing z i used → end ≡ getD out i 0
+      → part ≡ drop (128 + used * 10) out → z′ ≡ appended z k i used (rows part 0 (end - used)) (end - used) → Storing z′ (i + 1) end
+  storing-on z i used end part z′ h (m, u, g) e p w =
+      let more : lifted-vectors out (i + 1) ≡ lifted-vectors out i ++ rows part 0 (end - used) ∷ [] =
+      cut-more i (drop 128 out) out (omega (arith, a .few, a .long)) ∙ (λ j. lifted-vectors out i ++ rows (drop 128 out) (u′ j) (e′ j - u′ j) ∷ [])
+      ∙ ap (λ v. lifted-vectors out i ++ v ∷ []) (rows-there out used (end - used) ∙ ap (λ d. rows d 0 (end - used)) (sym p)) in
+      let full : used + (end - used) ≡ end = omega (arith, fill, e′′) in
+      let next : end ≡ start-of out (i + 1) = e ∙ ap (start-of out) one in (
+        omega arith,
+        next,
+        subst (λ y. Grown s y k (i + 1) end (lifted-vectors out (i + 1))) (sym w)
+            (subst (λ n. Grown s (appended z k i used (rows part 0 (end - used)) (end - used)) k (i + 1) n (lifted-vectors out (i + 1))) full
+            (subst (λ f. Grown s (appended z k i used (rows part 0 (end - used)) (end - used)) k (i + 1) (used + (end - used)) f) (sym more)
+            (grown-more s z k i used (lifted-vectors out i) part (end - used) long inside (omega (arith, a .few)) (omega (arith, full, a .room i h, e)) (omega (arith, fill, e′′)) g))),
+      )
+    where
+      u′ : start-of out i ≡ used
+      u′ = sym u
+
+      e′ : getD out i 0 ≡ end
+      e′ = sym e
+
+      e′′ : getD out i 0 ≡ end
+      e′′ = sym e
+
+      fill : used < getD out i 0
+      fill = omega (arith, a .filled i h, u)
+
+      one : suc i ≡ i + 1
+      one = omega arith
+
+  pub stored-whole : (z : Words) (i used : ℕ) → count ≤ i → Storing z i used → encode document-01 (length z) (finished z k count) ≡ encode document-01 (length s) (with-level s k count out)
+  stored-whole z i used h (m, u, g) =
+      let e : i ≡ count = omega arith in
+      λ j. encode document-01 (g .long j) ((ap (finished z k) (sym e) ∙ grown-finished s z k i used (lifted-vectors out i) g ∙ ap (λ n. with-level s k n out) e) j)
