@@ -45,8 +45,7 @@ fn main() {
     for components in [1, 4, 16] {
         let heads = leading_rows(components);
         for code in 1..=3 {
-            let (number, count) =
-                proved::form(&mut frame, LIMIT, &mut region, &heads, HEADS, code);
+            let (number, count) = proved::form(&mut frame, LIMIT, &mut region, &heads, HEADS, code);
             assert_eq!(number, 0);
             let rows = frame[..ROW * count].to_vec();
             assert_eq!(plain::form(&mut frame, LIMIT, &heads, code), Some(count));

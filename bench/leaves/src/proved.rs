@@ -2,13 +2,7 @@
 
 extern "C" {
     fn leaves_descents(rows: *const u16, length: usize, n: usize, code: u16) -> usize;
-    fn leaves_products(
-        to: *mut u16,
-        to_length: usize,
-        rows: *const u16,
-        length: usize,
-        n: usize,
-    );
+    fn leaves_products(to: *mut u16, to_length: usize, rows: *const u16, length: usize, n: usize);
     fn leaves_lower(
         state: *const u16,
         state_length: usize,

@@ -86,16 +86,13 @@ impl Compare {
             count,
             code as u16,
         );
-        if let Some((at, what)) = self.spoil {
-            if at == self.calls {
-                match what {
-                    Spoiled::Number => number = 15 - number,
-                    Spoiled::Count => terms += 1,
-                    Spoiled::Row => {
-                        assert!(terms > 0, "a call whose frame has a term");
-                        self.frame[ROW * terms - 1] ^= 1;
-                    }
-                }
+        // the first call from there on whose frame has a term
+        if let Some((_, what)) = self.spoil.filter(|(at, _)| *at <= self.calls && terms > 0) {
+            self.spoil = None;
+            match what {
+                Spoiled::Number => number = 15,
+                Spoiled::Count => terms += 1,
+                Spoiled::Row => self.frame[ROW * terms - 1] ^= 1,
             }
         }
         self.calls += 1;

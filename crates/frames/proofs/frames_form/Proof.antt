@@ -4,39 +4,30 @@ use Rattle.frames.proofs.Telling.{tells-frame, too-many, short-frame, s
 use Rattle.frames.proofs.frames_form.Statement.{statement}
 use Rattle.frames.proofs.frames_form.Tie as tie
 
--- src/lib.rt:39:9
 returns : tie.Need-returns
 returns c = let a = c .before .before .before .before .args in too-many (a .d .now) (a .limit) (a .c .now) (a .heads .now) (a .r) (a .code) (c .if1 .taken)
 
--- src/lib.rt:43:9
 returns-2 : tie.Need-returns-2
 returns-2 c = let a = c .before .before .before .before .before .args in short-frame (a .d .now) (a .limit) (a .c .now) (a .heads .now) (a .r) (a .code) (c .before .if1 .left) (c .if2 .taken)
 
--- src/lib.rt:47:9
 returns-3 : tie.Need-returns-3
 returns-3 c = let a = c .before .before .before .before .before .before .args in short-region (a .d .now) (a .limit) (a .c .now) (a .heads .now) (a .r) (a .code) (c .before .before .if1 .left) (c .before .if2 .left) (c .if3 .taken)
 
--- src/lib.rt:51:9
 returns-4 : tie.Need-returns-4
 returns-4 c = let a = c .before .before .before .before .before .before .before .args in short-heads (a .d .now) (a .limit) (a .c .now) (a .heads .now) (a .r) (a .code) (c .before .before .before .if1 .left) (c .before .before .if2 .left) (c .before .if3 .left) (c .if4 .taken)
 
--- src/lib.rt:53:9
 form-requires : tie.Need-form-requires
 form-requires c κs = search needs
 
--- src/lib.rt:54:5
 tell-requires : tie.Need-tell-requires
 tell-requires c κs = search needs
 
--- src/lib.rt:25:1
 same-length : tie.Need-same-length
 same-length c = search needs
 
--- src/lib.rt:25:1
 same-length-2 : tie.Need-same-length-2
 same-length-2 c = search needs
 
--- src/lib.rt:25:1
 returns-5 : tie.Need-returns-5
 returns-5 c =
     let a = c .before .before .before .before .before .before .before .before .before .before .before .before .before .before .before .before .args in

@@ -16,42 +16,33 @@ Inv-loop heads r spans k s n x₀ i₀ x i = (x ≤ i) × (i ≤ n) × (x ≡ co
 abbrev μ-loop : tie.MeasureT-loop
 μ-loop heads r spans k s n x₀ i₀ x i = n - i
 
--- src/lib.rt:156:5
 loop-holds : tie.Need-loop-holds Inv-loop μ-loop
 loop-holds c = let a = c .before .before .before .args in (omega arith, omega arith, counted-none (λ j. lower-mark (searched (rows (a .heads .now) 0 (a .r)) (row-at (a .s .now) j .1))))
 
--- src/lib.rt:157:13
 row-requires : tie.Need-row-requires Inv-loop μ-loop
 row-requires c κs = omega arith
 
--- src/lib.rt:159:25
 search-requires : tie.Need-search-requires Inv-loop μ-loop
 search-requires c κs = (omega arith, omega arith, c .before .before .before .before .before .before .before .pre .2, c .before .before .before .before .before .before .before .pre .3)
 
--- src/lib.rt:159:14
 mark-lower-requires : tie.Need-mark-lower-requires Inv-loop μ-loop
 mark-lower-requires c κs = search needs
 
--- src/lib.rt:159:9
 add-x : tie.Need-add-x Inv-loop μ-loop
 add-x c = omega (arith, c .mark-lower .ensures .1)
 
--- src/lib.rt:160:9
 add-i : tie.Need-add-i Inv-loop μ-loop
 add-i c = omega arith
 
--- src/lib.rt:156:5
 loop-less : tie.Need-loop-less Inv-loop μ-loop
 loop-less c = omega arith
 
--- src/lib.rt:156:5
 loop-again : tie.Need-loop-again Inv-loop μ-loop
 loop-again c =
     let a = c .before .before .before .before .before .before .before .before .before .args in
     let l = c .before .before .before .before .before .loop in
     (omega (arith, c .mark-lower .ensures .1), omega arith, counted-step (λ j. lower-mark (searched (rows (a .heads .now) 0 (a .r)) (row-at (a .s .now) j .1))) (l .i) (l .x) (c .mark-lower .result) (l .inv .2) (c .mark-lower .ensures .0 ∙ ap lower-mark (c .before .search .ensures) ∙ ap (λ t. lower-mark (searched (rows (a .heads .now) 0 (a .r)) (t .1))) (c .before .before .before .row .ensures)))
 
--- src/lib.rt:150:1
 returns : tie.Need-returns Inv-loop μ-loop
 returns c =
     let a = c .before .before .before .before .before .args in

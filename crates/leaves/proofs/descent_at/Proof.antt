@@ -6,27 +6,21 @@ use Rattle.leaves.proofs.Working.{descent-is}
 use Rattle.leaves.proofs.descent_at.Statement.{statement}
 use Rattle.leaves.proofs.descent_at.Tie as tie
 
--- src/lib.rt:39:9
 row-requires : tie.Need-row-requires
 row-requires c κs = search needs
 
--- src/lib.rt:40:27
 add-row : tie.Need-add-row
 add-row c = search needs
 
--- src/lib.rt:40:9
 row-requires-2 : tie.Need-row-requires-2
 row-requires-2 c κs = search needs
 
--- src/lib.rt:43:13
 compare-requires : tie.Need-compare-requires
 compare-requires c κs = search needs
 
--- src/lib.rt:43:5
 greater-requires : tie.Need-greater-requires
 greater-requires c κs = search needs
 
--- src/lib.rt:35:1
 returns : tie.Need-returns
 returns c = let a = c .before .before .before .before .before .before .before .args in descent-is (a .code) (a .s .now) (a .i) (c .greater .result) (comparison-of (c .before .compare .result)) (term-of (c .before .before .before .before .before .row .result) .1) (term-of (c .before .before .before .before .row2 .result) .1) (c .greater .ensures) (c .before .compare .ensures) (ap (λ t. t .1) (c .before .before .before .before .before .row .ensures)) (ap (λ t. t .1) (c .before .before .before .before .row2 .ensures))
 

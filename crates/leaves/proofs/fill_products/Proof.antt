@@ -15,35 +15,27 @@ Inv-loop d₀ s n i₀ d i = (i ≤ n) × (length d ≡ length d₀) × (d ≡ f
 abbrev μ-loop : tie.MeasureT-loop
 μ-loop d₀ s n i₀ d i = n - i
 
--- src/lib.rt:101:5
 loop-holds : tie.Need-loop-holds Inv-loop μ-loop
 loop-holds c = let a = c .before .before .args in (omega arith, refl, filled-none (product-at (a .s .now)) (a .d .now))
 
--- src/lib.rt:102:13
 product-at-requires : tie.Need-product-at-requires Inv-loop μ-loop
 product-at-requires c κs = omega arith
 
--- src/lib.rt:103:9
 put-requires : tie.Need-put-requires Inv-loop μ-loop
 put-requires c κs = omega (arith, c .before .before .before .loop .inv .1)
 
--- src/lib.rt:104:9
 add-i : tie.Need-add-i Inv-loop μ-loop
 add-i c = omega arith
 
--- src/lib.rt:101:5
 loop-less : tie.Need-loop-less Inv-loop μ-loop
 loop-less c = omega arith
 
--- src/lib.rt:101:5
 loop-again : tie.Need-loop-again Inv-loop μ-loop
 loop-again c = let a = c .before .before .before .before .before .before .before .before .before .args in let l = c .before .before .before .before .before .before .loop in (omega arith, omega (arith, l .inv .1), c .before .before .put .ensures .0 ∙ filled-step (product-at (a .s .now)) (a .d .now) (l .d) (l .i) (term-of (c .before .before .before .before .product-at .result)) (l .inv .2) (c .before .before .before .before .product-at .ensures))
 
--- src/lib.rt:96:1
 same-length : tie.Need-same-length Inv-loop μ-loop
 same-length c = omega (arith, c .before .loop .inv .1)
 
--- src/lib.rt:96:1
 returns : tie.Need-returns Inv-loop μ-loop
 returns c =
     let a = c .before .before .before .before .args in

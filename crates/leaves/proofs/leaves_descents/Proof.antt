@@ -17,35 +17,27 @@ Inv-loop s n code k₀ i₀ k i = (k ≤ i) × (i ≤ n) × (k ≡ counted (desc
 abbrev μ-loop : tie.MeasureT-loop
 μ-loop s n code k₀ i₀ k i = n - i
 
--- src/lib.rt:52:9
 returns : tie.Need-returns Inv-loop μ-loop
 returns c = let a = c .before .before .args in sym (ap (λ b. choose b 0 (counted (descent (a .code) (a .s .now)) (a .n))) (le-leb (length (a .s .now) / 10) (a .n) (c .if1 .taken)))
 
--- src/lib.rt:56:5
 loop-holds : tie.Need-loop-holds Inv-loop μ-loop
 loop-holds c = let a = c .before .before .args in (omega arith, omega arith, counted-none (descent (a .code) (a .s .now)))
 
--- src/lib.rt:57:14
 descent-at-requires : tie.Need-descent-at-requires Inv-loop μ-loop
 descent-at-requires c κs = omega arith
 
--- src/lib.rt:57:9
 add-k : tie.Need-add-k Inv-loop μ-loop
 add-k c = omega (arith, c .descent-at .ensures .1)
 
--- src/lib.rt:58:9
 add-i : tie.Need-add-i Inv-loop μ-loop
 add-i c = omega arith
 
--- src/lib.rt:56:5
 loop-less : tie.Need-loop-less Inv-loop μ-loop
 loop-less c = omega arith
 
--- src/lib.rt:56:5
 loop-again : tie.Need-loop-again Inv-loop μ-loop
 loop-again c = let a = c .before .before .before .before .before .args in let l = c .before .before .loop in (omega (arith, c .descent-at .ensures .1), omega arith, counted-step (descent (a .code) (a .s .now)) (l .i) (l .k) (c .descent-at .result) (l .inv .2) (c .descent-at .ensures .0))
 
--- src/lib.rt:47:1
 returns-2 : tie.Need-returns-2 Inv-loop μ-loop
 returns-2 c =
     let a = c .before .before .before .before .args in

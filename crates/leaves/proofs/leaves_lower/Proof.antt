@@ -14,19 +14,15 @@ use Rattle.leaves.proofs.Working.{ready-said, led-spans}
 use Rattle.leaves.proofs.leaves_lower.Statement.{statement}
 use Rattle.leaves.proofs.leaves_lower.Tie as tie
 
--- src/lib.rt:170:8
 ready-requires : tie.Need-ready-requires
 ready-requires c κs = search needs
 
--- src/lib.rt:173:28
 slice-aggregate-fill-leads : tie.Need-slice-aggregate-fill-leads
 slice-aggregate-fill-leads c = search needs
 
--- src/lib.rt:173:40
 slice-aggregate-fill-leads-2 : tie.Need-slice-aggregate-fill-leads-2
 slice-aggregate-fill-leads-2 c = search needs
 
--- src/lib.rt:173:9
 fill-leads-requires : tie.Need-fill-leads-requires
 fill-leads-requires c κs =
     let a = c .before .before .before .before .before .before .args in
@@ -35,7 +31,6 @@ fill-leads-requires c κs =
     let t = ready-said S (a .k) (a .s .now) (a .n) e in
     (t .long, t .sound, t .level, omega arith, omega arith)
 
--- src/lib.rt:174:13
 count-of-requires : tie.Need-count-of-requires
 count-of-requires c κs =
     let a = c .before .before .before .before .before .before .before .before .before .args in
@@ -45,7 +40,6 @@ count-of-requires c κs =
     let h = height S (t .long) (t .sound) in
     (t .long, omega (arith, t .level, h))
 
--- src/lib.rt:175:17
 components-of-requires : tie.Need-components-of-requires
 components-of-requires c κs =
     let a = c .before .before .before .before .before .before .before .before .before .before .args in
@@ -55,7 +49,6 @@ components-of-requires c κs =
     let h = height S (t .long) (t .sound) in
     (t .long, omega (arith, t .level, h))
 
--- src/lib.rt:175:17
 add-c : tie.Need-add-c
 add-c c =
     let a = c .before .before .before .before .before .before .before .before .before .before .before .args in
@@ -64,15 +57,12 @@ add-c c =
     let t = ready-said S (a .k) (a .s .now) (a .n) e in
     omega (arith, c .components-of .ensures, components-few S (t .long) (t .sound) (a .k) (t .level))
 
--- src/lib.rt:176:28
 slice-aggregate-count-lower : tie.Need-slice-aggregate-count-lower
 slice-aggregate-count-lower c = search needs
 
--- src/lib.rt:176:39
 slice-aggregate-count-lower-2 : tie.Need-slice-aggregate-count-lower-2
 slice-aggregate-count-lower-2 c = search needs
 
--- src/lib.rt:176:9
 count-lower-requires : tie.Need-count-lower-requires
 count-lower-requires c κs =
     let a = c .before .before .before .before .before .before .before .before .before .before .before .before .before .args in
@@ -82,7 +72,6 @@ count-lower-requires c κs =
     let l = led-spans S (a .k) (c .before .before .before .count-of .result) (c .before .before .components-of .result) (c .before .before .before .before .before .before .fill-leads .last .0) (c .before .before .before .before .before .before .fill-leads .last .1 .0) (c .before .before .before .count-of .ensures) (c .before .before .components-of .ensures) (c .before .before .before .before .before .before .fill-leads .ensures) in
     (omega (arith, c .before .before .before .count-of .ensures, complete-cut S (t .long) (t .sound) (a .k) (t .level) .0), omega (arith, c .before .before .components-of .ensures, components-few S (t .long) (t .sound) (a .k) (t .level)), l .0, l .1, omega (arith, t .enough))
 
--- src/lib.rt:176:9
 returns : tie.Need-returns
 returns c =
     let a = c .before .before .before .before .before .before .before .before .before .before .before .before .before .before .args in
@@ -91,7 +80,6 @@ returns c =
     let t = ready-said S (a .k) (a .s .now) (a .n) e in
     c .count-lower .ensures ∙ ap (λ v. counted (λ i. lower-mark (searched v (row-at (a .s .now) i .1))) (a .n)) (ap (rows (c .before .before .before .before .before .before .before .fill-leads .last .0) 0) (c .before .before .before .before .count-of .ensures) ∙ c .before .before .before .before .before .before .before .fill-leads .ensures .made) ∙ sym (ap (λ b. choose b (counted (λ i. lower-mark (searched (heads (getD S 0 0) (level-at document-01 S (a .k))) (row-at (a .s .now) i .1))) (a .n)) 0) e)
 
--- src/lib.rt:166:1
 returns-2 : tie.Need-returns-2
 returns-2 c =
     let a = c .before .before .before .before .args in

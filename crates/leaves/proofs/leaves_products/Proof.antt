@@ -4,23 +4,18 @@ use Rattle.leaves.proofs.Working.{no-row-behind, no-room, with-room}
 use Rattle.leaves.proofs.leaves_products.Statement.{statement}
 use Rattle.leaves.proofs.leaves_products.Tie as tie
 
--- src/lib.rt:114:9
 returns : tie.Need-returns
 returns c = let a = c .before .before .before .args in no-row-behind (a .s .now) (a .d .now) (a .n) (c .if1 .taken)
 
--- src/lib.rt:117:9
 returns-2 : tie.Need-returns-2
 returns-2 c = let a = c .before .before .before .before .args in no-room (a .s .now) (a .d .now) (a .n) (c .before .if1 .left) (c .if2 .taken)
 
--- src/lib.rt:119:5
 fill-products-requires : tie.Need-fill-products-requires
 fill-products-requires c κs = search needs
 
--- src/lib.rt:109:1
 same-length : tie.Need-same-length
 same-length c = search needs
 
--- src/lib.rt:109:1
 returns-3 : tie.Need-returns-3
 returns-3 c = let a = c .before .before .before .before .before .before .before .before .args in c .before .before .fill-products .ensures ∙ with-room (a .s .now) (a .d .now) (a .n) (c .before .before .before .before .before .if1 .left) (c .before .before .before .before .if2 .left)
 

@@ -18,23 +18,18 @@ use Rattle.leaves.proofs.Working.{ready-said, rows-none, table-ready, t
 use Rattle.leaves.proofs.leaves_sort.Statement.{statement}
 use Rattle.leaves.proofs.leaves_sort.Tie as tie
 
--- src/lib.rt:189:9
 returns : tie.Need-returns
 returns c = let a = c .before .before .before .before .args in rows-none (a .d .now) ∙ sym (ap (λ b. choose b [] (sorted (a .state .now) (a .k) (a .s .now) (a .n))) (lt-ltb (length (a .d .now) / 10) (a .n) (c .if1 .taken)))
 
--- src/lib.rt:191:8
 ready-requires : tie.Need-ready-requires
 ready-requires c κs = search needs
 
--- src/lib.rt:194:29
 slice-aggregate-fill-tables : tie.Need-slice-aggregate-fill-tables
 slice-aggregate-fill-tables c = search needs
 
--- src/lib.rt:194:41
 slice-aggregate-fill-tables-2 : tie.Need-slice-aggregate-fill-tables-2
 slice-aggregate-fill-tables-2 c = search needs
 
--- src/lib.rt:194:60
 add-fill-tables : tie.Need-add-fill-tables
 add-fill-tables c =
     let a = c .before .before .before .before .before .before .before .before .args in
@@ -44,7 +39,6 @@ add-fill-tables c =
     let h = height S (t .long) (t .sound) in
     omega (arith, t .level, h)
 
--- src/lib.rt:194:9
 fill-tables-requires : tie.Need-fill-tables-requires
 fill-tables-requires c κs =
     let a = c .before .before .before .before .before .before .before .before .args in
@@ -53,7 +47,6 @@ fill-tables-requires c κs =
     let t = ready-said S (a .k) (a .s .now) (a .n) e in
     (t .long, t .sound, omega (arith, t .level), omega arith, omega arith)
 
--- src/lib.rt:195:13
 count-of-requires : tie.Need-count-of-requires
 count-of-requires c κs =
     let a = c .before .before .before .before .before .before .before .before .before .before .before .args in
@@ -63,7 +56,6 @@ count-of-requires c κs =
     let h = height S (t .long) (t .sound) in
     (t .long, omega (arith, t .level, h))
 
--- src/lib.rt:196:20
 shared-slice-read-code : tie.Need-shared-slice-read-code
 shared-slice-read-code c =
     let a = c .before .before .before .before .before .before .before .before .before .before .before .before .before .args in
@@ -72,7 +64,6 @@ shared-slice-read-code c =
     let t = ready-said S (a .k) (a .s .now) (a .n) e in
     omega (arith, t .long)
 
--- src/lib.rt:197:17
 shared-slice-read-p : tie.Need-shared-slice-read-p
 shared-slice-read-p c =
     let a = c .before .before .before .before .before .before .before .before .before .before .before .before .before .before .args in
@@ -81,11 +72,9 @@ shared-slice-read-p c =
     let t = ready-said S (a .k) (a .s .now) (a .n) e in
     omega (arith, t .long)
 
--- src/lib.rt:198:42
 slice-aggregate-sort : tie.Need-slice-aggregate-sort
 slice-aggregate-sort c = search needs
 
--- src/lib.rt:198:9
 sort-requires : tie.Need-sort-requires
 sort-requires c κs =
     let a = c .before .before .before .before .before .before .before .before .before .before .before .before .before .before .before .before .args in
@@ -97,11 +86,9 @@ sort-requires c κs =
     let l = table-ready S (a .k) (c .before .before .before .before .before .before .before .fill-tables .last .0) (c .before .before .before .before .before .before .before .fill-tables .last .1 .0) (c .before .before .before .before .before .before .before .fill-tables .ensures) in
     (omega (arith, prime-above S (t .long) (t .sound)), omega (arith, t .enough), omega (arith, c .before .before .before .before .before .before .before .before .before .before .before .before .if1 .left), omega (arith, l .few, c .before .before .before .before .count-of .ensures), table-bounded S (a .k) (c .before .before .before .before .count-of .result) (c .before .before .before .before .before .before .before .fill-tables .last .1 .0) m (c .before .before .before .before .count-of .ensures) l)
 
--- src/lib.rt:198:9
 same-length : tie.Need-same-length
 same-length c = search needs
 
--- src/lib.rt:198:9
 returns-2 : tie.Need-returns-2
 returns-2 c =
     let a = c .before .before .before .before .before .before .before .before .before .before .before .before .before .before .before .before .before .before .before .args in
@@ -111,7 +98,6 @@ returns-2 c =
     let l = table-ready S (a .k) (c .before .before .before .before .before .before .before .before .before .before .fill-tables .last .0) (c .before .before .before .before .before .before .before .before .before .before .fill-tables .last .1 .0) (c .before .before .before .before .before .before .before .before .before .before .fill-tables .ensures) in
     c .before .before .sort .ensures ∙ ap (λ x. descending (table-order (getD S 2 0) x) (getD S 0 0) (rows (a .s .now) 0 (a .n))) (ap (λ m. table-of m (c .before .before .before .before .before .before .before .before .before .before .fill-tables .last .1 .0)) (c .before .before .before .before .before .before .before .count-of .ensures) ∙ l .made) ∙ sym (λ i. choose (le-ltb (length (a .d .now) / 10) (a .n) (c .before .before .before .before .before .before .before .before .before .before .before .before .before .before .before .if1 .left) i) [] (choose (e i) (descending (table-order (getD S 2 0) (images (levels-at document-01 S (suc (a .k))))) (getD S 0 0) (rows (a .s .now) 0 (a .n))) []))
 
--- src/lib.rt:184:1
 returns-3 : tie.Need-returns-3
 returns-3 c =
     let a = c .before .before .before .before .before .before .args in

@@ -6,27 +6,21 @@ use Rattle.leaves.proofs.Working.{product-is}
 use Rattle.leaves.proofs.product_at.Statement.{statement}
 use Rattle.leaves.proofs.product_at.Tie as tie
 
--- src/lib.rt:88:9
 row-requires : tie.Need-row-requires
 row-requires c κs = search needs
 
--- src/lib.rt:89:27
 add-row : tie.Need-add-row
 add-row c = search needs
 
--- src/lib.rt:89:9
 row-requires-2 : tie.Need-row-requires-2
 row-requires-2 c κs = search needs
 
--- src/lib.rt:93:12
 product-requires : tie.Need-product-requires
 product-requires c κs = search needs
 
--- src/lib.rt:93:5
 row-of-requires : tie.Need-row-of-requires
 row-of-requires c κs = search needs
 
--- src/lib.rt:84:1
 returns : tie.Need-returns
 returns c = let a = c .before .before .before .before .before .before .before .before .args in product-is (a .s .now) (a .i) (term-of (c .row-of .result)) (product-of (c .before .product .result)) (term-of (c .before .before .before .before .before .row2 .result) .1 .0) (term-of (c .before .before .before .before .before .before .row .result) .1) (c .row-of .ensures) (c .before .product .ensures) (ap (λ t. t .1 .0) (c .before .before .before .before .before .row2 .ensures)) (ap (λ t. t .1) (c .before .before .before .before .before .before .row .ensures))
 

@@ -4,15 +4,12 @@ use Rattle.leaves.proofs.Working.{product-fits, product-over}
 use Rattle.leaves.proofs.row_of.Statement.{statement}
 use Rattle.leaves.proofs.row_of.Tie as tie
 
--- src/lib.rt:71:9
 returns : tie.Need-returns
 returns c = product-fits (c .before .before .args .x .fits) (monomial-of (c .before .before .args .x .monomial)) (c .if1 .taken)
 
--- src/lib.rt:76:9
 unit-requires : tie.Need-unit-requires
 unit-requires c κs = search needs
 
--- src/lib.rt:66:1
 returns-2 : tie.Need-returns-2
 returns-2 c = product-over (c .before .before .before .args .x .fits) (monomial-of (c .before .before .before .args .x .monomial)) (monomial-of (c .unit .result)) (c .unit .ensures) (c .before .if1 .left)
 
