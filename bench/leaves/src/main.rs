@@ -1,6 +1,8 @@
 //! Times proved leaves beside plain Rust: comparison, product with 13's test, the reducer search and insertion into a descending sum.
-//! Both work on the same rows, in turns; the ratio is that of the medians. One argument: how many turns.
+//! Plain Rust comes in two forms: on the words as they stand, and with terms by value, which is the proved code's form.
+//! All work on the same rows, in turns; a ratio is that of the medians. One argument: how many turns.
 
+mod by_value;
 mod plain;
 mod proved;
 
@@ -62,82 +64,127 @@ fn median(mut times: Vec<Duration>) -> f64 {
     times[times.len() / 2].as_secs_f64() * 1e6
 }
 
-/// Both in turns, so many times.
-fn beside<T>(what: &str, turns: usize, mut ours: impl FnMut() -> T, mut theirs: impl FnMut() -> T) {
-    let (mut a, mut b) = (Vec::new(), Vec::new());
+/// Each in turns, so many times.
+fn beside(
+    what: &str,
+    turns: usize,
+    mut ours: impl FnMut(),
+    others: &mut [(&str, &mut dyn FnMut())],
+) {
+    let mut own = Vec::new();
+    let mut times = vec![Vec::new(); others.len()];
+    let timed = |f: &mut dyn FnMut()| {
+        let start = Instant::now();
+        f();
+        start.elapsed()
+    };
     for _ in 0..turns {
-        let start = Instant::now();
-        black_box(ours());
-        a.push(start.elapsed());
-        let start = Instant::now();
-        black_box(theirs());
-        b.push(start.elapsed());
+        own.push(timed(&mut ours));
+        for (other, times) in others.iter_mut().zip(&mut times) {
+            times.push(timed(other.1));
+        }
     }
-    let (a, b) = (median(a), median(b));
-    println!(
-        "{what}: proved {a:.1} µs, plain Rust {b:.1} µs, ratio {:.2}",
-        a / b
-    );
+    let own = median(own);
+    print!("{what}: proved {own:.1} µs");
+    for ((name, _), times) in others.iter().zip(times) {
+        let other = median(times);
+        print!("; {name} {other:.1} µs, ratio {:.2}", own / other);
+    }
+    println!();
 }
+
+const WORDS: &str = "plain Rust on words";
+const VALUES: &str = "by value";
 
 fn main() {
     let turns: usize = std::env::args()
         .nth(1)
         .map_or(1_000, |n| n.parse().expect("a count of turns"));
     let mut random = Random(1);
-    for (name, most) in [("large exponents", 255), ("exponents 0 and 1", 1)] {
+    for (name, most) in [("exponents to 255", 255), ("exponents 0 and 1", 1)] {
         let rows = random.rows(OPERANDS + 1, 3, most);
         for code in 1..=3 {
             let count = proved::descents(&rows, OPERANDS, code);
-            assert!(count > OPERANDS / 4 && count == plain::descents(&rows, OPERANDS, code));
+            assert!(count > OPERANDS / 4);
+            assert_eq!(count, plain::descents(&rows, OPERANDS, code));
+            assert_eq!(count, by_value::descents(&rows, OPERANDS, code));
+            let run = |f: fn(&[u16], usize, u16) -> usize| {
+                black_box(f(black_box(&rows), OPERANDS, black_box(code)));
+            };
             beside(
                 &format!("comparison, order code {code}, {name}"),
                 turns,
-                || proved::descents(black_box(&rows), OPERANDS, code),
-                || plain::descents(black_box(&rows), OPERANDS, code),
+                || run(proved::descents),
+                &mut [
+                    (WORDS, &mut || run(plain::descents)),
+                    (VALUES, &mut || run(by_value::descents)),
+                ],
             );
         }
     }
     for (name, most) in [("all fit", 127), ("some do not", 150)] {
         let rows = random.rows(OPERANDS + 1, 3, most);
-        let mut to = vec![0xaaaa; ROW * OPERANDS];
-        proved::products(&mut to, &rows, OPERANDS);
-        let mut other = vec![0xaaaa; ROW * OPERANDS];
-        plain::products(&mut other, &rows, OPERANDS);
-        assert!(to == other, "the products differ");
+        let made = |f: fn(&mut [u16], &[u16], usize)| {
+            let mut to = vec![0xaaaa; ROW * OPERANDS];
+            f(&mut to, black_box(&rows), OPERANDS);
+            to
+        };
+        let mut to = made(proved::products);
+        assert!(to == made(plain::products), "the products differ");
+        assert!(to == made(by_value::products), "the products differ");
+        let (mut words, mut values) = (to.clone(), to.clone());
         beside(
             &format!("product, {name}"),
             turns,
-            || proved::products(&mut to, black_box(&rows), OPERANDS),
-            || plain::products(&mut other, black_box(&rows), OPERANDS),
+            || proved::products(black_box(&mut to), black_box(&rows), OPERANDS),
+            &mut [
+                (WORDS, &mut || {
+                    plain::products(black_box(&mut words), black_box(&rows), OPERANDS)
+                }),
+                (VALUES, &mut || {
+                    by_value::products(black_box(&mut values), black_box(&rows), OPERANDS)
+                }),
+            ],
         );
     }
     let state = random.state(3);
-    for (name, most) in [("half are found", 8), ("most are found early", 30)] {
+    for (name, most) in [("most are not found", 8), ("most are found", 30)] {
         let rows = random.rows(OPERANDS, 4, most);
         let count = proved::lower(&state, 1, &rows, OPERANDS);
         assert_eq!(count, plain::lower(&state, 1, &rows, OPERANDS));
         assert!(count > 0 && count < OPERANDS);
+        let run = |f: fn(&[u16], usize, &[u16], usize) -> usize| {
+            black_box(f(&state, 1, black_box(&rows), OPERANDS));
+        };
         beside(
-            &format!("reducer search among 4 × 32, {name} ({count} of {OPERANDS} not)"),
+            &format!("reducer search, 4 components of 32, {name} ({count} of {OPERANDS} not)"),
             turns,
-            || proved::lower(&state, 1, black_box(&rows), OPERANDS),
-            || plain::lower(&state, 1, black_box(&rows), OPERANDS),
+            || run(proved::lower),
+            &mut [(WORDS, &mut || run(plain::lower))],
         );
     }
     for code in 1..=3 {
         let state = random.state(code);
         let rows = random.rows(TERMS, 128, 2);
-        let mut to = vec![0; ROW * TERMS];
-        let mut other = vec![0; ROW * TERMS];
-        let count = proved::sort(&mut to, &rows, TERMS, &state, 1);
-        assert_eq!(count, plain::sort(&mut other, &rows, TERMS, &state, 1));
-        assert!(count > 0 && to[..ROW * count] == other[..ROW * count]);
+        let made = |f: fn(&mut [u16], &[u16], usize, &[u16], usize) -> usize| {
+            let mut to = vec![0; ROW * TERMS];
+            let count = f(&mut to, black_box(&rows), TERMS, &state, 1);
+            to.truncate(ROW * count);
+            to
+        };
+        let sum = made(proved::sort);
+        assert!(!sum.is_empty() && sum == made(plain::sort) && sum == made(by_value::sort));
+        let run = |f| {
+            black_box(made(f));
+        };
         beside(
-            &format!("insertion of {TERMS} terms ({count} rows), order code {code}"),
+            &format!("insertion of {TERMS} terms, order code {code}"),
             turns / 4 + 1,
-            || proved::sort(&mut to, black_box(&rows), TERMS, &state, 1),
-            || plain::sort(&mut other, black_box(&rows), TERMS, &state, 1),
+            || run(proved::sort),
+            &mut [
+                (WORDS, &mut || run(plain::sort)),
+                (VALUES, &mut || run(by_value::sort)),
+            ],
         );
     }
 }
