@@ -1,13 +1,13 @@
 -- A subtree added to its parent's sum, and what the functions are lent, again.
 use mathlib.Core.Path.{_≡_, refl, sym, ap, _∙_, subst}
-use mathlib.Core.Bool.{Bool, true, false}
-use Prim.Native.Nat.{ℕ, _+_, _-_, _*_, _<_, _≤_}
+use mathlib.Core.Bool.{true, false}
+use Prim.Native.Nat.{ℕ, _-_, _≤_}
 use native.Mathlib.Omega.{arith}
 use lib.Dec.{T}
 use lib.ListN.{length}
 use Rattle.definitions.specs.Monomial.{Monomial, Vector}
 use Rattle.definitions.specs.Order.{Comparison}
-use Rattle.definitions.specs.Result.{Result, done, refusal, _>>=_}
+use Rattle.definitions.specs.Result.{Result, done, _>>=_}
 use Rattle.definitions.specs.Tree.{add-result}
 use Rattle.definitions.specs.Layout.{Words, rows}
 use Rattle.sums.specs.declared.Stored.{Stored}

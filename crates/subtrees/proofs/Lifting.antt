@@ -1,7 +1,7 @@
 -- The definition's liftings by what the code's calls give.
 use mathlib.Core.Path.{_≡_, refl, sym, ap, _∙_}
 use mathlib.Core.Bool.{Bool, true, false}
-use mathlib.Core.Option.{Option, none, some}
+use mathlib.Core.Option.{none, some}
 use mathlib.Core.List.{[], _∷_}
 use Prim.Native.Nat.{ℕ, zero, suc, _+_, _-_, _*_, _<_, _≤_}
 use native.Mathlib.Omega.{arith}
@@ -12,13 +12,13 @@ use Rattle.definitions.specs.Lists.{rest}
 use Rattle.definitions.specs.Field.{minus}
 use Rattle.definitions.specs.Monomial.{Exponents, Monomial, Term, Vector, fits?, vector-of}
 use Rattle.definitions.specs.Reducer.{Answer, reducer, lower-order, answer}
-use Rattle.definitions.specs.Result.{Result, done, refused, refusal, _>>=_}
+use Rattle.definitions.specs.Result.{Result, done, refusal, _>>=_}
 use Rattle.definitions.specs.Run.{multiple}
 use Rattle.definitions.specs.Stage.{Stage}
 use Rattle.definitions.specs.Tree as definition
 use Rattle.definitions.specs.Tree.{Cache, Lift-term, finish, cached, if-product-fits, lift-product, lift-list, lift-term, open-subtree, or-open, lift-by}
 use Rattle.definitions.specs.Layout.{Words, row-at, rows}
-use Rattle.definitions.proofs.Rows.{Eight, length-rows, rows-same, rows-first, rows-last}
+use Rattle.definitions.proofs.Rows.{Eight, length-rows, rows-first}
 use Rattle.terms.specs.Rows.{written}
 use Rattle.terms.proofs.Stored.{written-here, written-other}
 use Rattle.reduce.specs.Grounds.{first-row, Family, family-of}

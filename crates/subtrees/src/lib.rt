@@ -1,7 +1,7 @@
 // The lifting of a term and the lifting of a list, which call each other; what falls is the work area that unfinished subtrees leave.
 // Knows: crate definitions' Tree. Unfinished sums are one stack from row 0 of the work area, so the row where a sum starts is the number of terms that count elsewhere.
 ghost use mathlib.Core.Path.{_≡_};
-ghost use Prim.Native.Nat.{ℕ, _+_, _-_, _*_, _≤_, _<_};
+ghost use Prim.Native.Nat.{_+_, _-_, _*_, _≤_, _<_};
 ghost use lib.Dec.{ltb};
 ghost use lib.ListN.{length, getD};
 ghost use Rattle.definitions.specs.Field.{minus};
@@ -60,7 +60,8 @@ pub fn rows_of(ends: &[u16], j: usize) -> Span
     Span { from, to }
 }
 
-fn joined(x: Stored, used: usize) -> Sum
+// A sum that has grown, beside the cache.
+pub fn joined(x: Stored, used: usize) -> Sum
     ensures { λ z. ⌜ z ≡ joined-as x used ⌝ }
 {
     match x {
@@ -96,12 +97,40 @@ fn add_subtree(
 {
     match s {
         Subtree::Cached(from, len, used) => {
-            let x = cache::add_part(cache, work, a, n, true, from, len, g.tree, c, g.code, above, g.r, g.p);
+            let x = cache::add_part(
+                cache,
+                work,
+                a,
+                n,
+                true,
+                from,
+                len,
+                g.tree,
+                c,
+                g.code,
+                above,
+                g.r,
+                g.p,
+            );
             joined(x, used)
         }
         Subtree::Waiting(len, used) => {
             let top = g.tree - len;
-            let x = cache::add_part(cache, work, a, n, false, top, len, top, c, g.code, above, g.r, g.p);
+            let x = cache::add_part(
+                cache,
+                work,
+                a,
+                n,
+                false,
+                top,
+                len,
+                top,
+                c,
+                g.code,
+                above,
+                g.r,
+                g.p,
+            );
             joined(x, used)
         }
         Subtree::Refused(x) => Sum::Refused(x),
@@ -127,7 +156,17 @@ pub fn lift_term(
     requires { ⌜ Lent g used room (now cache) (now work) (now level) (now ends) (now heads) (now spans) (now above) × (a ≤ g .tree) ⌝ }
     ensures { λ x. ⌜ ((below : Words) → subtree-of (g .tree) x (now (cache .exit)) (now (work .exit)) ≡ term-definition (stage-of g (now (level .entry)) (now (ends .entry)) (now (heads .entry)) below (table-order (g .code) (table-of (g .r) (now (above .entry))))) room left a (cache-of used (now (cache .entry))) (monomial-of m)) × Sized a (g .tree) room x × Keeps a (now (work .entry)) (now (work .exit)) ⌝ }
 {
-    let f = reducers::reducer_of(heads, g.r, spans, g.components, g.p, Term { coefficient: 1, monomial: m });
+    let f = reducers::reducer_of(
+        heads,
+        g.r,
+        spans,
+        g.components,
+        g.p,
+        Term {
+            coefficient: 1,
+            monomial: m,
+        },
+    );
     let q = f.quotient;
     let answer = f.answer;
     let Answer::Reducer(j, c) = answer else {
@@ -135,7 +174,24 @@ pub fn lift_term(
     };
     let e = cache::look_up(&cache[..], used, m);
     let Entry::Rows(from, n) = e else {
-        return open_subtree(cache, used, room, work, a, m, j, c, q, level, ends, heads, spans, above, g, left);
+        return open_subtree(
+            cache,
+            used,
+            room,
+            work,
+            a,
+            m,
+            j,
+            c,
+            q,
+            level,
+            ends,
+            heads,
+            spans,
+            above,
+            g,
+            left,
+        );
     };
     Subtree::Cached(from, n, used)
 }
@@ -170,11 +226,39 @@ fn open_subtree(
     }
     let d = field::negative(c, g.p);
     let component = j as u16;
-    terms::put(work, a, Term { coefficient: d, monomial: Monomial { exponents: q, component } });
+    terms::put(
+        work,
+        a,
+        Term {
+            coefficient: d,
+            monomial: Monomial {
+                exponents: q,
+                component,
+            },
+        },
+    );
     let part = rows_of(ends, j);
     let from = part.from;
     let to = part.to;
-    let s = lift_list(cache, used, room, work, a, 1, d, q, from + 1, to, level, ends, heads, spans, above, g, left - 1);
+    let s = lift_list(
+        cache,
+        used,
+        room,
+        work,
+        a,
+        1,
+        d,
+        q,
+        from + 1,
+        to,
+        level,
+        ends,
+        heads,
+        spans,
+        above,
+        g,
+        left - 1,
+    );
     let Sum::Rows(n, u) = s else {
         return passed(s);
     };
@@ -213,7 +297,21 @@ fn lift_list(
         let t = x.term;
         if fits {
             let m = t.monomial;
-            let s = lift_term(cache, v, room, work, a + k, m, level, ends, heads, spans, above, g, left);
+            let s = lift_term(
+                cache,
+                v,
+                room,
+                work,
+                a + k,
+                m,
+                level,
+                ends,
+                heads,
+                spans,
+                above,
+                g,
+                left,
+            );
             let y = add_subtree(&cache[..], room, work, a, k, s, t.coefficient, above, g);
             let Sum::Rows(w, u) = y else {
                 return y;

@@ -1,33 +1,30 @@
-use borrow.Author.Needs.{needs}
 use native.Mathlib.Omega.{arith}
 use mathlib.Core.Path.{_≡_, refl, sym, ap, _∙_, subst}
-use mathlib.Core.List.{List, [], _∷_, _++_}
-use Prim.Native.Nat.{ℕ, suc, _+_, _-_, _*_, _<_, _≤_}
-use lib.ListN.{length, take, drop, getD, set, length-set}
-use mathlib.Core.Bool.{Bool, true, false}
-use mathlib.Core.Option.{none, some}
+use Prim.Native.Nat.{ℕ, _+_, _-_, _*_, _<_, _≤_}
+use lib.ListN.{length}
+use mathlib.Core.Bool.{true, false}
 use lib.Dec.{ltb}
 use Rattle.definitions.specs.Field.{minus}
-use Rattle.definitions.specs.Monomial.{Monomial, Term, Vector, fits?}
-use Rattle.definitions.specs.Reducer.{reducer, lower-order}
-use Rattle.definitions.specs.Result.{Result, done, refused, refusal, _>>=_}
+use Rattle.definitions.specs.Monomial.{Term, Vector, fits?}
+use Rattle.definitions.specs.Result.{done, _>>=_}
 use Rattle.definitions.specs.Run.{multiple}
 use Rattle.definitions.specs.Layout.{Words, row-at, rows}
-use Rattle.definitions.specs.Tree.{finish, lift-term as term-definition, lift-list as list-definition, open-subtree as open-definition}
+use Rattle.definitions.specs.Stage.{Stage}
+use Rattle.definitions.specs.Tree.{Lift-term, finish, lift-term as term-definition, lift-list as list-definition}
 use Rattle.definitions.proofs.Rows.{length-rows}
 use Rattle.monomial.specs.Values.{monomial-of}
 use Rattle.orders.specs.Images.{table-of, table-order}
 use Rattle.terms.specs.Rows.{term-of}
 use Rattle.reducers.specs.Search.{answered}
 use Rattle.reduce.proofs.Adding.{fits-as, formed-as}
-use Rattle.runs.specs.Stages.{stage-of, Images}
+use Rattle.runs.specs.Stages.{stage-of}
 use Rattle.runs.proofs.Stepping.{reducer-number}
 use Rattle.cache.specs.Area.{Keeps}
-use Rattle.cache.specs.Entries.{cache-of, entry-of, Inside, subtree-of, Sized}
+use Rattle.cache.specs.Entries.{cache-of, entry-of, Inside, Sized}
 use Rattle.cache.proofs.Growing.{rows-none}
-use Rattle.subtrees.specs.Sums.{Lent, sum-of, Fits, passed-as, list-at}
+use Rattle.subtrees.specs.Sums.{sum-of, Fits, passed-as}
 use Rattle.subtrees.proofs.Joining.{lent-again}
-use Rattle.subtrees.proofs.Lifting.{listing-from, product-at, listing-unfit, listing-ends, listing-on, listing-stops, term-lower, term-found, term-opened, opened-full, opened-deep, opened-list, first-stored, stored-keeps, rest-of, handed-on}
+use Rattle.subtrees.proofs.Lifting.{listing-from, listing-unfit, listing-ends, listing-on, listing-stops, term-lower, term-found, term-opened, opened-full, opened-deep, opened-list, first-stored, stored-keeps, rest-of, handed-on}
 use borrow.Fn.Kinds.{In}
 use borrow.Fn.PlainCycle.{Measures, is, falls, and}
 use Rattle.subtrees.proofs.lift_list.Reads as lift-list
@@ -205,9 +202,9 @@ lift-list-returns t c =
     let a = c .before .before .before .before .before .before .before .before .before .before .before .before .before .before .before .before .before .before .before .before .before .before .before .before .before .before .before .args in
     let P = c .before .before .before .before .before .before .before .before .before .before .before .before .before .before .before .before .before .before .before .before .before .before .before .before .before .before .before .pre .1 in
     let g = a .g in
-    let S = λ (below : Words). stage-of g (a .level .now) (a .ends .now) (a .heads .now) below (table-order (g .code) (table-of (g .r) (a .above .now))) in
+    let S : Words → Stage = λ below. stage-of g (a .level .now) (a .ends .now) (a .heads .now) below (table-order (g .code) (table-of (g .r) (a .above .now))) in
     let l = c .before .before .before .before .before .before .before .before .before .before .before .before .before .before .before .before .before .before .before .loop in
-    let T = λ (below : Words). term-definition (S below) (a .room) (a .left) in
+    let T : Words → Lift-term = λ below. term-definition (S below) (a .room) (a .left) in
     let x = c .before .before .before .before .before .before .before .before .before .before .before .before .before .before .before .before .before .multiplied in
     let t = term-of (x .result .term) in
     let p = multiple (g .p) (a .c) (a .q) (row-at (a .level .now) (l .i)) in
@@ -250,9 +247,9 @@ lift-list-loop-again t c =
     let a = c .before .before .before .before .before .before .before .before .before .before .before .before .before .before .before .before .before .before .before .before .before .before .before .before .before .before .before .before .args in
     let P = c .before .before .before .before .before .before .before .before .before .before .before .before .before .before .before .before .before .before .before .before .before .before .before .before .before .before .before .before .pre .1 in
     let g = a .g in
-    let S = λ (below : Words). stage-of g (a .level .now) (a .ends .now) (a .heads .now) below (table-order (g .code) (table-of (g .r) (a .above .now))) in
+    let S : Words → Stage = λ below. stage-of g (a .level .now) (a .ends .now) (a .heads .now) below (table-order (g .code) (table-of (g .r) (a .above .now))) in
     let l = c .before .before .before .before .before .before .before .before .before .before .before .before .before .before .before .before .before .before .before .before .loop in
-    let T = λ (below : Words). term-definition (S below) (a .room) (a .left) in
+    let T : Words → Lift-term = λ below. term-definition (S below) (a .room) (a .left) in
     let x = c .before .before .before .before .before .before .before .before .before .before .before .before .before .before .before .before .before .before .multiplied in
     let t = term-of (x .result .term) in
     let p = multiple (g .p) (a .c) (a .q) (row-at (a .level .now) (l .i)) in
@@ -297,9 +294,9 @@ lift-list-returns-2 t c =
     let a = c .before .before .before .before .before .before .before .before .before .before .before .before .args in
     let P = c .before .before .before .before .before .before .before .before .before .before .before .before .pre .1 in
     let g = a .g in
-    let S = λ (below : Words). stage-of g (a .level .now) (a .ends .now) (a .heads .now) below (table-order (g .code) (table-of (g .r) (a .above .now))) in
+    let S : Words → Stage = λ below. stage-of g (a .level .now) (a .ends .now) (a .heads .now) below (table-order (g .code) (table-of (g .r) (a .above .now))) in
     let l = c .before .before .before .before .loop in
-    let T = λ (below : Words). term-definition (S below) (a .room) (a .left) in
+    let T : Words → Lift-term = λ below. term-definition (S below) (a .room) (a .left) in
     let x = c .before .before .multiplied in
     let t = term-of (x .result .term) in
     let p = multiple (g .p) (a .c) (a .q) (row-at (a .level .now) (l .i)) in
@@ -339,9 +336,9 @@ lift-list-returns-3 t c =
     let a = c .before .before .before .before .before .before .before .before .before .args in
     let P = c .before .before .before .before .before .before .before .before .before .pre .1 in
     let g = a .g in
-    let S = λ (below : Words). stage-of g (a .level .now) (a .ends .now) (a .heads .now) below (table-order (g .code) (table-of (g .r) (a .above .now))) in
+    let S : Words → Stage = λ below. stage-of g (a .level .now) (a .ends .now) (a .heads .now) below (table-order (g .code) (table-of (g .r) (a .above .now))) in
     let l = c .before .loop in
-    let T = λ (below : Words). term-definition (S below) (a .room) (a .left) in
+    let T : Words → Lift-term = λ below. term-definition (S below) (a .room) (a .left) in
     ((λ below. sym (l .inv .5 below ∙ listing-ends (S below) (T below) (a .a) (a .c) (a .q) (a .level .now) (a .to) (l .i) (rows (l .work) (a .a) (l .k), cache-of (l .v) (l .cache)) (omega arith))), (l .inv .0, l .inv .1), l .inv .4)
 
 lift-term-reducer-of-requires : (t : ℕ) → lift-term-lts.Need-reducer-of-requires (
@@ -386,7 +383,7 @@ lift-term-returns t c =
     let a = c .before .before .before .before .before .before .before .before .before .before .before .args in
     let P = c .before .before .before .before .before .before .before .before .before .before .before .pre .1 in
     let g = a .g in
-    let S = λ (below : Words). stage-of g (a .level .now) (a .ends .now) (a .heads .now) below (table-order (g .code) (table-of (g .r) (a .above .now))) in
+    let S : Words → Stage = λ below. stage-of g (a .level .now) (a .ends .now) (a .heads .now) below (table-order (g .code) (table-of (g .r) (a .above .now))) in
     let K = cache-of (a .used) (a .cache .now) in
     let m = monomial-of (a .m) in
     let f = c .before .before .before .reducer-of in
@@ -434,7 +431,7 @@ lift-term-open-subtree-requires t c κs =
     let a = c .before .before .before .before .before .before .before .before .before .before .before .before .before .before .before .before .before .before .args in
     let P = c .before .before .before .before .before .before .before .before .before .before .before .before .before .before .before .before .before .before .pre .1 in
     let g = a .g in
-    let S = λ (below : Words). stage-of g (a .level .now) (a .ends .now) (a .heads .now) below (table-order (g .code) (table-of (g .r) (a .above .now))) in
+    let S : Words → Stage = λ below. stage-of g (a .level .now) (a .ends .now) (a .heads .now) below (table-order (g .code) (table-of (g .r) (a .above .now))) in
     let K = cache-of (a .used) (a .cache .now) in
     let m = monomial-of (a .m) in
     let f = c .before .before .before .before .before .before .before .before .before .before .reducer-of in
@@ -476,7 +473,7 @@ lift-term-returns-2 t c =
     let a = c .before .before .before .before .before .before .before .before .before .before .before .before .before .before .before .before .before .before .before .before .before .before .before .args in
     let P = c .before .before .before .before .before .before .before .before .before .before .before .before .before .before .before .before .before .before .before .before .before .before .before .pre .1 in
     let g = a .g in
-    let S = λ (below : Words). stage-of g (a .level .now) (a .ends .now) (a .heads .now) below (table-order (g .code) (table-of (g .r) (a .above .now))) in
+    let S : Words → Stage = λ below. stage-of g (a .level .now) (a .ends .now) (a .heads .now) below (table-order (g .code) (table-of (g .r) (a .above .now))) in
     let K = cache-of (a .used) (a .cache .now) in
     let m = monomial-of (a .m) in
     let f = c .before .before .before .before .before .before .before .before .before .before .before .before .before .before .before .reducer-of in
@@ -508,7 +505,7 @@ lift-term-returns-3 t c =
     let a = c .before .before .before .before .before .before .before .before .before .before .before .before .before .before .before .before .before .args in
     let P = c .before .before .before .before .before .before .before .before .before .before .before .before .before .before .before .before .before .pre .1 in
     let g = a .g in
-    let S = λ (below : Words). stage-of g (a .level .now) (a .ends .now) (a .heads .now) below (table-order (g .code) (table-of (g .r) (a .above .now))) in
+    let S : Words → Stage = λ below. stage-of g (a .level .now) (a .ends .now) (a .heads .now) below (table-order (g .code) (table-of (g .r) (a .above .now))) in
     let K = cache-of (a .used) (a .cache .now) in
     let m = monomial-of (a .m) in
     let f = c .before .before .before .before .before .before .before .before .before .reducer-of in
@@ -536,7 +533,7 @@ open-subtree-returns t c =
     let a = c .before .before .before .before .before .before .before .before .before .args in
     let P = c .before .before .before .before .before .before .before .before .before .pre .1 in
     let g = a .g in
-    let S = λ (below : Words). stage-of g (a .level .now) (a .ends .now) (a .heads .now) below (table-order (g .code) (table-of (g .r) (a .above .now))) in
+    let S : Words → Stage = λ below. stage-of g (a .level .now) (a .ends .now) (a .heads .now) below (table-order (g .code) (table-of (g .r) (a .above .now))) in
     let K = cache-of (a .used) (a .cache .now) in
     let m = monomial-of (a .m) in
     let W = a .work .now in
@@ -560,7 +557,7 @@ open-subtree-returns-2 t c =
     let a = c .before .before .before .before .before .before .before .before .before .before .args in
     let P = c .before .before .before .before .before .before .before .before .before .before .pre .1 in
     let g = a .g in
-    let S = λ (below : Words). stage-of g (a .level .now) (a .ends .now) (a .heads .now) below (table-order (g .code) (table-of (g .r) (a .above .now))) in
+    let S : Words → Stage = λ below. stage-of g (a .level .now) (a .ends .now) (a .heads .now) below (table-order (g .code) (table-of (g .r) (a .above .now))) in
     let K = cache-of (a .used) (a .cache .now) in
     let m = monomial-of (a .m) in
     let W = a .work .now in
@@ -680,7 +677,7 @@ open-subtree-lift-list-requires t c κs =
     let a = c .before .before .before .before .before .before .before .before .before .before .before .before .before .before .before .before .before .before .args in
     let P = c .before .before .before .before .before .before .before .before .before .before .before .before .before .before .before .before .before .before .pre .1 in
     let g = a .g in
-    let S = λ (below : Words). stage-of g (a .level .now) (a .ends .now) (a .heads .now) below (table-order (g .code) (table-of (g .r) (a .above .now))) in
+    let S : Words → Stage = λ below. stage-of g (a .level .now) (a .ends .now) (a .heads .now) below (table-order (g .code) (table-of (g .r) (a .above .now))) in
     let ro = c .before .before .rows-of in
     (omega (arith, c .before .before .before .before .before .before .before .before .before .before .before .before .before .before .before .before .before .before .pre .0, c .before .before .before .before .before .before .before .before .if2 .left), (lent-again g (a .used) (a .used) (a .room) (a .cache .now) (a .cache .now) (a .work .now) (c .before .before .before .before .before .put .last .0) (a .level .now) (a .ends .now) (a .heads .now) (a .spans .now) (a .above .now) (P .0) (P .0 .used-fits) refl (c .before .before .before .before .before .put .kept .0), omega (arith, c .before .before .before .before .before .before .before .before .before .if1 .left), omega (arith, ro .ensures .1, P .0 .family .rows-fit (a .j - 1) (omega (arith, P .2, P .3))), ro .ensures .3))
 
@@ -782,7 +779,7 @@ open-subtree-returns-3 t c =
     let a = c .before .before .before .before .before .before .before .before .before .before .before .before .before .before .before .before .before .before .before .before .before .before .before .before .before .before .args in
     let P = c .before .before .before .before .before .before .before .before .before .before .before .before .before .before .before .before .before .before .before .before .before .before .before .before .before .before .pre .1 in
     let g = a .g in
-    let S = λ (below : Words). stage-of g (a .level .now) (a .ends .now) (a .heads .now) below (table-order (g .code) (table-of (g .r) (a .above .now))) in
+    let S : Words → Stage = λ below. stage-of g (a .level .now) (a .ends .now) (a .heads .now) below (table-order (g .code) (table-of (g .r) (a .above .now))) in
     let K = cache-of (a .used) (a .cache .now) in
     let m = monomial-of (a .m) in
     let W = a .work .now in
@@ -792,11 +789,10 @@ open-subtree-returns-3 t c =
     let ne = c .before .before .before .before .before .before .before .before .before .before .before .before .before .before .before .negative in
     let t : Term = (ne .result, (a .q, a .j)) in
     let fits : a .a * 10 + 10 ≤ length W = omega (arith, c .before .before .before .before .before .before .before .before .before .before .before .before .before .before .before .before .before .if1 .left, P .0 .tree-fits) in
-    let opening = λ (below : Words). opened-list (S below) (a .room) (a .left) (a .a) K m (a .j) (minus (g .p) (a .c)) (ne .result) (a .q) (rows (a .level .now) (ro .result .from + 1) (ro .result .to - (ro .result .from + 1))) (rows (pt .last .0) (a .a) 1) (omega (arith, c .before .before .before .before .before .before .before .before .before .before .before .before .before .before .before .before .before .if1 .left)) (omega (arith, c .before .before .before .before .before .before .before .before .before .before .before .before .before .before .before .before .if2 .left)) (ne .ensures) (rest-of g (a .level .now) (a .ends .now) (a .j) (ro .result .from) (ro .result .to) (P .0 .family) (P .2) (P .3) (ro .ensures .0) (ro .ensures .1)) (first-stored W (pt .last .0) (a .a) t (pt .ensures .0) (pt .ensures .1) fits) in
     let stays = stored-keeps W (pt .last .0) (a .a) t (pt .ensures .0) (pt .ensures .1) fits in
     let b = c .before .enum-told .given .1 in
     let pa = c .passed in
-    ((λ below. handed-on (a .room) m (a .a) (g .tree) (c .before .enum-told .given .0 .0) (ll .last .0) (ll .last .1 .1 .1 .0) (ll .result) (pa .result) b (pa .ensures) ∙ ap (λ y. y >>= λ r. done (finish (a .room) m r)) (ll .ensures .0 below) ∙ sym (opening below)), subst (Sized (a .a) (g .tree) (a .room)) (sym (pa .ensures ∙ ap passed-as b)) tt, λ k h. ll .ensures .2 k h ∙ stays k h)
+    ((λ below. handed-on (a .room) m (a .a) (g .tree) (c .before .enum-told .given .0 .0) (ll .last .0) (ll .last .1 .1 .1 .0) (ll .result) (pa .result) b (pa .ensures) ∙ ap (λ y. y >>= λ r. done (finish (a .room) m r)) (ll .ensures .0 below) ∙ sym (opened-list (S below) (a .room) (a .left) (a .a) K m (a .j) (minus (g .p) (a .c)) (ne .result) (a .q) (rows (a .level .now) (ro .result .from + 1) (ro .result .to - (ro .result .from + 1))) (rows (pt .last .0) (a .a) 1) (omega (arith, c .before .before .before .before .before .before .before .before .before .before .before .before .before .before .before .before .before .if1 .left)) (omega (arith, c .before .before .before .before .before .before .before .before .before .before .before .before .before .before .before .before .if2 .left)) (ne .ensures) (rest-of g (a .level .now) (a .ends .now) (a .j) (ro .result .from) (ro .result .to) (P .0 .family) (P .2) (P .3) (ro .ensures .0) (ro .ensures .1)) (first-stored W (pt .last .0) (a .a) t (pt .ensures .0) (pt .ensures .1) fits))), subst (Sized (a .a) (g .tree) (a .room)) (sym (pa .ensures ∙ ap passed-as b)) tt, λ k h. ll .ensures .2 k h ∙ stays k h)
 
 open-subtree-keep-requires : (t : ℕ) → open-subtree-lts.Need-keep-requires (
   negative-reads.Asked,
@@ -816,7 +812,7 @@ open-subtree-keep-requires t c κs =
     let a = c .before .before .before .before .before .before .before .before .before .before .before .before .before .before .before .before .before .before .before .before .before .before .before .before .before .before .before .before .args in
     let P = c .before .before .before .before .before .before .before .before .before .before .before .before .before .before .before .before .before .before .before .before .before .before .before .before .before .before .before .before .pre .1 in
     let g = a .g in
-    let S = λ (below : Words). stage-of g (a .level .now) (a .ends .now) (a .heads .now) below (table-order (g .code) (table-of (g .r) (a .above .now))) in
+    let S : Words → Stage = λ below. stage-of g (a .level .now) (a .ends .now) (a .heads .now) below (table-order (g .code) (table-of (g .r) (a .above .now))) in
     let ll = c .before .before .before .before .before .before .before .before .before .lift-list in
     let f = subst (Fits (a .a) (g .tree) (a .room)) (c .before .before .before .s .given .1) (ll .ensures .1) in
     (f .1, omega (arith, P .0 .room-fits, ll .kept .0), f .0, omega (arith, P .0 .tree-fits, c .before .before .before .before .before .before .before .before .before .before .before .before .before .before .before .put .kept .0, ll .kept .1 .1 .1 .0), P .0 .tree-small)
@@ -871,7 +867,7 @@ open-subtree-returns-4 t c =
     let a = c .before .before .before .before .before .before .before .before .before .before .before .before .before .before .before .before .before .before .before .before .before .before .before .before .before .before .before .before .before .before .before .before .before .args in
     let P = c .before .before .before .before .before .before .before .before .before .before .before .before .before .before .before .before .before .before .before .before .before .before .before .before .before .before .before .before .before .before .before .before .before .pre .1 in
     let g = a .g in
-    let S = λ (below : Words). stage-of g (a .level .now) (a .ends .now) (a .heads .now) below (table-order (g .code) (table-of (g .r) (a .above .now))) in
+    let S : Words → Stage = λ below. stage-of g (a .level .now) (a .ends .now) (a .heads .now) below (table-order (g .code) (table-of (g .r) (a .above .now))) in
     let K = cache-of (a .used) (a .cache .now) in
     let m = monomial-of (a .m) in
     let W = a .work .now in
@@ -881,11 +877,10 @@ open-subtree-returns-4 t c =
     let ne = c .before .before .before .before .before .before .before .before .before .before .before .before .before .before .before .before .before .before .before .before .before .before .negative in
     let t : Term = (ne .result, (a .q, a .j)) in
     let fits : a .a * 10 + 10 ≤ length W = omega (arith, c .before .before .before .before .before .before .before .before .before .before .before .before .before .before .before .before .before .before .before .before .before .before .before .before .if1 .left, P .0 .tree-fits) in
-    let opening = λ (below : Words). opened-list (S below) (a .room) (a .left) (a .a) K m (a .j) (minus (g .p) (a .c)) (ne .result) (a .q) (rows (a .level .now) (ro .result .from + 1) (ro .result .to - (ro .result .from + 1))) (rows (pt .last .0) (a .a) 1) (omega (arith, c .before .before .before .before .before .before .before .before .before .before .before .before .before .before .before .before .before .before .before .before .before .before .before .before .if1 .left)) (omega (arith, c .before .before .before .before .before .before .before .before .before .before .before .before .before .before .before .before .before .before .before .before .before .before .before .if2 .left)) (ne .ensures) (rest-of g (a .level .now) (a .ends .now) (a .j) (ro .result .from) (ro .result .to) (P .0 .family) (P .2) (P .3) (ro .ensures .0) (ro .ensures .1)) (first-stored W (pt .last .0) (a .a) t (pt .ensures .0) (pt .ensures .1) fits) in
     let stays = stored-keeps W (pt .last .0) (a .a) t (pt .ensures .0) (pt .ensures .1) fits in
     let b = c .before .before .before .before .before .before .before .before .s .given .1 in
     let kp = c .before .before .before .before .keep in
-    ((λ below. kp .ensures .0 ∙ ap (λ y. y >>= λ r. done (finish (a .room) m r)) (sym (ap (λ y. sum-of (a .a) y (ll .last .0) (ll .last .1 .1 .1 .0)) b) ∙ ll .ensures .0 below) ∙ sym (opening below)), kp .ensures .1, λ k h. kp .ensures .2 k h ∙ ll .ensures .2 k h ∙ stays k h)
+    ((λ below. kp .ensures .0 ∙ ap (λ y. y >>= λ r. done (finish (a .room) m r)) (sym (ap (λ y. sum-of (a .a) y (ll .last .0) (ll .last .1 .1 .1 .0)) b) ∙ ll .ensures .0 below) ∙ sym (opened-list (S below) (a .room) (a .left) (a .a) K m (a .j) (minus (g .p) (a .c)) (ne .result) (a .q) (rows (a .level .now) (ro .result .from + 1) (ro .result .to - (ro .result .from + 1))) (rows (pt .last .0) (a .a) 1) (omega (arith, c .before .before .before .before .before .before .before .before .before .before .before .before .before .before .before .before .before .before .before .before .before .before .before .before .if1 .left)) (omega (arith, c .before .before .before .before .before .before .before .before .before .before .before .before .before .before .before .before .before .before .before .before .before .before .before .if2 .left)) (ne .ensures) (rest-of g (a .level .now) (a .ends .now) (a .j) (ro .result .from) (ro .result .to) (P .0 .family) (P .2) (P .3) (ro .ensures .0) (ro .ensures .1)) (first-stored W (pt .last .0) (a .a) t (pt .ensures .0) (pt .ensures .1) fits))), kp .ensures .1, λ k h. kp .ensures .2 k h ∙ ll .ensures .2 k h ∙ stays k h)
 
 pub +lift-list+lift-term+open-subtree-spec : {M : Type 1} → statement M
 +lift-list+lift-term+open-subtree-spec =
