@@ -4,6 +4,31 @@ use mathlib.Core.Path.{_≡_, refl, sym, ap, _∙_, subst}
 use mathlib.Core.List.{List, [], _∷_, _++_}
 use Prim.Native.Nat.{ℕ, suc, _+_, _-_, _*_, _<_, _≤_}
 use lib.ListN.{length, take, drop, getD, set, length-set}
+use mathlib.Core.Bool.{Bool, true, false}
+use Rattle.definitions.specs.Monomial.{Monomial, Term, Vector, fits?}
+use Rattle.definitions.specs.Result.{Result, done, refused, refusal, _>>=_}
+use Rattle.definitions.specs.Run.{multiple}
+use Rattle.definitions.specs.Stage.{Stage}
+use Rattle.definitions.specs.Layout.{Words, row-at, rows}
+use Rattle.definitions.specs.Tree.{Lift-term, lift-term, lift-vector as vector-definition, tree as tree-definition}
+use Rattle.definitions.specs.Lifting.{Lifted, lift-all as lift-all-definition}
+use Rattle.definitions.proofs.Rows.{length-rows}
+use Rattle.monomial.specs.Values.{monomial-of}
+use Rattle.orders.specs.Images.{table-of, table-order}
+use Rattle.terms.specs.Rows.{term-of}
+use Rattle.reduce.proofs.Adding.{fits-as, formed-as}
+use Rattle.runs.specs.Stages.{stage-of, Images}
+use Rattle.cache.specs.Area.{Keeps}
+use Rattle.cache.specs.Entries.{cache-of, Sized}
+use Rattle.cache.proofs.Parts.{length-part}
+use Rattle.subtrees.specs.Sums.{Lent, sum-of, Fits}
+use Rattle.subtrees.proofs.Joining.{fits-joined, lent-again}
+use Rattle.subtrees.proofs.Lifting.{first-stored}
+use Rattle.lift.specs.Vectors.{lifted-vectors, Kept, frame-terms}
+use Rattle.lift.proofs.Keeping.{none-kept, frame-component}
+use Rattle.tree.specs.Frames.{one-of, After}
+use Rattle.tree.proofs.Filling.{cached-fills, waiting-fills, refusal-fills, filling-from, filling-unfit, filling-ends, filling-on, filling-stops, whole-of}
+use Rattle.tree.proofs.Keeping.{made, length-made, vectors-made, kept-made, one-refused, one-full, one-kept, all-from, all-on, all-refused, all-end, empty-cache}
 use Rattle.tree.proofs.add_result.Statement.{statement}
 use Rattle.tree.proofs.add_result.Tie as tie
 use Rattle.tree.proofs.add_result.Reads as reads
@@ -12,65 +37,98 @@ use Rattle.cache.proofs.add_rows.Reads as add-rows-reads
 use Rattle.cache.proofs.held.Reads as held-reads
 use Rattle.subtrees.proofs.joined.Reads as joined-reads
 
--- src/lib.rt:53:25
 enum-known-s : tie.Need-enum-known-s
 enum-known-s c = search needs
 
--- src/lib.rt:54:17
 held-requires : tie.Need-held-requires
-held-requires c κs = omega arith
+held-requires c κs =
+    let a = c .before .before .before .before .before .before .before .args in
+    let P = c .before .before .before .before .before .before .before .pre in
+    let g = a .g in
+    let z = subst (Sized 0 (g .tree) (a .room)) (c .before .s .given .1) (P .5) in
+    omega (arith, z .0, z .1, P .4)
 
--- src/lib.rt:55:17
 add-rows-requires : tie.Need-add-rows-requires
-add-rows-requires c κs = omega arith
+add-rows-requires c κs =
+    let a = c .before .before .before .before .before .before .before .before .before .args in
+    let P = c .before .before .before .before .before .before .before .before .before .pre in
+    let g = a .g in
+    let z = subst (Sized 0 (g .tree) (a .room)) (c .before .before .before .s .given .1) (P .5) in
+    (P .0, P .1, P .2, P .6 .fits, P .6 .tabled, omega (arith, ap length (c .before .held .ensures), length-part (a .cache .now) (c .before .before .before .s .given .0 .0 * 10) (c .before .before .before .s .given .0 .1 .0 * 10) (omega (arith, z .0, z .1, P .4))))
 
--- src/lib.rt:56:13
 joined-requires : tie.Need-joined-requires
 joined-requires c κs = search needs
 
--- src/lib.rt:58:26
 enum-known-s-2 : tie.Need-enum-known-s-2
 enum-known-s-2 c = search needs
 
--- src/lib.rt:59:56
 sub-held : tie.Need-sub-held
-sub-held c = omega arith
+sub-held c =
+    let a = c .before .before .before .before .before .before .before .before .args in
+    let P = c .before .before .before .before .before .before .before .before .pre in
+    let g = a .g in
+    let z = subst (Sized 0 (g .tree) (a .room)) (c .before .before .s2 .given .1) (P .5) in
+    omega (arith, z .0)
 
--- src/lib.rt:59:17
 held-requires-2 : tie.Need-held-requires-2
-held-requires-2 c κs = omega arith
+held-requires-2 c κs =
+    let a = c .before .before .before .before .before .before .before .before .args in
+    let P = c .before .before .before .before .before .before .before .before .pre in
+    let g = a .g in
+    let z = subst (Sized 0 (g .tree) (a .room)) (c .before .before .s2 .given .1) (P .5) in
+    omega (arith, z .0, P .3)
 
--- src/lib.rt:60:17
 add-rows-requires-2 : tie.Need-add-rows-requires-2
-add-rows-requires-2 c κs = omega arith
+add-rows-requires-2 c κs =
+    let a = c .before .before .before .before .before .before .before .before .before .before .args in
+    let P = c .before .before .before .before .before .before .before .before .before .before .pre in
+    let g = a .g in
+    let z = subst (Sized 0 (g .tree) (a .room)) (c .before .before .before .before .s2 .given .1) (P .5) in
+    (P .0, P .1, P .2, P .6 .fits, P .6 .tabled, omega (arith, ap length (c .before .held2 .ensures), length-part (a .work .now) ((g .tree - c .before .before .before .before .s2 .given .0 .0) * 10) (c .before .before .before .before .s2 .given .0 .0 * 10) (omega (arith, z .0, P .3))))
 
--- src/lib.rt:61:13
 joined-requires-2 : tie.Need-joined-requires-2
 joined-requires-2 c κs = search needs
 
--- src/lib.rt:63:26
 enum-known-s-3 : tie.Need-enum-known-s-3
 enum-known-s-3 c = search needs
 
--- src/lib.rt:38:1
 same-length : tie.Need-same-length
 same-length c = search needs
 
--- src/lib.rt:38:1
 returns : tie.Need-returns
-returns c = omega arith
+returns c =
+    let a = c .before .before .before .before .before .before .before .before .before .before .before .before .before .args in
+    let P = c .before .before .before .before .before .before .before .before .before .before .before .before .before .pre in
+    let g = a .g in
+    let z = subst (Sized 0 (g .tree) (a .room)) (c .before .before .before .before .before .before .before .s .given .1) (P .5) in
+    let O = table-order (g .code) (table-of (g .r) (a .above .now)) in
+    let total = rows (a .vector .now) 0 (a .n) in
+    let x = c .before .before .before .add-rows in
+    let u = c .before .before .before .before .before .before .before .s .given .0 .1 .1 .0 in
+    (cached-fills O (g .p) (g .vector) (a .c) (g .tree) total (a .cache .now) (a .work .now) (x .last .0) (c .before .before .before .before .before .before .before .s .given .0 .0) (c .before .before .before .before .before .before .before .s .given .0 .1 .0) u (x .result) (a .s) (c .joined .result) _ (c .before .before .before .before .before .before .before .s .given .1) (c .joined .ensures) (c .before .before .before .before .before .held .ensures) (x .ensures .0), fits-joined 0 (g .vector) (g .vector) (a .room) u (x .result) (c .joined .result) (c .joined .ensures) (x .ensures .1) (omega arith) (z .1))
 
--- src/lib.rt:38:1
 same-length-2 : tie.Need-same-length-2
 same-length-2 c = search needs
 
--- src/lib.rt:38:1
 returns-2 : tie.Need-returns-2
-returns-2 c = omega arith
+returns-2 c =
+    let a = c .before .before .before .before .before .before .before .before .before .before .before .before .before .before .args in
+    let P = c .before .before .before .before .before .before .before .before .before .before .before .before .before .before .pre in
+    let g = a .g in
+    let z = subst (Sized 0 (g .tree) (a .room)) (c .before .before .before .before .before .before .before .before .s2 .given .1) (P .5) in
+    let O = table-order (g .code) (table-of (g .r) (a .above .now)) in
+    let total = rows (a .vector .now) 0 (a .n) in
+    let x = c .before .before .before .add-rows2 in
+    let u = c .before .before .before .before .before .before .before .before .s2 .given .0 .1 .0 in
+    (waiting-fills O (g .p) (g .vector) (a .c) (g .tree) total (a .cache .now) (a .work .now) (x .last .0) (c .before .before .before .before .before .before .before .before .s2 .given .0 .0) u (x .result) (a .s) (c .joined2 .result) _ (c .before .before .before .before .before .before .before .before .s2 .given .1) (c .joined2 .ensures) (c .before .before .before .before .before .held2 .ensures) (x .ensures .0), fits-joined 0 (g .vector) (g .vector) (a .room) u (x .result) (c .joined2 .result) (c .joined2 .ensures) (x .ensures .1) (omega arith) (z .1))
 
--- src/lib.rt:38:1
 returns-3 : tie.Need-returns-3
-returns-3 c = omega arith
+returns-3 c =
+    let a = c .before .before .before .before .before .before .before .args in
+    let g = a .g in
+    let O = table-order (g .code) (table-of (g .r) (a .above .now)) in
+    let total = rows (a .vector .now) 0 (a .n) in
+    (refusal-fills O (g .p) (g .vector) (a .c) (g .tree) total (a .cache .now) (a .work .now) (a .vector .now) (c .before .s3 .given .0 .0) (a .s) (c .before .s3 .given .1), tt)
 
 pub add-result-spec : {M : Type 1} → statement M
 add-result-spec =
