@@ -1,10 +1,9 @@
 -- Products lifted into the vector, by what the code's calls give.
-use mathlib.Core.Path.{_≡_, refl, sym, ap, _∙_, subst}
-use mathlib.Core.Bool.{Bool, true, false}
-use mathlib.Core.List.{[], _∷_}
+use mathlib.Core.Path.{_≡_, refl, sym, ap, _∙_}
+use mathlib.Core.Bool.{true, false}
 use Prim.Native.Nat.{ℕ, suc, _+_, _-_, _*_, _<_, _≤_}
 use native.Mathlib.Omega.{arith}
-use lib.ListN.{length, getD, take, drop}
+use lib.ListN.{getD, take, drop}
 use Rattle.definitions.specs.Monomial.{Exponents, Monomial, Term, Vector, fits?, vector-of}
 use Rattle.definitions.specs.Order.{Comparison}
 use Rattle.definitions.specs.Result.{Result, done, refusal, _>>=_}
@@ -19,13 +18,13 @@ use Rattle.sums.specs.declared.Stored.the-variants.{Rows as Stored-rows, Full}
 use Rattle.reduce.specs.Grounds.{first-row, Family, family-of}
 use Rattle.reduce.specs.declared.Ground.{Ground}
 use Rattle.reduce.proofs.Families.{vector-at}
-use Rattle.cache.specs.Area.{grown-of, Room}
+use Rattle.cache.specs.Area.{grown-of}
 use Rattle.cache.specs.Entries.{cache-of, subtree-of}
 use Rattle.cache.specs.declared.Subtree.{Subtree}
 use Rattle.cache.specs.declared.Subtree.the-variants.{Cached, Waiting, Refused as Subtree-refused}
 use Rattle.cache.proofs.Growing.{rows-none}
 use Rattle.cache.proofs.Parts.{part-rows}
-use Rattle.subtrees.specs.Sums.{sum-of, Fits, joined-as}
+use Rattle.subtrees.specs.Sums.{sum-of, joined-as}
 use Rattle.subtrees.specs.declared.Sum.{Sum}
 use Rattle.subtrees.specs.declared.Sum.the-variants.{Rows, Refused}
 use Rattle.tree.specs.Frames.{added-vector}

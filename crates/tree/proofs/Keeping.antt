@@ -1,13 +1,13 @@
 -- A vector made behind those that are kept, and all frame terms one after the other.
 use mathlib.Core.Path.{_≡_, refl, sym, ap, _∙_, subst}
 use mathlib.Core.Bool.{Bool, true, false, not}
-use mathlib.Core.List.{List, [], _∷_, _++_}
+use mathlib.Core.List.{[], _∷_, _++_}
 use Prim.Native.Nat.{ℕ, zero, suc, _+_, _-_, _*_, _<_, _≤_}
 use native.Mathlib.Omega.{arith}
 use lib.Dec.{T, ltb, ltb→lt, nltb→le}
 use lib.ListN.{length, getD, set, take, drop, length-append, length-drop, List·getD-append}
 use lib.Seq.{paste, length-paste, getD-append-add, getD-take, getD-drop, length-take-le, ext-getD}
-use Rattle.definitions.specs.Monomial.{Monomial, Vector, Level}
+use Rattle.definitions.specs.Monomial.{Monomial, Level}
 use Rattle.definitions.specs.Result.{Result, done, refused, unfinished, refusal, _>>=_}
 use Rattle.definitions.specs.Stage.{Stage}
 use Rattle.definitions.specs.Tree.{Cache, Sum, tree}

@@ -2,7 +2,7 @@
 // Knows: crate definitions' Tree and Lifting. A frame term's vector is made where it stays, behind the vectors before it (crate lift says how they are kept).
 ghost use mathlib.Core.Path.{_≡_};
 ghost use mathlib.Core.List.{[]};
-ghost use Prim.Native.Nat.{ℕ, _+_, _-_, _*_, _/_, _≤_, _<_};
+ghost use Prim.Native.Nat.{_+_, _-_, _*_, _/_, _≤_, _<_};
 ghost use lib.ListN.{length};
 ghost use Rattle.definitions.specs.Layout.{Words, row-at, rows};
 ghost use Rattle.definitions.specs.Tree.{lift-term, lift-vector as vector-definition, tree as tree-definition};
@@ -94,8 +94,32 @@ fn lift_vector(
         let t = x.term;
         if fits {
             let m = t.monomial;
-            let s = subtrees::lift_term(cache, v, room, work, 0, m, level, ends, heads, spans, above, g, g.tree);
-            let y = add_result(vector, k, &cache[..], room, &work[..], s, t.coefficient, above, g);
+            let s = subtrees::lift_term(
+                cache,
+                v,
+                room,
+                work,
+                0,
+                m,
+                level,
+                ends,
+                heads,
+                spans,
+                above,
+                g,
+                g.tree,
+            );
+            let y = add_result(
+                vector,
+                k,
+                &cache[..],
+                room,
+                &work[..],
+                s,
+                t.coefficient,
+                above,
+                g,
+            );
             let Sum::Rows(w, u) = y else {
                 return y;
             };
@@ -127,13 +151,36 @@ fn lift_frame_term(
     requires { ⌜ Lent g used room (now cache) (now work) (now level) (now ends) (now heads) (now spans) (now above) × (1 ≤ g .vector) × (g .vector * 10 ≤ length (now vector)) × (1 ≤ m .component) × (m .component ≤ g .r) ⌝ }
     ensures { λ z. ⌜ ((below : Words) → sum-of 0 z (now (cache .exit)) (now (vector .exit)) ≡ tree-definition (stage-of g (now (level .entry)) (now (ends .entry)) (now (heads .entry)) below (table-order (g .code) (table-of (g .r) (now (above .entry))))) room (cache-of used (now (cache .entry))) (monomial-of m)) × Fits 0 (g .vector) room z ⌝ }
 {
-    terms::put(vector, 0, Term { coefficient: 1, monomial: m });
+    terms::put(
+        vector,
+        0,
+        Term {
+            coefficient: 1,
+            monomial: m,
+        },
+    );
     let component = m.component;
     let part = subtrees::rows_of(ends, place(component));
     let from = part.from;
     let to = part.to;
     let q = m.exponents;
-    lift_vector(vector, 1, cache, used, room, work, q, from, to, level, ends, heads, spans, above, g)
+    lift_vector(
+        vector,
+        1,
+        cache,
+        used,
+        room,
+        work,
+        q,
+        from,
+        to,
+        level,
+        ends,
+        heads,
+        spans,
+        above,
+        g,
+    )
 }
 
 // The vector of frame term i, added to the i before it: 15 where it has no room.
@@ -161,7 +208,20 @@ fn lift_one(
     let m = t.monomial;
     let start = used * 10 + 128;
     let end = start + g.vector * 10;
-    let s = lift_frame_term(&mut out[start..end], cache, u, room, work, m, level, ends, heads, spans, above, g);
+    let s = lift_frame_term(
+        &mut out[start..end],
+        cache,
+        u,
+        room,
+        work,
+        m,
+        level,
+        ends,
+        heads,
+        spans,
+        above,
+        g,
+    );
     match s {
         Sum::Rows(v, c) => {
             if g.room - used < v {
@@ -196,7 +256,23 @@ pub fn lift_all(
     let mut u: usize = 0;
     let mut i: usize = 0;
     while i < count {
-        match lift_one(out, i, used, cache, u, room, work, frame, count, level, ends, heads, spans, above, g) {
+        match lift_one(
+            out,
+            i,
+            used,
+            cache,
+            u,
+            room,
+            work,
+            frame,
+            count,
+            level,
+            ends,
+            heads,
+            spans,
+            above,
+            g,
+        ) {
             One::Used(v, c) => {
                 used = v;
                 u = c;

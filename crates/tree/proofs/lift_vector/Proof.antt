@@ -1,41 +1,23 @@
-use borrow.Author.Needs.{needs}
 use native.Mathlib.Omega.{arith}
-use mathlib.Core.Path.{_≡_, refl, sym, ap, _∙_, subst}
-use mathlib.Core.List.{List, [], _∷_, _++_}
-use Prim.Native.Nat.{ℕ, suc, _+_, _-_, _*_, _<_, _≤_}
-use lib.ListN.{length, take, drop, getD, set, length-set}
-use mathlib.Core.Bool.{Bool, true, false}
-use Rattle.definitions.specs.Monomial.{Monomial, Term, Vector, fits?}
-use Rattle.definitions.specs.Result.{Result, done, refused, refusal, _>>=_}
+use mathlib.Core.Path.{_≡_, refl, sym, _∙_, subst}
+use Prim.Native.Nat.{_-_, _<_, _≤_}
+use lib.ListN.{length}
+use mathlib.Core.Bool.{true, false}
+use Rattle.definitions.specs.Monomial.{fits?}
 use Rattle.definitions.specs.Run.{multiple}
 use Rattle.definitions.specs.Stage.{Stage}
 use Rattle.definitions.specs.Layout.{Words, row-at, rows}
-use Rattle.definitions.specs.Tree.{Lift-term, lift-term, lift-vector as vector-definition, tree as tree-definition}
-use Rattle.definitions.specs.Lifting.{Lifted, lift-all as lift-all-definition}
-use Rattle.definitions.proofs.Rows.{length-rows}
-use Rattle.monomial.specs.Values.{monomial-of}
+use Rattle.definitions.specs.Tree.{Lift-term, lift-term, lift-vector as vector-definition}
 use Rattle.orders.specs.Images.{table-of, table-order}
 use Rattle.terms.specs.Rows.{term-of}
 use Rattle.reduce.proofs.Adding.{fits-as, formed-as}
-use Rattle.runs.specs.Stages.{stage-of, Images}
-use Rattle.cache.specs.Area.{Keeps}
-use Rattle.cache.specs.Entries.{cache-of, Sized}
-use Rattle.cache.proofs.Parts.{length-part}
-use Rattle.subtrees.specs.Sums.{Lent, sum-of, Fits}
-use Rattle.subtrees.proofs.Joining.{fits-joined, lent-again}
-use Rattle.subtrees.proofs.Lifting.{first-stored}
-use Rattle.lift.specs.Vectors.{lifted-vectors, Kept, frame-terms}
-use Rattle.lift.proofs.Keeping.{none-kept, frame-component}
-use Rattle.tree.specs.Frames.{one-of, After}
-use Rattle.tree.proofs.Filling.{cached-fills, waiting-fills, refusal-fills, filling-from, filling-unfit, filling-ends, filling-on, filling-stops, whole-of}
-use Rattle.tree.proofs.Keeping.{made, length-made, vectors-made, kept-made, one-refused, one-full, one-kept, all-from, all-on, all-refused, all-end, empty-cache}
+use Rattle.runs.specs.Stages.{stage-of}
+use Rattle.cache.specs.Entries.{cache-of}
+use Rattle.subtrees.specs.Sums.{Fits}
+use Rattle.subtrees.proofs.Joining.{lent-again}
+use Rattle.tree.proofs.Filling.{filling-from, filling-unfit, filling-ends, filling-on, filling-stops}
 use Rattle.tree.proofs.lift_vector.Statement.{statement}
 use Rattle.tree.proofs.lift_vector.Tie as tie
-use Rattle.tree.proofs.lift_vector.Reads as reads
-use Rattle.tree.proofs.lift_vector.Lts as lts
-use Rattle.reducers.proofs.multiplied.Reads as multiplied-reads
-use Rattle.subtrees.proofs.lift_term.Reads as lift-term-reads
-use Rattle.tree.proofs.add_result.Reads as add-result-reads
 
 abbrev Inv-loop : tie.InvT-loop
 Inv-loop vector₀ n cache₀ used room work₀ q from to level ends heads spans above g k₀ v₀ i₀ vector cache work k v i =
