@@ -31,13 +31,13 @@ none-from [] (suc i) h = refl
 none-from (t ∷ v) zero h = absurd (omega arith)
 none-from (t ∷ v) (suc i) h = none-from v i (omega arith)
 
-left-at : (frame : Words) (count i : ℕ) → i < count → drop i (frame-terms frame count) ≡ row-at frame i .1 ∷ drop (i + 1) (frame-terms frame count)
+pub left-at : (frame : Words) (count i : ℕ) → i < count → drop i (frame-terms frame count) ≡ row-at frame i .1 ∷ drop (i + 1) (frame-terms frame count)
 left-at frame count i h =
     let e : suc i ≡ i + 1 = omega arith in
     terms-from (rows frame 0 count) i (omega (arith, length-rows frame 0 count))
     ∙ (λ k. at-row frame count i h k .1 ∷ drop (e k) (frame-terms frame count))
 
-left-none : (frame : Words) (count i : ℕ) → count ≤ i → drop i (frame-terms frame count) ≡ []
+pub left-none : (frame : Words) (count i : ℕ) → count ≤ i → drop i (frame-terms frame count) ≡ []
 left-none frame count i h = none-from (rows frame 0 count) i (omega (arith, length-rows frame 0 count))
 
 -- ## Lifting

@@ -30,7 +30,7 @@ vectors-more : (s : Words) (a : ℕ) (es : Words) (e : ℕ) → vectors-at s a (
 vectors-more s a [] e = refl
 vectors-more s a (d ∷ es) e = ap (λ f. rows s a (d - a) ∷ f) (vectors-more s d es e)
 
-vectors-same : (s z : Words) (bound : ℕ) → ((k : ℕ) → k < bound → row-at z k ≡ row-at s k) → (a : ℕ) (es : Words)
+pub vectors-same : (s z : Words) (bound : ℕ) → ((k : ℕ) → k < bound → row-at z k ≡ row-at s k) → (a : ℕ) (es : Words)
     → ((j : ℕ) → j < length es → getD es j 0 ≤ bound) → vectors-at z a es ≡ vectors-at s a es
 vectors-same s z bound same a [] l = refl
 vectors-same s z bound same a (e ∷ es) l =
