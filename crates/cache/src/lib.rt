@@ -171,9 +171,9 @@ pub fn add_part(
     let mut i: usize = 0;
     while i < len {
         let part = held(cache, &work[..], in_cache, from, len);
-        let t = terms::row(part, i);
-        let b = field::times(c, t.coefficient, p);
-        let m = t.monomial;
+        let u = terms::row(part, i);
+        let b = field::times(c, u.coefficient, p);
+        let m = u.monomial;
         let x = insert_row(
             work,
             a,

@@ -115,14 +115,15 @@ fn add_subtree(
             joined(x, used)
         }
         Subtree::Waiting(len, used) => {
-            let top = g.tree - len;
+            let from = g.tree - len;
+            let top = from;
             let x = cache::add_part(
                 cache,
                 work,
                 a,
                 n,
                 false,
-                top,
+                from,
                 len,
                 top,
                 c,

@@ -26,8 +26,8 @@ joined-requires c κs = search needs
 enum-known-s-2 : tie.Need-enum-known-s-2
 enum-known-s-2 c = search needs
 
-sub-top : tie.Need-sub-top
-sub-top c =
+sub-from : tie.Need-sub-from
+sub-from c =
     let a = c .before .before .before .before .before .before .before .args in
     let P = c .before .before .before .before .before .before .before .pre in
     let g = a .g in
@@ -94,7 +94,7 @@ add-subtree-spec =
     add-part-requires
     joined-requires
     enum-known-s-2
-    sub-top
+    sub-from
     add-part-requires-2
     joined-requires-2
     enum-known-s-3
