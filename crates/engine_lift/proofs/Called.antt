@@ -114,7 +114,7 @@ module _ (s w z : Words) (k : ℕ) (way : Way) where
           lift-is n h =
               let e : k ≡ suc (k - 1) = omega arith in
               ap (λ m. at-level k (lifted-over s k way z n) >>= λ f. done (record { parameters = parameters-at s; levels = f ∷ levels-at document-01 s m })) e
-              ∙ (λ i. at-level k (lift-level document-01 (getD s 0 0) (getD s 2 0) (up-to-is s (k - 1) has (~ i)) (lifting-by way z) n) >>= λ f. done (record { parameters = parameters-at s; levels = f ∷ up-to-is s (k - 1) has (~ i) }))
+              ∙ ap (λ ls. at-level k (lift-level document-01 (getD s 0 0) (getD s 2 0) ls (lifting-by way z) n) >>= λ f. done (record { parameters = parameters-at s; levels = f ∷ ls })) (sym (up-to-is s (k - 1) has))
 
           pub lifted : 1 ≤ k → true ≡ own-pick? way → (n : ℕ) (r : Lift) → r ≡ settled-lift (length s) (length w) (length z) (state-over s k (lifted-over s k way z n))
               → T (finished? (lifted-over s k way z n)) → Called r

@@ -30,7 +30,7 @@ use Rattle.runs.specs.declared.Strategy.{Strategy}
 use Rattle.lift.specs.Vectors.{Framed, lifts, accepted-of, Left}
 use Rattle.lift.specs.declared.Accepted.{Accepted}
 use Rattle.lift.specs.declared.Accepted.the-variants.{Yes, Refused as Accepted-refused, Stopped as Accepted-stopped}
-use Rattle.lifting.specs.Stages.{Base, usual, ground-at, stage-at, strategy-at, Framed-by, accepted-with, value-in, Left-in}
+use Rattle.lifting.specs.Stages.{Base, usual, Within, ground-at, stage-at, strategy-at, Framed-by, accepted-with, value-in, Left-in}
 use Rattle.lifting.specs.declared.Bounds.{Bounds}
 use Rattle.lifting.proofs.Readying.{tables-at, family-at, images-below, images-above, below-is, stage-is, well-at}
 
@@ -141,3 +141,6 @@ pub answer-same : (x : Accepted) (vector : Words) → accepted-with x (value-in 
 answer-same Yes vector = refl
 answer-same (Accepted-refused number place) vector = refl
 answer-same (Accepted-stopped i n) vector = refl
+
+pub usual-within : Within usual
+usual-within = record { working = omega arith; vector = omega arith; filled = omega arith; tree = omega arith; room = omega arith }
