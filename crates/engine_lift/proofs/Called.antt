@@ -12,7 +12,7 @@ use Rattle.definitions.specs.Limits.{document-01}
 use Rattle.definitions.specs.Lists.{_and_, _then_, choose, between}
 use Rattle.definitions.specs.Monomial.{Level}
 use Rattle.definitions.specs.Result.{Result, done, refused, unfinished, finished?, at-level, _>>=_}
-use Rattle.definitions.specs.State.{State, empty, sound?, has-level?, up-to}
+use Rattle.definitions.specs.State.{State, empty, sound?, has-level?}
 use Rattle.definitions.specs.Lifting.{lift-level}
 use Rattle.definitions.specs.Calls.{refuse, settled, pick-code?, lift}
 use Rattle.definitions.specs.Layout.{Words, Way, division, hybrid, tree, Lift, lifting-by, work-words, levels-at, decode, holds-state?, all-words-sound?, meant, lift-left, lift-call}

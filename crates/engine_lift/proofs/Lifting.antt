@@ -9,10 +9,10 @@ use lib.ListN.{length, getD, take, drop, replicate}
 use lib.Seq.{length-take-le, getD-take}
 use Rattle.definitions.specs.Limits.{document-01}
 use Rattle.definitions.specs.Lists.{_and_, every, between}
-use Rattle.definitions.specs.Monomial.{Vector, Level}
-use Rattle.definitions.specs.Result.{Result, done, refused, unfinished, refusal, finished?, at-level, _>>=_}
+use Rattle.definitions.specs.Monomial.{Level}
+use Rattle.definitions.specs.Result.{Result, done, refused, unfinished, finished?, _>>=_}
 use Rattle.definitions.specs.Problem.{Parameters}
-use Rattle.definitions.specs.State.{State, empty, vector-sound?, levels-sound?}
+use Rattle.definitions.specs.State.{empty, vector-sound?, levels-sound?}
 use Rattle.definitions.specs.Run.{by-code}
 use Rattle.definitions.specs.Lifting.{Lifting, by-division, by-hybrid, by-tree, limited-frame, lift-all, lift-level}
 use Rattle.definitions.specs.Layout.{Words, Lift, rows, rows-of, padded, encode, vectors-at, level-at, levels-at}

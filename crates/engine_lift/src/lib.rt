@@ -71,13 +71,7 @@ fn settle(
 }
 
 // Level k over the complete level k − 1, by division or hybrid.
-fn lift_runs(
-    state: &mut [u16],
-    work: &mut [u16],
-    cache: &mut [u16],
-    k: usize,
-    w: Strategy,
-) -> Reply
+fn lift_runs(state: &mut [u16], work: &mut [u16], cache: &mut [u16], k: usize, w: Strategy) -> Reply
     requires { ⌜ (1 ≤ k) × (k ≤ 9) × Base (now state) (k - 1) × (5120 ≤ length (now work)) × Chosen w ⌝ }
     ensures { λ r. ⌜ ((n : ℕ) × (lift-reply r (now (state .exit)) (now (work .exit)) (now (cache .exit)) ≡ settled-lift (length (now (state .entry))) (length (now (work .entry))) (length (now (cache .entry))) (state-over (now (state .entry)) k (lift-over usual (now (state .entry)) (k - 1) w n))) × T (finished? (lift-over usual (now (state .entry)) (k - 1) w n))) ⌝ }
 {
@@ -99,13 +93,7 @@ fn lift_tree(state: &mut [u16], work: &mut [u16], cache: &mut [u16], k: usize) -
 }
 
 // Every test is passed.
-fn lift_by(
-    state: &mut [u16],
-    work: &mut [u16],
-    cache: &mut [u16],
-    k: usize,
-    way: Way,
-) -> Reply
+fn lift_by(state: &mut [u16], work: &mut [u16], cache: &mut [u16], k: usize, way: Way) -> Reply
     requires { ⌜ (1 ≤ k) × (k ≤ 9) × Base (now state) (k - 1) × (work-words document-01 (way-of way) ≤ length (now work)) ⌝ }
     ensures { λ r. ⌜ ((n : ℕ) × (lift-reply r (now (state .exit)) (now (work .exit)) (now (cache .exit)) ≡ settled-lift (length (now (state .entry))) (length (now (work .entry))) (length (now (cache .entry))) (state-over (now (state .entry)) k (lifted-over (now (state .entry)) k (way-of way) (now (cache .entry)) n))) × T (finished? (lifted-over (now (state .entry)) k (way-of way) (now (cache .entry)) n))) ⌝ }
 {
@@ -177,13 +165,7 @@ fn lift_complete(
 }
 
 // The words hold a state.
-fn lift_sound(
-    state: &mut [u16],
-    work: &mut [u16],
-    cache: &mut [u16],
-    k: usize,
-    way: Way,
-) -> Reply
+fn lift_sound(state: &mut [u16], work: &mut [u16], cache: &mut [u16], k: usize, way: Way) -> Reply
     requires { ⌜ (206095 ≤ length (now state)) × T (holds-state? document-01 (now state)) × (work-words document-01 (way-of way) ≤ length (now work)) ⌝ }
     ensures { λ r. ⌜ ((n : ℕ) × (some (lift-reply r (now (state .exit)) (now (work .exit)) (now (cache .exit))) ≡ lift-call document-01 n k (way-of way) (now (state .entry)) (now (work .entry)) (now (cache .entry)))) ⌝ }
 {
@@ -204,13 +186,7 @@ fn lift_sound(
 }
 
 // "form the frame of level k and lift all its terms, in number order, by one of three ways"
-pub fn lift(
-    state: &mut [u16],
-    work: &mut [u16],
-    cache: &mut [u16],
-    k: usize,
-    way: Way,
-) -> Reply
+pub fn lift(state: &mut [u16], work: &mut [u16], cache: &mut [u16], k: usize, way: Way) -> Reply
     ensures { λ r. ⌜ ((n : ℕ) × (some (lift-reply r (now (state .exit)) (now (work .exit)) (now (cache .exit))) ≡ lift-call document-01 n k (way-of way) (now (state .entry)) (now (work .entry)) (now (cache .entry)))) ⌝ }
 {
     if state.len() < 206095 {

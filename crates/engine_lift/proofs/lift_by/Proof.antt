@@ -1,9 +1,7 @@
 use borrow.Author.Needs.{needs}
-use native.Mathlib.Omega.{arith}
-use mathlib.Core.Path.{_≡_, refl, sym, ap, _∙_, subst}
-use mathlib.Core.List.{List, [], _∷_, _++_}
-use Prim.Native.Nat.{ℕ, suc, _+_, _-_, _*_, _<_, _≤_}
-use lib.ListN.{length, take, drop, getD, set, length-set}
+use mathlib.Core.Path.{_≡_, refl, sym, subst}
+use Prim.Native.Nat.{ℕ, _-_, _≤_}
+use lib.ListN.{length}
 use lib.Dec.{T}
 use Rattle.definitions.specs.Result.{finished?}
 use Rattle.definitions.specs.Layout.{Lift, work-words}
@@ -11,16 +9,10 @@ use Rattle.definitions.specs.Limits.{document-01}
 use Rattle.engine_lift.specs.Lifts.{by-picks, by-leading, way-of, lift-reply, settled-lift, state-over, lifted-over}
 use Rattle.engine_lift.proofs.lift_by.Statement.{statement}
 use Rattle.engine_lift.proofs.lift_by.Tie as tie
-use Rattle.engine_lift.proofs.lift_by.Reads as reads
-use Rattle.engine_lift.proofs.lift_by.Lts as lts
-use Rattle.engine_lift.proofs.lift_runs.Reads as lift-runs-reads
-use Rattle.engine_lift.proofs.lift_tree.Reads as lift-tree-reads
 
--- src/lib.rt:114:17
 enum-told : tie.Need-enum-told
 enum-told c = search needs
 
--- src/lib.rt:119:13
 lift-runs-requires : tie.Need-lift-runs-requires
 lift-runs-requires c κs =
     let a = c .before .before .before .before .before .before .before .before .args in
@@ -29,11 +21,9 @@ lift-runs-requires c κs =
     let h : 5120 ≤ length (a .work .now) = subst (λ x. work-words document-01 (way-of x) ≤ length (a .work .now)) (c .before .before .before .enum-told .given .1) (P .3) in
     (P .0, P .1, P .2, h, by-leading refl refl refl)
 
--- src/lib.rt:121:21
 enum-known-way : tie.Need-enum-known-way
 enum-known-way c = search needs
 
--- src/lib.rt:127:13
 lift-runs-requires-2 : tie.Need-lift-runs-requires-2
 lift-runs-requires-2 c κs =
     let a = c .before .before .before .before .before .before .before .before .before .args in
@@ -42,11 +32,9 @@ lift-runs-requires-2 c κs =
     let h : 5120 ≤ length (a .work .now) = subst (λ x. work-words document-01 (way-of x) ≤ length (a .work .now)) (c .before .before .before .before .way .given .1) (P .3) in
     (P .0, P .1, P .2, h, by-picks refl refl)
 
--- src/lib.rt:129:32
 enum-told-2 : tie.Need-enum-told-2
 enum-told-2 c = search needs
 
--- src/lib.rt:129:22
 lift-tree-requires : tie.Need-lift-tree-requires
 lift-tree-requires c κs =
     let a = c .before .before .before .before .before .before .before .before .args in
@@ -55,19 +43,15 @@ lift-tree-requires c κs =
     let h : 40960 ≤ length (a .work .now) = subst (λ x. work-words document-01 (way-of x) ≤ length (a .work .now)) (c .before .before .before .enum-told2 .given .1) (P .3) in
     (P .0, P .1, P .2, h)
 
--- src/lib.rt:102:1
 same-length : tie.Need-same-length
 same-length c = search needs
 
--- src/lib.rt:102:1
 same-length-2 : tie.Need-same-length-2
 same-length-2 c = search needs
 
--- src/lib.rt:102:1
 same-length-3 : tie.Need-same-length-3
 same-length-3 c = search needs
 
--- src/lib.rt:102:1
 returns : tie.Need-returns
 returns c =
     let a = c .before .before .before .before .before .before .before .before .before .before .before .before .before .before .before .args in
@@ -76,19 +60,15 @@ returns c =
     let L = c .before .before .before .before .before .before .lift-runs in
     subst (λ x. ((n : ℕ) × (_≡_ {A = Lift} (lift-reply (L .result) (L .last .0) (L .last .1 .0) (L .last .1 .1 .0)) (settled-lift (length s) (length (a .work .now)) (length (a .cache .now)) (state-over s (a .k) (lifted-over s (a .k) (way-of x) (a .cache .now) n)))) × T (finished? (lifted-over s (a .k) (way-of x) (a .cache .now) n)))) (sym (c .before .before .before .before .before .before .before .before .before .before .enum-told .given .1)) (L .ensures)
 
--- src/lib.rt:102:1
 same-length-4 : tie.Need-same-length-4
 same-length-4 c = search needs
 
--- src/lib.rt:102:1
 same-length-5 : tie.Need-same-length-5
 same-length-5 c = search needs
 
--- src/lib.rt:102:1
 same-length-6 : tie.Need-same-length-6
 same-length-6 c = search needs
 
--- src/lib.rt:102:1
 returns-2 : tie.Need-returns-2
 returns-2 c =
     let a = c .before .before .before .before .before .before .before .before .before .before .before .before .before .before .before .before .args in
@@ -97,19 +77,15 @@ returns-2 c =
     let L = c .before .before .before .before .before .before .lift-runs2 in
     subst (λ x. ((n : ℕ) × (_≡_ {A = Lift} (lift-reply (L .result) (L .last .0) (L .last .1 .0) (L .last .1 .1 .0)) (settled-lift (length s) (length (a .work .now)) (length (a .cache .now)) (state-over s (a .k) (lifted-over s (a .k) (way-of x) (a .cache .now) n)))) × T (finished? (lifted-over s (a .k) (way-of x) (a .cache .now) n)))) (sym (c .before .before .before .before .before .before .before .before .before .before .before .way .given .1)) (L .ensures)
 
--- src/lib.rt:102:1
 same-length-7 : tie.Need-same-length-7
 same-length-7 c = search needs
 
--- src/lib.rt:102:1
 same-length-8 : tie.Need-same-length-8
 same-length-8 c = search needs
 
--- src/lib.rt:102:1
 same-length-9 : tie.Need-same-length-9
 same-length-9 c = search needs
 
--- src/lib.rt:102:1
 returns-3 : tie.Need-returns-3
 returns-3 c =
     let a = c .before .before .before .before .before .before .before .before .before .before .before .before .before .before .before .args in

@@ -1,25 +1,17 @@
 use borrow.Author.Needs.{needs}
 use native.Mathlib.Omega.{arith}
-use mathlib.Core.Path.{_≡_, refl, sym, ap, _∙_, subst}
-use mathlib.Core.List.{List, [], _∷_, _++_}
-use Prim.Native.Nat.{ℕ, suc, _+_, _-_, _*_, _<_, _≤_}
-use lib.ListN.{length, take, drop, getD, set, length-set}
+use mathlib.Core.Path.{sym, _∙_}
+use Prim.Native.Nat.{_-_}
 use Rattle.definitions.specs.Lists.{between}
 use Rattle.definitions.proofs.Tests.{true-is, between-shown}
 use Rattle.engine_lift.specs.Lifts.{way-of, lift-reply}
 use Rattle.engine_lift.proofs.Called.{lifted, no-such-pick}
 use Rattle.engine_lift.proofs.lift_complete.Statement.{statement}
 use Rattle.engine_lift.proofs.lift_complete.Tie as tie
-use Rattle.engine_lift.proofs.lift_complete.Reads as reads
-use Rattle.engine_lift.proofs.lift_complete.Lts as lts
-use Rattle.engine_lift.proofs.lift_by.Reads as lift-by-reads
-use Rattle.engine_lift.proofs.own_pick.Reads as own-pick-reads
 
--- src/lib.rt:170:8
 own-pick-requires : tie.Need-own-pick-requires
 own-pick-requires c κs = search needs
 
--- src/lib.rt:171:9
 lift-by-requires : tie.Need-lift-by-requires
 lift-by-requires c κs =
     let a = c .before .before .before .before .before .before .before .before .args in
@@ -27,19 +19,15 @@ lift-by-requires c κs =
     let P = c .before .before .before .before .before .before .before .before .pre in
     (P .2, P .3, record { long = P .0; holds = P .1; has = P .4; low = omega (arith, P .3) }, P .5)
 
--- src/lib.rt:171:9
 same-length : tie.Need-same-length
 same-length c = search needs
 
--- src/lib.rt:171:9
 same-length-2 : tie.Need-same-length-2
 same-length-2 c = search needs
 
--- src/lib.rt:171:9
 same-length-3 : tie.Need-same-length-3
 same-length-3 c = search needs
 
--- src/lib.rt:171:9
 returns : tie.Need-returns
 returns c =
     let a = c .before .before .before .before .before .before .before .before .before .before .before .before .before .before .before .args in
@@ -48,7 +36,6 @@ returns c =
     let L = c .before .before .before .before .before .before .lift-by in
     lifted s (a .work .now) (a .cache .now) (a .k) (way-of (a .way)) (P .0) (P .5) (P .1) (true-is (between 1 (a .k) 9) (between-shown 1 (a .k) 9 (P .2) (P .3))) (P .4) (P .2) (sym (c .before .before .before .before .before .before .before .before .before .before .if1 .taken) ∙ c .before .before .before .before .before .before .before .before .before .before .before .own-pick .ensures) (L .ensures .0) (lift-reply (L .result) (L .last .0) (L .last .1 .0) (L .last .1 .1 .0)) (L .ensures .1) (L .ensures .2)
 
--- src/lib.rt:160:1
 returns-2 : tie.Need-returns-2
 returns-2 c =
     let a = c .before .before .before .before .before .args in

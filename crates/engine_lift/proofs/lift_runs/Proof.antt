@@ -1,34 +1,24 @@
 use borrow.Author.Needs.{needs}
 use native.Mathlib.Omega.{arith}
-use mathlib.Core.Path.{_≡_, refl, sym, ap, _∙_, subst}
-use mathlib.Core.List.{List, [], _∷_, _++_}
-use Prim.Native.Nat.{ℕ, suc, _+_, _-_, _*_, _<_, _≤_}
-use lib.ListN.{length, take, drop, getD, set, length-set}
+use mathlib.Core.Path.{_≡_, sym, ap, _∙_, subst}
+use Prim.Native.Nat.{_-_}
+use lib.ListN.{length}
 use Rattle.lifting.proofs.Framing.{usual-within}
 use Rattle.lifting.specs.Stages.{Within, lift-over}
 use Rattle.engine_lift.specs.Lifts.{settled-lift, state-over}
 use Rattle.engine_lift.proofs.Lifting.{run-settles, run-is}
 use Rattle.engine_lift.proofs.lift_runs.Statement.{statement}
 use Rattle.engine_lift.proofs.lift_runs.Tie as tie
-use Rattle.engine_lift.proofs.lift_runs.Reads as reads
-use Rattle.engine_lift.proofs.lift_runs.Lts as lts
-use Rattle.engine_lift.proofs.settle.Reads as settle-reads
-use Rattle.lifting.proofs.lift_level.Reads as lift-level-reads
-use Rattle.lifting.proofs.usual.Reads as usual-reads
 
--- src/lib.rt:85:9
 usual-requires : tie.Need-usual-requires
 usual-requires c κs = search needs
 
--- src/lib.rt:86:33
 slice-aggregate-lift-level : tie.Need-slice-aggregate-lift-level
 slice-aggregate-lift-level c = search needs
 
--- src/lib.rt:86:56
 sub-lift-level : tie.Need-sub-lift-level
 sub-lift-level c = search needs
 
--- src/lib.rt:86:9
 lift-level-requires : tie.Need-lift-level-requires
 lift-level-requires c κs =
     let a = c .before .before .before .before .before .before .before .args in
@@ -36,11 +26,9 @@ lift-level-requires c κs =
     let P = c .before .before .before .before .before .before .before .pre in
     (P .2, omega arith, P .3, subst Within (sym (c .before .before .before .usual .ensures)) usual-within)
 
--- src/lib.rt:87:38
 slice-aggregate-settle : tie.Need-slice-aggregate-settle
 slice-aggregate-settle c = search needs
 
--- src/lib.rt:87:5
 settle-requires : tie.Need-settle-requires
 settle-requires c κs =
     let a = c .before .before .before .before .before .before .before .before .before .before .before .before .before .before .before .args in
@@ -51,19 +39,15 @@ settle-requires c κs =
     let e = L .ensures .0 .2 ∙ ap (λ b. lift-over b s (a .k - 1) (a .w) n) (c .before .before .before .before .before .before .before .before .before .before .before .usual .ensures) in
     (P .0, P .1, P .2, run-settles s (a .k - 1) (P .2) (L .last .0) (omega arith) (a .w) (P .4) n (L .result) (L .ensures .0 .1) e (L .ensures .1))
 
--- src/lib.rt:74:1
 same-length : tie.Need-same-length
 same-length c = search needs
 
--- src/lib.rt:74:1
 same-length-2 : tie.Need-same-length-2
 same-length-2 c = search needs
 
--- src/lib.rt:74:1
 same-length-3 : tie.Need-same-length-3
 same-length-3 c = search needs
 
--- src/lib.rt:74:1
 returns : tie.Need-returns
 returns c =
     let a = c .before .before .before .before .before .before .before .before .before .before .before .before .before .before .before .before .before .before .before .before .before .before .args in

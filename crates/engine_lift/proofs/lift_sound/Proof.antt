@@ -1,33 +1,22 @@
 use borrow.Author.Needs.{needs}
 use native.Mathlib.Omega.{arith}
-use mathlib.Core.Path.{_≡_, refl, sym, ap, _∙_, subst}
-use mathlib.Core.List.{List, [], _∷_, _++_}
-use Prim.Native.Nat.{ℕ, suc, _+_, _-_, _*_, _<_, _≤_}
-use lib.ListN.{length, take, drop, getD, set, length-set}
+use mathlib.Core.Path.{sym, _∙_}
+use Prim.Native.Nat.{_-_}
 use Rattle.definitions.proofs.Tests.{is-true, between-low, between-high}
 use Rattle.engine_lift.specs.Lifts.{way-of}
 use Rattle.engine_lift.proofs.Called.{not-complete, no-such-level}
 use Rattle.engine_lift.proofs.lift_sound.Statement.{statement}
 use Rattle.engine_lift.proofs.lift_sound.Tie as tie
-use Rattle.engine_lift.proofs.lift_sound.Reads as reads
-use Rattle.engine_lift.proofs.lift_sound.Lts as lts
-use Rattle.engine.proofs.level_number.Reads as level-number-reads
-use Rattle.engine_lift.proofs.lift_complete.Reads as lift-complete-reads
-use Rattle.levels.proofs.place.Reads as place-reads
 
--- src/lib.rt:190:8
 level-number-requires : tie.Need-level-number-requires
 level-number-requires c κs = search needs
 
--- src/lib.rt:191:36
 slice-read-place : tie.Need-slice-read-place
 slice-read-place c = search needs
 
--- src/lib.rt:191:13
 place-requires : tie.Need-place-requires
 place-requires c κs = search needs
 
--- src/lib.rt:193:13
 returns : tie.Need-returns
 returns c =
     let a = c .before .before .before .before .before .before .before .before .args in
@@ -35,7 +24,6 @@ returns c =
     let P = c .before .before .before .before .before .before .before .before .pre in
     not-complete s (a .work .now) (a .cache .now) (a .k) (way-of (a .way)) (P .0) (P .2) (P .1) (sym (c .before .before .before .if1 .taken) ∙ c .before .before .before .before .level-number .ensures) (omega (arith, c .before .place .ensures))
 
--- src/lib.rt:198:9
 lift-complete-requires : tie.Need-lift-complete-requires
 lift-complete-requires c κs =
     let a = c .before .before .before .before .before .before .before .before .before .before .before .args in
@@ -45,23 +33,18 @@ lift-complete-requires c κs =
     let l = between-low 1 (a .k) 9 t in
     (P .0, P .1, l, between-high 1 (a .k) 9 t, omega (arith, c .before .before .before .before .place .ensures, l), P .2)
 
--- src/lib.rt:198:9
 same-length : tie.Need-same-length
 same-length c = search needs
 
--- src/lib.rt:198:9
 same-length-2 : tie.Need-same-length-2
 same-length-2 c = search needs
 
--- src/lib.rt:198:9
 same-length-3 : tie.Need-same-length-3
 same-length-3 c = search needs
 
--- src/lib.rt:198:9
 returns-2 : tie.Need-returns-2
 returns-2 c = c .before .before .before .before .before .before .lift-complete .ensures
 
--- src/lib.rt:180:1
 returns-3 : tie.Need-returns-3
 returns-3 c =
     let a = c .before .before .before .before .before .args in

@@ -1,9 +1,8 @@
 use borrow.Author.Needs.{needs}
 use native.Mathlib.Omega.{arith}
-use mathlib.Core.Path.{_≡_, refl, sym, ap, _∙_, subst}
-use mathlib.Core.List.{List, [], _∷_, _++_}
-use Prim.Native.Nat.{ℕ, suc, _+_, _-_, _*_, _<_, _≤_}
-use lib.ListN.{length, take, drop, getD, set, length-set}
+use mathlib.Core.Path.{_≡_, sym, ap, _∙_, subst}
+use Prim.Native.Nat.{_-_}
+use lib.ListN.{length}
 use Prim.Native.Nat.{_/_}
 use Rattle.lifting.proofs.Framing.{usual-within}
 use Rattle.tree_level.specs.Over.{tree-over}
@@ -12,25 +11,16 @@ use Rattle.engine_lift.specs.Lifts.{settled-lift, state-over}
 use Rattle.engine_lift.proofs.Lifting.{tree-settles, tree-finished}
 use Rattle.engine_lift.proofs.lift_tree.Statement.{statement}
 use Rattle.engine_lift.proofs.lift_tree.Tie as tie
-use Rattle.engine_lift.proofs.lift_tree.Reads as reads
-use Rattle.engine_lift.proofs.lift_tree.Lts as lts
-use Rattle.engine_lift.proofs.settle.Reads as settle-reads
-use Rattle.lifting.proofs.usual.Reads as usual-reads
-use Rattle.tree_level.proofs.lift_level.Reads as lift-level-reads
 
--- src/lib.rt:96:9
 usual-requires : tie.Need-usual-requires
 usual-requires c κs = search needs
 
--- src/lib.rt:97:36
 slice-aggregate-lift-level : tie.Need-slice-aggregate-lift-level
 slice-aggregate-lift-level c = search needs
 
--- src/lib.rt:97:66
 sub-lift-level : tie.Need-sub-lift-level
 sub-lift-level c = search needs
 
--- src/lib.rt:97:9
 lift-level-requires : tie.Need-lift-level-requires
 lift-level-requires c κs =
     let a = c .before .before .before .before .before .before .before .before .args in
@@ -38,11 +28,9 @@ lift-level-requires c κs =
     let P = c .before .before .before .before .before .before .before .before .pre in
     (P .2, omega arith, P .3, subst Within (sym (c .before .before .before .before .usual .ensures)) usual-within)
 
--- src/lib.rt:98:38
 slice-aggregate-settle : tie.Need-slice-aggregate-settle
 slice-aggregate-settle c = search needs
 
--- src/lib.rt:98:5
 settle-requires : tie.Need-settle-requires
 settle-requires c κs =
     let a = c .before .before .before .before .before .before .before .before .before .before .before .before .before .before .before .before .before .before .args in
@@ -52,19 +40,15 @@ settle-requires c κs =
     let e = L .ensures .0 ∙ ap (λ b. tree-over b s (a .k - 1) (length (a .cache .now) / 10)) (c .before .before .before .before .before .before .before .before .before .before .before .before .before .before .usual .ensures) in
     (P .0, P .1, P .2, tree-settles s (a .k - 1) (P .2) (L .last .0) (omega arith) (length (a .cache .now) / 10) (L .result) e (L .ensures .1))
 
--- src/lib.rt:91:1
 same-length : tie.Need-same-length
 same-length c = search needs
 
--- src/lib.rt:91:1
 same-length-2 : tie.Need-same-length-2
 same-length-2 c = search needs
 
--- src/lib.rt:91:1
 same-length-3 : tie.Need-same-length-3
 same-length-3 c = search needs
 
--- src/lib.rt:91:1
 returns : tie.Need-returns
 returns c =
     let a = c .before .before .before .before .before .before .before .before .before .before .before .before .before .before .before .before .before .before .before .before .before .before .before .before .before .args in

@@ -1,25 +1,17 @@
 use borrow.Author.Needs.{needs}
 use native.Mathlib.Omega.{arith}
-use mathlib.Core.Path.{_≡_, refl, sym, ap, _∙_, subst}
-use mathlib.Core.List.{List, [], _∷_, _++_}
-use Prim.Native.Nat.{ℕ, suc, _+_, _-_, _*_, _<_, _≤_}
-use lib.ListN.{length, take, drop, getD, set, length-set}
+use mathlib.Core.Path.{refl, _∙_, subst}
+use Prim.Native.Nat.{_-_}
+use lib.ListN.{length}
 use Rattle.stages.proofs.Complete.{words-below}
 use Rattle.engine_lift.specs.Lifts.{Settles}
 use Rattle.engine_lift.proofs.Lifting.{lifted-words, refused-words}
 use Rattle.engine_lift.proofs.settle.Statement.{statement}
 use Rattle.engine_lift.proofs.settle.Tie as tie
-use Rattle.engine_lift.proofs.settle.Reads as reads
-use Rattle.engine_lift.proofs.settle.Lts as lts
-use Rattle.engine_lift.proofs.empty_all.Reads as empty-all-reads
-use Rattle.storing.proofs.store_level.Reads as store-level-reads
-use Rattle.terms.proofs.clear.Reads as clear-reads
 
--- src/lib.rt:49:26
 enum-known-x : tie.Need-enum-known-x
 enum-known-x c = search needs
 
--- src/lib.rt:50:13
 store-level-requires : tie.Need-store-level-requires
 store-level-requires c κs =
     let a = c .before .before .before .before .before .before .before .before .args in
@@ -28,43 +20,33 @@ store-level-requires c κs =
     let b = P .2 in
     (b .long, omega arith, words-below s (b .long) (b .holds) (a .k) (omega (arith, b .has)), subst (λ y. Settles y (a .out .now)) (c .before .before .x .given .1) (P .3))
 
--- src/lib.rt:51:13
 clear-requires : tie.Need-clear-requires
 clear-requires c κs = search needs
 
--- src/lib.rt:52:13
 clear-requires-2 : tie.Need-clear-requires-2
 clear-requires-2 c κs = search needs
 
--- src/lib.rt:58:26
 enum-known-x-2 : tie.Need-enum-known-x-2
 enum-known-x-2 c = search needs
 
--- src/lib.rt:59:13
 empty-all-requires : tie.Need-empty-all-requires
 empty-all-requires c κs = search needs
 
--- src/lib.rt:63:26
 enum-known-x-3 : tie.Need-enum-known-x-3
 enum-known-x-3 c = search needs
 
--- src/lib.rt:64:13
 empty-all-requires-2 : tie.Need-empty-all-requires-2
 empty-all-requires-2 c κs = search needs
 
--- src/lib.rt:37:1
 same-length : tie.Need-same-length
 same-length c = search needs
 
--- src/lib.rt:37:1
 same-length-2 : tie.Need-same-length-2
 same-length-2 c = search needs
 
--- src/lib.rt:37:1
 same-length-3 : tie.Need-same-length-3
 same-length-3 c = search needs
 
--- src/lib.rt:37:1
 returns : tie.Need-returns
 returns c =
     let a = c .before .before .before .before .before .before .before .before .before .before .before .before .before .before .before .before .before .before .before .args in
@@ -74,19 +56,15 @@ returns c =
     (λ i. (0, 0, t .last .0, c .before .before .before .before .before .before .clear .ensures i, c .before .before .clear2 .ensures i))
     ∙ lifted-words s (P .2 .long) (a .k) (length (a .work .now)) (length (a .cache .now)) (a .x) (c .before .before .before .before .before .before .before .before .before .before .before .before .before .x .given .0 .0) (c .before .before .before .before .before .before .before .before .before .before .before .before .before .x .given .0 .1 .0) (a .out .now) (t .last .0) (a .work .now) (a .cache .now) (c .before .before .before .before .before .before .before .before .before .before .before .before .before .x .given .1) (t .ensures) refl refl
 
--- src/lib.rt:37:1
 same-length-4 : tie.Need-same-length-4
 same-length-4 c = search needs
 
--- src/lib.rt:37:1
 same-length-5 : tie.Need-same-length-5
 same-length-5 c = search needs
 
--- src/lib.rt:37:1
 same-length-6 : tie.Need-same-length-6
 same-length-6 c = search needs
 
--- src/lib.rt:37:1
 returns-2 : tie.Need-returns-2
 returns-2 c =
     let a = c .before .before .before .before .before .before .before .before .before .before .before .before .before .before .before .before .before .args in
@@ -95,19 +73,15 @@ returns-2 c =
     let z = c .before .before .before .before .before .before .empty-all .ensures in
     (λ i. (c .before .before .before .before .before .before .before .before .before .before .before .x2 .given .0 .0, a .k, z .0 i, z .1 i, z .2 i)) ∙ refused-words s (P .2 .long) (a .k) (length (a .work .now)) (length (a .cache .now)) (a .x) (c .before .before .before .before .before .before .before .before .before .before .before .x2 .given .0 .0) (a .out .now) (a .work .now) (a .cache .now) (c .before .before .before .before .before .before .before .before .before .before .before .x2 .given .1) refl refl
 
--- src/lib.rt:37:1
 same-length-7 : tie.Need-same-length-7
 same-length-7 c = search needs
 
--- src/lib.rt:37:1
 same-length-8 : tie.Need-same-length-8
 same-length-8 c = search needs
 
--- src/lib.rt:37:1
 same-length-9 : tie.Need-same-length-9
 same-length-9 c = search needs
 
--- src/lib.rt:37:1
 returns-3 : tie.Need-returns-3
 returns-3 c =
     let a = c .before .before .before .before .before .before .before .before .before .before .before .before .before .before .before .before .before .args in

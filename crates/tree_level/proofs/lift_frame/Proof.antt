@@ -1,9 +1,9 @@
 use borrow.Author.Needs.{needs}
 use native.Mathlib.Omega.{arith}
-use mathlib.Core.Path.{_≡_, refl, sym, ap, _∙_, subst}
-use mathlib.Core.List.{List, [], _∷_, _++_}
-use Prim.Native.Nat.{ℕ, suc, _+_, _-_, _*_, _<_, _≤_}
-use lib.ListN.{length, take, drop, getD, set, length-set}
+use mathlib.Core.Path.{subst}
+use mathlib.Core.List.{[]}
+use Prim.Native.Nat.{_+_, _-_, _*_}
+use lib.ListN.{length, take, drop}
 use Prim.Native.Nat.{_/_}
 use Rattle.lifting.proofs.Readying.{ends-part}
 use Rattle.levels.proofs.Walking.{whole-part}
@@ -11,64 +11,46 @@ use Rattle.lift.specs.Vectors.{frame-terms, lifted-of, Whole}
 use Rattle.tree_level.proofs.Framed.{asked, lifted-same}
 use Rattle.tree_level.proofs.lift_frame.Statement.{statement}
 use Rattle.tree_level.proofs.lift_frame.Tie as tie
-use Rattle.tree_level.proofs.lift_frame.Reads as reads
-use Rattle.tree_level.proofs.lift_frame.Lts as lts
-use Rattle.lifting.proofs.ground_of.Reads as ground-of-reads
-use Rattle.tree.proofs.lift_all.Reads as lift-all-reads
 
--- src/lib.rt:34:9
 ground-of-requires : tie.Need-ground-of-requires
 ground-of-requires c κs = search needs
 
--- src/lib.rt:35:24
 mul-start : tie.Need-mul-start
 mul-start c = search needs
 
--- src/lib.rt:35:17
 add-start : tie.Need-add-start
 add-start c = search needs
 
--- src/lib.rt:36:20
 mul-ends : tie.Need-mul-ends
 mul-ends c = search needs
 
--- src/lib.rt:36:16
 add-ends : tie.Need-add-ends
 add-ends c = search needs
 
--- src/lib.rt:43:9
 mul-lift-all : tie.Need-mul-lift-all
 mul-lift-all c = search needs
 
--- src/lib.rt:43:9
 sub-lift-all : tie.Need-sub-lift-all
 sub-lift-all c = search needs
 
--- src/lib.rt:43:9
 part-lift-all-start : tie.Need-part-lift-all-start
 part-lift-all-start c = search needs
 
--- src/lib.rt:43:9
 part-lift-all-end : tie.Need-part-lift-all-end
 part-lift-all-end c = search needs
 
--- src/lib.rt:44:9
 mul-lift-all-2 : tie.Need-mul-lift-all-2
 mul-lift-all-2 c = search needs
 
--- src/lib.rt:44:9
 sub-lift-all-2 : tie.Need-sub-lift-all-2
 sub-lift-all-2 c = search needs
 
--- src/lib.rt:44:9
 part-lift-all-start-2 : tie.Need-part-lift-all-start-2
 part-lift-all-start-2 c = search needs
 
--- src/lib.rt:44:9
 part-lift-all-end-2 : tie.Need-part-lift-all-end-2
 part-lift-all-end-2 c = search needs
 
--- src/lib.rt:37:5
 lift-all-requires : tie.Need-lift-all-requires
 lift-all-requires c κs =
     let a = c .before .before .before .before .before .before .before .before .before .before .before .before .before .before .args in
@@ -82,19 +64,15 @@ lift-all-requires c κs =
     let i = P .10 in
     (ask .0, ask .1, ask .2, ask .3, omega (arith, t, i .tree, P .9), omega (arith, t, i .tree), omega (arith, v, i .filled), omega (arith, v, i .vector, r, i .room, P .8), omega (arith, r, i .room))
 
--- src/lib.rt:18:1
 same-length : tie.Need-same-length
 same-length c = search needs
 
--- src/lib.rt:18:1
 same-length-2 : tie.Need-same-length-2
 same-length-2 c = search needs
 
--- src/lib.rt:18:1
 same-length-3 : tie.Need-same-length-3
 same-length-3 c = search needs
 
--- src/lib.rt:18:1
 returns : tie.Need-returns
 returns c =
     let a = c .before .before .before .before .before .before .before .before .before .before .before .before .before .before .before .before .before .before .before .before .before .args in

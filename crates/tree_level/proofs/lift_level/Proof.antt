@@ -1,59 +1,41 @@
 use borrow.Author.Needs.{needs}
 use native.Mathlib.Omega.{arith}
-use mathlib.Core.Path.{_≡_, refl, sym, ap, _∙_, subst}
-use mathlib.Core.List.{List, [], _∷_, _++_}
-use Prim.Native.Nat.{ℕ, suc, _+_, _-_, _*_, _<_, _≤_}
-use lib.ListN.{length, take, drop, getD, set, length-set}
+use mathlib.Core.Path.{_≡_, subst}
+use Prim.Native.Nat.{suc, _+_, _-_}
 use Rattle.stages.specs.Prepared.{Ready-pair}
 use Rattle.tree_level.proofs.lift_level.Statement.{statement}
 use Rattle.tree_level.proofs.lift_level.Tie as tie
-use Rattle.tree_level.proofs.lift_level.Reads as reads
-use Rattle.tree_level.proofs.lift_level.Lts as lts
-use Rattle.stages.proofs.fill_leads.Reads as fill-leads-reads
-use Rattle.stages.proofs.fill_tables.Reads as fill-tables-reads
-use Rattle.tree_level.proofs.lift_with.Reads as lift-with-reads
 
--- src/lib.rt:109:24
 slice-aggregate-fill-leads : tie.Need-slice-aggregate-fill-leads
 slice-aggregate-fill-leads c = search needs
 
--- src/lib.rt:109:36
 slice-aggregate-fill-leads-2 : tie.Need-slice-aggregate-fill-leads-2
 slice-aggregate-fill-leads-2 c = search needs
 
--- src/lib.rt:109:5
 fill-leads-requires : tie.Need-fill-leads-requires
 fill-leads-requires c κs = search needs
 
--- src/lib.rt:110:25
 slice-aggregate-fill-tables : tie.Need-slice-aggregate-fill-tables
 slice-aggregate-fill-tables c = search needs
 
--- src/lib.rt:110:37
 slice-aggregate-fill-tables-2 : tie.Need-slice-aggregate-fill-tables-2
 slice-aggregate-fill-tables-2 c = search needs
 
--- src/lib.rt:110:56
 add-fill-tables : tie.Need-add-fill-tables
 add-fill-tables c = search needs
 
--- src/lib.rt:110:5
 fill-tables-requires : tie.Need-fill-tables-requires
 fill-tables-requires c κs = search needs
 
--- src/lib.rt:111:43
 slice-aggregate-lift-with : tie.Need-slice-aggregate-lift-with
 slice-aggregate-lift-with c = search needs
 
--- src/lib.rt:111:51
 slice-aggregate-lift-with-2 : tie.Need-slice-aggregate-lift-with-2
 slice-aggregate-lift-with-2 c = search needs
 
--- src/lib.rt:111:59
 slice-aggregate-lift-with-3 : tie.Need-slice-aggregate-lift-with-3
 slice-aggregate-lift-with-3 c = search needs
 
--- src/lib.rt:111:5
 lift-with-requires : tie.Need-lift-with-requires
 lift-with-requires c κs =
     let a = c .before .before .before .before .before .before .before .before .before .before .before .before .before .before .before .before .before .before .before .before .args in
@@ -64,19 +46,15 @@ lift-with-requires c κs =
     let t = subst (λ k. Ready-pair s k (T .last .0) (T .last .1 .0)) e (T .ensures) in
     (P .0, c .before .before .before .before .before .before .before .before .before .before .before .before .before .fill-leads .ensures, (T .last .0, t .1), t .0, omega arith, omega arith, omega arith, P .1, P .2, P .3)
 
--- src/lib.rt:94:1
 same-length : tie.Need-same-length
 same-length c = search needs
 
--- src/lib.rt:94:1
 same-length-2 : tie.Need-same-length-2
 same-length-2 c = search needs
 
--- src/lib.rt:94:1
 same-length-3 : tie.Need-same-length-3
 same-length-3 c = search needs
 
--- src/lib.rt:94:1
 returns : tie.Need-returns
 returns c = search needs
 

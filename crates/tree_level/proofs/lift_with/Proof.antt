@@ -1,9 +1,9 @@
 use borrow.Author.Needs.{needs}
 use native.Mathlib.Omega.{arith}
-use mathlib.Core.Path.{_≡_, refl, sym, ap, _∙_, subst}
-use mathlib.Core.List.{List, [], _∷_, _++_}
-use Prim.Native.Nat.{ℕ, suc, _+_, _-_, _*_, _<_, _≤_}
-use lib.ListN.{length, take, drop, getD, set, length-set}
+use mathlib.Core.Path.{_≡_, sym, ap, _∙_, subst}
+use mathlib.Core.List.{[]}
+use Prim.Native.Nat.{_-_, _≤_}
+use lib.ListN.{length, getD}
 use Prim.Native.Nat.{_/_}
 use lib.Dec.{leb}
 use Rattle.definitions.specs.Limits.{document-01}
@@ -21,45 +21,31 @@ use Rattle.lifting.proofs.Readying.{few-vectors}
 use Rattle.lifting.proofs.Framing.{leading-at, too-many, few-enough, whole-frame}
 use Rattle.tree_level.proofs.lift_with.Statement.{statement}
 use Rattle.tree_level.proofs.lift_with.Tie as tie
-use Rattle.tree_level.proofs.lift_with.Reads as reads
-use Rattle.tree_level.proofs.lift_with.Lts as lts
-use Rattle.frame.proofs.form.Reads as form-reads
-use Rattle.levels.proofs.count_of.Reads as count-of-reads
-use Rattle.tree_level.proofs.lift_frame.Reads as lift-frame-reads
 
--- src/lib.rt:69:9
 count-of-requires : tie.Need-count-of-requires
 count-of-requires c κs = search needs
 
--- src/lib.rt:70:16
 shared-slice-read-code : tie.Need-shared-slice-read-code
 shared-slice-read-code c = search needs
 
--- src/lib.rt:71:23
 slice-aggregate-form : tie.Need-slice-aggregate-form
 slice-aggregate-form c = search needs
 
--- src/lib.rt:71:41
 slice-aggregate-form-2 : tie.Need-slice-aggregate-form-2
 slice-aggregate-form-2 c = search needs
 
--- src/lib.rt:71:11
 form-requires : tie.Need-form-requires
 form-requires c κs = (omega arith, omega (arith, c .before .before .before .count-of .ensures, few-vectors (c .before .before .before .before .before .before .before .before .before .before .before .args .state .now) (c .before .before .before .before .before .before .before .before .before .before .before .args .j) (c .before .before .before .before .before .before .before .before .before .before .before .pre .0)), omega (arith, c .before .before .before .count-of .ensures, few-vectors (c .before .before .before .before .before .before .before .before .before .before .before .args .state .now) (c .before .before .before .before .before .before .before .before .before .before .before .args .j) (c .before .before .before .before .before .before .before .before .before .before .before .pre .0), c .before .before .before .before .before .before .before .before .before .before .before .pre .4), omega (arith, c .before .before .before .count-of .ensures, few-vectors (c .before .before .before .before .before .before .before .before .before .before .before .args .state .now) (c .before .before .before .before .before .before .before .before .before .before .before .args .j) (c .before .before .before .before .before .before .before .before .before .before .before .pre .0)))
 
--- src/lib.rt:72:25
 enum-told : tie.Need-enum-told
 enum-told c = search needs
 
--- src/lib.rt:73:22
 enum-known-n : tie.Need-enum-known-n
 enum-known-n c = search needs
 
--- src/lib.rt:79:13
 slice-aggregate-lift-frame : tie.Need-slice-aggregate-lift-frame
 slice-aggregate-lift-frame c = search needs
 
--- src/lib.rt:73:34
 lift-frame-requires : tie.Need-lift-frame-requires
 lift-frame-requires c κs =
     let a = c .before .before .before .before .before .before .before .before .before .before .before .before .before .before .before .before .before .before .before .before .before .args in
@@ -74,19 +60,15 @@ lift-frame-requires c κs =
     let m : n ≤ 128 = subst (few 128) (c .before .before .before .before .before .n .given .1) (F .ensures .1) in
     (P .0, P .1, P .2, P .3, P .4, P .5, P .6, record { few = m; fits = omega (arith, m); terms = whole-frame (getD s 2 0) F0 (leading-monomials (level-at document-01 s (a .j))) (frame-terms (F .last .0) n) lead told }, P .7, P .8, P .9)
 
--- src/lib.rt:86:26
 enum-known-used : tie.Need-enum-known-used
 enum-known-used c = search needs
 
--- src/lib.rt:87:29
 enum-known-x : tie.Need-enum-known-x
 enum-known-x c = search needs
 
--- src/lib.rt:88:29
 enum-known-x-2 : tie.Need-enum-known-x-2
 enum-known-x-2 c = search needs
 
--- src/lib.rt:53:1
 returns : tie.Need-returns
 returns c =
     let a = c .before .before .before .before .before .before .before .before .before .before .before .before .before .before .before .before .args in
@@ -98,19 +80,15 @@ returns c =
     let F = c .before .before .before .before .form in
     (too-many (getD s 2 0) (level-at document-01 s (a .j)) F0 (λ ms. lift-all (stage-at (a .b) s (a .j)) (tree (stage-at (a .b) s (a .j)) (length (a .cache .now) / 10)) ([], 0) [] ms) lead (sym (ap (λ y. framed-of y (F .last .0)) (c .enum-told .given .1)) ∙ F .ensures .0), tt)
 
--- src/lib.rt:53:1
 same-length : tie.Need-same-length
 same-length c = search needs
 
--- src/lib.rt:53:1
 same-length-2 : tie.Need-same-length-2
 same-length-2 c = search needs
 
--- src/lib.rt:53:1
 same-length-3 : tie.Need-same-length-3
 same-length-3 c = search needs
 
--- src/lib.rt:53:1
 returns-2 : tie.Need-returns-2
 returns-2 c =
     let a = c .before .before .before .before .before .before .before .before .before .before .before .before .before .before .before .before .before .before .before .before .before .before .before .before .before .before .before .before .before .before .before .args in
@@ -127,19 +105,15 @@ returns-2 c =
       (let h = subst (λ y. Whole (ground-at (a .b) s (a .j)) n y (L .last .0)) (c .before .used .given .1) (L .ensures .1) in (omega (arith, h .0, P .9 .room), h .1)),
     )
 
--- src/lib.rt:53:1
 same-length-4 : tie.Need-same-length-4
 same-length-4 c = search needs
 
--- src/lib.rt:53:1
 same-length-5 : tie.Need-same-length-5
 same-length-5 c = search needs
 
--- src/lib.rt:53:1
 same-length-6 : tie.Need-same-length-6
 same-length-6 c = search needs
 
--- src/lib.rt:53:1
 returns-3 : tie.Need-returns-3
 returns-3 c =
     let a = c .before .before .before .before .before .before .before .before .before .before .before .before .before .before .before .before .before .before .before .before .before .before .before .before .before .before .before .before .before .before .before .args in
@@ -156,19 +130,15 @@ returns-3 c =
       tt,
     )
 
--- src/lib.rt:53:1
 same-length-7 : tie.Need-same-length-7
 same-length-7 c = search needs
 
--- src/lib.rt:53:1
 same-length-8 : tie.Need-same-length-8
 same-length-8 c = search needs
 
--- src/lib.rt:53:1
 same-length-9 : tie.Need-same-length-9
 same-length-9 c = search needs
 
--- src/lib.rt:53:1
 returns-4 : tie.Need-returns-4
 returns-4 c =
     let a = c .before .before .before .before .before .before .before .before .before .before .before .before .before .before .before .before .before .before .before .before .before .before .before .before .before .before .before .before .before .before .before .args in
