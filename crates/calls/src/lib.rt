@@ -25,7 +25,7 @@ pub extern "C" fn tagetessash_read(
 }
 
 // 0 division, 1 hybrid, 2 the tree. Any other code is hybrid with a pick code that there is not: 12.
-fn way_by(way: u16, pick: u16) -> Way
+pub fn way_by(way: u16, pick: u16) -> Way
     ensures { λ x. ⌜ way-of x ≡ coded-way way pick ⌝ }
 {
     match way {

@@ -118,7 +118,7 @@ fn lift_by(state: &mut [u16], work: &mut [u16], cache: &mut [u16], k: usize, way
     }
 }
 
-fn work_length(way: Way) -> usize
+pub fn work_length(way: Way) -> usize
     ensures { λ r. ⌜ r ≡ work-words document-01 (way-of way) ⌝ }
 {
     match way {
@@ -129,7 +129,7 @@ fn work_length(way: Way) -> usize
 }
 
 // "for the hybrid way pick code outside 1..3"
-fn own_pick(way: Way) -> bool
+pub fn own_pick(way: Way) -> bool
     ensures { λ r. ⌜ r ≡ own-pick? (way-of way) ⌝ }
 {
     match way {
