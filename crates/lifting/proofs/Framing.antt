@@ -2,10 +2,10 @@
 use mathlib.Core.Path.{_≡_, refl, sym, ap, _∙_, subst, subst₃}
 use mathlib.Core.Bool.{Bool, true, false}
 use mathlib.Core.List.{List, [], _∷_}
-use Prim.Native.Nat.{ℕ, suc, _≤_}
+use Prim.Native.Nat.{ℕ, suc, _-_, _≤_}
 use native.Mathlib.Omega.{arith}
 use lib.Dec.{leb}
-use lib.ListN.{length, getD, take}
+use lib.ListN.{length, getD, take, replicate}
 use lib.Seq.{length-take-le}
 use Rattle.definitions.specs.Limits.{document-01}
 use Rattle.definitions.specs.Monomial.{Monomial, Level, leading, leading-monomials}
@@ -14,13 +14,15 @@ use Rattle.definitions.specs.Reducer.{heads}
 use Rattle.definitions.specs.Run.{by-code}
 use Rattle.definitions.specs.Frame.{frame}
 use Rattle.definitions.specs.Lifting.{limited-frame, if-few, lift-all, accept-from}
-use Rattle.definitions.specs.Layout.{Words, rows, level-at}
+use Rattle.definitions.specs.Layout.{Words, rows, rows-of, padded, level-at}
+use Rattle.definitions.proofs.Rows.{length-rows, rows-spelled}
 use Rattle.ending.specs.Well.{Well}
 use Rattle.orders.specs.Images.{table-of, table-order}
 use Rattle.levels.specs.Places.{count-at, rows-from, ends-from}
 use Rattle.levels.specs.Tabled.{Ready}
 use Rattle.levels.proofs.VectorTests.{length-vectors}
 use Rattle.stages.specs.Prepared.{Led}
+use Rattle.writing.proofs.Copying.{eights-rows}
 use Rattle.frame.specs.Generators.{monomials-of}
 use Rattle.frame.proofs.Components.{frame-components}
 use Rattle.reduce.specs.Grounds.{Tables, Family}
@@ -136,6 +138,11 @@ pub left-room : (g : Ground) (x : Accepted) (vector work : Words) → g .working
 left-room g Yes vector work e l h k = tt
 left-room g (Accepted-refused number place) vector work e l h k = tt
 left-room g (Accepted-stopped i n) vector work e l h k = (omega (arith, l, e), omega (arith, l, e))
+
+pub shown-rows : (vector work : Words) (n : ℕ) → work ≡ padded (length work) (rows-of (rows vector 0 n)) → rows work 0 n ≡ rows vector 0 n
+shown-rows vector work n e =
+    let v = rows vector 0 n in
+    ap (rows work 0) (sym (length-rows vector 0 n)) ∙ rows-spelled work 0 v (replicate (length work - length (rows-of v)) 0) (eights-rows vector 0 n) e
 
 pub answer-same : (x : Accepted) (vector : Words) → accepted-with x (value-in x vector) ≡ accepted-of x vector
 answer-same Yes vector = refl

@@ -119,11 +119,11 @@ accepted-with Yes v = done tt
 accepted-with (Accepted-refused number place) v = refused number place []
 accepted-with (Accepted-stopped i n) v = refused 9 i v
 
--- "9 leaves in the work area the value where division stopped"
+-- "9 leaves in the work area the value where division stopped": its n rows, and zeros after them
 abbrev pub Shown : Accepted → Vector → Words → Type 0
 Shown Yes v work = Unit {0}
 Shown (Accepted-refused number place) v work = Unit {0}
-Shown (Accepted-stopped i n) v work = work ≡ padded (length work) (rows-of v)
+Shown (Accepted-stopped i n) v work = (work ≡ padded (length work) (rows-of v)) × (v ≡ rows work 0 n) × (n * 10 ≤ length work)
 
 -- the value where division stopped
 abbrev pub value-in : Accepted → Words → Vector

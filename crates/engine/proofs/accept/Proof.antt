@@ -86,7 +86,7 @@ returns-3 c =
     let area = length (a .work .now) in
     let w = x .last .0 in
     let place = c .before .before .before .before .before .place .given .0 .0 in
-    (n, (λ i. (9, place, c .before .before .clear4 .ensures i, w)) ∙ accept-stopped s (P .0 .long) (P .1) area n v place w (omega arith) (subst (λ y. Shown y v w) (c .before .before .before .before .before .place .given .1) (x .ensures .3)) (sym (ap (λ y. accepted-with y v) (c .before .before .before .before .before .place .given .1)) ∙ x .ensures .2), accept-over s (P .0 .long) (P .1) area n v (x .result) (x .ensures .2))
+    (n, (λ i. (9, place, c .before .before .clear4 .ensures i, w)) ∙ accept-stopped s (P .0 .long) (P .1) area n v place w (omega arith) (subst (λ y. Shown y v w) (c .before .before .before .before .before .place .given .1) (x .ensures .3) .0) (sym (ap (λ y. accepted-with y v) (c .before .before .before .before .before .place .given .1)) ∙ x .ensures .2), accept-over s (P .0 .long) (P .1) area n v (x .result) (x .ensures .2))
 
 pub accept-spec : {M : Type 1} → statement M
 accept-spec =

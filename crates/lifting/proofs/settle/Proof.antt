@@ -1,9 +1,10 @@
 use borrow.Author.Needs.{needs}
 use native.Mathlib.Omega.{arith}
-use mathlib.Core.Path.{_≡_, sym, _∙_, subst}
+use mathlib.Core.Path.{_≡_, sym, ap, _∙_, subst}
 use lib.ListN.{length}
 use Rattle.lifting.specs.Stages.{Left-in, value-in}
-use Rattle.definitions.specs.Layout.{padded, rows-of}
+use Rattle.definitions.specs.Layout.{rows, padded, rows-of}
+use Rattle.lifting.proofs.Framing.{shown-rows}
 use Rattle.lifting.proofs.settle.Statement.{statement}
 use Rattle.lifting.proofs.settle.Tie as tie
 
@@ -31,8 +32,13 @@ same-length c = search needs
 returns-3 : tie.Need-returns-3
 returns-3 c =
     let a = c .before .before .before .before .before .before .before .before .before .args in
-    let e : length (a .work .now) ≡ length (c .before .before .show .last .0) = omega arith in
-    (sym (c .before .before .before .before .before .x2 .given .1), c .before .before .show .ensures ∙ (λ i. padded (e i) (rows-of (value-in (sym (c .before .before .before .before .before .x2 .given .1) i) (a .vector .now)))))
+    let g = c .before .before .before .before .before .x2 .given in
+    let w = c .before .before .show .last .0 in
+    let h = subst (λ y. Left-in y (a .vector .now) (a .work .now)) (g .1) (c .before .before .before .before .before .before .before .before .before .pre) in
+    let e : length (a .work .now) ≡ length w = omega arith in
+    let same : rows (a .vector .now) 0 (g .0 .1 .0) ≡ value-in (a .x) (a .vector .now) = ap (λ y. value-in y (a .vector .now)) (sym (g .1)) in
+    let own = c .before .before .show .ensures ∙ ap (λ l. padded l (rows-of (rows (a .vector .now) 0 (g .0 .1 .0)))) e in
+    (sym (g .1), (own ∙ ap (λ v. padded (length w) (rows-of v)) same, sym same ∙ sym (shown-rows (a .vector .now) w (g .0 .1 .0) own), omega (arith, h .1, e)))
 
 pub settle-spec : {M : Type 1} → statement M
 settle-spec =
