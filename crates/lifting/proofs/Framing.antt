@@ -137,7 +137,7 @@ whole-frame code F G ms e h = subst (Says (frame code F)) (sym h) (says (frame c
 pub left-room : (g : Ground) (x : Accepted) (vector work : Words) → g .working ≡ 512 → Left g x → 5120 ≤ length vector → 5120 ≤ length work → Left-in x vector work
 left-room g Yes vector work e l h k = tt
 left-room g (Accepted-refused number place) vector work e l h k = tt
-left-room g (Accepted-stopped i n) vector work e l h k = (omega (arith, l, e), omega (arith, l, e))
+left-room g (Accepted-stopped i n) vector work e l h k = (omega (arith, l, e), omega (arith, l, e), omega (arith, l, e))
 
 pub shown-rows : (vector work : Words) (n : ℕ) → work ≡ padded (length work) (rows-of (rows vector 0 n)) → rows work 0 n ≡ rows vector 0 n
 shown-rows vector work n e =

@@ -123,7 +123,7 @@ accepted-with (Accepted-stopped i n) v = refused 9 i v
 abbrev pub Shown : Accepted → Vector → Words → Type 0
 Shown Yes v work = Unit {0}
 Shown (Accepted-refused number place) v work = Unit {0}
-Shown (Accepted-stopped i n) v work = (work ≡ padded (length work) (rows-of v)) × (v ≡ rows work 0 n) × (n * 10 ≤ length work)
+Shown (Accepted-stopped i n) v work = (work ≡ padded (length work) (rows-of v)) × (v ≡ rows work 0 n) × (n * 10 ≤ length work) × (n ≤ 512)
 
 -- the value where division stopped
 abbrev pub value-in : Accepted → Words → Vector
@@ -134,4 +134,4 @@ value-in (Accepted-stopped i n) vector = rows vector 0 n
 abbrev pub Left-in : Accepted → Words → Words → Type 0
 Left-in Yes vector work = Unit {0}
 Left-in (Accepted-refused number place) vector work = Unit {0}
-Left-in (Accepted-stopped i n) vector work = (n * 10 ≤ length vector) × (n * 10 ≤ length work)
+Left-in (Accepted-stopped i n) vector work = (n * 10 ≤ length vector) × (n * 10 ≤ length work) × (n ≤ 512)
