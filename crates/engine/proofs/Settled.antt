@@ -74,7 +74,7 @@ module _ (size : ℕ) (big : 206095 ≤ size) (file : Bytes) (f : Parameters × 
   length-is : length s ≡ size
   length-is = ap length w ∙ length-encode document-01 (omega arith) size X sound-basis big
 
-  decoded : decode document-01 s ≡ X
+  pub decoded : decode document-01 s ≡ X
   decoded = ap (decode document-01) w ∙ decode-encode document-01 (omega arith) size X sound-basis
 
   held : T (holds-state? document-01 s)
@@ -92,7 +92,7 @@ module _ (size : ℕ) (big : 206095 ≤ size) (file : Bytes) (f : Parameters × 
   level-is : level-at document-01 s 0 ≡ f .1
   level-is = sym (highest-is s 0 (based .has)) ∙ ap (λ Y. highest (up-to Y 0)) decoded
 
-  accepted-is : (n : ℕ) → (accepted-over s n >>= λ u. done (decode document-01 s)) ≡ read document-01 n file
+  pub accepted-is : (n : ℕ) → (accepted-over s n >>= λ u. done (decode document-01 s)) ≡ read document-01 n file
   accepted-is n =
       (λ i. accept document-01 (decoded i .parameters .p) (decoded i .parameters .code) (level-is i) n >>= λ u. done (decoded i))
       ∙ sym (ap (λ x. x >>= accepted document-01 n) e)

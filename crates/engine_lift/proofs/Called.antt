@@ -98,6 +98,10 @@ module _ (s w z : Words) (k : ℕ) (way : Way) where
           pub no-such-pick : false ≡ own-pick? way → Called (12, 0, s, w, z)
           no-such-pick e = (0, in-state 0 true true false inside has-it (own-pick-is way z ∙ sym e))
 
+          -- no test refuses
+          pub after-tests : true ≡ own-pick? way → (n : ℕ) → (settled (lift document-01 n X k (lifting-by way z)) then λ a. some (lift-left document-01 s w z a)) ≡ lift-call document-01 n k way s w z
+          after-tests e n = in-state n true true true inside has-it (own-pick-is way z ∙ sym e)
+
           settled-then : (x : Result State) → T (finished? x)
               → _≡_ {A = Option Lift} (some (settled-lift (length s) (length w) (length z) x)) (settled x then λ a. some (lift-left document-01 s w z a))
           settled-then (done Y) t = refl
@@ -122,5 +126,5 @@ module _ (s w z : Words) (k : ℕ) (way : Way) where
             n,
             ap some q ∙ settled-then (state-over s k (lifted-over s k way z n)) (over-finished (lifted-over s k way z n) t)
                 ∙ ap (λ x. settled x then λ a. some (lift-left document-01 s w z a)) (lift-is n h)
-                ∙ in-state n true true true inside has-it (own-pick-is way z ∙ sym e),
+                ∙ after-tests e n,
           )

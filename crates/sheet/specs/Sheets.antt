@@ -1,6 +1,5 @@
 -- The sheet's bytes in a buffer, and what the call returns and leaves.
 use mathlib.Core.Path.{_≡_}
-use mathlib.Core.Bool.{Bool, true, false}
 use mathlib.Core.Option.{Option, some}
 use Prim.Native.Nat.{ℕ}
 use lib.Dec.{leb}

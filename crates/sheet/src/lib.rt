@@ -5,7 +5,7 @@ ghost use Prim.Native.Nat.{ℕ, _+_, _-_, _*_, _≤_, _<_};
 ghost use lib.Dec.{T};
 ghost use lib.ListN.{length, getD};
 ghost use Rattle.definitions.specs.Limits.{document-01};
-ghost use Rattle.definitions.specs.Layout.{level-at, encode, decode, holds-state?};
+ghost use Rattle.definitions.specs.Layout.{level-at, decode, holds-state?};
 ghost use Rattle.definitions.specs.Sheet.{level-lines, levels-from as levels-definition, sheet as sheet-definition};
 ghost use Rattle.terms.specs.Rows.{cleared};
 ghost use Rattle.lifting.specs.Stages.{Base};
@@ -94,12 +94,10 @@ fn print(file: &[u8], state: &mut [u16], work: &mut [u16], out: &mut [u8]) -> us
 
 // Zeros from byte `from` on.
 fn clear(out: &mut [u8], from: usize)
-    requires { ⌜ from ≤ length (now out) ⌝ }
     ensures { λ _. ⌜ now (out .exit) ≡ cleared (now (out .entry)) from ⌝ }
 {
-    let n = out.len();
     let mut i = from;
-    while i < n {
+    while i < out.len() {
         out[i] = 0;
         i += 1;
     }

@@ -1,93 +1,90 @@
 use borrow.Author.Needs.{needs}
 use native.Mathlib.Omega.{arith}
-use mathlib.Core.Path.{_≡_, refl, sym, ap, _∙_, subst}
-use mathlib.Core.List.{List, [], _∷_, _++_}
-use Prim.Native.Nat.{ℕ, suc, _+_, _-_, _*_, _<_, _≤_}
-use lib.ListN.{length, take, drop, getD, set, length-set}
+use mathlib.Core.Path.{_≡_, sym}
+use Prim.Native.Nat.{_+_, _-_, _*_, _≤_}
+use lib.ListN.{getD}
+use Rattle.definitions.specs.Sheet.{level-lines}
+use Rattle.printing.proofs.Spelling.{spelled}
+use Rattle.printing.specs.Lines.{Short}
+use Rattle.tables.specs.Cuts.{Cut, cut-level}
+use Rattle.lifting.proofs.Readying.{ends-part}
+use Rattle.levels.proofs.Sounding.{complete-cut}
+use Rattle.levels.proofs.Walking.{whole-part}
+use Rattle.levels.specs.Places.{count-at}
+use Rattle.sheet.proofs.Levels.{short-level, few-variables}
+use mathlib.Core.Path.{subst₃}
 use Rattle.sheet.proofs.print_level.Statement.{statement}
 use Rattle.sheet.proofs.print_level.Tie as tie
-use Rattle.sheet.proofs.print_level.Reads as reads
-use Rattle.sheet.proofs.print_level.Lts as lts
-use Rattle.levels.proofs.count_of.Reads as count-of-reads
-use Rattle.levels.proofs.place.Reads as place-reads
-use Rattle.printing.proofs.level_lines.Reads as level-lines-reads
-use Rattle.sheet.proofs.narrow.Reads as narrow-reads
 
--- src/lib.rt:35:9
 count-of-requires : tie.Need-count-of-requires
 count-of-requires c κs = search needs
 
--- src/lib.rt:36:27
 shared-slice-read-place : tie.Need-shared-slice-read-place
 shared-slice-read-place c = search needs
 
--- src/lib.rt:36:9
 place-requires : tie.Need-place-requires
 place-requires c κs = search needs
 
--- src/lib.rt:37:24
 mul-start : tie.Need-mul-start
 mul-start c = search needs
 
--- src/lib.rt:37:17
 add-start : tie.Need-add-start
 add-start c = search needs
 
--- src/lib.rt:38:20
 mul-ends : tie.Need-mul-ends
 mul-ends c = search needs
 
--- src/lib.rt:38:16
 add-ends : tie.Need-add-ends
 add-ends c = search needs
 
--- src/lib.rt:39:9
 narrow-requires : tie.Need-narrow-requires
 narrow-requires c κs = search needs
 
--- src/lib.rt:40:36
 mul-level-lines : tie.Need-mul-level-lines
 mul-level-lines c = search needs
 
--- src/lib.rt:40:36
 sub-level-lines : tie.Need-sub-level-lines
 sub-level-lines c = search needs
 
--- src/lib.rt:40:36
 part-level-lines-start : tie.Need-part-level-lines-start
 part-level-lines-start c = search needs
 
--- src/lib.rt:40:36
 part-level-lines-end : tie.Need-part-level-lines-end
 part-level-lines-end c = search needs
 
--- src/lib.rt:40:53
 mul-level-lines-2 : tie.Need-mul-level-lines-2
 mul-level-lines-2 c = search needs
 
--- src/lib.rt:40:53
 sub-level-lines-2 : tie.Need-sub-level-lines-2
 sub-level-lines-2 c = search needs
 
--- src/lib.rt:40:53
 part-level-lines-start-2 : tie.Need-part-level-lines-start-2
 part-level-lines-start-2 c = search needs
 
--- src/lib.rt:40:53
 part-level-lines-end-2 : tie.Need-part-level-lines-end-2
 part-level-lines-end-2 c = search needs
 
--- src/lib.rt:40:5
 level-lines-requires : tie.Need-level-lines-requires
-level-lines-requires c κs = omega arith
+level-lines-requires c κs =
+    let a = c .before .before .before .before .before .before .before .before .before .args in
+    let s = a .state .now in
+    let b = c .before .before .before .before .before .before .before .before .before .pre .0 in
+    let h = complete-cut s (b .long) (b .holds) (a .k) (b .has) in
+    let e : c .before .before .before .before .before .before .count-of .result ≡ count-at s (a .k) = c .before .before .before .before .before .before .count-of .ensures in
+    let t = subst₃ (λ c l f. (c ≤ 128) × Cut c l f × Short c f) (sym e) (sym (whole-part (1295 + a .k * 20480) s)) (sym (ends-part s (a .k))) (h .0, h .1, short-level s (b .long) (b .holds) (a .k) (b .has) (h .1 .ends-fit)) in
+    (omega (arith, c .before .before .before .before .place .ensures, few-variables s (b .long) (b .holds)), t .0, t .1, t .2, c .before .before .before .before .before .before .before .before .before .pre .1)
 
--- src/lib.rt:31:1
 same-length : tie.Need-same-length
 same-length c = search needs
 
--- src/lib.rt:31:1
 returns : tie.Need-returns
-returns c = omega arith
+returns c =
+    let a = c .before .before .before .before .before .before .before .before .before .before .before .before .args in
+    let s = a .state .now in
+    let e : c .before .before .before .before .before .before .before .before .before .count-of .result ≡ count-at s (a .k) = c .before .before .before .before .before .before .before .before .before .count-of .ensures in
+    let n : c .before .before .before .before .before .before .before .place .result ≡ getD s 1 0 = c .before .before .before .before .before .before .before .place .ensures in
+    let l : c .before .before .before .before .before .before .narrow .result ≡ a .k = c .before .before .before .before .before .before .narrow .ensures in
+    (spelled (λ i. level-lines (n i) (l i) (cut-level (e i) (whole-part (1295 + a .k * 20480) s i) (ends-part s (a .k) i))) (c .before .before .level-lines .ensures .0), c .before .before .level-lines .ensures .1)
 
 pub print-level-spec : {M : Type 1} → statement M
 print-level-spec =

@@ -1,0 +1,118 @@
+-- The sheet of a file from its parts: a file refused, a basis refused, a basis accepted.
+use mathlib.Core.Path.{_≡_, refl, sym, ap, _∙_, subst}
+use mathlib.Core.Bool.{Bool}
+use mathlib.Core.Option.{Option, some}
+use mathlib.Core.List.{[], _∷_, _++_, append-nil}
+use Prim.Native.Nat.{ℕ, _+_, _-_, _<_, _≤_}
+use native.Mathlib.Nat.{add-comm}
+use native.Mathlib.Omega.{arith}
+use borrow.Author.Tests.{le-leb, lt-leb}
+use lib.Dec.{T, leb}
+use lib.ListN.{length, getD, replicate}
+use Rattle.definitions.specs.Limits.{document-01}
+use Rattle.definitions.specs.Lists.{_and_, _then_, choose}
+use Rattle.definitions.specs.Monomial.{Vector, Level}
+use Rattle.definitions.specs.Result.{Result, done, refused, unfinished, finished?, _>>=_}
+use Rattle.definitions.specs.Problem.{Bytes, Parameters, problem}
+use Rattle.definitions.specs.Calls.{accepted}
+use Rattle.definitions.specs.Layout.{Words, padded, zeros, decode, level-at}
+use Rattle.definitions.specs.Sheet.{printed, w-lines, levels-from, variables-of, sheet-of, sheet}
+use Rattle.definitions.proofs.Steady.{answered?, steady-from}
+use Rattle.definitions.proofs.Bound.{accept-steady, levels-from-steady}
+use Rattle.demands.specs.Demands.{Bad-line}
+use Rattle.demands.proofs.Places.{Refused-by, refuses, problem-at}
+use Rattle.terms.specs.Rows.{cleared}
+use Rattle.problem.specs.Reading.{read-as, words-read}
+use Rattle.lifting.specs.Stages.{accepted-over}
+use Rattle.engine.proofs.Settled.{decoded, accepted-is}
+use Rattle.printing.specs.Lines.{Printed}
+use Rattle.sheet.specs.Sheets.{accepted-sheet, Told, called}
+use Rattle.sheet.proofs.Levels.{length-levels}
+
+-- ## A basis
+
+module _ (s : Words) (n : ℕ) where
+  abbrev from-accepted : ℕ → Result (Unit {0}) → Option Bytes
+  from-accepted m r = sheet-of document-01 m (getD s 1 0) (r >>= λ u. done (decode document-01 s))
+
+  pub accepted-yes : done tt ≡ accepted-over s n → (m : ℕ) (bytes : Bytes) → some bytes ≡ levels-from document-01 m 9 1 (decode document-01 s) → some bytes ≡ accepted-sheet (n + m) s
+  accepted-yes e m bytes h =
+      let X = decode document-01 s in
+      let over : accepted-over s (n + m) ≡ accepted-over s n =
+      steady-from finished? (accepted-over s) (accept-steady document-01 (getD s 0 0) (getD s 2 0) (level-at document-01 s 0)) n m (subst (λ x. T (finished? x)) e tt) in
+      h
+      ∙ sym (steady-from answered? (λ i. levels-from document-01 i 9 1 X) (levels-from-steady document-01 9 1 X) m n (subst (λ o. T (answered? o)) h tt))
+      ∙ ap (λ i. levels-from document-01 i 9 1 X) (add-comm m n)
+      ∙ ap (from-accepted (n + m)) (e ∙ sym over)
+
+  pub accepted-refused : (number place : ℕ) → refused number place [] ≡ accepted-over s n → some (printed 88 (number ∷ place ∷ [])) ≡ accepted-sheet n s
+  accepted-refused number place e = ap some (sym (append-nil (printed 88 (number ∷ place ∷ [])))) ∙ ap (from-accepted n) e
+
+  pub accepted-stopped : (i : ℕ) (v : Vector) → refused 9 i v ≡ accepted-over s n → some (printed 88 (9 ∷ i ∷ []) ++ w-lines (getD s 1 0) v) ≡ accepted-sheet n s
+  accepted-stopped i v e = ap (from-accepted n) e
+
+-- ## A file
+
+module _ (size : ℕ) (big : 206095 ≤ size) (file : Bytes) (f : Parameters × Level) (e : problem document-01 file ≡ done f) (s : Words) (w : s ≡ words-read size f) where
+  pub one-level : getD s 4 0 ≡ 1
+  one-level = sym (length-levels s (getD s 4 0)) ∙ ap (λ X. length (X .levels)) (decoded size big file f e s w)
+
+  variables-are : getD s 1 0 ≡ variables-of (problem document-01 file)
+  variables-are = ap (λ X. X .parameters .n) (decoded size big file f e s w) ∙ sym (ap variables-of e)
+
+  pub read-sheet : (n : ℕ) → accepted-sheet n s ≡ sheet document-01 n file
+  read-sheet n = λ i. sheet-of document-01 n (variables-are i) (accepted-is size big file f e s w n i)
+
+module _ (size : ℕ) (file : Bytes) (number place : ℕ) (s : Words) (some-number : number ≡ 0 → ⊥) where
+  pub refused-sheet : _≡_ {A = ℕ × ℕ × Words} (number, place, s) (read-as size (problem document-01 file)) → some (printed 88 (number ∷ place ∷ [])) ≡ sheet document-01 0 file
+  refused-sheet e = go (problem document-01 file) refl (problem-at document-01 file) e
+    where
+      go : (x : Result (Parameters × Level)) → problem document-01 file ≡ x → Refused-by (λ number place value. Bad-line document-01 file number place × (value ≡ [])) x
+          → _≡_ {A = ℕ × ℕ × Words} (number, place, s) (read-as size x) → some (printed 88 (number ∷ place ∷ [])) ≡ sheet document-01 0 file
+      go (done f) p b q = absurd (some-number (ap (λ t. t .0) q))
+      go (refused m o value) p (refuses b) q =
+          (λ i. some (printed 88 (q i .0 ∷ q i .1 ∷ [])))
+          ∙ ap some (sym (append-nil (printed 88 (m ∷ o ∷ []))))
+          ∙ ap (λ v. some (printed 88 (m ∷ o ∷ []) ++ w-lines 0 v)) (sym (b .1))
+          ∙ sym (ap (λ x. sheet-of document-01 0 (variables-of x) (x >>= accepted document-01 0)) p)
+      go unfinished p b q = absurd (some-number (ap (λ t. t .0) q))
+
+-- ## The call
+
+zeroed : (s z : Words) → length z ≡ length s → cleared z 0 ≡ zeros s
+zeroed s z e = let d : length z - 0 ≡ length s = omega (arith, e) in ap (λ n. replicate n 0) d
+
+behind : (out after : Bytes) (r : ℕ) (bytes : Bytes) → Printed out after 0 r bytes → length after ≡ length out → cleared after r ≡ padded (length out) bytes
+behind out after r bytes p e =
+    let d : length after - r ≡ length out - length bytes = omega (arith, e, p .ends) in
+    (λ i. p .front i ++ replicate (d i) 0)
+
+module _ (file : Bytes) (state work : Words) (out : Bytes) where
+  abbrev by-tests : ℕ → Bool → Bool → Bool → Option Told
+  by-tests n a b c = choose (a and b and c) (sheet document-01 n file then λ bytes. some (0, length bytes, zeros state, zeros work, padded (length out) bytes)) (some (16, 0, state, work, out))
+
+  abbrev pub Called : ℕ → ℕ → Words → Words → Bytes → Type 0
+  Called number size s w o = (n : ℕ) × (_≡_ {A = Option Told} (some (number, size, s, w, o)) (called n file state work out))
+
+  pub short-state : length state < 206095 → Called 16 0 state work out
+  short-state h = (0, sym (ap (λ a. by-tests 0 a (leb 5120 (length work)) (leb 1400000 (length out))) (lt-leb 206095 (length state) h)))
+
+  module _ (long : 206095 ≤ length state) where
+    pub short-work : length work < 5120 → Called 16 0 state work out
+    short-work h = (0, sym (λ i. by-tests 0 (le-leb 206095 (length state) long i) (lt-leb 5120 (length work) h i) (leb 1400000 (length out))))
+
+    module _ (wide : 5120 ≤ length work) where
+      pub short-out : length out < 1400000 → Called 16 0 state work out
+      short-out h = (0, sym (λ i. by-tests 0 (le-leb 206095 (length state) long i) (le-leb 5120 (length work) wide i) (lt-leb 1400000 (length out) h i)))
+
+      pub whole-sheet : 1400000 ≤ length out → (n : ℕ) (bytes : Bytes) → some bytes ≡ sheet document-01 n file → (r : ℕ) (s w : Words) (o : Bytes) → Printed out o 0 r bytes
+          → length s ≡ length state → length w ≡ length work → length o ≡ length out → Called 0 r (cleared s 0) (cleared w 0) (cleared o r)
+      whole-sheet h n bytes e r s w o p ls lw lo = (
+        n,
+        (λ i. some (0, sum-none i, zeroed state s ls i, zeroed work w lw i, behind out o r bytes p lo i))
+            ∙ ap (λ x. x then λ bs. some (0, length bs, zeros state, zeros work, padded (length out) bs)) e
+            ∙ sym (λ i. by-tests n (le-leb 206095 (length state) long i) (le-leb 5120 (length work) wide i) (le-leb 1400000 (length out) h i)),
+      )
+        where
+          sum-none : r ≡ length bytes
+          sum-none = omega (arith, p .ends)
