@@ -270,15 +270,16 @@ fn row_last_differing(x: [u16; 8], s: &[u16], at: usize, table: &[u16], to: usiz
     Comparison::Equal
 }
 
+// From the last down: begun like the lexicographic walk, its first word would be formed apart from the other seven.
 fn row_total(s: &[u16], at: usize, table: &[u16], to: usize) -> u32
     requires { ⌜ (at + 8 ≤ length (now s)) × (to + 8 ≤ length (now table)) × Bounded (now table) to ⌝ }
     ensures { λ r. ⌜ r ≡ degree (row-image (now (s .entry)) at (now (table .entry)) to) ⌝ }
 {
     let mut d: u32 = 0;
-    let mut j = 0;
-    while j < 8 {
+    let mut j = 8;
+    while 0 < j {
+        j -= 1;
         d += wider(word_of(s[at + j], table[to + j]));
-        j += 1;
     }
     d
 }

@@ -1,8 +1,8 @@
 use native.Mathlib.Omega.{arith}
-use mathlib.Core.Path.{_≡_, sym, ap, _∙_}
+use mathlib.Core.Path.{_≡_, refl, sym, ap, _∙_}
 use Prim.Native.Nat.{_+_, _-_, _*_, _≤_}
 use Rattle.definitions.specs.Monomial.{degree}
-use Rattle.monomial.proofs.Scans.{degree-on, degree-end}
+use Rattle.monomial.proofs.Scans.{degree-on}
 use Rattle.orders.specs.Images.{row-image}
 use Rattle.orders.proofs.RowImages.{getD-image}
 use lib.ListN.{drop, getD}
@@ -10,13 +10,16 @@ use Rattle.orders.proofs.row_total.Statement.{statement}
 use Rattle.orders.proofs.row_total.Tie as tie
 
 abbrev Inv-loop : tie.InvT-loop
-Inv-loop s at table to d₀ j₀ d j = (j ≤ 8) × (d ≤ 65535 * j) × (d + degree (drop j (row-image s at table to)) ≡ degree (row-image s at table to))
+Inv-loop s at table to d₀ j₀ d j = (j ≤ 8) × (d ≤ 65535 * (8 - j)) × (d ≡ degree (drop j (row-image s at table to)))
 
 abbrev μ-loop : tie.MeasureT-loop
-μ-loop s at table to d₀ j₀ d j = 8 - j
+μ-loop s at table to d₀ j₀ d j = j
 
 loop-holds : tie.Need-loop-holds Inv-loop μ-loop
-loop-holds c = (omega arith, omega arith, omega arith)
+loop-holds c = (omega arith, omega arith, refl)
+
+sub-j : tie.Need-sub-j Inv-loop μ-loop
+sub-j c = omega arith
 
 add-word-of : tie.Need-add-word-of Inv-loop μ-loop
 add-word-of c = omega arith
@@ -37,16 +40,13 @@ shared-slice-read-word-of-2 : tie.Need-shared-slice-read-word-of-2 Inv-loop μ-l
 shared-slice-read-word-of-2 c = omega arith
 
 word-of-requires : tie.Need-word-of-requires Inv-loop μ-loop
-word-of-requires c κs = c .before .before .before .before .before .before .pre .2 (c .before .before .before .loop .j) (omega arith)
+word-of-requires c κs = c .before .before .before .before .before .before .pre .2 (c .before .before .before .loop .j - 1) (omega arith)
 
 wider-requires : tie.Need-wider-requires Inv-loop μ-loop
 wider-requires c κs = omega arith
 
 add-d : tie.Need-add-d Inv-loop μ-loop
 add-d c = omega arith
-
-add-j : tie.Need-add-j Inv-loop μ-loop
-add-j c = omega arith
 
 loop-less : tie.Need-loop-less Inv-loop μ-loop
 loop-less c = omega arith
@@ -56,15 +56,18 @@ loop-again c =
     let l = c .before .before .before .before .before .loop in
     let a = c .before .before .before .before .before .before .before .before .args in
     let y = row-image (a .s .now) (a .at) (a .table .now) (a .to) in
-    let e = getD-image (a .s .now) (a .at) (a .table .now) (a .to) (l .j) (omega arith) in
-    let w : c .wider .result ≡ getD y (l .j) 0 = c .wider .ensures .0 ∙ c .before .word-of .ensures .0 ∙ sym e in
-    (omega arith, omega arith, ap (λ n. l .d + n + degree (drop (l .j + 1) y)) w ∙ sym (degree-on y (l .j) (l .d) (omega arith)) ∙ l .inv .2)
+    let e = getD-image (a .s .now) (a .at) (a .table .now) (a .to) (l .j - 1) (omega arith) in
+    let w : c .wider .result ≡ getD y (l .j - 1) 0 = c .wider .ensures .0 ∙ c .before .word-of .ensures .0 ∙ sym e in
+    let z : l .j - 1 + 1 ≡ l .j = omega arith in
+    let n : degree (drop (l .j - 1 + 1) y) ≡ degree (drop (l .j) y) = ap (λ k. degree (drop k y)) z in
+    (omega arith, omega arith, omega (arith, w, n, l .inv .2, degree-on y (l .j - 1) 0 (omega arith)))
 
 returns : tie.Need-returns Inv-loop μ-loop
 returns c =
     let l = c .before .loop in
     let a = c .before .before .before .before .args in
-    sym (degree-end (row-image (a .s .now) (a .at) (a .table .now) (a .to)) (l .j) (l .d) (omega arith)) ∙ l .inv .2
+    let z : l .j ≡ 0 = omega arith in
+    l .inv .2 ∙ ap (λ k. degree (drop k (row-image (a .s .now) (a .at) (a .table .now) (a .to)))) z
 
 pub row-total-spec : {M : Type 1} → statement M
 row-total-spec =
@@ -73,6 +76,7 @@ row-total-spec =
     Inv-loop
     μ-loop
     loop-holds
+    sub-j
     add-word-of
     mul-word-of
     shared-slice-read-word-of
@@ -82,7 +86,6 @@ row-total-spec =
     word-of-requires
     wider-requires
     add-d
-    add-j
     loop-less
     loop-again
     returns)
