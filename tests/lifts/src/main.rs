@@ -11,6 +11,7 @@ mod stub;
 
 use common::deep::{deep, DEEPEST};
 use common::examples::examples;
+use common::files::many_monomials;
 use common::states::{random_basis as random_state, Size as StateSize};
 use compare::{Compare, Lifted, Spoiled, NUMBERS, OUT, WAYS};
 use proved::Asked;
@@ -18,7 +19,7 @@ use reference::engine::Basis;
 use reference::generate::files::limit_file;
 use reference::generate::problems::{random_basis, Size};
 use reference::lifting::{Usage, Way};
-use reference::monomial::{Monomial, Parameters, Term, UNIT};
+use reference::monomial::Level;
 use reference::random::Random;
 use reference::reader::{read_problem, Problem};
 use reference::Limits;
@@ -81,12 +82,7 @@ impl Bases {
     }
 
     /// Level k by every way; gives the level, if division lifts it.
-    fn lift_level(
-        &mut self,
-        basis: &Basis,
-        k: usize,
-        budget: u64,
-    ) -> Option<reference::monomial::Level> {
+    fn lift_level(&mut self, basis: &Basis, k: usize, budget: u64) -> Option<Level> {
         self.compare.hold(basis);
         let mut lifted = None;
         let mut frame = 0;
@@ -244,32 +240,7 @@ impl Bases {
 
     /// Monomials whose frame has about 128 terms or more.
     fn many_monomials(&mut self) {
-        let random = &mut self.random;
-        let parameters = Parameters {
-            p: *random.pick(&[2, 7, 32_749]),
-            n: random.between(4, 8),
-            order: random.between(1, 3),
-            s: random.between(1, 2),
-        };
-        let elements = (0..random.between(20, 64))
-            .map(|_| {
-                let mut exponents = UNIT;
-                for _ in 0..random.between(2, 4) {
-                    exponents[random.below(parameters.n) as usize] += 1;
-                }
-                vec![Term {
-                    coefficient: random.between(1, parameters.p - 1),
-                    monomial: Monomial {
-                        component: random.between(1, parameters.s),
-                        exponents,
-                    },
-                }]
-            })
-            .collect();
-        let problem = Problem {
-            parameters,
-            elements,
-        };
+        let problem = many_monomials(&mut self.random);
         self.lift_all(problem, 2, BUDGET);
     }
 
