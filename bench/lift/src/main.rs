@@ -5,9 +5,6 @@ mod others;
 mod plain;
 #[path = "../../../tests/calls/src/proved.rs"]
 mod proved;
-#[cfg(feature = "stub")]
-#[path = "../../../tests/calls/src/stub.rs"]
-mod stub;
 
 use common::examples::examples;
 use reference::buffers::{state_words, write_state, ROW};

@@ -5,8 +5,6 @@
 
 mod compare;
 mod proved;
-#[cfg(feature = "stub")]
-mod stub;
 
 use common::deep::{deep, DEEPEST};
 use common::examples::examples;
@@ -24,7 +22,7 @@ use reference::Limits;
 const CALLS: u64 = 1_000_000;
 const SEED: u64 = 20_250_401;
 /// Products that a call may take; one that takes more is left out.
-const BUDGET: u64 = 3_000;
+const BUDGET: u64 = 6_000;
 const LONG_BUDGET: u64 = 100_000;
 
 struct Lists {
@@ -46,8 +44,9 @@ impl Lists {
         compare.spoil = spoil;
         let files = (0..if spoil.is_some() { 100 } else { 4_000 })
             .map(|_| {
-                let size = match random.below(3) {
-                    0 => Size::small(),
+                let size = match random.below(20) {
+                    0 => Size::medium(),
+                    1..=6 => Size::small(),
                     _ => Size::tiny(),
                 };
                 problem_file(&if random.chance(85) {
@@ -236,8 +235,8 @@ impl Lists {
 
     fn read(&mut self) -> Option<u64> {
         let (long, mut file) = match self.random.below(200) {
-            0..=3 => (true, self.random.pick(&self.long_files).clone()),
-            4..=23 => (false, edited_file(&mut self.random)),
+            0..=7 => (true, self.random.pick(&self.long_files).clone()),
+            8..=27 => (false, edited_file(&mut self.random)),
             _ => (false, self.random.pick(&self.files).clone()),
         };
         if self.random.chance(20) {
@@ -270,7 +269,7 @@ impl Lists {
             _ => ROW * *random.pick(&[0, 0, 1, 2, 3, 5, 7, 12, 20, 60]),
         };
         let cache = cache + random.below(ROW as u64) as usize;
-        let work = if way < 2 { WORK } else { TREE_WORK };
+        let work = if way == 2 { TREE_WORK } else { WORK };
         let lent = self.lent(work, cache);
         let call = Call::Lift {
             level: level as usize,
