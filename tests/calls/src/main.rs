@@ -6,7 +6,7 @@
 mod compare;
 mod proved;
 
-use common::deep::{deep, DEEPEST};
+use common::deep::{deep, on_small_stack, DEEPEST};
 use common::examples::examples;
 use common::files::{long_tails, many_monomials};
 use common::states::{alter, random_basis as random_state, Size as StateSize};
@@ -293,7 +293,7 @@ impl Lists {
         self.compare.call(&call, &lent, BUDGET)
     }
 
-    /// The files of the field, level after level by each way, and every vector fetched.
+    /// The files of the field, and one too deep for the tree, level after level by each way, and every vector fetched.
     fn whole_examples(&mut self) {
         let whole = Lent {
             state: STATE,
@@ -301,7 +301,9 @@ impl Lists {
             cache: CACHE,
             out: OUT,
         };
-        for (_, file) in examples() {
+        let mut files: Vec<Vec<u8>> = examples().into_iter().map(|(_, file)| file).collect();
+        files.push(problem_file(&deep(DEEPEST + 1)));
+        for file in files {
             for (way, pick) in [(0, 0), (1, 1), (1, 2), (1, 3), (2, 0)] {
                 self.compare.call(&Call::Read(&file), &whole, LONG_BUDGET);
                 for level in 1..=9 {
@@ -318,31 +320,28 @@ impl Lists {
             }
         }
     }
+}
 
-    /// The tree as deep as its work area allows, and one deeper.
-    fn deepest(&mut self) {
-        let whole = Lent {
-            state: STATE,
-            work: TREE_WORK,
-            cache: 200_000,
-            out: OUT,
+/// The tree as deep as its work area allows, and one deeper.
+fn deepest() {
+    let whole = Lent {
+        state: STATE,
+        work: TREE_WORK,
+        cache: 200_000,
+        out: OUT,
+    };
+    let mut compare = Compare::new(1);
+    compare.both(|buffers| buffers.cache.resize(whole.cache, 1));
+    for (depth, number) in [(DEEPEST, 0), (DEEPEST + 1, 14)] {
+        let file = problem_file(&deep(depth));
+        let read = compare.call(&Call::Read(&file), &whole, LONG_BUDGET);
+        assert_eq!(read, Some(0));
+        let call = Call::Lift {
+            level: 1,
+            way: 2,
+            pick: 0,
         };
-        self.compare
-            .both(|buffers| buffers.cache.resize(200_000, 1));
-        for (depth, number) in [(DEEPEST, 0), (DEEPEST + 1, 14)] {
-            let file = problem_file(&deep(depth));
-            let read = self.compare.call(&Call::Read(&file), &whole, LONG_BUDGET);
-            assert_eq!(read, Some(0));
-            let call = Call::Lift {
-                level: 1,
-                way: 2,
-                pick: 0,
-            };
-            let lifted = self.compare.call(&call, &whole, LONG_BUDGET);
-            assert_eq!(lifted, Some(number));
-        }
-        self.compare
-            .both(|buffers| buffers.cache.truncate(CACHE + MORE));
+        assert_eq!(compare.call(&call, &whole, LONG_BUDGET), Some(number));
     }
 }
 
@@ -401,7 +400,6 @@ fn main() {
     let mut lists = Lists::new(seed, spoil);
     if spoil.is_none() {
         lists.whole_examples();
-        lists.deepest();
     }
     let systematic = lists.compare.calls;
     while lists.compare.calls < wanted {
@@ -420,6 +418,11 @@ fn main() {
             .map(|(number, count)| format!("{number}: {count}"))
             .collect();
         println!("  {kind}: {}", counts.join(", "));
+    }
+    let stack = on_small_stack(deepest);
+    println!("  the tree at depth {DEEPEST} agrees, {stack}");
+    if wanted < CALLS / 4 {
+        return;
     }
     // a run in which a number hardly comes tests too little
     let lifts: &[usize] = &[0, 11, 12, 13, 14, 15, 16];

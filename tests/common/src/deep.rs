@@ -62,3 +62,37 @@ pub fn deep(depth: u64) -> Problem {
             .collect(),
     }
 }
+
+/// Runs this in a thread whose stack has 8 MiB; gives how much of it was touched, in words.
+pub fn on_small_stack(run: impl FnOnce() + Send + 'static) -> String {
+    let thread = std::thread::Builder::new().stack_size(8 << 20);
+    let touched = thread.spawn(|| {
+        let before = stack_touched()?;
+        run();
+        Some(stack_touched()? - before)
+    });
+    match touched.expect("a thread").join().expect("the run ends") {
+        Some(kib) => format!("{kib} KiB of 8,192 of its stack touched"),
+        None => "its stack of 8 MiB not measured".to_string(),
+    }
+}
+
+/// The memory of this thread's stack that was touched so far, in KiB, if the system tells.
+fn stack_touched() -> Option<u64> {
+    let local = 0_u8;
+    let here = std::hint::black_box(&local) as *const u8 as u64;
+    let maps = std::fs::read_to_string("/proc/self/smaps").ok()?;
+    let mut inside = false;
+    for line in maps.lines() {
+        let first = line.split(' ').next()?;
+        if let Some((from, to)) = first.split_once('-') {
+            let bound = |text| u64::from_str_radix(text, 16).ok();
+            if let (Some(from), Some(to)) = (bound(from), bound(to)) {
+                inside = (from..to).contains(&here);
+            }
+        } else if inside && first == "Rss:" {
+            return line.split_whitespace().nth(1)?.parse().ok();
+        }
+    }
+    None
+}

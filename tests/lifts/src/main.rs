@@ -9,7 +9,7 @@ mod proved;
 #[cfg(feature = "stub")]
 mod stub;
 
-use common::deep::{deep, DEEPEST};
+use common::deep::{deep, on_small_stack, DEEPEST};
 use common::examples::examples;
 use common::files::many_monomials;
 use common::states::{random_basis as random_state, Size as StateSize};
@@ -392,55 +392,27 @@ fn refusals(bases: &mut Bases) {
     }
 }
 
-/// As deep as the work area allows, in a thread whose stack has 8 MiB. Gives how much of it was touched, if the system tells.
-fn deepest() -> Option<u64> {
-    const STACK: usize = 8 << 20;
-    let thread = std::thread::Builder::new().stack_size(STACK);
-    let run = thread.spawn(|| {
-        let limits = Limits::document_01();
-        let mut compare = Compare::new(1);
-        let before = stack_touched();
-        for (depth, caches) in [
-            (DEEPEST, &[20_000][..]),
-            (DEEPEST + 1, &[0, 1, 7, 20_000][..]),
-        ] {
-            let problem = deep(depth);
-            let basis = Basis {
-                parameters: problem.parameters,
-                levels: vec![problem.elements],
-            };
-            compare.hold(&basis);
-            for cache in caches {
-                let (lifted, usage) =
-                    compare.level(&basis, 1, Way::Tree, *cache, &limits, 1_000_000);
-                // every subtree that is not finished holds one term, so the area is full at the greatest depth
-                assert_eq!(usage.tree, DEEPEST);
-                assert_eq!(matches!(lifted, Lifted::Level(_)), depth == DEEPEST);
-            }
-        }
-        Some(stack_touched()? - before?)
-    });
-    run.expect("a thread").join().expect("the deepest run ends")
-}
-
-/// The memory of this thread's stack that was touched so far, in KiB.
-fn stack_touched() -> Option<u64> {
-    let local = 0_u8;
-    let here = std::hint::black_box(&local) as *const u8 as u64;
-    let maps = std::fs::read_to_string("/proc/self/smaps").ok()?;
-    let mut inside = false;
-    for line in maps.lines() {
-        let first = line.split(' ').next()?;
-        if let Some((from, to)) = first.split_once('-') {
-            let bound = |text| u64::from_str_radix(text, 16).ok();
-            if let (Some(from), Some(to)) = (bound(from), bound(to)) {
-                inside = (from..to).contains(&here);
-            }
-        } else if inside && first == "Rss:" {
-            return line.split_whitespace().nth(1)?.parse().ok();
+/// As deep as the work area allows, and one deeper.
+fn deepest() {
+    let limits = Limits::document_01();
+    let mut compare = Compare::new(1);
+    for (depth, caches) in [
+        (DEEPEST, &[20_000][..]),
+        (DEEPEST + 1, &[0, 1, 7, 20_000][..]),
+    ] {
+        let problem = deep(depth);
+        let basis = Basis {
+            parameters: problem.parameters,
+            levels: vec![problem.elements],
+        };
+        compare.hold(&basis);
+        for cache in caches {
+            let (lifted, usage) = compare.level(&basis, 1, Way::Tree, *cache, &limits, 1_000_000);
+            // every subtree that is not finished holds one term, so the area is full at the greatest depth
+            assert_eq!(usage.tree, DEEPEST);
+            assert_eq!(matches!(lifted, Lifted::Level(_)), depth == DEEPEST);
         }
     }
-    None
 }
 
 fn main() {
@@ -508,13 +480,11 @@ fn main() {
     let [working, vector, tree] = compare.full;
     let [frame, terms] = compare.over;
     println!("  14 by a small limit alone: working value {working}, vector {vector}, tree's area {tree}; 15 by frame terms {frame}, by a level's terms {terms}");
-    let deep = deepest();
-    println!(
-        "  the tree at depth {DEEPEST} agrees, {}",
-        deep.map_or("stack not measured".to_string(), |kib| format!(
-            "{kib} KiB of stack touched"
-        ))
-    );
+    let stack = on_small_stack(deepest);
+    println!("  the tree at depth {DEEPEST} agrees, {stack}");
+    if wanted < BASES / 10 {
+        return;
+    }
     // a run in which a number hardly comes tests too little
     for (way, met) in WAYS.iter().zip(&compare.met) {
         for (number, count) in NUMBERS.iter().zip(met) {
