@@ -1,9 +1,6 @@
 //! Links the static library of proved lifting, which `rt staticlib lifts` writes.
 
 fn main() {
-    if std::env::var("CARGO_FEATURE_STUB").is_ok() {
-        return;
-    }
     let folder = std::env::var("CARGO_MANIFEST_DIR").expect("cargo sets it");
     let library = format!("{folder}/../../target/staticlib");
     println!("cargo:rustc-link-search=native={library}");

@@ -6,8 +6,6 @@
 
 mod compare;
 mod proved;
-#[cfg(feature = "stub")]
-mod stub;
 
 use common::deep::{deep, on_small_stack, DEEPEST};
 use common::examples::examples;
@@ -28,8 +26,9 @@ const BASES: u64 = 20_000;
 const SEED: u64 = 20_250_301;
 /// Products that a lifting of a made basis may take; one that takes more is left out.
 const BUDGET: u64 = 4_000;
-/// The same for the example files.
+/// The same for the example files: by pick code 2, and by any other way.
 const EXAMPLE_BUDGET: u64 = 10_000_000;
+const OTHER_EXAMPLE_BUDGET: u64 = 1_000_000;
 /// Division, hybrid by each pick code, the tree with caches of these lengths in terms; the last is longer than what a run within the budget needs.
 fn ways(budget: u64) -> Vec<(Way, u64)> {
     let longest = if budget == EXAMPLE_BUDGET {
@@ -43,11 +42,25 @@ fn ways(budget: u64) -> Vec<(Way, u64)> {
     ways
 }
 
+/// The least number of a limit: a vector has room for its frame term.
+fn least(limit: &str) -> u64 {
+    u64::from(limit == "vector")
+}
+
+fn within(budget: u64, way: Way) -> u64 {
+    if budget == EXAMPLE_BUDGET && way != Way::Hybrid(2) {
+        OTHER_EXAMPLE_BUDGET
+    } else {
+        budget
+    }
+}
+
 struct Bases {
     compare: Compare,
     random: Random,
     limits: Limits,
     bases: u64,
+    states: u64,
     deepest: usize,
 }
 
@@ -75,7 +88,7 @@ impl Bases {
             self.compare.hold(&basis);
             let k = self.random.between(1, basis.levels.len() as u64 - 1) as usize;
             for (way, cache) in ways(budget) {
-                let limits = self.limits;
+                let (limits, budget) = (self.limits, within(budget, way));
                 self.compare.level(&basis, k, way, cache, &limits, budget);
             }
         }
@@ -89,6 +102,7 @@ impl Bases {
         let swept = self.random.chance(2);
         for (way, cache) in ways(budget) {
             let limits = self.limits;
+            let budget = within(budget, way);
             let (level, usage) = self.compare.level(basis, k, way, cache, &limits, budget);
             frame = usage.frame;
             // an empty frame: no limit counts
@@ -146,13 +160,13 @@ impl Bases {
             };
             let most = self.limits.get(name).expect("a limit of that name");
             limits
-                .set(name, value.clamp(1, most))
+                .set(name, value.clamp(least(name), most))
                 .expect("no limit grows");
         }
         self.compare.level(basis, k, way, cache, &limits, budget);
     }
 
-    /// Each limit at every number from 1 to what the run takes, so that a refusal comes at every place of it.
+    /// Each limit at every number up to what the run takes, so that a refusal comes at every place of it.
     fn every_limit(
         &mut self,
         basis: &Basis,
@@ -172,7 +186,7 @@ impl Bases {
             ("level_terms", usage.level_terms),
         ] {
             let most = self.limits.get(name).expect("a limit of that name");
-            for value in 1..=need.min(most).min(40) {
+            for value in least(name)..=need.min(most).min(40) {
                 let mut limits = self.limits;
                 limits.set(name, value).expect("no limit grows");
                 self.compare.level(basis, k, way, cache, &limits, budget);
@@ -201,6 +215,7 @@ impl Bases {
         let limits = self.limits;
         for (way, cache) in ways(budget) {
             if way != Way::Tree || self.random.chance(30) {
+                let budget = within(budget, way);
                 self.compare.level(&raised, k, way, cache, &limits, budget);
             }
         }
@@ -228,7 +243,7 @@ impl Bases {
                 exponent: 2,
             },
         ]);
-        self.bases += 1;
+        self.states += 1;
         let mut basis = random_state(&mut self.random, &size);
         // a tenth level is complete, none comes above it
         let k = basis.levels.len().min(9);
@@ -257,8 +272,8 @@ impl Bases {
                 let problem = random_basis(&mut self.random, &Size::medium());
                 self.lift_all(problem, 3, BUDGET);
             }
-            15..=299 => self.any_state(),
-            300..=499 => {
+            15..=214 => self.any_state(),
+            215..=464 => {
                 let problem = random_basis(&mut self.random, &Size::small());
                 self.lift_all(problem, 9, BUDGET);
             }
@@ -304,30 +319,6 @@ fn refusals(bases: &mut Bases) {
                 bases.compare.refused(lengths, &wrong, 16);
             }
         }
-        for limit in [0, usize::MAX] {
-            for asked in [
-                Asked {
-                    working: limit,
-                    ..full
-                },
-                Asked {
-                    vector: limit,
-                    ..full
-                },
-                Asked {
-                    tree: limit,
-                    ..full
-                },
-                Asked {
-                    room: limit,
-                    ..full
-                },
-            ] {
-                bases
-                    .compare
-                    .refused(lengths(way), &Asked { way, ..asked }, 16);
-            }
-        }
         for asked in [
             Asked {
                 working: 513,
@@ -343,6 +334,15 @@ fn refusals(bases: &mut Bases) {
             },
             Asked {
                 room: 2_049,
+                ..full
+            },
+            Asked { vector: 0, ..full },
+            Asked {
+                working: usize::MAX,
+                ..full
+            },
+            Asked {
+                room: usize::MAX,
                 ..full
             },
         ] {
@@ -443,6 +443,7 @@ fn main() {
         random: Random::new(seed),
         limits: Limits::document_01(),
         bases: 0,
+        states: 0,
         deepest: 0,
     };
     bases.compare.spoil = spoil;
@@ -466,8 +467,8 @@ fn main() {
     }
     let compare = &bases.compare;
     println!(
-        "lifts: {} bases and states, {} levels lifted by both agree ({made} of made bases, where {left_out} liftings were left out; {} terms; levels up to {}; seed {seed})",
-        bases.bases, compare.calls, compare.terms, bases.deepest
+        "lifts: {} bases and {} other sound states, {} levels lifted by both agree ({made} of made bases, where {left_out} liftings were left out; {} terms; levels up to {}; seed {seed})",
+        bases.bases, bases.states, compare.calls, compare.terms, bases.deepest
     );
     for (way, met) in WAYS.iter().zip(&compare.met) {
         let counts: Vec<String> = NUMBERS
