@@ -1,5 +1,6 @@
 //! Reading with acceptance and all levels, by each way, on the files of examples/: the public calls beside plain Rust that does the same, and beside other
-//! systems where they are installed. Both go in turns in one process; a time is the median. One argument: how long each cell may take, in milliseconds.
+//! systems where they are installed. Both go in turns in one process; a time is the median. One argument: how long each cell may take, in milliseconds; a second one:
+//! the name of one file.
 
 mod others;
 mod plain;
@@ -260,6 +261,7 @@ fn main() {
         .nth(1)
         .map_or(100, |n| n.parse().expect("milliseconds"));
     let long = Duration::from_millis(milliseconds);
+    let only = std::env::args().nth(2);
     let limits = Limits::document_01();
     let mut buffers = Buffers {
         state: vec![0; state_words(&limits)],
@@ -273,6 +275,9 @@ fn main() {
     let mut sums = [[0.0; 2]; WAYS.len()];
     let mut other_sums = [[0.0; 2]; 3];
     for (name, file) in examples() {
+        if only.as_ref().is_some_and(|only| *only != name) {
+            continue;
+        }
         let Ok(problem) = read_problem(&limits, &file) else {
             continue;
         };
