@@ -40,7 +40,7 @@ pub fn deep(depth: u64) -> Problem {
         [0, 8, 12, 243, 0]
     };
     let start = vec![term(1, 2, [1, 0, 0, 0, 0]), term(1, 1, m)];
-    let elements = vec![
+    let elements = [
         start.clone(),
         start,
         vec![term(1, 1, [0, 0, 0, 0, 1]), term(6, 1, [0; 5])],

@@ -115,13 +115,13 @@ fn vector(
     terms: u64,
     exponent: u64,
 ) -> Vector {
-    let mut monomials: Vec<Monomial> = (0..terms)
+    let monomials: Vec<Monomial> = (0..terms)
         .map(|_| {
             let bound = if random.chance(5) { 256 } else { exponent };
             monomial(random, parameters, components, bound)
         })
         .collect();
-    descending(random, parameters, below, &mut monomials)
+    descending(random, parameters, below, &monomials)
 }
 
 fn exact_vector(
@@ -139,7 +139,7 @@ fn exact_vector(
             monomials.push(m);
         }
     }
-    descending(random, parameters, below, &mut monomials)
+    descending(random, parameters, below, &monomials)
 }
 
 fn monomial(random: &mut Random, parameters: &Parameters, components: u64, bound: u64) -> Monomial {
@@ -157,7 +157,7 @@ fn descending(
     random: &mut Random,
     parameters: &Parameters,
     below: &[Level],
-    monomials: &mut Vec<Monomial>,
+    monomials: &[Monomial],
 ) -> Vector {
     let modules = Modules::new(parameters.file_order(), below);
     let mut keyed: Vec<_> = monomials
