@@ -49,10 +49,7 @@ pub fn deep(depth: u64) -> Problem {
             term(6, 1, [0, 0, 0, 1, 1]),
             term(1, 1, [0, 0, 0, 1, 0]),
         ],
-        vec![
-            term(1, 1, [0, 1, 0, 254, 0]),
-            term(6, 1, [0, 0, 254, 0, 0]),
-        ],
+        vec![term(1, 1, [0, 1, 0, 254, 0]), term(6, 1, [0, 0, 254, 0, 0])],
     ];
     Problem {
         parameters,
