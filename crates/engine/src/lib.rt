@@ -82,7 +82,7 @@ pub fn read(file: &[u8], state: &mut [u16], work: &mut [u16]) -> Reply
     read_file(file, state, work)
 }
 
-fn level_number(k: usize) -> bool
+pub fn level_number(k: usize) -> bool
     ensures { λ r. ⌜ r ≡ between 1 k 9 ⌝ }
 {
     if k == 0 {

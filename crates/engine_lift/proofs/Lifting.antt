@@ -9,12 +9,12 @@ use lib.ListN.{length, getD, take, drop, replicate}
 use lib.Seq.{length-take-le, getD-take}
 use Rattle.definitions.specs.Limits.{document-01}
 use Rattle.definitions.specs.Lists.{_and_, every, between}
-use Rattle.definitions.specs.Monomial.{Vector, Level}
-use Rattle.definitions.specs.Result.{Result, done, refused, unfinished, refusal, finished?, at-level, _>>=_}
+use Rattle.definitions.specs.Monomial.{Level}
+use Rattle.definitions.specs.Result.{Result, done, refused, unfinished, finished?, _>>=_}
 use Rattle.definitions.specs.Problem.{Parameters}
-use Rattle.definitions.specs.State.{State, empty, vector-sound?, levels-sound?}
+use Rattle.definitions.specs.State.{empty, vector-sound?, levels-sound?}
 use Rattle.definitions.specs.Run.{by-code}
-use Rattle.definitions.specs.Lifting.{Lifting, by-division, by-hybrid, limited-frame, lift-all, lift-level}
+use Rattle.definitions.specs.Lifting.{Lifting, by-division, by-hybrid, by-tree, limited-frame, lift-all, lift-level}
 use Rattle.definitions.specs.Layout.{Words, Lift, rows, rows-of, padded, encode, vectors-at, level-at, levels-at}
 use Rattle.definitions.proofs.Tests.{and-left, and-right, between-high}
 use Rattle.definitions.proofs.Sound.{level-says, vector-says}
@@ -31,29 +31,20 @@ use Rattle.terms.specs.Rows.{cleared}
 use Rattle.writing.proofs.Growth.{cleared-empties}
 use Rattle.runs.specs.declared.Strategy.{Strategy}
 use Rattle.lift.specs.Vectors.{lifted-vectors, Kept, lifts}
-use Rattle.lifting.specs.Stages.{Base, stage-at, lift-over}
+use Rattle.lifting.specs.Stages.{Base, usual, stage-at, lift-over, leveled-of, Stored-as}
+use Rattle.lifting.specs.declared.Leveled.{Leveled}
+use Rattle.lifting.specs.declared.Leveled.the-variants.{Vectors, Refused, Stopped}
+use Rattle.tree_level.specs.Over.{tree-over}
 use Rattle.lifting.proofs.Readying.{sound-levels, prime-at}
 use Rattle.storing.specs.Stored.{Kept-apart, with-level}
-use Rattle.engine_lift.specs.Lifts.{Chosen, by-picks, by-leading, settled-lift, state-over}
+use Rattle.engine_lift.specs.Lifts.{Chosen, by-picks, by-leading, Settles, settled-lift, state-over}
 
-abbrev way-by : (w : Strategy) → Chosen w → Lifting
-way-by w (by-picks d e) = by-hybrid (w .pick)
-way-by w (by-leading d p e) = by-division
-
-module _ (s : Words) (j : ℕ) (b : Base s j) (w : Strategy) (c : Chosen w) where
+module _ (s : Words) (j : ℕ) (b : Base s j) where
   abbrev below : List Level
   below = levels-at document-01 s (suc j)
 
   abbrev q : Parameters
   q = parameters-at s
-
-  level-same : (c : Chosen w) (n : ℕ) → lift-over s j w n ≡ lift-level document-01 (q .p) (q .code) below (way-by w c) n
-  level-same (by-picks d e) n = λ i.
-      limited-frame document-01 (q .code) (level-at document-01 s j) >>= λ ms.
-      lift-all (stage-at s j) (lifts (stage-at s j) (record { drops = d i; pick = by-code (stage-at s j .below) (w .pick); stops = e i }) n) ([], 0) [] ms
-  level-same (by-leading d p e) n = λ i.
-      limited-frame document-01 (q .code) (level-at document-01 s j) >>= λ ms.
-      lift-all (stage-at s j) (lifts (stage-at s j) (record { drops = d i; pick = by-code (stage-at s j .below) (p i); stops = e i }) n) ([], 0) [] ms
 
   eight : q .n ≤ 8
   eight = between-high 1 (q .n) 8 (and-left (between 1 (q .n) 8) (between 1 (q .code) 3 and between 1 (q .s) 16) (holds-said s (b .long) (b .holds) .3))
@@ -63,10 +54,10 @@ module _ (s : Words) (j : ℕ) (b : Base s j) (w : Strategy) (c : Chosen w) wher
   Right (refused number place value) = T (limit-number? number) × (value ≡ [])
   Right unfinished = Unit {0}
 
-  right : (n : ℕ) → Right (lift-level document-01 (q .p) (q .code) below (way-by w c) n)
-  right n =
-      go (over document-01 q (prime-says (q .p) (prime-at s j b)) eight (omega arith) below (sound-levels s j b) .lifts (way-by w c) n)
-      (lift-level-number document-01 (q .p) (q .code) below (way-by w c) n)
+  right : (way : Lifting) (n : ℕ) → Right (lift-level document-01 (q .p) (q .code) below way n)
+  right way n =
+      go (over document-01 q (prime-says (q .p) (prime-at s j b)) eight (omega arith) below (sound-levels s j b) .lifts way n)
+      (lift-level-number document-01 (q .p) (q .code) below way n)
     where
       go : {x : Result Level} → Gives (Lift-right document-01 q below) x → Numbered limit-number? x → Right x
       go (gives {a} r) h = r .sound
@@ -74,14 +65,20 @@ module _ (s : Words) (j : ℕ) (b : Base s j) (w : Strategy) (c : Chosen w) wher
       go (refuses u) (numbers.stops t) = absurd t
       go open-yet h = tt
 
-  lifted-right : (n : ℕ) → Right (lift-over s j w n)
-  lifted-right n = subst Right (sym (level-same c n)) (right n)
-
-  pub lifted-sound : (n : ℕ) (f : Level) → done f ≡ lift-over s j w n → T (levels-sound? document-01 q (f ∷ below))
-  lifted-sound n f e = subst Right (sym e) (lifted-right n)
-
-  pub never-nine : (n : ℕ) (v : Vector) → refused 9 0 v ≡ lift-over s j w n → ⊥
-  never-nine n v e = subst Right (sym e) (lifted-right n) .0
+  -- a run's strategy is one of the ways
+  run-right : (w : Strategy) → Chosen w → (n : ℕ) → Right (lift-over usual s j w n)
+  run-right w (by-picks d e) n =
+      subst Right
+      (λ i.
+      limited-frame document-01 (q .code) (level-at document-01 s j) >>= λ ms.
+      lift-all (stage-at usual s j) (lifts (stage-at usual s j) (record { drops = sym d i; pick = by-code (stage-at usual s j .below) (w .pick); stops = sym e i }) n) ([], 0) [] ms)
+      (right (by-hybrid (w .pick)) n)
+  run-right w (by-leading d p e) n =
+      subst Right
+      (λ i.
+      limited-frame document-01 (q .code) (level-at document-01 s j) >>= λ ms.
+      lift-all (stage-at usual s j) (lifts (stage-at usual s j) (record { drops = sym d i; pick = by-code (stage-at usual s j .below) (sym p i); stops = sym e i }) n) ([], 0) [] ms)
+      (right by-division n)
 
 -- ## None is empty
 
@@ -104,7 +101,7 @@ start-before : (out : Words) (n j : ℕ) → j < n → before 0 (take n out) j �
 start-before out n zero h = refl
 start-before out n (suc j) h = getD-take n out j 0 (omega arith)
 
-pub apart : (s : Words) (j : ℕ) (b : Base s j) (n used : ℕ) (out : Words) → length out ≡ 20608 → used ≤ 2048 → Kept n used out
+pub apart : (s : Words) (j : ℕ) (b : Base s j) (n used : ℕ) (out : Words) → 20608 ≤ length out → used ≤ 2048 → Kept n used out
     → T (levels-sound? document-01 (parameters-at s) (lifted-vectors out n ∷ levels-at document-01 s (suc j))) → Kept-apart n out
 apart s j b n used out l u k t = record {
   few = k .few;
@@ -116,32 +113,51 @@ apart s j b n used out l u k t = record {
   room = λ i h. omega (arith, k .inside i h, u);
 }
 
+-- ## What can be stored
+
+module _ (s : Words) (j : ℕ) (b : Base s j) (out : Words) (long : 20608 ≤ length out) where
+  settles : (x : Leveled) (v : Words) → Right s j b (leveled-of x out v) → Stored-as x out → Settles x out
+  settles (Vectors n used) v r k = apart s j b n used out long (k .0) (k .1) r
+  settles (Refused number) v r k = tt
+  settles (Stopped n) v r k = absurd (r .0)
+
+  valueless : (x : Leveled) (v : Words) → Settles x out → leveled-of x out [] ≡ leveled-of x out v
+  valueless (Vectors n used) v h = refl
+  valueless (Refused number) v h = refl
+  valueless (Stopped n) v h = absurd h
+
+  over-finished : (x : Leveled) (v : Words) → T (finished? (leveled-of x out v))
+  over-finished (Vectors n used) v = tt
+  over-finished (Refused number) v = tt
+  over-finished (Stopped n) v = tt
+
+  pub run-settles : (w : Strategy) → Chosen w → (n : ℕ) (x : Leveled) (v : Words) → leveled-of x out v ≡ lift-over usual s j w n → Stored-as x out → Settles x out
+  run-settles w c n x v e k = settles x v (subst (Right s j b) (sym e) (run-right s j b w c n)) k
+
+  pub tree-settles : (room : ℕ) (x : Leveled) → leveled-of x out [] ≡ tree-over usual s j room → Stored-as x out → Settles x out
+  tree-settles room x e k = settles x [] (subst (Right s j b) (sym e) (right s j b (by-tree room) 0)) k
+
+  pub run-is : (w : Strategy) → Chosen w → (n : ℕ) (x : Leveled) (v : Words) → leveled-of x out v ≡ lift-over usual s j w n → Stored-as x out
+      → (leveled-of x out [] ≡ lift-over usual s j w n) × T (finished? (lift-over usual s j w n))
+  run-is w c n x v e k = (valueless x v (run-settles w c n x v e k) ∙ e, subst (λ r. T (finished? r)) e (over-finished x v))
+
+  pub tree-finished : (room : ℕ) (x : Leveled) → leveled-of x out [] ≡ tree-over usual s j room → T (finished? (tree-over usual s j room))
+  tree-finished room x e = subst (λ r. T (finished? r)) e (over-finished x [])
+
 -- ## What is left
 
-module _ (s : Words) (long : 206095 ≤ length s) (k : ℕ) (w : Strategy) (area room : ℕ) (n : ℕ) where
-  abbrev over-by : Result Level → Result State
-  over-by x = at-level k x >>= λ f. done (record { parameters = parameters-at s; levels = f ∷ levels-at document-01 s k })
-
-  over-finished : (x : Result Level) → T (finished? x) → T (finished? (over-by x))
-  over-finished (done f) t = tt
-  over-finished (refused number place value) t = tt
-  over-finished unfinished t = t
-
-  pub over-is : (x : Result Level) → T (finished? x) → x ≡ lift-over s (k - 1) w n → T (finished? (state-over s k w n))
-  over-is x t e = subst (λ y. T (finished? (over-by y))) e (over-finished x t)
-
+module _ (s : Words) (long : 206095 ≤ length s) (k : ℕ) (area room : ℕ) where
   zeroed : (z : Words) → length z ≡ area → cleared z 0 ≡ padded area (rows-of [])
   zeroed z e = ap (λ a. padded a []) e
 
   emptied : (z : Words) → length z ≡ room → cleared z 0 ≡ replicate room 0
   emptied z e = let d : length z - 0 ≡ room = omega (arith, e) in ap (λ a. replicate a 0) d
 
-  pub lifted-words : (count : ℕ) (out z x y : Words) → z ≡ encode document-01 (length s) (with-level s k count out) → length x ≡ area → length y ≡ room
-      → done (lifted-vectors out count) ≡ lift-over s (k - 1) w n
-      → _≡_ {A = Lift} (0, 0, z, cleared x 0, cleared y 0) (settled-lift (length s) area room (state-over s k w n))
-  lifted-words count out z x y p lx ly e = (λ i. (0, 0, p i, zeroed x lx i, emptied y ly i)) ∙ ap (λ r. settled-lift (length s) area room (over-by r)) e
+  pub lifted-words : (x : Leveled) (count used : ℕ) (out z y w : Words) → x ≡ Vectors count used → z ≡ encode document-01 (length s) (with-level s k count out) → length y ≡ area → length w ≡ room
+      → _≡_ {A = Lift} (0, 0, z, cleared y 0, cleared w 0) (settled-lift (length s) area room (state-over s k (leveled-of x out [])))
+  lifted-words x count used out z y w e p ly lw = (λ i. (0, 0, p i, zeroed y ly i, emptied w lw i)) ∙ ap (λ r. settled-lift (length s) area room (state-over s k (leveled-of r out []))) (sym e)
 
-  pub refused-words : (number : ℕ) (x y : Words) → length x ≡ area → length y ≡ room → refusal number ≡ lift-over s (k - 1) w n
-      → _≡_ {A = Lift} (number, k, cleared s 0, cleared x 0, cleared y 0) (settled-lift (length s) area room (state-over s k w n))
-  refused-words number x y lx ly e =
-      (λ i. (number, k, cleared-empties s long i, zeroed x lx i, emptied y ly i)) ∙ ap (λ r. settled-lift (length s) area room (over-by r)) e
+  pub refused-words : (x : Leveled) (number : ℕ) (out y w : Words) → x ≡ Refused number → length y ≡ area → length w ≡ room
+      → _≡_ {A = Lift} (number, k, cleared s 0, cleared y 0, cleared w 0) (settled-lift (length s) area room (state-over s k (leveled-of x out [])))
+  refused-words x number out y w e ly lw =
+      (λ i. (number, k, cleared-empties s long i, zeroed y ly i, emptied w lw i)) ∙ ap (λ r. settled-lift (length s) area room (state-over s k (leveled-of r out []))) (sym e)

@@ -30,7 +30,8 @@ use Rattle.runs.specs.declared.Strategy.{Strategy}
 use Rattle.lift.specs.Vectors.{Framed, lifts, accepted-of, Left}
 use Rattle.lift.specs.declared.Accepted.{Accepted}
 use Rattle.lift.specs.declared.Accepted.the-variants.{Yes, Refused as Accepted-refused, Stopped as Accepted-stopped}
-use Rattle.lifting.specs.Stages.{Base, ground-at, stage-at, strategy-at, Framed-by, accepted-with, value-in, Left-in}
+use Rattle.lifting.specs.Stages.{Base, usual, Within, ground-at, stage-at, strategy-at, Framed-by, accepted-with, value-in, Left-in}
+use Rattle.lifting.specs.declared.Bounds.{Bounds}
 use Rattle.lifting.proofs.Readying.{tables-at, family-at, images-below, images-above, below-is, stage-is, well-at}
 
 -- ## Leading monomials
@@ -51,10 +52,10 @@ module _ (s : Words) (j : ℕ) (b : Base s j) where
   length-level =
       length-leading (level-at document-01 s j)
       ∙ length-vectors (rows-from s j) 0 (take (count-at s j) (ends-from s j))
-      ∙ length-take-le (count-at s j) (ends-from s j) (family-at s j b .ends-fit)
+      ∙ length-take-le (count-at s j) (ends-from s j) (family-at s j b usual .ends-fit)
 
-  framed-at : (count : ℕ) (words : Words) → Framed-by s j count words → Framed (ground-at s j) count words
-  framed-at count words f = record {
+  pub framed-at : (lim : Bounds) (count : ℕ) (words : Words) → Framed-by s j count words → Framed (ground-at lim s j) count words
+  framed-at lim count words f = record {
     few = f .few;
     fits = f .fits;
     components = λ i h. let c = frame-components (getD s 2 0) (leading-monomials (level-at document-01 s j)) words count (f .terms) i h in (c .0, omega (arith, c .1, length-level));
@@ -64,21 +65,21 @@ module _ (s : Words) (j : ℕ) (b : Base s j) where
 
   module _ (leads spans below above : Words) (l : Led s j leads spans) (rb : Ready s j below) (ra : Ready s (suc j) above)
       (hl : 1280 ≤ length leads) (hs : 258 ≤ length spans) (hb : 1280 ≤ length below) (ha : 1280 ≤ length above)
-      (g : Ground) (level ends : Words) (eg : g ≡ ground-at s j) (el : level ≡ rows-from s j) (ee : ends ≡ ends-from s j) where
+      (lim : Bounds) (g : Ground) (level ends : Words) (eg : g ≡ ground-at lim s j) (el : level ≡ rows-from s j) (ee : ends ≡ ends-from s j) where
     abbrev Asked : ℕ → Words → Ground → Words → Words → Type 0
     Asked count words g level ends =
         Tables g leads spans × Family g level ends × Images (g .images) below × Images (g .r) above × Well (stage-of g level ends leads below (order-of g below)) ×
-        Framed g count words × (g .working ≡ 512) × (g .vector ≡ 512) × (g .room ≡ 2048)
+        Framed g count words × (g .working ≡ lim .working) × (g .vector ≡ lim .vector) × (g .room ≡ lim .room)
 
     pub asked : (count : ℕ) (words : Words) → Framed-by s j count words → Asked count words g level ends
     asked count words f =
         subst₃ (Asked count words) (sym eg) (sym el) (sym ee) (
-          tables-at s j b leads spans l hl hs,
-          family-at s j b,
+          tables-at s j b lim leads spans l hl hs,
+          family-at s j b lim,
           images-below s j b below rb hb,
           images-above s j b above ra ha,
-          well-at s j b leads spans below l rb,
-          framed-at count words f,
+          well-at s j b lim leads spans below l rb,
+          framed-at lim count words f,
           refl,
           refl,
           refl,
@@ -86,23 +87,23 @@ module _ (s : Words) (j : ℕ) (b : Base s j) where
 
     -- ## What it gives
 
-    stage-same : stage-of g level ends leads below (table-order (g .code) (table-of (g .r) above)) ≡ stage-at s j
+    stage-same : stage-of g level ends leads below (table-order (g .code) (table-of (g .r) above)) ≡ stage-at lim s j
     stage-same =
-        (λ i. stage-of (eg i) (el i) (ee i) leads below (table-order (eg i .code) (table-of (eg i .r) above))) ∙ stage-is s j b leads spans below l rb above ra
+        (λ i. stage-of (eg i) (el i) (ee i) leads below (table-order (eg i .code) (table-of (eg i .r) above))) ∙ stage-is s j b lim leads spans below l rb above ra
 
-    strategy-same : (w : Strategy) → strategy-of g below w ≡ strategy-at s j w
+    strategy-same : (w : Strategy) → strategy-of g below w ≡ strategy-at lim s j w
     strategy-same w =
         (λ i. strategy-of (eg i) below w)
-        ∙ (λ i. record { drops = w .drops; pick = by-code (below-is s j b below rb i) (w .pick); stops = w .stops })
+        ∙ (λ i. record { drops = w .drops; pick = by-code (below-is s j b lim below rb i) (w .pick); stops = w .stops })
 
     pub lifted-same : (w : Strategy) (n : ℕ) (ms : List Monomial) (x : Result Level)
         → x ≡ lift-all (stage-of g level ends leads below (table-order (g .code) (table-of (g .r) above)))
         (lifts (stage-of g level ends leads below (table-order (g .code) (table-of (g .r) above))) (strategy-of g below w) n) ([], 0) [] ms
-        → x ≡ lift-all (stage-at s j) (lifts (stage-at s j) (strategy-at s j w) n) ([], 0) [] ms
+        → x ≡ lift-all (stage-at lim s j) (lifts (stage-at lim s j) (strategy-at lim s j w) n) ([], 0) [] ms
     lifted-same w n ms x e = e ∙ (λ i. lift-all (stage-same i) (lifts (stage-same i) (strategy-same w i) n) ([], 0) [] ms)
 
     pub accepted-same : (n : ℕ) (ms : List Monomial) (x : Result (Unit {0}))
-        → x ≡ accept-from (stage-of g level ends leads below (table-order (g .code) (table-of (g .r) above))) n 1 ms → x ≡ accept-from (stage-at s j) n 1 ms
+        → x ≡ accept-from (stage-of g level ends leads below (table-order (g .code) (table-of (g .r) above))) n 1 ms → x ≡ accept-from (stage-at lim s j) n 1 ms
     accepted-same n ms x e = e ∙ (λ i. accept-from (stage-same i) n 1 ms)
 
 -- ## The frame first
@@ -140,3 +141,6 @@ pub answer-same : (x : Accepted) (vector : Words) → accepted-with x (value-in 
 answer-same Yes vector = refl
 answer-same (Accepted-refused number place) vector = refl
 answer-same (Accepted-stopped i n) vector = refl
+
+pub usual-within : Within usual
+usual-within = record { working = omega arith; vector = omega arith; filled = omega arith; tree = omega arith; room = omega arith }

@@ -31,7 +31,8 @@ use Rattle.levels.proofs.Sounding.{prime-above, complete-cut}
 use Rattle.levels.proofs.StateTests.{holds-said}
 use Rattle.reduce.specs.Grounds.{Tables, Family}
 use Rattle.runs.specs.Stages.{Images, order-of, stage-of}
-use Rattle.lifting.specs.Stages.{Base, ground-at, stage-at}
+use Rattle.lifting.specs.Stages.{Base, limits-with, ground-at, stage-at}
+use Rattle.lifting.specs.declared.Bounds.{Bounds}
 
 -- the ends of a level's vectors, to the state's end
 pub ends-part : (s : Words) (j : ℕ) → take (length s - (6 + j * 129)) (drop (6 + j * 129) s) ≡ ends-from s j
@@ -74,54 +75,55 @@ module _ (s : Words) (j : ℕ) (b : Base s j) where
   pub few-vectors : count-at s j ≤ 128
   few-vectors = complete-cut s (b .long) (b .holds) j (b .has) .0
 
-  pub tables-at : (leads spans : Words) → Led s j leads spans → 1280 ≤ length leads → 258 ≤ length spans → Tables (ground-at s j) leads spans
-  tables-at leads spans l h k = record {
-    prime = omega (arith, prime-above s (b .long) (b .holds));
-    few = omega (arith, few-vectors);
-    heads-fit = omega (arith, few-vectors, h);
-    spans-fit = omega (arith, components-few s (b .long) (b .holds) j (b .has), k);
-    small = l .small;
-    spanned = l .spanned;
-  }
-
-  pub family-at : Family (ground-at s j) (rows-from s j) (ends-from s j)
-  family-at = let c = complete-cut s (b .long) (b .holds) j (b .has) .1 in record { ends-fit = c .ends-fit; rows-fit = c .rows-fit }
-
   pub images-below : (below : Words) → Ready s j below → 1280 ≤ length below → Images (count-below s j) below
   images-below below r h = record { fits = omega (arith, r .few, h); tabled = ready-tabled s j below (omega (arith, b .low)) r }
 
   pub images-above : (above : Words) → Ready s (suc j) above → 1280 ≤ length above → Images (count-at s j) above
   images-above above r h = record { fits = omega (arith, few-vectors, h); tabled = ready-tabled s (suc j) above (omega (arith, b .low)) r }
 
-  -- ## The stage
-
-  pub below-is : (below : Words) → Ready s j below → order-of (ground-at s j) below ≡ compare-over (getD s 2 0) (levels-at document-01 s j)
-  below-is below r =
-      ap (table-order (getD s 2 0)) (r .made)
-      ∙ (λ i m m′. table-order-is (getD s 2 0) (levels-at document-01 s j) (led-below (levels-at document-01 s j) (level-at document-01 s j) led-levels) m m′ i)
-
   pub above-is : (above : Words) → Ready s (suc j) above → table-order (getD s 2 0) (table-of (count-at s j) above) ≡ compare-over (getD s 2 0) (levels-at document-01 s (suc j))
   above-is above r =
       ap (table-order (getD s 2 0)) (r .made) ∙ (λ i m m′. table-order-is (getD s 2 0) (levels-at document-01 s (suc j)) led-levels m m′ i)
 
+module _ (s : Words) (j : ℕ) (b : Base s j) (lim : Bounds) where
+  pub tables-at : (leads spans : Words) → Led s j leads spans → 1280 ≤ length leads → 258 ≤ length spans → Tables (ground-at lim s j) leads spans
+  tables-at leads spans l h k = record {
+    prime = omega (arith, prime-above s (b .long) (b .holds));
+    few = omega (arith, few-vectors s j b);
+    heads-fit = omega (arith, few-vectors s j b, h);
+    spans-fit = omega (arith, components-few s (b .long) (b .holds) j (b .has), k);
+    small = l .small;
+    spanned = l .spanned;
+  }
+
+  pub family-at : Family (ground-at lim s j) (rows-from s j) (ends-from s j)
+  family-at = let c = complete-cut s (b .long) (b .holds) j (b .has) .1 in record { ends-fit = c .ends-fit; rows-fit = c .rows-fit }
+
+  -- ## The stage
+
+  pub below-is : (below : Words) → Ready s j below → order-of (ground-at lim s j) below ≡ compare-over (getD s 2 0) (levels-at document-01 s j)
+  below-is below r =
+      ap (table-order (getD s 2 0)) (r .made)
+      ∙ (λ i m m′. table-order-is (getD s 2 0) (levels-at document-01 s j) (led-below s j b (levels-at document-01 s j) (level-at document-01 s j) (led-levels s j b)) m m′ i)
+
   module _ (leads spans below : Words) (l : Led s j leads spans) (rb : Ready s j below) where
     stage-by : (order : Monomial → Monomial → Comparison) → order ≡ compare-over (getD s 2 0) (levels-at document-01 s (suc j))
-        → stage-of (ground-at s j) (rows-from s j) (ends-from s j) leads below order ≡ stage-at s j
+        → stage-of (ground-at lim s j) (rows-from s j) (ends-from s j) leads below order ≡ stage-at lim s j
     stage-by order e = λ i. record {
-      reduction = record { limits = document-01; p = getD s 0 0; heads = l .made i };
+      reduction = record { limits = limits-with lim; p = getD s 0 0; heads = l .made i };
       family = level-at document-01 s j;
       below = below-is below rb i;
       above = e i;
     }
 
     pub stage-is : (above : Words) → Ready s (suc j) above
-        → stage-of (ground-at s j) (rows-from s j) (ends-from s j) leads below (table-order (getD s 2 0) (table-of (count-at s j) above)) ≡ stage-at s j
-    stage-is above ra = stage-by (table-order (getD s 2 0) (table-of (count-at s j) above)) (above-is above ra)
+        → stage-of (ground-at lim s j) (rows-from s j) (ends-from s j) leads below (table-order (getD s 2 0) (table-of (count-at s j) above)) ≡ stage-at lim s j
+    stage-is above ra = stage-by (table-order (getD s 2 0) (table-of (count-at s j) above)) (above-is s j b above ra)
 
-    well-over : Well (stage-of (ground-at s j) (rows-from s j) (ends-from s j) leads below (compare-over (getD s 2 0) (levels-at document-01 s (suc j))))
+    well-over : Well (stage-of (ground-at lim s j) (rows-from s j) (ends-from s j) leads below (compare-over (getD s 2 0) (levels-at document-01 s (suc j))))
     well-over =
-        subst Well (sym (stage-by (compare-over (getD s 2 0) (levels-at document-01 s (suc j))) refl))
-        (sound-well document-01 (parameters-at s) (levels-at document-01 s (suc j)) prime-at (omega arith) sound-levels)
+        let w = sound-well document-01 (parameters-at s) (levels-at document-01 s (suc j)) (prime-at s j b) (omega arith) (sound-levels s j b) in
+        subst Well (sym (stage-by (compare-over (getD s 2 0) (levels-at document-01 s (suc j))) refl)) (record { prime = w .prime; small = w .small; heads-are = w .heads-are; order = w .order; family = w .family })
 
-    pub well-at : Well (stage-of (ground-at s j) (rows-from s j) (ends-from s j) leads below (order-of (ground-at s j) below))
+    pub well-at : Well (stage-of (ground-at lim s j) (rows-from s j) (ends-from s j) leads below (order-of (ground-at lim s j) below))
     well-at = let w = well-over in record { prime = w .prime; small = w .small; heads-are = w .heads-are; order = w .order; family = w .family }

@@ -4,7 +4,7 @@ use mathlib.Core.List.{[]}
 use Prim.Native.Nat.{ℕ, suc, _+_, _*_, _<_, _≤_}
 use lib.Dec.{T}
 use lib.ListN.{length, getD}
-use Rattle.definitions.specs.Limits.{document-01}
+use Rattle.definitions.specs.Limits.{Limits, document-01}
 use Rattle.definitions.specs.Monomial.{Vector, Level, leading-monomials}
 use Rattle.definitions.specs.Result.{Result, done, refused, refusal, _>>=_}
 use Rattle.definitions.specs.Stage.{Stage, stage-over}
@@ -21,6 +21,7 @@ use Rattle.lift.specs.Vectors.{lifted-vectors, Kept, frame-terms, lifts, lifted
 use Rattle.lift.specs.declared.Lifted.{Lifted}
 use Rattle.lift.specs.declared.Accepted.{Accepted}
 use Rattle.lift.specs.declared.Accepted.the-variants.{Yes, Refused as Accepted-refused, Stopped as Accepted-stopped}
+use Rattle.lifting.specs.declared.Bounds.{Bounds}
 use Rattle.lifting.specs.declared.Leveled.{Leveled}
 use Rattle.lifting.specs.declared.Leveled.the-variants.{Vectors, Refused, Stopped}
 
@@ -31,15 +32,57 @@ pub record Base (s : Words) (j : ℕ) : Type 0 where
   pub has : j < getD s 4 0
   pub low : j < 10
 
-abbrev pub ground-at : Words → ℕ → Ground
-ground-at s j = record { p = getD s 0 0; code = getD s 2 0; r = count-at s j; components = components-at s j + 1; images = count-below s j; working = 512; vector = 512; tree = 4_096; room = 2_048 }
+-- document 01's limits of a lifting
+abbrev pub usual : Bounds
+usual = record { working = 512; vector = 512; tree = 4_096; room = 2_048 }
+
+-- at most those, so that the tables and the lent slices suffice
+pub record Within (b : Bounds) : Type 0 where
+  pub working : b .working ≤ 512
+  pub vector : b .vector ≤ 512
+  pub filled : 1 ≤ b .vector
+  pub tree : b .tree ≤ 4_096
+  pub room : b .room ≤ 2_048
+
+-- document 01's limits, but for those of a lifting
+abbrev pub limits-with : Bounds → Limits
+limits-with b = record {
+  prime-bound = document-01 .prime-bound;
+  variables = document-01 .variables;
+  components = document-01 .components;
+  elements = document-01 .elements;
+  exponent = 255;
+  t-lines = document-01 .t-lines;
+  file = document-01 .file;
+  field = document-01 .field;
+  vectors = document-01 .vectors;
+  level-terms = b .room;
+  levels = document-01 .levels;
+  working = b .working;
+  vector = b .vector;
+  tree = b .tree;
+  numbering = document-01 .numbering;
+}
+
+abbrev pub ground-at : Bounds → Words → ℕ → Ground
+ground-at b s j = record {
+  p = getD s 0 0;
+  code = getD s 2 0;
+  r = count-at s j;
+  components = components-at s j + 1;
+  images = count-below s j;
+  working = b .working;
+  vector = b .vector;
+  tree = b .tree;
+  room = b .room;
+}
 
 -- the stage over levels 0 to j
-abbrev pub stage-at : Words → ℕ → Stage
-stage-at s j = stage-over document-01 (getD s 0 0) (getD s 2 0) (levels-at document-01 s (suc j))
+abbrev pub stage-at : Bounds → Words → ℕ → Stage
+stage-at b s j = stage-over (limits-with b) (getD s 0 0) (getD s 2 0) (levels-at document-01 s (suc j))
 
-abbrev pub strategy-at : Words → ℕ → Strategy → definition.Strategy
-strategy-at s j w = record { drops = w .drops; pick = by-code (stage-at s j .below) (w .pick); stops = w .stops }
+abbrev pub strategy-at : Bounds → Words → ℕ → Strategy → definition.Strategy
+strategy-at b s j w = record { drops = w .drops; pick = by-code (stage-at b s j .below) (w .pick); stops = w .stops }
 
 -- the frame's rows, all of them
 pub record Framed-by (s : Words) (j count : ℕ) (words : Words) : Type 0 where
@@ -48,15 +91,15 @@ pub record Framed-by (s : Words) (j count : ℕ) (words : Words) : Type 0 where
   pub terms : frame-terms words count ≡ frame (getD s 2 0) (leading-monomials (level-at document-01 s j))
 
 -- what lifting these frame terms gives; the value of one without a reducer is not kept
-abbrev pub lifted-over : Words → ℕ → Strategy → ℕ → Words → Lifted → Words → Type 0
-lifted-over s j w count words x out =
-    ((n : ℕ) × (v : Words) × (lifted-of x count out v ≡ lift-all (stage-at s j) (lifts (stage-at s j) (strategy-at s j w) n) ([], 0) [] (frame-terms words count))) × Whole (ground-at s j) count x out
+abbrev pub lifted-over : Bounds → Words → ℕ → Strategy → ℕ → Words → Lifted → Words → Type 0
+lifted-over b s j w count words x out =
+    ((n : ℕ) × (v : Words) × (lifted-of x count out v ≡ lift-all (stage-at b s j) (lifts (stage-at b s j) (strategy-at b s j w) n) ([], 0) [] (frame-terms words count))) × Whole (ground-at b s j) count x out
 
 -- the frame formed first: 15; then its terms
-abbrev pub lift-over : Words → ℕ → Strategy → ℕ → Result Level
-lift-over s j w n =
+abbrev pub lift-over : Bounds → Words → ℕ → Strategy → ℕ → Result Level
+lift-over b s j w n =
     limited-frame document-01 (getD s 2 0) (level-at document-01 s j) >>= λ ms.
-    lift-all (stage-at s j) (lifts (stage-at s j) (strategy-at s j w) n) ([], 0) [] ms
+    lift-all (stage-at b s j) (lifts (stage-at b s j) (strategy-at b s j w) n) ([], 0) [] ms
 
 abbrev pub leveled-of : Leveled → Words → Words → Result Level
 leveled-of (Vectors n used) out v = done (lifted-vectors out n)

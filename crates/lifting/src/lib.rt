@@ -1,5 +1,5 @@
 // A complete level of a state made ready, and what stands over it lifted or divided.
-// Knows: crate definitions' Lifting over a state's words. Tables and frame are arrays of these functions' own frames, made once a call.
+// Knows: crate definitions' Lifting over a state's words, within limits that may be smaller than document 01's. Tables and frame are arrays of these functions' own frames, made once a call.
 ghost use mathlib.Core.Path.{_≡_};
 ghost use Prim.Native.Nat.{ℕ, suc, _*_, _≤_};
 ghost use lib.ListN.{length};
@@ -10,12 +10,32 @@ ghost use Rattle.levels.specs.Places.{count-below};
 ghost use Rattle.levels.specs.Tabled.{Ready};
 ghost use Rattle.stages.specs.Prepared.{Led};
 ghost use Rattle.lift.specs.Vectors.{frame-terms};
-ghost use Rattle.lifting.specs.Stages.{Base, ground-at, stage-at, Framed-by, lifted-over, lift-over, leveled-of, Stored-as, accepted-over, accepted-with, Shown, Left-in, value-in};
+ghost use Rattle.lifting.specs.Stages.{Base, usual, Within, ground-at, stage-at, Framed-by, lifted-over, lift-over, leveled-of, Stored-as, accepted-over, accepted-with, Shown, Left-in, value-in};
 use lift::Accepted;
 use lift::Lifted;
 use reduce::Ground;
 use runs::Strategy;
 use sums::Stored;
+
+// The limits of a lifting, in terms: a working value's, a vector's, the tree's work area's, a level's.
+pub struct Bounds {
+    pub working: usize,
+    pub vector: usize,
+    pub tree: usize,
+    pub room: usize,
+}
+
+// Document 01's.
+pub fn usual() -> Bounds
+    ensures { λ b. ⌜ b ≡ usual ⌝ }
+{
+    Bounds {
+        working: 512,
+        vector: 512,
+        tree: 4096,
+        room: 2048,
+    }
+}
 
 // How many vectors and rows they have; a refusal's number; a value without a reducer, which lifting does not meet.
 pub enum Leveled {
@@ -34,9 +54,10 @@ fn images_of(state: &[u16], j: usize) -> usize
     levels::count_of(state, j - 1)
 }
 
-fn ground_of(state: &[u16], j: usize) -> Ground
+// What lifting over level j reads beside the rows.
+pub fn ground_of(state: &[u16], j: usize, b: Bounds) -> Ground
     requires { ⌜ Base (now state) j ⌝ }
-    ensures { λ g. ⌜ g ≡ ground-at (now (state .entry)) j ⌝ }
+    ensures { λ g. ⌜ g ≡ ground-at b (now (state .entry)) j ⌝ }
 {
     let r = levels::count_of(state, j);
     let c = stages::components_of(state, j);
@@ -47,10 +68,10 @@ fn ground_of(state: &[u16], j: usize) -> Ground
         r,
         components: c + 1,
         images,
-        working: 512,
-        vector: 512,
-        tree: 4096,
-        room: 2048,
+        working: b.working,
+        vector: b.vector,
+        tree: b.tree,
+        room: b.room,
     }
 }
 
@@ -67,12 +88,13 @@ fn lift_frame(
     below: &[u16],
     above: &[u16],
     w: Strategy,
+    b: Bounds,
 ) -> Lifted
-    requires { ⌜ Base (now state) j × Led (now state) j (now heads) (now spans) × Ready (now state) j (now below) × Ready (now state) (suc j) (now above) × (1280 ≤ length (now heads)) × (258 ≤ length (now spans)) × (1280 ≤ length (now below)) × (1280 ≤ length (now above)) × Framed-by (now state) j count (now frame) × (20608 ≤ length (now out)) × (5120 ≤ length (now work)) ⌝ }
-    ensures { λ x. ⌜ lifted-over (now (state .entry)) j w count (now (frame .entry)) x (now (out .exit)) ⌝ }
+    requires { ⌜ Base (now state) j × Led (now state) j (now heads) (now spans) × Ready (now state) j (now below) × Ready (now state) (suc j) (now above) × (1280 ≤ length (now heads)) × (258 ≤ length (now spans)) × (1280 ≤ length (now below)) × (1280 ≤ length (now above)) × Framed-by (now state) j count (now frame) × (20608 ≤ length (now out)) × (5120 ≤ length (now work)) × Within b ⌝ }
+    ensures { λ x. ⌜ lifted-over b (now (state .entry)) j w count (now (frame .entry)) x (now (out .exit)) ⌝ }
 {
     let mut vector = [0u16; 5120];
-    let g = ground_of(state, j);
+    let g = ground_of(state, j, b);
     let start = 1295 + j * 20480;
     let ends = 6 + j * 129;
     lift::lift_all(
@@ -103,9 +125,10 @@ fn lift_with(
     below: &[u16],
     above: &[u16],
     w: Strategy,
+    b: Bounds,
 ) -> Leveled
-    requires { ⌜ Base (now state) j × Led (now state) j (now heads) (now spans) × Ready (now state) j (now below) × Ready (now state) (suc j) (now above) × (1280 ≤ length (now heads)) × (258 ≤ length (now spans)) × (1280 ≤ length (now below)) × (1280 ≤ length (now above)) × (20608 ≤ length (now out)) × (5120 ≤ length (now work)) ⌝ }
-    ensures { λ x. ⌜ ((n : ℕ) × (v : Words) × (leveled-of x (now (out .exit)) v ≡ lift-over (now (state .entry)) j w n)) × Stored-as x (now (out .exit)) ⌝ }
+    requires { ⌜ Base (now state) j × Led (now state) j (now heads) (now spans) × Ready (now state) j (now below) × Ready (now state) (suc j) (now above) × (1280 ≤ length (now heads)) × (258 ≤ length (now spans)) × (1280 ≤ length (now below)) × (1280 ≤ length (now above)) × (20608 ≤ length (now out)) × (5120 ≤ length (now work)) × Within b ⌝ }
+    ensures { λ x. ⌜ ((n : ℕ) × (v : Words) × (leveled-of x (now (out .exit)) v ≡ lift-over b (now (state .entry)) j w n)) × Stored-as x (now (out .exit)) ⌝ }
 {
     let mut framed = [0u16; 1280];
     let mut gens = [0u16; 1280];
@@ -125,6 +148,7 @@ fn lift_with(
             below,
             above,
             w,
+            b,
         ) {
             Lifted::Rows(used) => Leveled::Vectors(n, used),
             Lifted::Refused(x) => Leveled::Refused(x),
@@ -140,9 +164,10 @@ pub fn lift_level(
     state: &[u16],
     j: usize,
     w: Strategy,
+    b: Bounds,
 ) -> Leveled
-    requires { ⌜ Base (now state) j × (20608 ≤ length (now out)) × (5120 ≤ length (now work)) ⌝ }
-    ensures { λ x. ⌜ ((n : ℕ) × (v : Words) × (leveled-of x (now (out .exit)) v ≡ lift-over (now (state .entry)) j w n)) × Stored-as x (now (out .exit)) ⌝ }
+    requires { ⌜ Base (now state) j × (20608 ≤ length (now out)) × (5120 ≤ length (now work)) × Within b ⌝ }
+    ensures { λ x. ⌜ ((n : ℕ) × (v : Words) × (leveled-of x (now (out .exit)) v ≡ lift-over b (now (state .entry)) j w n)) × Stored-as x (now (out .exit)) ⌝ }
 {
     let mut heads = [0u16; 1280];
     let mut spans = [0u16; 258];
@@ -150,7 +175,7 @@ pub fn lift_level(
     let mut above = [0u16; 1280];
     stages::fill_leads(&mut heads, &mut spans, state, j);
     stages::fill_tables(&mut below, &mut above, state, j + 1);
-    lift_with(out, work, state, j, &heads, &spans, &below, &above, w)
+    lift_with(out, work, state, j, &heads, &spans, &below, &above, w, b)
 }
 
 // Rows of another slice in front, zeros after them.
@@ -189,10 +214,10 @@ fn accept_frame(
     above: &[u16],
 ) -> Accepted
     requires { ⌜ Base (now state) 0 × Led (now state) 0 (now heads) (now spans) × Ready (now state) 0 (now below) × Ready (now state) 1 (now above) × (1280 ≤ length (now heads)) × (258 ≤ length (now spans)) × (1280 ≤ length (now below)) × (1280 ≤ length (now above)) × Framed-by (now state) 0 count (now frame) × (5120 ≤ length (now work)) ⌝ }
-    ensures { λ x. ⌜ ((n : ℕ) × (v : Vector) × (accepted-with x v ≡ accept-from (stage-at (now (state .entry)) 0) n 1 (frame-terms (now (frame .entry)) count)) × Shown x v (now (work .exit))) ⌝ }
+    ensures { λ x. ⌜ ((n : ℕ) × (v : Vector) × (accepted-with x v ≡ accept-from (stage-at usual (now (state .entry)) 0) n 1 (frame-terms (now (frame .entry)) count)) × Shown x v (now (work .exit))) ⌝ }
 {
     let mut vector = [0u16; 5120];
-    let g = ground_of(state, 0);
+    let g = ground_of(state, 0, usual());
     let x = lift::accept_all(
         work,
         &mut vector,

@@ -7,8 +7,12 @@ use Rattle.lifting.proofs.Framing.{asked, accepted-same, left-room, ans
 use Rattle.lifting.specs.Stages.{accepted-with, value-in}
 use Rattle.lift.specs.Vectors.{frame-terms, accepted-of}
 use Rattle.levels.proofs.Walking.{whole-part}
+use Rattle.lifting.specs.Stages.{usual, ground-at}
 use Rattle.lifting.proofs.accept_frame.Statement.{statement}
 use Rattle.lifting.proofs.accept_frame.Tie as tie
+
+usual-requires : tie.Need-usual-requires
+usual-requires c κs = search needs
 
 ground-of-requires : tie.Need-ground-of-requires
 ground-of-requires c κs = search needs
@@ -36,11 +40,11 @@ part-accept-all-end-2 c = search needs
 
 accept-all-requires : tie.Need-accept-all-requires
 accept-all-requires c κs =
-    let a = c .before .before .before .before .before .before .before .before .before .before .before .before .args in
+    let a = c .before .before .before .before .before .before .before .before .before .before .before .before .before .args in
     let s = a .state .now in
-    let P = c .before .before .before .before .before .before .before .before .before .before .before .before .pre in
-    let ask = asked s 0 (P .0) (a .heads .now) (a .spans .now) (a .below .now) (a .above .now) (P .1) (P .2) (P .3) (P .4) (P .5) (P .6) (P .7) (c .before .before .before .before .ground-of .result)
-    (take (length s - 1295) (drop 1295 s)) (take (length s - 6) (drop 6 s)) (c .before .before .before .before .ground-of .ensures) (whole-part 1295 s) (whole-part 6 s) (a .count) (a .frame .now) (P .8) in
+    let P = c .before .before .before .before .before .before .before .before .before .before .before .before .before .pre in
+    let ask = asked s 0 (P .0) (a .heads .now) (a .spans .now) (a .below .now) (a .above .now) (P .1) (P .2) (P .3) (P .4) (P .5) (P .6) (P .7) usual (c .before .before .before .before .ground-of .result)
+    (take (length s - 1295) (drop 1295 s)) (take (length s - 6) (drop 6 s)) (c .before .before .before .before .ground-of .ensures ∙ ap (λ b. ground-at b s 0) (c .before .before .before .before .before .usual .ensures)) (whole-part 1295 s) (whole-part 6 s) (a .count) (a .frame .now) (P .8) in
     let w = ask .6 in
     let v = ask .7 in
     (ask .0, ask .1, ask .2, ask .3, record { value-fits = omega (arith, w, P .9); vector-fits = omega (arith, v); sorted-fits = omega (arith, v, P .9); left-fits = omega (arith, w) }, omega (arith, v), ask .4, ask .5)
@@ -51,20 +55,20 @@ slice-aggregate-settle c = search needs
 settle-requires : tie.Need-settle-requires
 settle-requires c κs =
     let x = c .before .before .before .before .before .accept-all in
-    left-room (c .before .before .before .before .before .before .before .before .before .before .ground-of .result) (x .result) (x .last .1 .0) (x .last .0) (ap (λ g. g .working) (c .before .before .before .before .before .before .before .before .before .before .ground-of .ensures)) (x .ensures .1) (omega arith) (omega (arith, c .before .before .before .before .before .before .before .before .before .before .before .before .before .before .before .before .before .before .pre .9))
+    left-room (c .before .before .before .before .before .before .before .before .before .before .ground-of .result) (x .result) (x .last .1 .0) (x .last .0) (ap (λ g. g .working) (c .before .before .before .before .before .before .before .before .before .before .ground-of .ensures) ∙ ap (λ b. b .working) (c .before .before .before .before .before .before .before .before .before .before .before .usual .ensures)) (x .ensures .1) (omega arith) (omega (arith, c .before .before .before .before .before .before .before .before .before .before .before .before .before .before .before .before .before .before .before .pre .9))
 
 same-length : tie.Need-same-length
 same-length c = search needs
 
 returns : tie.Need-returns
 returns c =
-    let a = c .before .before .before .before .before .before .before .before .before .before .before .before .before .before .before .before .before .before .before .before .before .args in
+    let a = c .before .before .before .before .before .before .before .before .before .before .before .before .before .before .before .before .before .before .before .before .before .before .args in
     let s = a .state .now in
-    let P = c .before .before .before .before .before .before .before .before .before .before .before .before .before .before .before .before .before .before .before .before .before .pre in
+    let P = c .before .before .before .before .before .before .before .before .before .before .before .before .before .before .before .before .before .before .before .before .before .before .pre in
     let x = c .before .before .before .before .before .before .before .before .accept-all in
     let y = c .before .before .settle in
-    let told = accepted-same s 0 (P .0) (a .heads .now) (a .spans .now) (a .below .now) (a .above .now) (P .1) (P .2) (P .3) (P .4) (P .5) (P .6) (P .7) (c .before .before .before .before .before .before .before .before .before .before .before .before .before .ground-of .result)
-    (take (length s - 1295) (drop 1295 s)) (take (length s - 6) (drop 6 s)) (c .before .before .before .before .before .before .before .before .before .before .before .before .before .ground-of .ensures) (whole-part 1295 s) (whole-part 6 s)
+    let told = accepted-same s 0 (P .0) (a .heads .now) (a .spans .now) (a .below .now) (a .above .now) (P .1) (P .2) (P .3) (P .4) (P .5) (P .6) (P .7) usual (c .before .before .before .before .before .before .before .before .before .before .before .before .before .ground-of .result)
+    (take (length s - 1295) (drop 1295 s)) (take (length s - 6) (drop 6 s)) (c .before .before .before .before .before .before .before .before .before .before .before .before .before .ground-of .ensures ∙ ap (λ b. ground-at b s 0) (c .before .before .before .before .before .before .before .before .before .before .before .before .before .before .usual .ensures)) (whole-part 1295 s) (whole-part 6 s)
     (x .ensures .0 .0) (frame-terms (a .frame .now) (a .count)) (accepted-of (x .result) (x .last .1 .0)) (x .ensures .0 .1) in
     (x .ensures .0 .0, value-in (x .result) (x .last .1 .0), ap (λ z. accepted-with z (value-in (x .result) (x .last .1 .0))) (y .ensures .0) ∙ answer-same (x .result) (x .last .1 .0) ∙ told, y .ensures .1)
 
@@ -72,6 +76,7 @@ pub accept-frame-spec : {M : Type 1} → statement M
 accept-frame-spec =
     tie.close
     (tie.spec
+    usual-requires
     ground-of-requires
     slice-aggregate-accept-all
     sub-accept-all

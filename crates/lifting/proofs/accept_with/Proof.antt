@@ -6,7 +6,7 @@ use Prim.Native.Nat.{_≤_}
 use lib.ListN.{length, getD}
 use Rattle.lifting.proofs.Framing.{leading-at, too-many, few-enough, whole-frame}
 use Rattle.lifting.proofs.Readying.{few-vectors}
-use Rattle.lifting.specs.Stages.{stage-at}
+use Rattle.lifting.specs.Stages.{usual, stage-at}
 use Rattle.lift.specs.Vectors.{frame-terms}
 use Rattle.frame.specs.Generators.{monomials-of, framed-of, few}
 use Rattle.levels.specs.Places.{count-at}
@@ -66,7 +66,7 @@ returns c =
     let lead : monomials-of (rows (a .heads .now) 0 (c .before .before .before .before .before .before .before .before .count-of .result)) ≡ leading-monomials (level-at document-01 s 0) = ap (λ k. monomials-of (rows (a .heads .now) 0 k)) r ∙ leading-at s 0 (c .before .before .before .before .before .before .before .before .before .before .before .before .before .before .before .pre .0) (a .heads .now) (a .spans .now) (c .before .before .before .before .before .before .before .before .before .before .before .before .before .before .before .pre .1) in (
       0,
       [],
-      too-many (getD s 2 0) (level-at document-01 s 0) (monomials-of (rows (a .heads .now) 0 (c .before .before .before .before .before .before .before .before .count-of .result))) (λ ms. accept-from (stage-at s 0) 0 1 ms) lead
+      too-many (getD s 2 0) (level-at document-01 s 0) (monomials-of (rows (a .heads .now) 0 (c .before .before .before .before .before .before .before .before .count-of .result))) (λ ms. accept-from (stage-at usual s 0) 0 1 ms) lead
           (sym (ap (λ y. framed-of y (c .before .before .before .before .form .last .0)) (c .enum-told .given .1)) ∙ c .before .before .before .before .form .ensures .0),
       tt,
     )
@@ -85,7 +85,7 @@ returns-2 c =
     let told : done (monomials-of (rows (F .last .0) 0 n)) ≡ if-few (leb (length (frame (getD s 2 0) (monomials-of (rows (a .heads .now) 0 (c .before .before .before .before .before .before .before .before .before .before .before .before .before .before .count-of .result))))) 128) (frame (getD s 2 0) (monomials-of (rows (a .heads .now) 0 (c .before .before .before .before .before .before .before .before .before .before .before .before .before .before .count-of .result)))) =
     sym (ap (λ y. framed-of y (F .last .0)) (c .before .before .before .before .before .before .n .given .1)) ∙ F .ensures .0 in
     let L = c .before .before .accept-frame in
-    (L .ensures .0, L .ensures .1, L .ensures .2 ∙ few-enough (getD s 2 0) (level-at document-01 s 0) (monomials-of (rows (a .heads .now) 0 (c .before .before .before .before .before .before .before .before .before .before .before .before .before .before .count-of .result))) (frame-terms (F .last .0) n) (λ ms. accept-from (stage-at s 0) (L .ensures .0) 1 ms) lead told, L .ensures .3)
+    (L .ensures .0, L .ensures .1, L .ensures .2 ∙ few-enough (getD s 2 0) (level-at document-01 s 0) (monomials-of (rows (a .heads .now) 0 (c .before .before .before .before .before .before .before .before .before .before .before .before .before .before .count-of .result))) (frame-terms (F .last .0) n) (λ ms. accept-from (stage-at usual s 0) (L .ensures .0) 1 ms) lead told, L .ensures .3)
 
 pub accept-with-spec : {M : Type 1} → statement M
 accept-with-spec =

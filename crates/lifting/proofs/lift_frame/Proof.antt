@@ -57,13 +57,14 @@ lift-all-requires c κs =
     let a = c .before .before .before .before .before .before .before .before .before .before .before .before .before .before .args in
     let s = a .state .now in
     let P = c .before .before .before .before .before .before .before .before .before .before .before .before .before .before .pre in
-    let ask = asked s (a .j) (P .0) (a .heads .now) (a .spans .now) (a .below .now) (a .above .now) (P .1) (P .2) (P .3) (P .4) (P .5) (P .6) (P .7) (c .before .before .before .before .before .ground-of .result)
+    let ask = asked s (a .j) (P .0) (a .heads .now) (a .spans .now) (a .below .now) (a .above .now) (P .1) (P .2) (P .3) (P .4) (P .5) (P .6) (P .7) (a .b) (c .before .before .before .before .before .ground-of .result)
     (take (length s - (1295 + a .j * 20480)) (drop (1295 + a .j * 20480) s)) (take (length s - (6 + a .j * 129)) (drop (6 + a .j * 129) s))
     (c .before .before .before .before .before .ground-of .ensures) (whole-part (1295 + a .j * 20480) s) (ends-part s (a .j)) (a .count) (a .frame .now) (P .8) in
     let w = ask .6 in
     let v = ask .7 in
     let r = ask .8 in
-    (ask .0, ask .1, ask .2, ask .3, record { value-fits = omega (arith, w, P .10); vector-fits = omega (arith, v); sorted-fits = omega (arith, v, P .10); left-fits = omega (arith, w) }, omega (arith, v), ask .4, ask .5, omega (arith, r, P .9), omega (arith, r))
+    let i = P .11 in
+    (ask .0, ask .1, ask .2, ask .3, record { value-fits = omega (arith, w, i .working, P .10); vector-fits = omega (arith, v, i .vector); sorted-fits = omega (arith, v, i .vector, P .10); left-fits = omega (arith, w, i .working) }, omega (arith, v, i .vector), ask .4, ask .5, omega (arith, r, i .room, P .9), omega (arith, r, i .room))
 
 same-length : tie.Need-same-length
 same-length c = search needs
@@ -80,7 +81,7 @@ returns c =
       (
         L .ensures .0 .0,
         L .last .1 .1 .0,
-        lifted-same s (a .j) (P .0) (a .heads .now) (a .spans .now) (a .below .now) (a .above .now) (P .1) (P .2) (P .3) (P .4) (P .5) (P .6) (P .7) (c .before .before .before .before .before .before .before .before .before .before .before .ground-of .result)
+        lifted-same s (a .j) (P .0) (a .heads .now) (a .spans .now) (a .below .now) (a .above .now) (P .1) (P .2) (P .3) (P .4) (P .5) (P .6) (P .7) (a .b) (c .before .before .before .before .before .before .before .before .before .before .before .ground-of .result)
             (take (length s - (1295 + a .j * 20480)) (drop (1295 + a .j * 20480) s)) (take (length s - (6 + a .j * 129)) (drop (6 + a .j * 129) s))
             (c .before .before .before .before .before .before .before .before .before .before .before .ground-of .ensures) (whole-part (1295 + a .j * 20480) s) (ends-part s (a .j)) (a .w) (L .ensures .0 .0) (frame-terms (a .frame .now) (a .count)) (lifted-of (L .result) (a .count) (L .last .0) (L .last .1 .1 .0)) (L .ensures .0 .1),
       ),

@@ -45,7 +45,7 @@ lift-with-requires c κs =
     let P = c .before .before .before .before .before .before .before .before .before .before .before .before .before .before .before .before .before .before .before .pre in
     let e : a .j + 1 ≡ suc (a .j) = omega arith in
     let t = subst (λ k. Ready-pair (a .state .now) k (c .before .before .before .before .before .before .before .before .fill-tables .last .0) (c .before .before .before .before .before .before .before .before .fill-tables .last .1 .0)) e (c .before .before .before .before .before .before .before .before .fill-tables .ensures) in
-    (P .0, c .before .before .before .before .before .before .before .before .before .before .before .before .before .fill-leads .ensures, t .1, t .0, omega arith, omega arith, omega arith, omega arith, P .1, P .2)
+    (P .0, c .before .before .before .before .before .before .before .before .before .before .before .before .before .fill-leads .ensures, t .1, t .0, omega arith, omega arith, omega arith, omega arith, P .1, P .2, P .3)
 
 same-length : tie.Need-same-length
 same-length c = search needs

@@ -56,7 +56,7 @@ lift-frame-requires c κs =
     sym (ap (λ y. framed-of y (F .last .0)) (c .before .before .before .before .n .given .1)) ∙ F .ensures .0 in
     let m : n ≤ 128 = subst (few 128) (c .before .before .before .before .n .given .1) (F .ensures .1) in
     let P = c .before .before .before .before .before .before .before .before .before .before .before .before .before .before .before .before .before .before .before .before .pre in
-    (P .0, P .1, P .2, P .3, P .4, P .5, P .6, P .7, record { few = m; fits = omega (arith, m); terms = whole-frame (getD s 2 0) (monomials-of (rows (a .heads .now) 0 (c .before .before .before .before .before .before .before .before .before .before .before .before .count-of .result))) (leading-monomials (level-at document-01 s (a .j))) (frame-terms (F .last .0) n) lead told }, P .8, P .9)
+    (P .0, P .1, P .2, P .3, P .4, P .5, P .6, P .7, record { few = m; fits = omega (arith, m); terms = whole-frame (getD s 2 0) (monomials-of (rows (a .heads .now) 0 (c .before .before .before .before .before .before .before .before .before .before .before .before .count-of .result))) (leading-monomials (level-at document-01 s (a .j))) (frame-terms (F .last .0) n) lead told }, P .8, P .9, P .10)
 
 enum-known-used : tie.Need-enum-known-used
 enum-known-used c = search needs
@@ -76,7 +76,7 @@ returns c =
       (
         0,
         [],
-        too-many (getD s 2 0) (level-at document-01 s (a .j)) (monomials-of (rows (a .heads .now) 0 (c .before .before .before .before .before .before .before .before .count-of .result))) (λ ms. lift-all (stage-at s (a .j)) (lifts (stage-at s (a .j)) (strategy-at s (a .j) (a .w)) 0) ([], 0) [] ms) lead
+        too-many (getD s 2 0) (level-at document-01 s (a .j)) (monomials-of (rows (a .heads .now) 0 (c .before .before .before .before .before .before .before .before .count-of .result))) (λ ms. lift-all (stage-at (a .b) s (a .j)) (lifts (stage-at (a .b) s (a .j)) (strategy-at (a .b) s (a .j) (a .w)) 0) ([], 0) [] ms) lead
             (sym (ap (λ y. framed-of y (c .before .before .before .before .form .last .0)) (c .enum-told .given .1)) ∙ c .before .before .before .before .form .ensures .0),
       ),
       tt,
@@ -103,9 +103,9 @@ returns-2 c =
         L .ensures .0 .0,
         L .ensures .0 .1,
         sym (ap (λ y. lifted-of y n (L .last .0) (L .ensures .0 .1)) (c .before .used .given .1)) ∙ L .ensures .0 .2
-            ∙ few-enough (getD s 2 0) (level-at document-01 s (a .j)) (monomials-of (rows (a .heads .now) 0 (c .before .before .before .before .before .before .before .before .before .before .before .before .before .before .before .before .before .before .before .before .count-of .result))) (frame-terms (F .last .0) n) (λ ms. lift-all (stage-at s (a .j)) (lifts (stage-at s (a .j)) (strategy-at s (a .j) (a .w)) (L .ensures .0 .0)) ([], 0) [] ms) lead told,
+            ∙ few-enough (getD s 2 0) (level-at document-01 s (a .j)) (monomials-of (rows (a .heads .now) 0 (c .before .before .before .before .before .before .before .before .before .before .before .before .before .before .before .before .before .before .before .before .count-of .result))) (frame-terms (F .last .0) n) (λ ms. lift-all (stage-at (a .b) s (a .j)) (lifts (stage-at (a .b) s (a .j)) (strategy-at (a .b) s (a .j) (a .w)) (L .ensures .0 .0)) ([], 0) [] ms) lead told,
       ),
-      subst (λ y. Whole (ground-at s (a .j)) n y (L .last .0)) (c .before .used .given .1) (L .ensures .1),
+      (let h = subst (λ y. Whole (ground-at (a .b) s (a .j)) n y (L .last .0)) (c .before .used .given .1) (L .ensures .1) in (omega (arith, h .0, c .before .before .before .before .before .before .before .before .before .before .before .before .before .before .before .before .before .before .before .before .before .before .before .before .before .before .before .before .pre .10 .room), h .1)),
     )
 
 same-length-3 : tie.Need-same-length-3
@@ -129,7 +129,7 @@ returns-3 c =
         L .ensures .0 .0,
         L .ensures .0 .1,
         sym (ap (λ y. lifted-of y n (L .last .0) (L .ensures .0 .1)) (c .before .x .given .1)) ∙ L .ensures .0 .2
-            ∙ few-enough (getD s 2 0) (level-at document-01 s (a .j)) (monomials-of (rows (a .heads .now) 0 (c .before .before .before .before .before .before .before .before .before .before .before .before .before .before .before .before .before .before .before .before .count-of .result))) (frame-terms (F .last .0) n) (λ ms. lift-all (stage-at s (a .j)) (lifts (stage-at s (a .j)) (strategy-at s (a .j) (a .w)) (L .ensures .0 .0)) ([], 0) [] ms) lead told,
+            ∙ few-enough (getD s 2 0) (level-at document-01 s (a .j)) (monomials-of (rows (a .heads .now) 0 (c .before .before .before .before .before .before .before .before .before .before .before .before .before .before .before .before .before .before .before .before .count-of .result))) (frame-terms (F .last .0) n) (λ ms. lift-all (stage-at (a .b) s (a .j)) (lifts (stage-at (a .b) s (a .j)) (strategy-at (a .b) s (a .j) (a .w)) (L .ensures .0 .0)) ([], 0) [] ms) lead told,
       ),
       tt,
     )
@@ -155,7 +155,7 @@ returns-4 c =
         L .ensures .0 .0,
         L .ensures .0 .1,
         sym (ap (λ y. lifted-of y n (L .last .0) (L .ensures .0 .1)) (c .before .x2 .given .1)) ∙ L .ensures .0 .2
-            ∙ few-enough (getD s 2 0) (level-at document-01 s (a .j)) (monomials-of (rows (a .heads .now) 0 (c .before .before .before .before .before .before .before .before .before .before .before .before .before .before .before .before .before .before .before .before .count-of .result))) (frame-terms (F .last .0) n) (λ ms. lift-all (stage-at s (a .j)) (lifts (stage-at s (a .j)) (strategy-at s (a .j) (a .w)) (L .ensures .0 .0)) ([], 0) [] ms) lead told,
+            ∙ few-enough (getD s 2 0) (level-at document-01 s (a .j)) (monomials-of (rows (a .heads .now) 0 (c .before .before .before .before .before .before .before .before .before .before .before .before .before .before .before .before .before .before .before .before .count-of .result))) (frame-terms (F .last .0) n) (λ ms. lift-all (stage-at (a .b) s (a .j)) (lifts (stage-at (a .b) s (a .j)) (strategy-at (a .b) s (a .j) (a .w)) (L .ensures .0 .0)) ([], 0) [] ms) lead told,
       ),
       tt,
     )

@@ -1,0 +1,72 @@
+// The three calls for programs in other languages: include/tagetessash.h declares them.
+// Knows: crates engine and engine_lift. A slice is a pointer and a length.
+ghost use mathlib.Core.Path.{_≡_};
+ghost use mathlib.Core.Option.{some};
+ghost use Prim.Native.Nat.{ℕ};
+ghost use Rattle.definitions.specs.Limits.{document-01};
+ghost use Rattle.definitions.specs.Layout.{read-call, lift-call, fetch-call};
+ghost use Rattle.engine_lift.specs.Lifts.{way-of};
+ghost use Rattle.calls.specs.Coded.{coded-way, read-told, lift-told, fetch-told};
+use engine_lift::Way;
+
+// "read a file and accept or refuse its basis"
+#[no_mangle]
+pub extern "C" fn tagetessash_read(
+    file: &[u8],
+    state: &mut [u16],
+    work: &mut [u16],
+    place: &mut usize,
+) -> u16
+    ensures { λ x. ⌜ ((n : ℕ) × (some (read-told x (now (place .exit)) (now (state .exit)) (now (work .exit))) ≡ read-call document-01 n (now (file .entry)) (now (state .entry)) (now (work .entry)))) ⌝ }
+{
+    let r = engine::read(file, state, work);
+    *place = r.place;
+    r.number
+}
+
+// 0 division, 1 hybrid, 2 the tree. Any other code is hybrid with a pick code that there is not: 12.
+pub fn way_by(way: u16, pick: u16) -> Way
+    ensures { λ x. ⌜ way-of x ≡ coded-way way pick ⌝ }
+{
+    match way {
+        0 => Way::Division,
+        1 => Way::Hybrid(pick),
+        2 => Way::Tree,
+        _ => Way::Hybrid(0),
+    }
+}
+
+// "form the frame of level k and lift all its terms, in number order, by one of three ways"
+#[no_mangle]
+pub extern "C" fn tagetessash_lift(
+    state: &mut [u16],
+    work: &mut [u16],
+    cache: &mut [u16],
+    level: usize,
+    way: u16,
+    pick: u16,
+    place: &mut usize,
+) -> u16
+    ensures { λ x. ⌜ ((n : ℕ) × (some (lift-told x (now (place .exit)) (now (state .exit)) (now (work .exit)) (now (cache .exit))) ≡ lift-call document-01 n level (coded-way way pick) (now (state .entry)) (now (work .entry)) (now (cache .entry)))) ⌝ }
+{
+    let w = way_by(way, pick);
+    let r = engine_lift::lift(state, work, cache, level, w);
+    *place = r.place;
+    r.number
+}
+
+// "fetch vector v of level k"
+#[no_mangle]
+pub extern "C" fn tagetessash_fetch(
+    state: &[u16],
+    out: &mut [u16],
+    level: usize,
+    vector: usize,
+    place: &mut usize,
+) -> u16
+    ensures { λ x. ⌜ fetch-told x (now (place .exit)) (now (out .exit)) ≡ fetch-call document-01 level vector (now (state .entry)) (now (out .entry)) ⌝ }
+{
+    let r = engine::fetch(state, out, level, vector);
+    *place = r.place;
+    r.number
+}

@@ -1,0 +1,61 @@
+-- Levels lifted within limits that may be smaller, and what the call answers.
+use mathlib.Core.Bool.{Bool}
+use mathlib.Core.List.{[]}
+use Prim.Native.Nat.{ℕ, suc, _-_}
+use lib.Dec.{leb, eqb}
+use lib.ListN.{length, getD}
+use Rattle.definitions.specs.Limits.{document-01}
+use Rattle.definitions.specs.Lists.{_and_, choose, between}
+use Rattle.definitions.specs.Monomial.{Vector, Level}
+use Rattle.definitions.specs.Result.{Result, done, refused}
+use Rattle.definitions.specs.Lifting.{lift-level}
+use Rattle.definitions.specs.Layout.{Words, Way, lifting-by, work-words, levels-at, holds-state?}
+use Rattle.lift.specs.Vectors.{lifted-vectors}
+use Rattle.lifting.specs.Stages.{limits-with}
+use Rattle.lifting.specs.declared.Bounds.{Bounds}
+use Rattle.lifting.specs.declared.Leveled.{Leveled}
+use Rattle.lifting.specs.declared.Leveled.the-variants.{Vectors, Refused, Stopped}
+use Rattle.engine_lift.specs.Lifts.{own-pick?}
+
+abbrev pub bounds-by : ℕ → ℕ → ℕ → ℕ → Bounds
+bounds-by working vector tree room = record { working = working; vector = vector; tree = tree; room = room }
+
+-- at most document 01's limits; a vector has room for its frame term
+abbrev pub within? : Bounds → Bool
+within? b = leb (b .working) 512 and leb (b .vector) 512 and leb 1 (b .vector) and leb (b .tree) 4_096 and leb (b .room) 2_048
+
+abbrev pub fits? : Words → Words → Words → Way → Bounds → Bool
+fits? s work out way b = leb 206_095 (length s) and leb (work-words document-01 way) (length work) and leb 25_728 (length out) and within? b
+
+-- 11, 12, or 0 where neither comes
+abbrev pub complete-number : Words → ℕ → Way → ℕ
+complete-number s k way =
+    choose (holds-state? document-01 s) (choose (between 1 k 9) (choose (leb k (getD s 4 0)) (choose (own-pick? way) 0 12) 11) 12) 11
+
+-- level k over the levels below it in the state that the words hold
+abbrev pub lifted-within : Bounds → Words → ℕ → Way → Words → ℕ → Result Level
+lifted-within b s k way cache n = lift-level (limits-with b) (getD s 0 0) (getD s 2 0) (levels-at document-01 s (suc (k - 1))) (lifting-by way cache) n
+
+abbrev pub number-of : Leveled → ℕ
+number-of (Vectors n used) = 0
+number-of (Refused number) = number
+number-of (Stopped n) = 9
+
+abbrev pub count-of : Leveled → ℕ
+count-of (Vectors n used) = n
+count-of (Refused number) = 0
+count-of (Stopped n) = 0
+
+abbrev pub used-of : Leveled → ℕ
+used-of (Vectors n used) = used
+used-of (Refused number) = 0
+used-of (Stopped n) = 0
+
+-- what is answered: so many vectors in the slice, or a refusal
+abbrev pub told : ℕ → ℕ → Words → Vector → Result Level
+told number count out v = choose (eqb number 0) (done (lifted-vectors out count)) (refused number 0 v)
+
+-- 16, then 11 and 12, then the level
+abbrev pub called : Bounds → Words → Words → Words → Words → ℕ → Way → ℕ → Result Level
+called b s work out cache k way n =
+    choose (fits? s work out way b) (choose (eqb (complete-number s k way) 0) (lifted-within b s k way cache n) (refused (complete-number s k way) 0 [])) (refused 16 0 [])

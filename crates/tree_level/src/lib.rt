@@ -1,0 +1,112 @@
+// The level over a complete level of a state by the tree.
+// Knows: crate definitions' Lifting and Tree over a state's words, within limits that may be smaller than document 01's. Tables and frame are arrays of these functions' own frames, made once a call.
+ghost use mathlib.Core.Path.{_≡_};
+ghost use mathlib.Core.List.{[]};
+ghost use Prim.Native.Nat.{suc, _/_, _≤_};
+ghost use lib.ListN.{length};
+ghost use Rattle.definitions.specs.Layout.{Words};
+ghost use Rattle.levels.specs.Tabled.{Ready};
+ghost use Rattle.stages.specs.Prepared.{Led};
+ghost use Rattle.lifting.specs.Stages.{Base, Within, Framed-by, leveled-of, Stored-as};
+ghost use Rattle.tree_level.specs.Over.{framed-over, tree-over};
+use lift::Lifted;
+use lifting::Bounds;
+use lifting::Leveled;
+use sums::Stored;
+
+// All frame terms over level j.
+fn lift_frame(
+    out: &mut [u16],
+    cache: &mut [u16],
+    work: &mut [u16],
+    state: &[u16],
+    j: usize,
+    frame: &[u16],
+    count: usize,
+    heads: &[u16],
+    spans: &[u16],
+    above: &[u16],
+    b: Bounds,
+) -> Lifted
+    requires { ⌜ Base (now state) j × Led (now state) j (now heads) (now spans) × ((below : Words) × Ready (now state) j below) × Ready (now state) (suc j) (now above) × (1280 ≤ length (now heads)) × (258 ≤ length (now spans)) × (1280 ≤ length (now above)) × Framed-by (now state) j count (now frame) × (25728 ≤ length (now out)) × (40960 ≤ length (now work)) × Within b ⌝ }
+    ensures { λ x. ⌜ framed-over b (now (state .entry)) j (length (now (cache .entry)) / 10) count (now (frame .entry)) x (now (out .exit)) ⌝ }
+{
+    let g = lifting::ground_of(state, j, b);
+    let start = 1295 + j * 20480;
+    let ends = 6 + j * 129;
+    tree::lift_all(
+        out,
+        cache,
+        work,
+        frame,
+        count,
+        &state[start..],
+        &state[ends..],
+        heads,
+        spans,
+        above,
+        g,
+    )
+}
+
+// The frame over level j, then all its terms.
+fn lift_with(
+    out: &mut [u16],
+    cache: &mut [u16],
+    work: &mut [u16],
+    state: &[u16],
+    j: usize,
+    heads: &[u16],
+    spans: &[u16],
+    above: &[u16],
+    b: Bounds,
+) -> Leveled
+    requires { ⌜ Base (now state) j × Led (now state) j (now heads) (now spans) × ((below : Words) × Ready (now state) j below) × Ready (now state) (suc j) (now above) × (1280 ≤ length (now heads)) × (258 ≤ length (now spans)) × (1280 ≤ length (now above)) × (25728 ≤ length (now out)) × (40960 ≤ length (now work)) × Within b ⌝ }
+    ensures { λ x. ⌜ (leveled-of x (now (out .exit)) [] ≡ tree-over b (now (state .entry)) j (length (now (cache .entry)) / 10)) × Stored-as x (now (out .exit)) ⌝ }
+{
+    let mut framed = [0u16; 1280];
+    let mut gens = [0u16; 1280];
+    let r = levels::count_of(state, j);
+    let code = state[2];
+    match frame::form(&mut framed, 128, &mut gens, heads, r, code) {
+        Stored::Full => Leveled::Refused(15),
+        Stored::Rows(n) => match lift_frame(
+            out,
+            cache,
+            work,
+            state,
+            j,
+            &framed,
+            n,
+            heads,
+            spans,
+            above,
+            b,
+        ) {
+            Lifted::Rows(used) => Leveled::Vectors(n, used),
+            Lifted::Refused(x) => Leveled::Refused(x),
+            Lifted::Stopped(x) => Leveled::Stopped(x),
+        },
+    }
+}
+
+// The level over level j, with a cache of any length.
+pub fn lift_level(
+    out: &mut [u16],
+    cache: &mut [u16],
+    work: &mut [u16],
+    state: &[u16],
+    j: usize,
+    b: Bounds,
+) -> Leveled
+    requires { ⌜ Base (now state) j × (25728 ≤ length (now out)) × (40960 ≤ length (now work)) × Within b ⌝ }
+    ensures { λ x. ⌜ (leveled-of x (now (out .exit)) [] ≡ tree-over b (now (state .entry)) j (length (now (cache .entry)) / 10)) × Stored-as x (now (out .exit)) ⌝ }
+{
+    let mut heads = [0u16; 1280];
+    let mut spans = [0u16; 258];
+    let mut below = [0u16; 1280];
+    let mut above = [0u16; 1280];
+    stages::fill_leads(&mut heads, &mut spans, state, j);
+    stages::fill_tables(&mut below, &mut above, state, j + 1);
+    lift_with(out, cache, work, state, j, &heads, &spans, &above, b)
+}
