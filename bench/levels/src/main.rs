@@ -2,10 +2,8 @@
 //! Both look at the same words, in turns; the ratio is that of the medians. One argument: how many turns.
 
 mod plain;
-#[path = "../../../tests/levels/src/states.rs"]
-#[allow(dead_code)]
-mod states;
 
+use common::states;
 use reference::buffers::{state_words, write_state};
 use reference::engine::State;
 use reference::random::Random;

@@ -5,6 +5,7 @@
 
 mod proved;
 
+use common::examples::examples;
 use reference::engine::State;
 use reference::frame::frame;
 use reference::lifting::Way;
@@ -13,7 +14,6 @@ use reference::order::Order;
 use reference::random::Random;
 use reference::reader::read_problem;
 use reference::Limits;
-use std::path::Path;
 
 const LISTS: u64 = 150_000;
 const SEED: u64 = 20_250_204;
@@ -165,16 +165,8 @@ fn exponents(random: &mut Random, n: usize, most: u64, sparse: bool) -> Exponent
 /// The leading monomials of the example files that are read, and of the levels that lifting makes over them.
 fn real_lists() -> Vec<Vec<Monomial>> {
     let limits = Limits::document_01();
-    let folder = Path::new(env!("CARGO_MANIFEST_DIR")).join("../../examples");
-    let mut names: Vec<_> = std::fs::read_dir(folder)
-        .expect("examples/ is there")
-        .map(|entry| entry.expect("a file of examples/").path())
-        .filter(|path| path.extension().is_some_and(|e| e == "txt"))
-        .collect();
-    names.sort();
     let mut lists = Vec::new();
-    for name in names {
-        let file = std::fs::read(name).expect("a file of examples/");
+    for (_, file) in examples() {
         if let Ok(problem) = read_problem(&limits, &file) {
             lists.push(leads(&problem.elements));
         }

@@ -4,9 +4,9 @@
 //!     test-levels spoil             spoils one answer: the run must find it and exit with 1
 
 mod proved;
-mod states;
 
-use reference::buffers::{read_state, state_words, write_state, Layout, ROW};
+use common::states::{alter, full_basis, long_basis, random_basis, Size};
+use reference::buffers::{read_state, state_words, write_state, Layout};
 use reference::engine::{sound, Basis, State};
 use reference::generate::problems::{
     problem_file, random_basis as random_problem, Size as ProblemSize,
@@ -14,7 +14,6 @@ use reference::generate::problems::{
 use reference::lifting::Way;
 use reference::random::Random;
 use reference::Limits;
-use states::{full_basis, long_basis, random_basis, Size};
 
 const STATES: u64 = 400_000;
 const SEED: u64 = 20_250_202;
@@ -74,56 +73,6 @@ impl Compare {
             }
         }
     }
-}
-
-/// Alters a word, or a whole row; gives what stood there.
-fn alter(
-    random: &mut Random,
-    layout: &Layout,
-    basis: &Basis,
-    state: &mut [u16],
-) -> Vec<(usize, u16)> {
-    let k = random.below(basis.levels.len() as u64) as usize;
-    let used: usize = basis.levels[k].iter().map(Vec::len).sum();
-    let row =
-        |random: &mut Random| layout.first_row(k) + ROW * random.below(used.max(1) as u64) as usize;
-    if random.chance(10) && used > 1 {
-        // the row before again, or two neighbours exchanged: equal or ascending neighbours
-        let at = layout.first_row(k) + ROW * random.between(1, used as u64 - 1) as usize;
-        let exchanged = random.chance(50);
-        let before: Vec<(usize, u16)> = (at - ROW..at + ROW).map(|i| (i, state[i])).collect();
-        for i in 1..ROW {
-            let old = state[at + i];
-            state[at + i] = state[at - ROW + i];
-            if exchanged {
-                state[at - ROW + i] = old;
-            }
-        }
-        return before;
-    }
-    let at = match random.below(100) {
-        0..=9 => random.below(5) as usize,
-        10..=24 => layout.count(k) + random.below(129) as usize,
-        25..=34 => layout.first_end(k) + random.below(basis.levels[k].len().max(1) as u64) as usize,
-        35..=89 => row(random) + random.below(ROW as u64) as usize,
-        _ => random.below(state.len() as u64) as usize,
-    };
-    let old = state[at];
-    state[at] = match random.below(12) {
-        0 => random.below(65_536) as u16,
-        1 => old.wrapping_add(1),
-        2 => old.wrapping_sub(1),
-        3 => random.below(4) as u16,
-        4 => *random.pick(&[0, 255, 256, 257, 65_535]),
-        5 => state[0].wrapping_sub(random.below(3) as u16),
-        6 => random.below(256) as u16,
-        7 => *random.pick(&[64, 65, 128, 129, 512, 513, 2_048, 2_049]),
-        8 => state[(at + ROW).min(state.len() - 1)],
-        9 => state[at.saturating_sub(ROW)],
-        10 => old ^ (1 << random.below(16)),
-        _ => old.wrapping_add(random.below(5) as u16).wrapping_sub(2),
-    };
-    vec![(at, old)]
 }
 
 /// The levels that lifting makes, over a random basis that is accepted.

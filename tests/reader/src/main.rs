@@ -4,11 +4,10 @@
 //!     test-reader spoil number|place|word   spoils one answer: the run must find it and exit with 1
 
 mod compare;
-mod files;
 mod proved;
 
+use common::files::{changed_at, fields_of, random_problem, with_field, FIELDS, WRITTEN};
 use compare::{Compare, Spoiled};
-use files::{changed_at, fields_of, random_problem, with_field, FIELDS, WRITTEN};
 use reference::generate::files::{damage, edited_file, exact_length_file, exact_t_lines_file};
 use reference::generate::problems::problem_file;
 use reference::random::Random;

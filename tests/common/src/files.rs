@@ -1,6 +1,7 @@
 //! Problem files: some written out, some random; and every way to damage one at a byte.
 
-use reference::monomial::{Level, Monomial, Parameters, Term};
+use reference::generate::problems::element_of;
+use reference::monomial::{Level, Monomial, Parameters, Term, UNIT};
 use reference::order::Modules;
 use reference::random::Random;
 use reference::reader::Problem;
@@ -118,6 +119,74 @@ pub fn random_problem(random: &mut Random) -> Problem {
         terms.dedup_by(|a, b| order(a, b) == Ordering::Equal);
         elements.push(terms);
     }
+    Problem {
+        parameters,
+        elements,
+    }
+}
+
+/// Monomials whose frame has about 128 terms or more; where it has fewer, that of the next level may have more.
+pub fn many_monomials(random: &mut Random) -> Problem {
+    let parameters = Parameters {
+        p: *random.pick(&[2, 7, 32_749]),
+        n: random.between(4, 8),
+        order: random.between(1, 3),
+        s: random.between(1, 2),
+    };
+    let elements = (0..random.between(20, 64))
+        .map(|_| {
+            let mut exponents = UNIT;
+            for _ in 0..random.between(2, 4) {
+                exponents[random.below(parameters.n) as usize] += 1;
+            }
+            vec![Term {
+                coefficient: random.between(1, parameters.p - 1),
+                monomial: Monomial {
+                    component: random.between(1, parameters.s),
+                    exponents,
+                },
+            }]
+        })
+        .collect();
+    Problem {
+        parameters,
+        elements,
+    }
+}
+
+/// x, y, z with tails of so many terms in other variables: a vector of level 2 has three terms more than three tails.
+pub fn long_tails(random: &mut Random, tail: usize) -> Problem {
+    let parameters = Parameters {
+        p: *random.pick(&[2, 7, 32_749]),
+        n: 5,
+        order: 1,
+        s: 1,
+    };
+    let elements = (0..3)
+        .map(|x| {
+            let mut monomials = std::collections::BTreeSet::new();
+            while monomials.len() < tail {
+                let mut exponents = UNIT;
+                exponents[3] = random.below(30);
+                exponents[4] = random.below(30);
+                monomials.insert(exponents);
+            }
+            let mut leading = UNIT;
+            leading[x] = 1;
+            monomials.insert(leading);
+            let terms: Vec<Term> = monomials
+                .into_iter()
+                .map(|exponents| Term {
+                    coefficient: random.between(1, parameters.p - 1),
+                    monomial: Monomial {
+                        component: 1,
+                        exponents,
+                    },
+                })
+                .collect();
+            element_of(&parameters, &terms)
+        })
+        .collect();
     Problem {
         parameters,
         elements,

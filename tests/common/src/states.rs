@@ -1,5 +1,6 @@
-//! Sound states: levels of any vectors that are in range and descend, lifted or not.
+//! Sound states: levels of any vectors that are in range and descend, lifted or not; and their words altered.
 
+use reference::buffers::{Layout, ROW};
 use reference::engine::Basis;
 use reference::monomial::{Exponents, Level, Monomial, Parameters, Term, Vector};
 use reference::order::Modules;
@@ -114,13 +115,13 @@ fn vector(
     terms: u64,
     exponent: u64,
 ) -> Vector {
-    let mut monomials: Vec<Monomial> = (0..terms)
+    let monomials: Vec<Monomial> = (0..terms)
         .map(|_| {
             let bound = if random.chance(5) { 256 } else { exponent };
             monomial(random, parameters, components, bound)
         })
         .collect();
-    descending(random, parameters, below, &mut monomials)
+    descending(random, parameters, below, &monomials)
 }
 
 fn exact_vector(
@@ -138,7 +139,7 @@ fn exact_vector(
             monomials.push(m);
         }
     }
-    descending(random, parameters, below, &mut monomials)
+    descending(random, parameters, below, &monomials)
 }
 
 fn monomial(random: &mut Random, parameters: &Parameters, components: u64, bound: u64) -> Monomial {
@@ -156,7 +157,7 @@ fn descending(
     random: &mut Random,
     parameters: &Parameters,
     below: &[Level],
-    monomials: &mut Vec<Monomial>,
+    monomials: &[Monomial],
 ) -> Vector {
     let modules = Modules::new(parameters.file_order(), below);
     let mut keyed: Vec<_> = monomials
@@ -172,4 +173,54 @@ fn descending(
             monomial,
         })
         .collect()
+}
+
+/// Alters a word, or a whole row; gives what stood there.
+pub fn alter(
+    random: &mut Random,
+    layout: &Layout,
+    basis: &Basis,
+    state: &mut [u16],
+) -> Vec<(usize, u16)> {
+    let k = random.below(basis.levels.len() as u64) as usize;
+    let used: usize = basis.levels[k].iter().map(Vec::len).sum();
+    let row =
+        |random: &mut Random| layout.first_row(k) + ROW * random.below(used.max(1) as u64) as usize;
+    if random.chance(10) && used > 1 {
+        // the row before again, or two neighbours exchanged: equal or ascending neighbours
+        let at = layout.first_row(k) + ROW * random.between(1, used as u64 - 1) as usize;
+        let exchanged = random.chance(50);
+        let before: Vec<(usize, u16)> = (at - ROW..at + ROW).map(|i| (i, state[i])).collect();
+        for i in 1..ROW {
+            let old = state[at + i];
+            state[at + i] = state[at - ROW + i];
+            if exchanged {
+                state[at - ROW + i] = old;
+            }
+        }
+        return before;
+    }
+    let at = match random.below(100) {
+        0..=9 => random.below(5) as usize,
+        10..=24 => layout.count(k) + random.below(129) as usize,
+        25..=34 => layout.first_end(k) + random.below(basis.levels[k].len().max(1) as u64) as usize,
+        35..=89 => row(random) + random.below(ROW as u64) as usize,
+        _ => random.below(state.len() as u64) as usize,
+    };
+    let old = state[at];
+    state[at] = match random.below(12) {
+        0 => random.below(65_536) as u16,
+        1 => old.wrapping_add(1),
+        2 => old.wrapping_sub(1),
+        3 => random.below(4) as u16,
+        4 => *random.pick(&[0, 255, 256, 257, 65_535]),
+        5 => state[0].wrapping_sub(random.below(3) as u16),
+        6 => random.below(256) as u16,
+        7 => *random.pick(&[64, 65, 128, 129, 512, 513, 2_048, 2_049]),
+        8 => state[(at + ROW).min(state.len() - 1)],
+        9 => state[at.saturating_sub(ROW)],
+        10 => old ^ (1 << random.below(16)),
+        _ => old.wrapping_add(random.below(5) as u16).wrapping_sub(2),
+    };
+    vec![(at, old)]
 }

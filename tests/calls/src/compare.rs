@@ -1,0 +1,220 @@
+//! One call on two sets of buffers: number, place and every word of every buffer.
+
+use crate::proved;
+use reference::buffers::{fetch_call, lift_call_within, read_call_within};
+use reference::lifting::Way;
+use reference::random::Random;
+use reference::Limits;
+
+/// The lengths that calls need, in words.
+pub const STATE: usize = 206_095;
+pub const WORK: usize = 5_120;
+pub const TREE_WORK: usize = 40_960;
+pub const OUT: usize = 5_120;
+/// The longest cache.
+pub const CACHE: usize = 20_000;
+/// Words that a longer buffer may have.
+pub const MORE: usize = 40;
+
+/// The buffers that a caller lends.
+#[derive(Clone)]
+pub struct Buffers {
+    pub state: Vec<u16>,
+    pub work: Vec<u16>,
+    pub cache: Vec<u16>,
+    pub out: Vec<u16>,
+}
+
+impl Buffers {
+    fn new() -> Buffers {
+        Buffers {
+            state: vec![0; STATE + MORE],
+            work: vec![0; TREE_WORK + MORE],
+            cache: vec![0; CACHE + MORE],
+            out: vec![0; OUT + MORE],
+        }
+    }
+}
+
+/// How much of each buffer is lent.
+#[derive(Clone, Copy, Debug)]
+pub struct Lent {
+    pub state: usize,
+    pub work: usize,
+    pub cache: usize,
+    pub out: usize,
+}
+
+/// A call with its arguments.
+#[derive(Clone, Copy, Debug)]
+pub enum Call<'a> {
+    Read(&'a [u8]),
+    Lift { level: usize, way: u16, pick: u16 },
+    Fetch { level: usize, vector: usize },
+}
+
+/// What `spoil` changes in one answer of the proved calls, so that the comparison itself is tried.
+#[derive(Clone, Copy, PartialEq, Eq)]
+pub enum Spoiled {
+    Number,
+    Place,
+    State,
+    Work,
+    Cache,
+    Out,
+}
+
+pub const KINDS: [&str; 6] = [
+    "read",
+    "lift by division",
+    "lift by hybrid",
+    "lift by the tree",
+    "lift by no way",
+    "fetch",
+];
+
+pub struct Compare {
+    limits: Limits,
+    random: Random,
+    /// the proved calls' buffers
+    pub ours: Buffers,
+    /// the unrelated implementation's
+    pub theirs: Buffers,
+    pub calls: u64,
+    pub left_out: u64,
+    /// by kind and number
+    pub met: [[u64; 17]; KINDS.len()],
+    pub spoil: Option<(u64, Spoiled)>,
+}
+
+impl Compare {
+    pub fn new(seed: u64) -> Compare {
+        Compare {
+            limits: Limits::document_01(),
+            random: Random::new(seed),
+            ours: Buffers::new(),
+            theirs: Buffers::new(),
+            calls: 0,
+            left_out: 0,
+            met: [[0; 17]; KINDS.len()],
+            spoil: None,
+        }
+    }
+
+    /// The same change in both sets of buffers.
+    pub fn both(&mut self, change: impl Fn(&mut Buffers)) {
+        change(&mut self.ours);
+        change(&mut self.theirs);
+    }
+
+    /// Makes the call both ways. Where the unrelated implementation would take more products than the budget neither makes it, and there is no number.
+    pub fn call(&mut self, call: &Call, lent: &Lent, budget: u64) -> Option<u64> {
+        self.dirt();
+        let theirs = &mut self.theirs;
+        let (state, work, cache, out) = (
+            &mut theirs.state[..lent.state],
+            &mut theirs.work[..lent.work],
+            &mut theirs.cache[..lent.cache],
+            &mut theirs.out[..lent.out],
+        );
+        let limits = &self.limits;
+        let expected = match *call {
+            Call::Read(file) => read_call_within(limits, file, state, work, Some(budget)),
+            Call::Lift { level, way, pick } => {
+                let way = match way {
+                    0 => Way::Division,
+                    1 => Way::Hybrid(u64::from(pick)),
+                    2 => Way::Tree,
+                    // there is no such way: 12, as for a wrong pick code
+                    _ => Way::Hybrid(0),
+                };
+                lift_call_within(limits, state, level as u64, way, work, cache, Some(budget))
+            }
+            Call::Fetch { level, vector } => {
+                Some(fetch_call(limits, state, level as u64, vector as u64, out))
+            }
+        };
+        let Some(expected) = expected else {
+            self.left_out += 1;
+            return None;
+        };
+        let ours = &mut self.ours;
+        let (state, work, cache, out) = (
+            &mut ours.state[..lent.state],
+            &mut ours.work[..lent.work],
+            &mut ours.cache[..lent.cache],
+            &mut ours.out[..lent.out],
+        );
+        let mut answer = match *call {
+            Call::Read(file) => proved::read(file, state, work),
+            Call::Lift { level, way, pick } => proved::lift(state, work, cache, level, way, pick),
+            Call::Fetch { level, vector } => proved::fetch(state, out, level, vector),
+        };
+        if let Some((at, what)) = self.spoil {
+            if at == self.calls {
+                match what {
+                    Spoiled::Number => answer.0 ^= 1,
+                    Spoiled::Place => answer.1 += 1,
+                    Spoiled::State => self.ours.state[STATE - 1] ^= 1,
+                    Spoiled::Work => self.ours.work[WORK - 1] ^= 1,
+                    Spoiled::Cache => self.ours.cache[0] ^= 1,
+                    Spoiled::Out => self.ours.out[OUT] ^= 1,
+                }
+            }
+        }
+        self.calls += 1;
+        if answer != expected {
+            self.differ(call, lent, expected, &format!("answered {answer:?}"));
+        }
+        // what was not lent must not change either
+        let (ours, theirs) = (&self.ours, &self.theirs);
+        for (name, ours, theirs) in [
+            ("state", &ours.state, &theirs.state),
+            ("work", &ours.work, &theirs.work),
+            ("cache", &ours.cache, &theirs.cache),
+            ("out", &ours.out, &theirs.out),
+        ] {
+            if ours != theirs {
+                let at = ours.iter().zip(theirs).position(|(a, b)| a != b);
+                self.differ(call, lent, expected, &format!("{name} differs at {at:?}"));
+            }
+        }
+        let kind = match call {
+            Call::Read(_) => 0,
+            Call::Lift { way, .. } => 1 + usize::from((*way).min(3)),
+            Call::Fetch { .. } => 5,
+        };
+        self.met[kind][expected.0 as usize] += 1;
+        Some(expected.0)
+    }
+
+    /// What stands in work, cache and out before a call must not matter.
+    fn dirt(&mut self) {
+        let word = self.random.bits() as u16;
+        let at: [usize; 4] = std::array::from_fn(|_| self.random.bits() as usize);
+        self.both(|buffers| {
+            let Buffers {
+                work, cache, out, ..
+            } = buffers;
+            for (buffer, at) in [(&mut *work, at[0]), (cache, at[1]), (out, at[2])] {
+                let length = buffer.len();
+                buffer[at % length] = word;
+                buffer[at % 64] = word;
+            }
+            work[at[3] % WORK] = word;
+        });
+    }
+
+    fn differ(&self, call: &Call, lent: &Lent, expected: (u64, u64), what: &str) -> ! {
+        println!(
+            "call {}: {lent:?}, expected {expected:?}: {what}",
+            self.calls
+        );
+        match call {
+            Call::Read(file) => println!("read {}", file[..file.len().min(2_000)].escape_ascii()),
+            _ => println!("{call:?}"),
+        }
+        println!("state from {:?}", &self.theirs.state[..6]);
+        std::process::exit(1);
+    }
+}

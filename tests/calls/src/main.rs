@@ -1,0 +1,442 @@
+//! The public calls against the unrelated implementation: lists of calls on lent buffers; number, place and every word after each call.
+//!
+//!     test-calls [CALLS [SEED]]                                  at least so many calls (1,000,000 without it)
+//!     test-calls spoil number|place|state|work|cache|out         spoils one answer: the run must find it and exit with 1
+
+mod compare;
+mod proved;
+
+use common::deep::{deep, on_small_stack, DEEPEST};
+use common::examples::examples;
+use common::files::{long_tails, many_monomials};
+use common::states::{alter, random_basis as random_state, Size as StateSize};
+use compare::{Call, Compare, Lent, Spoiled, CACHE, KINDS, MORE, OUT, STATE, TREE_WORK, WORK};
+use reference::buffers::{read_state, write_state, Layout, ROW};
+use reference::engine::{Basis, State};
+use reference::generate::files::{damage, edited_file, limit_file};
+use reference::generate::problems::{problem_file, random_basis, random_set, Size};
+use reference::random::Random;
+use reference::reader::read_problem;
+use reference::Limits;
+
+const CALLS: u64 = 1_000_000;
+const SEED: u64 = 20_250_401;
+/// Products that a call may take; one that takes more is left out.
+const BUDGET: u64 = 6_000;
+const LONG_BUDGET: u64 = 100_000;
+
+struct Lists {
+    compare: Compare,
+    random: Random,
+    limits: Limits,
+    layout: Layout,
+    files: Vec<Vec<u8>>,
+    /// files at the limits and of the field, which take longer
+    long_files: Vec<Vec<u8>>,
+    lists: u64,
+    altered: u64,
+}
+
+impl Lists {
+    fn new(seed: u64, spoil: Option<(u64, Spoiled)>) -> Lists {
+        let mut random = Random::new(seed);
+        let mut compare = Compare::new(seed);
+        compare.spoil = spoil;
+        let files = (0..if spoil.is_some() { 100 } else { 4_000 })
+            .map(|_| {
+                let size = match random.below(20) {
+                    0 => Size::medium(),
+                    1..=6 => Size::small(),
+                    _ => Size::tiny(),
+                };
+                problem_file(&if random.chance(85) {
+                    random_basis(&mut random, &size)
+                } else {
+                    random_set(&mut random, &size)
+                })
+            })
+            .collect();
+        let mut long_files: Vec<Vec<u8>> = (0..200).map(|_| limit_file(&mut random)).collect();
+        long_files.extend((0..60).map(|_| problem_file(&many_monomials(&mut random))));
+        long_files.extend((0..4).map(|_| {
+            let tail = random.between(165, 185) as usize;
+            problem_file(&long_tails(&mut random, tail))
+        }));
+        long_files.push(problem_file(&deep(DEEPEST + 1)));
+        long_files.extend(
+            examples()
+                .into_iter()
+                .filter(|(name, _)| name != "katsura4_lp")
+                .map(|(_, file)| file),
+        );
+        let limits = Limits::document_01();
+        let layout = Layout::new(&limits);
+        Lists {
+            compare,
+            random,
+            limits,
+            layout,
+            files,
+            long_files,
+            lists: 0,
+            altered: 0,
+        }
+    }
+
+    /// One list of calls, on what the list before it left or on other words.
+    fn list(&mut self) {
+        self.lists += 1;
+        let altered = self.random.chance(35);
+        self.altered += u64::from(altered);
+        match self.random.below(100) {
+            0..=3 => self.compare.both(|buffers| buffers.state.fill(0)),
+            4..=6 => {
+                let word = self.random.bits() as u16;
+                self.compare.both(|buffers| buffers.state.fill(word));
+            }
+            7..=40 if altered => self.write_state(),
+            _ => {}
+        }
+        let mut undo = Vec::new();
+        for _ in 0..self.random.between(2, 24) {
+            if altered && self.random.chance(30) {
+                undo = self.alter();
+            }
+            let number = self.call();
+            // most alterations make the state unsound; back to what it was
+            if number == Some(11) && self.random.chance(80) {
+                for (at, word) in undo.drain(..).rev() {
+                    self.compare.both(|buffers| buffers.state[at] = word);
+                }
+            }
+            if number != Some(11) {
+                undo.clear();
+            }
+        }
+    }
+
+    /// A state that no call made: any sound one, or a file's basis without acceptance.
+    fn write_state(&mut self) {
+        let basis = if self.random.chance(20) {
+            let file = self.random.pick(&self.long_files);
+            match read_problem(&self.limits, file) {
+                Err(_) => return,
+                Ok(problem) => Basis {
+                    parameters: problem.parameters,
+                    levels: vec![problem.elements],
+                },
+            }
+        } else {
+            let size = StateSize {
+                levels: self.random.between(1, 4),
+                vectors: 4,
+                terms: 4,
+                exponent: 3,
+            };
+            random_state(&mut self.random, &size)
+        };
+        let held = State { basis: Some(basis) };
+        let limits = self.limits;
+        self.compare
+            .both(|buffers| write_state(&limits, &held, &mut buffers.state));
+    }
+
+    /// Alters words of the state in both sets of buffers; gives what stood there.
+    fn alter(&mut self) -> Vec<(usize, u16)> {
+        let held = read_state(&self.limits, &self.compare.ours.state);
+        let state = &mut self.compare.ours.state;
+        let before = match held.basis {
+            Some(basis) if self.random.chance(40) => {
+                raise(&mut self.random, &self.layout, &basis, state)
+            }
+            Some(basis) => alter(&mut self.random, &self.layout, &basis, state),
+            None => {
+                let at = self.random.below(STATE as u64) as usize;
+                let word = std::mem::replace(&mut state[at], self.random.bits() as u16);
+                vec![(at, word)]
+            }
+        };
+        for (at, _) in &before {
+            self.compare.theirs.state[*at] = self.compare.ours.state[*at];
+        }
+        before
+    }
+
+    /// How many levels are complete, by the word that says so, and how many vectors a level has.
+    fn complete(&self) -> u64 {
+        u64::from(self.compare.ours.state[4]).min(10)
+    }
+
+    fn vectors(&self, level: u64) -> u64 {
+        u64::from(self.compare.ours.state[self.layout.count(level.min(9) as usize)])
+    }
+
+    fn call(&mut self) -> Option<u64> {
+        let complete = self.complete();
+        if complete == 0 && self.random.chance(80) {
+            return self.read();
+        }
+        match self.random.below(100) {
+            0..=11 => self.read(),
+            12..=49 => {
+                let level = complete.clamp(1, 9);
+                self.lift(level)
+            }
+            50..=61 => {
+                let level = self.random.between(1, complete.clamp(1, 9));
+                self.lift(level)
+            }
+            62..=91 => {
+                let level = self.random.between(1, (complete.max(2) - 1).min(9));
+                if (complete < 2 || self.vectors(level) == 0) && self.random.chance(90) {
+                    return self.lift(complete.clamp(1, 9));
+                }
+                let count = self.vectors(level).max(1);
+                let vector = match self.random.below(10) {
+                    0 => *self.random.pick(&[0, count + 1, 129, u64::MAX]),
+                    1 => count,
+                    _ => self.random.between(1, count),
+                };
+                self.fetch(level, vector)
+            }
+            // levels that are not there
+            _ => {
+                let level =
+                    *self
+                        .random
+                        .pick(&[0, 10, 11, 65_537, u64::MAX, complete + 1, complete + 2]);
+                if self.random.chance(50) {
+                    self.lift(level)
+                } else {
+                    self.fetch(level, 1)
+                }
+            }
+        }
+    }
+
+    /// A length: mostly the one that is needed, at times longer or too short.
+    fn length(&mut self, needed: usize) -> usize {
+        match self.random.below(200) {
+            0 | 1 => needed - 1,
+            2 => self.random.below(needed as u64) as usize,
+            3..=30 => needed + self.random.below(MORE as u64 + 1) as usize,
+            _ => needed,
+        }
+    }
+
+    fn lent(&mut self, work: usize, cache: usize) -> Lent {
+        Lent {
+            state: self.length(STATE),
+            work: self.length(work),
+            cache,
+            out: self.length(OUT),
+        }
+    }
+
+    fn read(&mut self) -> Option<u64> {
+        let (long, mut file) = match self.random.below(200) {
+            0..=7 => (true, self.random.pick(&self.long_files).clone()),
+            8..=27 => (false, edited_file(&mut self.random)),
+            _ => (false, self.random.pick(&self.files).clone()),
+        };
+        if self.random.chance(20) {
+            for _ in 0..self.random.between(1, 3) {
+                damage(&mut self.random, &mut file);
+            }
+        }
+        let lent = self.lent(WORK, 0);
+        let budget = if long { LONG_BUDGET } else { BUDGET };
+        self.compare.call(&Call::Read(&file), &lent, budget)
+    }
+
+    fn lift(&mut self, level: u64) -> Option<u64> {
+        let random = &mut self.random;
+        let way = match random.below(60) {
+            0 => *random.pick(&[3, 4, 256, 65_535]),
+            1..=15 => 0,
+            16..=35 => 1,
+            _ => 2,
+        };
+        // the pick code counts for the hybrid way alone
+        let pick = if way == 1 && random.chance(95) {
+            random.between(1, 3) as u16
+        } else {
+            *random.pick(&[0, 1, 3, 4, 65_535])
+        };
+        let cache = match random.below(40) {
+            0 => CACHE,
+            1..=3 => 10_000,
+            _ => ROW * *random.pick(&[0, 0, 1, 2, 3, 5, 7, 12, 20, 60]),
+        };
+        let cache = cache + random.below(ROW as u64) as usize;
+        let work = if way == 2 { TREE_WORK } else { WORK };
+        let lent = self.lent(work, cache);
+        let call = Call::Lift {
+            level: level as usize,
+            way,
+            pick,
+        };
+        let budget = if self.random.chance(10) {
+            LONG_BUDGET
+        } else {
+            BUDGET
+        };
+        self.compare.call(&call, &lent, budget)
+    }
+
+    fn fetch(&mut self, level: u64, vector: u64) -> Option<u64> {
+        let lent = self.lent(WORK, 0);
+        let call = Call::Fetch {
+            level: level as usize,
+            vector: vector as usize,
+        };
+        self.compare.call(&call, &lent, BUDGET)
+    }
+
+    /// The files of the field, and one too deep for the tree, level after level by each way, and every vector fetched.
+    fn whole_examples(&mut self) {
+        let whole = Lent {
+            state: STATE,
+            work: TREE_WORK,
+            cache: CACHE,
+            out: OUT,
+        };
+        let mut files: Vec<Vec<u8>> = examples().into_iter().map(|(_, file)| file).collect();
+        files.push(problem_file(&deep(DEEPEST + 1)));
+        for file in files {
+            for (way, pick) in [(0, 0), (1, 1), (1, 2), (1, 3), (2, 0)] {
+                self.compare.call(&Call::Read(&file), &whole, LONG_BUDGET);
+                for level in 1..=9 {
+                    let call = Call::Lift { level, way, pick };
+                    let lifted = self.compare.call(&call, &whole, LONG_BUDGET);
+                    if lifted != Some(0) || self.vectors(level as u64) == 0 {
+                        break;
+                    }
+                    for vector in 1..=self.vectors(level as u64) as usize {
+                        let call = Call::Fetch { level, vector };
+                        self.compare.call(&call, &whole, LONG_BUDGET);
+                    }
+                }
+            }
+        }
+    }
+}
+
+/// The tree as deep as its work area allows, and one deeper.
+fn deepest() {
+    let whole = Lent {
+        state: STATE,
+        work: TREE_WORK,
+        cache: 200_000,
+        out: OUT,
+    };
+    let mut compare = Compare::new(1);
+    compare.both(|buffers| buffers.cache.resize(whole.cache, 1));
+    for (depth, number) in [(DEEPEST, 0), (DEEPEST + 1, 14)] {
+        let file = problem_file(&deep(depth));
+        let read = compare.call(&Call::Read(&file), &whole, LONG_BUDGET);
+        assert_eq!(read, Some(0));
+        let call = Call::Lift {
+            level: 1,
+            way: 2,
+            pick: 0,
+        };
+        assert_eq!(compare.call(&call, &whole, LONG_BUDGET), Some(number));
+    }
+}
+
+/// The highest level times a power of a variable, so that products pass 255.
+fn raise(
+    random: &mut Random,
+    layout: &Layout,
+    basis: &Basis,
+    state: &mut [u16],
+) -> Vec<(usize, u16)> {
+    let k = basis.levels.len() - 1;
+    let used: usize = basis.levels[k].iter().map(Vec::len).sum();
+    // a variable that the leading monomials have, if there is one
+    let leads = || basis.levels[k].iter().map(|vector| vector[0].monomial);
+    let x = (0..8)
+        .filter(|x| leads().any(|leading| leading.exponents[*x] > 0))
+        .nth(random.below(basis.parameters.n.max(1)) as usize)
+        .unwrap_or(0);
+    let rows = (0..used).map(|row| layout.first_row(k) + ROW * row + 2 + x);
+    let most = rows.clone().map(|at| state[at]).max().unwrap_or(0);
+    let by = 255_u16
+        .saturating_sub(most)
+        .saturating_sub(random.below(3) as u16);
+    rows.map(|at| {
+        let old = state[at];
+        state[at] = old + by;
+        (at, old)
+    })
+    .collect()
+}
+
+fn main() {
+    let arguments: Vec<String> = std::env::args().skip(1).collect();
+    let (mut wanted, mut seed, mut spoil) = (CALLS, SEED, None);
+    match arguments.iter().map(String::as_str).collect::<Vec<_>>()[..] {
+        ["spoil", what] => {
+            let what = match what {
+                "number" => Spoiled::Number,
+                "place" => Spoiled::Place,
+                "state" => Spoiled::State,
+                "work" => Spoiled::Work,
+                "cache" => Spoiled::Cache,
+                "out" => Spoiled::Out,
+                _ => panic!("spoil number, place, state, work, cache or out"),
+            };
+            spoil = Some((700, what));
+        }
+        [] => {}
+        [calls] => wanted = calls.parse().expect("how many calls"),
+        [calls, from] => {
+            wanted = calls.parse().expect("how many calls");
+            seed = from.parse().expect("a seed");
+        }
+        _ => panic!("at most two arguments"),
+    }
+    let mut lists = Lists::new(seed, spoil);
+    if spoil.is_none() {
+        lists.whole_examples();
+    }
+    let systematic = lists.compare.calls;
+    while lists.compare.calls < wanted {
+        lists.list();
+    }
+    let compare = &lists.compare;
+    println!(
+        "calls: {} calls agree in number, place and every word ({systematic} on the files of the field, then {} lists, {} of them with altered states; {} calls left out; seed {seed})",
+        compare.calls, lists.lists, lists.altered, compare.left_out
+    );
+    for (kind, met) in KINDS.iter().zip(&compare.met) {
+        let counts: Vec<String> = met
+            .iter()
+            .enumerate()
+            .filter(|(_, count)| **count > 0)
+            .map(|(number, count)| format!("{number}: {count}"))
+            .collect();
+        println!("  {kind}: {}", counts.join(", "));
+    }
+    let stack = on_small_stack(deepest);
+    println!("  the tree at depth {DEEPEST} agrees, {stack}");
+    if wanted < CALLS / 4 {
+        return;
+    }
+    // a run in which a number hardly comes tests too little
+    let lifts: &[usize] = &[0, 11, 12, 13, 14, 15, 16];
+    let expected: [&[usize]; KINDS.len()] = [
+        &[0, 1, 2, 3, 4, 5, 6, 7, 8, 9, 13, 14, 15, 16],
+        lifts,
+        lifts,
+        lifts,
+        &[11, 12, 16],
+        &[0, 11, 12, 16],
+    ];
+    for ((kind, met), numbers) in KINDS.iter().zip(&compare.met).zip(expected) {
+        for number in numbers {
+            assert!(met[*number] > 0, "{number} did not come by {kind}");
+        }
+    }
+}
