@@ -1,0 +1,31 @@
+use borrow.Author.Needs.{needs}
+use native.Mathlib.Omega.{arith}
+use Prim.Native.Nat.{_-_}
+use Rattle.syzygies.proofs.Front.{sheet-in-front}
+use Rattle.syzygies.proofs.answer.Statement.{statement}
+use Rattle.syzygies.proofs.answer.Tie as tie
+
+sheet-requires : tie.Need-sheet-requires
+sheet-requires c κs = search needs
+
+same-length : tie.Need-same-length
+same-length c = search needs
+
+same-length-2 : tie.Need-same-length-2
+same-length-2 c = search needs
+
+same-length-3 : tie.Need-same-length-3
+same-length-3 c = search needs
+
+returns : tie.Need-returns
+returns c =
+    let S = c .before .before .before .before .before .before .before .before .before .before .before .before .before .before in
+    let a = S .args in
+    let R = c .before .before .before .before .before .before .sheet in
+    let f =
+    sheet-in-front (a .state .now) (a .work .now) (a .out .now) (R .result .number) (R .result .length) (R .last .1 .0) (R .last .1 .1 .0) (R .last .1 .1 .1 .0) (R .ensures .0) (a .file .now)
+    (S .pre .0) (S .pre .1) (S .pre .2) (R .ensures .1) in
+    (f .0, (R .ensures .0, f .1))
+
+pub answer-spec : {M : Type 1} → statement M
+answer-spec = tie.close (tie.spec sheet-requires same-length same-length-2 same-length-3 returns)

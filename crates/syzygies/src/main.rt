@@ -1,0 +1,85 @@
+// The program that people run: the sheet of the problem file on standard input, written to standard output.
+// Knows: crate sheet. It reads, makes one call and writes; all buffers are its own.
+ghost use mathlib.Core.Path.{_≡_};
+ghost use mathlib.Core.Option.{some};
+ghost use Prim.Native.Nat.{ℕ, _≤_};
+ghost use lib.ListN.{length, take};
+ghost use Rattle.definitions.specs.Limits.{document-01};
+ghost use Rattle.definitions.specs.Sheet.{sheet as sheet-definition};
+ghost use Rattle.io.specs.Counts.{Counts};
+use libc::STDERR_FILENO;
+use libc::STDIN_FILENO;
+use libc::STDOUT_FILENO;
+
+// The sheet of the bytes that were read stands in front of out: how many bytes it has.
+fn answer(file: &[u8], state: &mut [u16], work: &mut [u16], out: &mut [u8]) -> usize
+    requires { ⌜ (206095 ≤ length (now state)) × (5120 ≤ length (now work)) × (1400000 ≤ length (now out)) ⌝ }
+    ensures { λ r. ⌜ Counts r (now (out .exit)) ⌝ }
+    ensures { λ r. ⌜ ((n : ℕ) × (some (take r (now (out .exit))) ≡ sheet-definition document-01 n (now (file .entry)))) ⌝ }
+{
+    let r = sheet::sheet(file, state, work, out);
+    r.length
+}
+
+// One byte more than the longest file: with it a longer one is told from it.
+fn file_bytes() -> [u8; 65537]
+    ensures { λ r. ⌜ 65537 ≡ length r ⌝ }
+{
+    [0; 65537]
+}
+
+// Of the buffers only the lengths matter; as functions they are kept out of main's proof.
+fn state_words() -> [u16; 206095]
+    ensures { λ r. ⌜ 206095 ≡ length r ⌝ }
+{
+    [0; 206095]
+}
+
+fn work_words() -> [u16; 5120]
+    ensures { λ r. ⌜ 5120 ≡ length r ⌝ }
+{
+    [0; 5120]
+}
+
+fn out_bytes() -> [u8; 1400000]
+    ensures { λ r. ⌜ 1400000 ≡ length r ⌝ }
+{
+    [0; 1400000]
+}
+
+fn main() {
+    let mut file = file_bytes();
+    let mut state = state_words();
+    let mut work = work_words();
+    let mut out = out_bytes();
+    let n = io::read_full(STDIN_FILENO, &mut file);
+    // read_full stops at the input's end and where a read fails: what came before a failure is not the file
+    let mut more = [0u8; 1];
+    if n < 65537 && libc::read(STDIN_FILENO, &mut more) < 0 {
+        io::write_all(
+            STDERR_FILENO,
+            &[b'n', b'o', b't', b' ', b'r', b'e', b'a', b'd', b'\n'],
+        );
+        return;
+    }
+    let length = answer(&file[..n], &mut state, &mut work, &mut out);
+    if !io::write_all(STDOUT_FILENO, &out[..length]) {
+        io::write_all(
+            STDERR_FILENO,
+            &[
+                b'n',
+                b'o',
+                b't',
+                b' ',
+                b'w',
+                b'r',
+                b'i',
+                b't',
+                b't',
+                b'e',
+                b'n',
+                b'\n',
+            ],
+        );
+    }
+}
