@@ -66,20 +66,7 @@ fn main() {
     if !io::write_all(STDOUT_FILENO, &out[..length]) {
         io::write_all(
             STDERR_FILENO,
-            &[
-                b'n',
-                b'o',
-                b't',
-                b' ',
-                b'w',
-                b'r',
-                b'i',
-                b't',
-                b't',
-                b'e',
-                b'n',
-                b'\n',
-            ],
+            &[b'c', b'u', b't', b' ', b'o', b'f', b'f', b'\n'],
         );
     }
 }

@@ -1,0 +1,248 @@
+//! The sheet against the unrelated implementation, byte for byte: the proved call on generated and damaged files, and the program that people run on the
+//! files of examples/, the instances of document 01 and files about the longest.
+//!
+//!     test-sheet [FILES [SEED]]      at least so many files by the call (60,000 without it)
+//!     test-sheet spoil number|length|byte|behind|state|work|program
+//!                                    spoils one answer: the run must find it and exit with 1
+
+mod compare;
+mod program;
+mod proved;
+
+use common::examples::examples;
+use common::files::{
+    changed_at, fields_of, long_tails, many_monomials, random_problem, with_field, FIELDS, WRITTEN,
+};
+use compare::{Compare, Spoiled, OUT, STATE, WORK};
+use program::By;
+use reference::generate::files::{
+    damage, edited_file, exact_length_file, exact_t_lines_file, limit_file,
+};
+use reference::generate::problems::{problem_file, random_basis, random_set, Size};
+use reference::random::Random;
+use std::path::Path;
+
+const FILES: u64 = 60_000;
+const SEED: u64 = 20_250_701;
+/// Products that a generated file may take; one that takes more is left out.
+const BUDGET: u64 = 20_000;
+/// The same for files at the limits.
+const LONG_BUDGET: u64 = 200_000;
+/// The same for the files of examples/. One takes more: katsura4_lp, some 270 million by pick code 2.
+const EXAMPLE_BUDGET: u64 = 10_000_000;
+const TOO_LONG: [&str; 1] = ["katsura4_lp"];
+
+fn main() {
+    let arguments: Vec<String> = std::env::args().skip(1).collect();
+    let (mut wanted, mut seed, mut spoil) = (FILES, SEED, None);
+    match arguments.iter().map(String::as_str).collect::<Vec<_>>()[..] {
+        ["spoil", what] => {
+            let what = match what {
+                "number" => Spoiled::Number,
+                "length" => Spoiled::Length,
+                "byte" => Spoiled::Byte,
+                "behind" => Spoiled::Behind,
+                "state" => Spoiled::State,
+                "work" => Spoiled::Work,
+                "program" => Spoiled::Program,
+                _ => panic!("spoil number, length, byte, behind, state, work or program"),
+            };
+            spoil = Some((70, what));
+            wanted = 200;
+        }
+        [] => {}
+        [files] => wanted = files.parse().expect("how many files"),
+        [files, from] => {
+            wanted = files.parse().expect("how many files");
+            seed = from.parse().expect("a seed");
+        }
+        _ => panic!("at most two arguments"),
+    }
+    let mut compare = Compare::new(seed);
+    compare.spoil = spoil;
+    let mut random = Random::new(seed);
+    if spoil.is_none() {
+        every_change(&mut compare);
+        short_buffers(&mut compare);
+        at_the_limits(&mut compare, &mut random);
+        for (name, file) in examples() {
+            if !TOO_LONG.contains(&name.as_str()) {
+                compare.file(&file, EXAMPLE_BUDGET);
+            }
+        }
+    }
+    let systematic = compare.files;
+    while compare.files < wanted {
+        random_file(&mut compare, &mut random);
+    }
+    let programs = by_program(&compare, &mut random);
+
+    println!(
+        "sheet: {} files agree byte for byte ({systematic} systematic, {} left out that take more products, seed {seed}); the longest sheet has {} bytes, the longest list {} levels",
+        compare.files, compare.left_out, compare.longest, compare.levels
+    );
+    let counts: Vec<String> = compare
+        .met
+        .iter()
+        .enumerate()
+        .filter(|(_, files)| **files > 0)
+        .map(|(number, files)| format!("{number}: {files}"))
+        .collect();
+    println!("  {}", counts.join(", "));
+    println!(
+        "  the program: {programs} runs agree byte for byte; left out of examples/: {}",
+        TOO_LONG.join(", ")
+    );
+    if wanted < FILES / 4 {
+        return;
+    }
+    assert_eq!(compare.levels, 9, "no sheet has nine levels");
+    // a run in which a refusal hardly comes tests too little
+    for number in [0, 1, 2, 3, 4, 5, 6, 7, 8, 9, 13, 14, 15, 16] {
+        assert!(compare.met[number] >= 10, "number {number} came too seldom");
+    }
+}
+
+/// Small files changed at every byte, and each field at, about and past every limit; some of them, as the reader has a test of its own.
+fn every_change(compare: &mut Compare) {
+    compare.file(b"", BUDGET);
+    compare.file(b"\n", BUDGET);
+    for file in WRITTEN.map(str::as_bytes) {
+        compare.file(file, BUDGET);
+        for at in (0..file.len()).step_by(7) {
+            changed_at(file, at, |changed| compare.file(changed, BUDGET));
+        }
+        for (line, fields) in fields_of(file).into_iter().enumerate() {
+            for field in 0..=fields {
+                for text in FIELDS.iter().skip((line + field) % 5).step_by(5) {
+                    compare.file(&with_field(file, line, field, text), BUDGET);
+                }
+            }
+        }
+    }
+}
+
+/// 16 before all else, and nothing changes.
+fn short_buffers(compare: &mut Compare) {
+    for file in WRITTEN.map(str::as_bytes) {
+        compare.short_buffers(file, STATE - 1, WORK, OUT);
+        compare.short_buffers(file, STATE, WORK - 1, OUT);
+        compare.short_buffers(file, STATE, WORK, OUT - 1);
+        compare.short_buffers(file, 0, 0, 0);
+    }
+    compare.short_buffers(&vec![b'0'; 65_537], STATE, WORK, 0);
+}
+
+/// Files of about 65,536 bytes and of about 2,048 T lines; levels and vectors about the longest.
+fn at_the_limits(compare: &mut Compare, random: &mut Random) {
+    for length in [65_535, 65_536, 65_537] {
+        let file = exact_length_file(random, length);
+        compare.file(&file, LONG_BUDGET);
+        compare.file(&file[..length - 1], LONG_BUDGET);
+    }
+    for lines in [2_047, 2_048, 2_049] {
+        for _ in 0..5 {
+            let file = exact_t_lines_file(random, lines);
+            compare.file(&file, LONG_BUDGET);
+        }
+    }
+    for tail in 165..185 {
+        compare.file(&problem_file(&long_tails(random, tail)), LONG_BUDGET);
+    }
+    compare.file(&nine_levels(), LONG_BUDGET);
+    for _ in 0..200 {
+        compare.file(&problem_file(&many_monomials(random)), LONG_BUDGET);
+        compare.file(&limit_file(random), LONG_BUDGET);
+    }
+}
+
+/// The eight variables, then 1: the one basis here of which level 9 is printed.
+fn nine_levels() -> Vec<u8> {
+    let mut file = "R,7,8,3,1\n".to_string();
+    for x in 1..=9 {
+        let exponents: Vec<&str> = (1..=8).map(|y| if x == y { "1" } else { "0" }).collect();
+        file.push_str(&format!("T,{x},1,1,{}\n", exponents.join(",")));
+    }
+    file.push_str("E,9\n");
+    file.into_bytes()
+}
+
+fn random_file(compare: &mut Compare, random: &mut Random) {
+    let size = match random.below(20) {
+        0 => Size::medium(),
+        1..=8 => Size::small(),
+        _ => Size::tiny(),
+    };
+    let mut file = match random.below(20) {
+        0 | 1 => edited_file(random),
+        2 | 3 => problem_file(&random_problem(random)),
+        4 | 5 => problem_file(&random_set(random, &size)),
+        _ => problem_file(&random_basis(random, &size)),
+    };
+    if random.chance(25) {
+        for _ in 0..random.between(1, 3) {
+            damage(random, &mut file);
+        }
+    }
+    compare.file(&file, BUDGET);
+}
+
+/// The instances of document 01 by name: the problem file, and the sheet that document 01 says.
+fn instances() -> Vec<(String, Vec<u8>, Vec<u8>)> {
+    let folder = Path::new(env!("CARGO_MANIFEST_DIR")).join("instances");
+    let mut files: Vec<(String, Vec<u8>, Vec<u8>)> = std::fs::read_dir(folder)
+        .expect("instances/ is there")
+        .map(|entry| entry.expect("a file of instances/").path())
+        .filter(|path| path.extension().is_some_and(|e| e == "txt"))
+        .map(|path| {
+            let name = path.file_stem().expect("it has a name").to_string_lossy();
+            let file = std::fs::read(&path).expect("a file of instances/");
+            let sheet = std::fs::read(path.with_extension("sheet")).expect("its sheet");
+            (name.into_owned(), file, sheet)
+        })
+        .collect();
+    files.sort();
+    assert_eq!(files.len(), 20, "an instance is missing");
+    files
+}
+
+/// The program itself, file by file; how many runs.
+fn by_program(compare: &Compare, random: &mut Random) -> u64 {
+    let mut files = Vec::new();
+    for (_, file, sheet) in instances() {
+        files.push((file, sheet));
+    }
+    let mut further = vec![vec![b'0'; 65_537], vec![b'\n'; 70_000], vec![]];
+    for length in [65_535, 65_536, 65_537, 70_000] {
+        further.push(exact_length_file(random, length));
+    }
+    // a file that would be accepted but for its length
+    let mut longer = exact_length_file(random, 65_536);
+    longer.push(10);
+    further.push(longer);
+    for (name, file) in examples() {
+        if !TOO_LONG.contains(&name.as_str()) {
+            further.push(file);
+        }
+    }
+    for file in further {
+        let sheet = compare
+            .expected(&file, EXAMPLE_BUDGET)
+            .expect("it takes fewer products");
+        files.push((file, sheet));
+    }
+    let mut runs = 0;
+    for (file, expected) in &files {
+        for by in [By::File, By::Pipe(1_000), By::Pipe(65_536)] {
+            let mut sheet = program::run(file, by);
+            if runs == 70 && matches!(compare.spoil, Some((_, Spoiled::Program))) {
+                *sheet.last_mut().expect("it prints something") ^= 1;
+            }
+            if sheet != *expected {
+                compare.differ(file, "the program prints something else", &sheet, expected);
+            }
+            runs += 1;
+        }
+    }
+    runs
+}
