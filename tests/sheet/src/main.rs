@@ -28,9 +28,10 @@ const SEED: u64 = 20_250_701;
 const BUDGET: u64 = 20_000;
 /// The same for files at the limits.
 const LONG_BUDGET: u64 = 200_000;
-/// The same for the files of examples/. One takes more: katsura4_lp, some 270 million by pick code 2.
+/// The same for the files of examples/.
 const EXAMPLE_BUDGET: u64 = 10_000_000;
-const TOO_LONG: [&str; 1] = ["katsura4_lp"];
+/// The one that takes more, some 270 million by pick code 2: the program alone is run on it, and once.
+const LONGEST: &str = "katsura4_lp";
 
 fn main() {
     let arguments: Vec<String> = std::env::args().skip(1).collect();
@@ -66,7 +67,7 @@ fn main() {
         short_buffers(&mut compare);
         at_the_limits(&mut compare, &mut random);
         for (name, file) in examples() {
-            if !TOO_LONG.contains(&name.as_str()) {
+            if name != LONGEST {
                 compare.file(&file, EXAMPLE_BUDGET);
             }
         }
@@ -90,8 +91,7 @@ fn main() {
         .collect();
     println!("  {}", counts.join(", "));
     println!(
-        "  the program: {programs} runs agree byte for byte; left out of examples/: {}",
-        TOO_LONG.join(", ")
+        "  the program: {programs} runs agree byte for byte, on all files of examples/ among others"
     );
     if wanted < FILES / 4 {
         return;
@@ -208,34 +208,42 @@ fn instances() -> Vec<(String, Vec<u8>, Vec<u8>)> {
 
 /// The program itself, file by file; how many runs.
 fn by_program(compare: &Compare, random: &mut Random) -> u64 {
-    let mut files = Vec::new();
-    for (_, file, sheet) in instances() {
-        files.push((file, sheet));
-    }
+    const ALL: &[By] = &[By::File, By::Pipe(1_000), By::Pipe(65_536)];
+    let mut files: Vec<(Vec<u8>, Vec<u8>, &[By])> = instances()
+        .into_iter()
+        .map(|(_, file, sheet)| (file, sheet, ALL))
+        .collect();
     let mut further = vec![vec![b'0'; 65_537], vec![b'\n'; 70_000], vec![]];
     for length in [65_535, 65_536, 65_537, 70_000] {
         further.push(exact_length_file(random, length));
     }
-    // a file that would be accepted but for its length
+    // a file that would be read but for its length
     let mut longer = exact_length_file(random, 65_536);
     longer.push(10);
     further.push(longer);
+    let spoiled = matches!(compare.spoil, Some((_, Spoiled::Program)));
+    let mut longest = None;
     for (name, file) in examples() {
-        if !TOO_LONG.contains(&name.as_str()) {
+        if name == LONGEST {
+            longest = Some(file);
+        } else {
             further.push(file);
         }
     }
     for file in further {
-        let sheet = compare
-            .expected(&file, EXAMPLE_BUDGET)
-            .expect("it takes fewer products");
-        files.push((file, sheet));
+        let sheet = compare.expected(&file, EXAMPLE_BUDGET);
+        files.push((file, sheet.expect("it takes fewer products"), ALL));
+    }
+    if compare.spoil.is_none() {
+        let file = longest.expect("it is among the examples");
+        let sheet = compare.expected(&file, u64::MAX);
+        files.push((file, sheet.expect("no budget"), &[By::File]));
     }
     let mut runs = 0;
-    for (file, expected) in &files {
-        for by in [By::File, By::Pipe(1_000), By::Pipe(65_536)] {
-            let mut sheet = program::run(file, by);
-            if runs == 70 && matches!(compare.spoil, Some((_, Spoiled::Program))) {
+    for (file, expected, ways) in &files {
+        for by in *ways {
+            let mut sheet = program::run(file, *by);
+            if spoiled && runs == 70 {
                 *sheet.last_mut().expect("it prints something") ^= 1;
             }
             if sheet != *expected {
