@@ -1,5 +1,6 @@
--- What the contracts of the calls of a list give together: the definitions' list of calls, and with it demands 1 and 3.
+-- What the contracts of the calls give together: the definitions' list of calls, and with it the demands.
 use mathlib.Core.Path.{_≡_, refl, sym, ap, _∙_, subst}
+use mathlib.Core.Bool.{Bool, true, false}
 use mathlib.Core.Option.{Option, some}
 use mathlib.Core.List.{List, [], _∷_}
 use Prim.Native.Nat.{ℕ, _+_}
@@ -7,14 +8,23 @@ use native.Mathlib.Nat.{add-comm}
 use lib.Dec.{T}
 use Rattle.definitions.specs.Limits.{document-01}
 use Rattle.definitions.specs.Lists.{_then_}
+use Rattle.definitions.specs.Monomial.{Level}
+use Rattle.definitions.specs.Result.{Result, done}
+use Rattle.definitions.specs.Problem.{Bytes, Parameters, problem}
+use Rattle.definitions.specs.State.{State}
+use Rattle.definitions.specs.Calls.{settled, read-reply}
 use Rattle.definitions.specs.Reckoning.{nothing, reckon-all}
-use Rattle.definitions.specs.Layout.{Words, Read, Lift, Lent, read-with, lift-with, fetch-with, Left, lent-call, lent-calls}
+use Rattle.definitions.specs.Layout.{Words, meant, division, long-enough?, Read, read-left, Lift, Lent, read-with, lift-with, fetch-with, Left, lent-call, lent-calls}
 use Rattle.definitions.proofs.Steady.{answered?, steady-from}
 use Rattle.definitions.proofs.Bound.{lent-call-steady, lent-calls-steady}
-use Rattle.demands.specs.Demands.{Starts, numbered, left-by, Leaves, Fetches-right}
+use Rattle.demands.specs.Demands as demands
+use Rattle.demands.specs.Demands.{Starts, numbered, left-by, Leaves, Fetches-right, Read-right}
+use Rattle.demands.proofs.Results as results
+use Rattle.demands.proofs.Results.{Holds, holds, holds-at}
 use Rattle.demands.proofs.Demand1.{demand-1-of-document-01}
+use Rattle.demands.proofs.Demand2.{demand-2-of-document-01}
 use Rattle.demands.proofs.Demand3.{demand-3-of-document-01}
-use Rattle.calls.specs.Made.{Told, Made}
+use Rattle.calls.specs.Made.{Told, Made, Decides, accepted, no-basis, limited, too-short}
 
 answered : {A : Type 0} (x : Option A) (a : A) → x ≡ some a → T (answered? x)
 answered x a e = subst (λ z. T (answered? z)) (sym e) tt
@@ -62,6 +72,23 @@ one-answer state cs ls ls′ t t′ =
     let x : (n : ℕ) × (lent-calls document-01 n state cs ≡ some ls) = all-calls state cs ls t in
     let y : (n : ℕ) × (lent-calls document-01 n state cs ≡ some ls′) = all-calls state cs ls′ t′ in
     demand-1-of-document-01 .one-answer (x .0) (y .0) state cs ls ls′ (x .1) (y .1)
+
+-- Demand 2: reading accepts exactly the Gröbner bases, where no limit is met
+pub read-decides : (state : Words) (file : Bytes) (work : Words) (a : Left) (q : Parameters) (f : Level) → Told state (read-with file work) a
+    → problem document-01 file ≡ done (q, f) → Decides q f (a .number)
+read-decides state file work a q f t e = holds-at (sym (t .1 .1)) (go (long-enough? document-01 division state work))
+  where
+    settles : {x : Result State} → Read-right document-01 q f x
+        → Holds (λ (r : Read). Decides q f (r .0)) (settled x then λ y. some (read-left document-01 state work y))
+    settles (demands.Read-right.accepts gb) = holds (accepted gb)
+    settles (demands.Read-right.limited l) = holds (limited l)
+    settles (demands.Read-right.stopped {value = value} i w) = holds (no-basis (demand-2-of-document-01 .shows q f value w))
+    settles demands.Read-right.open-yet = results.nothing
+
+    go : (b : Bool)
+        → Holds (λ (r : Read). Decides q f (r .0)) (read-reply document-01 (t .0) (meant document-01 state) b file then λ y. some (read-left document-01 state work y))
+    go true = settles (demand-2-of-document-01 .reading (t .0) file q f e)
+    go false = holds too-short
 
 -- Demand 3: what the calls left is the reckoning's, and each fetch gave its vector
 pub made-right : (state : Words) (cs : List Lent) (ls : List Left) → Made state cs ls → Starts state cs ls
