@@ -1,3 +1,4 @@
 pub mod Ascending
 pub mod Minimal
 pub mod Components
+pub mod Thinning

@@ -8,7 +8,7 @@ use Rattle.definitions.specs.Lists.{any, those, choose}
 use Rattle.definitions.specs.Monomial.{Exponents, Monomial, Term, Vector, quotient, lcm, no-term}
 use Rattle.definitions.specs.Order.{greater, equal, smaller, exponents-by}
 use Rattle.definitions.specs.Result.{Result, done, refusal}
-use Rattle.definitions.specs.Frame.{properly-divides?}
+use Rattle.definitions.specs.Frame.{into-ascending, properly-divides?}
 use Rattle.definitions.specs.Layout.{Words, rows, row-at}
 use Rattle.terms.specs.Rows.{let-in}
 use Rattle.sums.specs.declared.Stored.{Stored}
@@ -46,8 +46,23 @@ abbrev pub with-unit : ℕ → List Exponents → Vector
 with-unit i [] = []
 with-unit i (g ∷ gs) = (1, (g, i)) ∷ with-unit i gs
 
+-- a generator that one there properly divides is left out
+abbrev pub thinned-in : ℕ → Exponents → List Exponents → List Exponents
+thinned-in code g gs = choose (any (λ h. properly-divides? h g) gs) gs (into-ascending code g gs)
+
+abbrev pub with-thinned : ℕ → Monomial → Monomial → List Exponents → List Exponents
+with-thinned code l m gs = choose (eqb (l .1) (m .1)) (thinned-in code (quotient (lcm (l .0) (m .0)) (m .0)) gs) gs
+
+-- the definitions' `generators`, so thinned: the minimal ones are the same (proofs/Thinning)
+abbrev pub thinned : ℕ → List Monomial → Monomial → List Exponents
+thinned code [] m = []
+thinned code (l ∷ ls) m = with-thinned code l m (thinned code ls m)
+
+-- the same of one generator, as rows
 abbrev pub generated : ℕ → Monomial → Monomial → ℕ → Vector → Vector
-generated code l m i v = choose (eqb (l .1) (m .1)) (taken-in code (1, (quotient (lcm (l .0) (m .0)) (m .0), i)) v) v
+generated code l m i v =
+    let g = quotient (lcm (l .0) (m .0)) (m .0) in
+    choose (eqb (l .1) (m .1)) (choose (any (λ h. properly-divides? h g) (exponents-of v)) v (taken-in code (1, (g, i)) v)) v
 
 -- the leading monomials before element j, the nearest first
 abbrev pub earlier : ℕ → Words → List Monomial

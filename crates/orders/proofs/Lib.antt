@@ -2,3 +2,4 @@ pub mod Comparing
 pub mod Tables
 pub mod Ranks
 pub mod Induced
+pub mod RowImages

@@ -3,11 +3,13 @@ use mathlib.Core.Bool.{Bool, true, false}
 use mathlib.Core.Option.{Option, none, some}
 use mathlib.Core.List.{List, [], _∷_, _++_}
 use Prim.Native.Nat.{ℕ, zero, suc, _+_, _*_, _<_, _≤_}
+use lib.Dec.{eqb}
 use lib.ListN.{getD, getElem?}
+use Rattle.definitions.specs.Lists.{choose}
 use Rattle.definitions.specs.Monomial.{Exponents, Monomial, product}
 use Rattle.definitions.specs.Order as definition
-use Rattle.definitions.specs.Order.{greater, equal, smaller, or-at-tie, numbers, exponents-by}
-use Rattle.definitions.specs.Layout.{Words}
+use Rattle.definitions.specs.Order.{greater, equal, smaller, or-at-tie, numbers, lexicographic, last-differing, exponents-by}
+use Rattle.definitions.specs.Layout.{Words, exponents-at}
 use Rattle.orders.specs.declared.Comparison.{Comparison}
 use Rattle.orders.specs.declared.Comparison.the-variants.{Greater, Equal, Smaller}
 use Rattle.orders.specs.declared.Image.{Image}
@@ -74,3 +76,17 @@ Bounded s a = (j : ℕ) → j < 8 → getD s (a + j) 0 ≤ 65280
 
 abbrev pub Tabled : ℕ → Words → Type 0
 Tabled r s = (i : ℕ) → i < r → Bounded s (i * 10 + 2)
+
+-- ## The image of a row
+
+-- a row's exponents, from word a on, times those from word b on of the table
+abbrev pub row-image : Words → ℕ → Words → ℕ → Exponents
+row-image s a t b = product (exponents-at s a) (exponents-raw t b)
+
+-- what two degrees decide: code 1 does not look at them
+abbrev pub degrees-by : ℕ → ℕ → ℕ → definition.Comparison
+degrees-by code d e = choose (eqb code 1) equal (numbers d e)
+
+-- what the places decide at equal degrees
+abbrev pub places-by : ℕ → Exponents → Exponents → definition.Comparison
+places-by code x y = choose (eqb code 1) (lexicographic x y) (choose (eqb code 2) (lexicographic x y) (last-differing x y))

@@ -3,11 +3,12 @@
 ghost use mathlib.Core.Path.{_≡_};
 ghost use mathlib.Core.List.{[]};
 ghost use Prim.Native.Nat.{_+_, _*_, _≤_};
-ghost use lib.ListN.{length};
+ghost use lib.ListN.{length, getD};
 ghost use Rattle.definitions.specs.Monomial.{degree, product};
 ghost use Rattle.definitions.specs.Order.{numbers as numbers-definition, lexicographic as lexicographic-definition, last-differing as last-differing-definition, exponents-by, compare-over};
+ghost use Rattle.definitions.specs.Layout.{byte, exponents-at, row-at};
 ghost use Rattle.monomial.specs.Values.{monomial-of};
-ghost use Rattle.orders.specs.Images.{comparison-of, decided?, exponents-raw, table-of, Bounded, Tabled, key, key-of, compare-keys};
+ghost use Rattle.orders.specs.Images.{comparison-of, decided?, exponents-raw, table-of, Bounded, Tabled, key, key-of, compare-keys, row-image, degrees-by, places-by};
 use monomial::Monomial;
 
 pub enum Comparison {
@@ -85,7 +86,7 @@ fn wider(x: u16) -> u32
     x as u32
 }
 
-fn total(x: [u16; 8]) -> u32
+pub fn total(x: [u16; 8]) -> u32
     ensures { λ r. ⌜ r ≡ degree x ⌝ }
 {
     let mut d: u32 = 0;
@@ -211,4 +212,197 @@ pub fn compare_images(code: u16, a: Image, b: Image) -> Comparison
         return t;
     }
     numbers(wider(a.component), wider(b.component))
+}
+
+// ## An image against that of a row, which is formed word by word and only as far as it decides: no term by value
+
+// An exponent's word, read.
+fn clamped(x: u16) -> u16
+    ensures { λ r. ⌜ (r ≡ byte x) × (r ≤ 255) ⌝ }
+{
+    if x < 256 {
+        return x;
+    }
+    255
+}
+
+// An exponent's word times the table's.
+fn word_of(x: u16, y: u16) -> u16
+    requires { ⌜ y ≤ 65280 ⌝ }
+    ensures { λ r. ⌜ (r ≡ byte x + y) × (r ≤ 65535) ⌝ }
+{
+    clamped(x) + y
+}
+
+fn row_lexicographic(x: [u16; 8], s: &[u16], at: usize, table: &[u16], to: usize) -> Comparison
+    requires { ⌜ (at + 8 ≤ length (now s)) × (to + 8 ≤ length (now table)) × Bounded (now table) to ⌝ }
+    ensures { λ r. ⌜ comparison-of r ≡ lexicographic-definition x (row-image (now (s .entry)) at (now (table .entry)) to) ⌝ }
+{
+    let mut j = 0;
+    while j < 8 {
+        let y = word_of(s[at + j], table[to + j]);
+        if y < x[j] {
+            return Comparison::Greater;
+        }
+        if x[j] < y {
+            return Comparison::Smaller;
+        }
+        j += 1;
+    }
+    Comparison::Equal
+}
+
+fn row_last_differing(x: [u16; 8], s: &[u16], at: usize, table: &[u16], to: usize) -> Comparison
+    requires { ⌜ (at + 8 ≤ length (now s)) × (to + 8 ≤ length (now table)) × Bounded (now table) to ⌝ }
+    ensures { λ r. ⌜ comparison-of r ≡ last-differing-definition x (row-image (now (s .entry)) at (now (table .entry)) to) ⌝ }
+{
+    let mut j = 8;
+    while 0 < j {
+        j -= 1;
+        let y = word_of(s[at + j], table[to + j]);
+        if x[j] < y {
+            return Comparison::Greater;
+        }
+        if y < x[j] {
+            return Comparison::Smaller;
+        }
+    }
+    Comparison::Equal
+}
+
+// From the last down: begun like the lexicographic walk, its first word would be formed apart from the other seven.
+fn row_total(s: &[u16], at: usize, table: &[u16], to: usize) -> u32
+    requires { ⌜ (at + 8 ≤ length (now s)) × (to + 8 ≤ length (now table)) × Bounded (now table) to ⌝ }
+    ensures { λ r. ⌜ r ≡ degree (row-image (now (s .entry)) at (now (table .entry)) to) ⌝ }
+{
+    let mut d: u32 = 0;
+    let mut j = 8;
+    while 0 < j {
+        j -= 1;
+        d += wider(word_of(s[at + j], table[to + j]));
+    }
+    d
+}
+
+// What the degrees decide, where the order code looks at them.
+fn row_degrees(code: u16, total: u32, s: &[u16], at: usize, table: &[u16], to: usize) -> Comparison
+    requires { ⌜ (at + 8 ≤ length (now s)) × (to + 8 ≤ length (now table)) × Bounded (now table) to ⌝ }
+    ensures { λ r. ⌜ comparison-of r ≡ degrees-by code total (degree (row-image (now (s .entry)) at (now (table .entry)) to)) ⌝ }
+{
+    match code {
+        1 => Comparison::Equal,
+        _ => numbers(total, row_total(s, at, table, to)),
+    }
+}
+
+// What the places decide: each of the two walks is called at one place only, so that it becomes part of the loop around it.
+fn row_places(code: u16, x: [u16; 8], s: &[u16], at: usize, table: &[u16], to: usize) -> Comparison
+    requires { ⌜ (at + 8 ≤ length (now s)) × (to + 8 ≤ length (now table)) × Bounded (now table) to ⌝ }
+    ensures { λ r. ⌜ comparison-of r ≡ places-by code x (row-image (now (s .entry)) at (now (table .entry)) to) ⌝ }
+{
+    match code {
+        1 | 2 => row_lexicographic(x, s, at, table, to),
+        _ => row_last_differing(x, s, at, table, to),
+    }
+}
+
+fn row_by_code(
+    code: u16,
+    x: [u16; 8],
+    total: u32,
+    s: &[u16],
+    at: usize,
+    table: &[u16],
+    to: usize,
+) -> Comparison
+    requires { ⌜ (at + 8 ≤ length (now s)) × (to + 8 ≤ length (now table)) × Bounded (now table) to × (total ≡ degree x) ⌝ }
+    ensures { λ r. ⌜ comparison-of r ≡ exponents-by code x (row-image (now (s .entry)) at (now (table .entry)) to) ⌝ }
+{
+    let d = row_degrees(code, total, s, at, table, to);
+    if decided(d) {
+        return d;
+    }
+    row_places(code, x, s, at, table, to)
+}
+
+fn row_exponents(s: &[u16], at: usize) -> [u16; 8]
+    requires { ⌜ at + 8 ≤ length (now s) ⌝ }
+    ensures { λ r. ⌜ r ≡ exponents-at (now (s .entry)) at ⌝ }
+{
+    let mut w = [0u16; 8];
+    let mut j = 0;
+    while j < 8 {
+        w[j] = clamped(s[at + j]);
+        j += 1;
+    }
+    w
+}
+
+// A row, from word at on, whose component the table lacks.
+fn against_own(code: u16, a: Image, s: &[u16], at: usize) -> Comparison
+    requires { ⌜ at + 10 ≤ length (now s) ⌝ }
+    ensures { λ c. ⌜ comparison-of c ≡ compare-keys code (key-of a) (exponents-at (now (s .entry)) (at + 2), (0, getD (now (s .entry)) (at + 1) 0)) ⌝ }
+{
+    let w = row_exponents(s, at + 2);
+    let b = Image {
+        exponents: w,
+        rank: 0,
+        component: s[at + 1],
+    };
+    compare_images(code, a, b)
+}
+
+// A row, from word at on, whose component's row in the table begins at word to.
+fn against_tabled(
+    code: u16,
+    a: Image,
+    total: u32,
+    s: &[u16],
+    at: usize,
+    table: &[u16],
+    to: usize,
+) -> Comparison
+    requires { ⌜ (at + 10 ≤ length (now s)) × (to + 10 ≤ length (now table)) × Bounded (now table) (to + 2) × (total ≡ degree (a .exponents)) ⌝ }
+    ensures { λ c. ⌜ comparison-of c ≡ compare-keys code (key-of a) (row-image (now (s .entry)) (at + 2) (now (table .entry)) (to + 2), (getD (now (table .entry)) (to + 1) 0, getD (now (s .entry)) (at + 1) 0)) ⌝ }
+{
+    let x = a.exponents;
+    let d = row_by_code(code, x, total, s, at + 2, table, to + 2);
+    if decided(d) {
+        return d;
+    }
+    let e = numbers(wider(a.rank), wider(table[to + 1]));
+    if decided(e) {
+        return e;
+    }
+    numbers(wider(a.component), wider(s[at + 1]))
+}
+
+fn place(x: u16) -> usize
+    ensures { λ r. ⌜ (r ≡ x) × (r ≤ 65535) ⌝ }
+{
+    x as usize
+}
+
+// An image with its total degree against the image of row i.
+pub fn against_row(
+    code: u16,
+    a: Image,
+    total: u32,
+    s: &[u16],
+    i: usize,
+    table: &[u16],
+    r: usize,
+) -> Comparison
+    requires { ⌜ (i * 10 + 10 ≤ length (now s)) × (r * 10 ≤ length (now table)) × Tabled r (now table) × (total ≡ degree (a .exponents)) ⌝ }
+    ensures { λ c. ⌜ comparison-of c ≡ compare-keys code (key-of a) (key (table-of r (now (table .entry))) (row-at (now (s .entry)) i .1)) ⌝ }
+{
+    let at = i * 10;
+    let c = place(s[at + 1]);
+    if c == 0 {
+        return against_own(code, a, s, at);
+    }
+    if r < c {
+        return against_own(code, a, s, at);
+    }
+    against_tabled(code, a, total, s, at, table, c * 10 - 10)
 }

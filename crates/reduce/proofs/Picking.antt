@@ -1,12 +1,10 @@
 -- The places that the pick codes say.
-use mathlib.Core.Path.{_≡_, refl, sym, ap, _∙_}
+use mathlib.Core.Path.{_≡_, refl, sym, ap, _∙_, subst}
 use mathlib.Core.Bool.{Bool, true, false}
-use mathlib.Core.Option.{Option, none, some}
-use mathlib.Core.List.{[], _∷_}
-use Prim.Native.Nat.{ℕ, suc, _+_, _-_, _<_, _≤_}
+use mathlib.Core.Option.{some}
+use Prim.Native.Nat.{ℕ, zero, suc, _+_, _-_, _<_, _≤_}
 use native.Mathlib.Omega.{arith}
 use lib.Dec.{eqb}
-use lib.ListN.{length}
 use borrow.Author.Tests.{eq-eqb, ne-eqb}
 use Rattle.definitions.specs.Lists.{choose}
 use Rattle.definitions.specs.Monomial.{Monomial, Vector}
@@ -14,8 +12,10 @@ use Rattle.definitions.specs.Order.{Comparison, greater, equal, smaller, greate
 use Rattle.definitions.specs.Run.{Best, better, greatest-from, greatest, newest, oldest, by-code}
 use Rattle.definitions.specs.Layout.{Words, row-at, rows}
 use Rattle.definitions.proofs.Rows.{rows-first, length-rows}
-use Rattle.orders.specs.Images.{Key, Table, key, compare-keys, table-order}
-use Rattle.reduce.specs.Grounds.{better-key}
+use Rattle.definitions.proofs.Comparisons.{turned}
+use Rattle.orders.specs.Images.{Table, key, table-order}
+use Rattle.sums.specs.Places.{stops?, stop-from}
+use Rattle.sums.proofs.Walking.{stop-here, stop-past, stop-end, keys-turn}
 use Rattle.reduce.proofs.Adding.{rows-none}
 
 better-is : (c : Comparison) (i : ℕ) (m : Monomial) (best : Best) → better c i m best ≡ choose (greater? c) (i, m) best
@@ -24,51 +24,60 @@ better-is equal i m best = refl
 better-is smaller i m best = refl
 
 module _ (code : ℕ) (T : Table) (s : Words) (n : ℕ) where
-  -- the greatest of the best so far, at place x, and the terms from place i on
-  pub record Running (i x : ℕ) (k : Key) : Type 0 where
-    pub image : k ≡ key T (row-at s x .1)
-    pub left : greatest (table-order code T) (rows s 0 n) ≡ some (greatest-from (table-order code T) i (x, row-at s x .1) (rows s i (n - i)))
+  -- what is left: the greatest of the best so far, at place x, and the terms from place i on
+  abbrev pub Left : ℕ → ℕ → Type 0
+  Left i x = greatest (table-order code T) (rows s 0 n) ≡ some (greatest-from (table-order code T) i (x, row-at s x .1) (rows s i (n - i)))
 
-  pub running-first : (k : Key) → 0 < n → k ≡ key T (row-at s 0 .1) → Running 1 0 k
-  running-first k h e =
+  pub left-first : 0 < n → Left 1 0
+  left-first h =
       let z : n ≡ suc (n - 1) = omega arith in
-      record { image = e; left = ap (λ m. greatest (table-order code T) (rows s 0 m)) z ∙ ap (greatest (table-order code T)) (rows-first s 0 (n - 1)) }
+      ap (λ m. greatest (table-order code T) (rows s 0 m)) z ∙ ap (greatest (table-order code T)) (rows-first s 0 (n - 1))
 
-  step-from : (i x : ℕ) → i < n → greatest-from (table-order code T) i (x, row-at s x .1) (rows s i (n - i)) ≡ greatest-from (table-order code T) (i + 1) (choose (greater? (table-order code T (row-at s i .1) (row-at s x .1))) (i, row-at s i .1) (x, row-at s x .1)) (rows s (i + 1) (n - (i + 1)))
-  step-from i x h =
+  left-step : (i x y : ℕ) (b : Bool) → i < n → greater? (table-order code T (row-at s i .1) (row-at s x .1)) ≡ b → choose b i x ≡ y → Left i x → Left (i + 1) y
+  left-step i x y b h e f l =
       let z : n - i ≡ suc (n - (i + 1)) = omega arith in
-      let y : suc i ≡ i + 1 = omega arith in
+      let w : suc i ≡ i + 1 = omega arith in
+      l ∙ ap some (
       ap (λ m. greatest-from (table-order code T) i (x, row-at s x .1) (rows s i m)) z
       ∙ ap (greatest-from (table-order code T) i (x, row-at s x .1)) (rows-first s i (n - (i + 1)))
-      ∙ ap (λ b. greatest-from (table-order code T) (suc i) b (rows s (suc i) (n - (i + 1)))) (better-is (table-order code T (row-at s i .1) (row-at s x .1)) i (row-at s i .1) (x, row-at s x .1))
-      ∙ ap (λ j. greatest-from (table-order code T) j (choose (greater? (table-order code T (row-at s i .1) (row-at s x .1))) (i, row-at s i .1) (x, row-at s x .1)) (rows s j (n - (i + 1)))) y
-
-  pub running-more : (i x y : ℕ) (k l m : Key) → i < n → Running i x k → m ≡ key T (row-at s i .1) → _≡_ {A = ℕ × Key} (y, l) (better-key code (x, k) i m) → Running (i + 1) y l
-  running-more i x y k l m h r e f = go (greater? (compare-keys code m k)) refl f
+      ∙ ap (λ u. greatest-from (table-order code T) (suc i) u (rows s (suc i) (n - (i + 1)))) (better-is (table-order code T (row-at s i .1) (row-at s x .1)) i (row-at s i .1) (x, row-at s x .1) ∙ ap (λ c. choose c (i, row-at s i .1) (x, row-at s x .1)) e ∙ chosen b ∙ ap (λ j. (j, row-at s j .1)) f)
+      ∙ ap (λ j. greatest-from (table-order code T) j (y, row-at s y .1) (rows s j (n - (i + 1)))) w)
     where
-      same : greater? (compare-keys code m k) ≡ greater? (table-order code T (row-at s i .1) (row-at s x .1))
-      same = λ j. greater? (compare-keys code (e j) (r .image j))
+      chosen : (b : Bool) → _≡_ {A = Best} (choose b (i, row-at s i .1) (x, row-at s x .1)) (choose b i x, row-at s (choose b i x) .1)
+      chosen true = refl
+      chosen false = refl
 
-      go : (b : Bool) → greater? (compare-keys code m k) ≡ b → _≡_ {A = ℕ × Key} (y, l) (choose b (i, m) (x, k)) → Running (i + 1) y l
-      go true q f =
-          let u : y ≡ i = ap (λ (z : ℕ × Key). z .0) f in
-          let v : l ≡ m = ap (λ (z : ℕ × Key). z .1) f in
-          record {
-            image = v ∙ e ∙ ap (λ j. key T (row-at s j .1)) (sym u);
-            left = r .left ∙ ap some (step-from i x h ∙ ap (λ b. greatest-from (table-order code T) (i + 1) (choose b (i, row-at s i .1) (x, row-at s x .1)) (rows s (i + 1) (n - (i + 1)))) (sym same ∙ q) ∙ ap (λ j. greatest-from (table-order code T) (i + 1) (j, row-at s j .1) (rows s (i + 1) (n - (i + 1)))) (sym u));
-          }
-      go false q f =
-          let u : y ≡ x = ap (λ (z : ℕ × Key). z .0) f in
-          let v : l ≡ k = ap (λ (z : ℕ × Key). z .1) f in
-          record {
-            image = v ∙ r .image ∙ ap (λ j. key T (row-at s j .1)) (sym u);
-            left = r .left ∙ ap some (step-from i x h ∙ ap (λ b. greatest-from (table-order code T) (i + 1) (choose b (i, row-at s i .1) (x, row-at s x .1)) (rows s (i + 1) (n - (i + 1)))) (sym same ∙ q) ∙ ap (λ j. greatest-from (table-order code T) (i + 1) (j, row-at s j .1) (rows s (i + 1) (n - (i + 1)))) (sym u));
-          }
-
-  pub running-end : (i x : ℕ) (k : Key) → n ≤ i → Running i x k → some x ≡ greatest (table-order code T) (rows s 0 n)
-  running-end i x k h r =
+  pub left-end : (i x : ℕ) → n ≤ i → Left i x → some x ≡ greatest (table-order code T) (rows s 0 n)
+  left-end i x h l =
       let z : n - i ≡ 0 = omega arith in
-      sym (r .left ∙ ap some (ap (λ m. greatest-from (table-order code T) i (x, row-at s x .1) (rows s i m)) z ∙ ap (greatest-from (table-order code T) i (x, row-at s x .1)) (rows-none s i)))
+      sym (l ∙ ap some (ap (λ m. greatest-from (table-order code T) i (x, row-at s x .1) (rows s i m)) z ∙ ap (greatest-from (table-order code T) i (x, row-at s x .1)) (rows-none s i)))
+
+  -- a walk that stops where the best so far is smaller: behind the last term, or at the next best
+  abbrev Walked : ℕ → ℕ → ℕ → Type 0
+  Walked i x j = (i ≤ j) × (n ≤ j → some x ≡ greatest (table-order code T) (rows s 0 n)) × (j < n → Left (j + 1) j)
+
+  turned-greater : (c d : Comparison) → d ≡ turned c → greater? d ≡ stops? true c
+  turned-greater greater d e = ap greater? e
+  turned-greater equal d e = ap greater? e
+  turned-greater smaller d e = ap greater? e
+
+  pub left-walked : (x : ℕ) (m i j : ℕ) (c : Comparison) → n - i ≡ m → Left i x → _≡_ {A = ℕ × Comparison} (j, c) (stop-from true (table-order code T (row-at s x .1)) (rows s i (n - i)) i) → Walked i x j
+  left-walked x zero i j c z l e =
+      let q : j ≡ i = ap (λ (w : ℕ × Comparison). w .0) (e ∙ stop-end true (table-order code T (row-at s x .1)) s n i (omega arith)) in
+      (omega arith, λ h. left-end i x (omega arith) l, λ h. absurd (omega arith))
+  left-walked x (suc m) i j c z l e = go (left-walked x m (i + 1) j c (omega arith)) (stops? true (table-order code T (row-at s x .1) (row-at s i .1))) refl
+    where
+      same : greater? (table-order code T (row-at s i .1) (row-at s x .1)) ≡ stops? true (table-order code T (row-at s x .1) (row-at s i .1))
+      same = turned-greater (table-order code T (row-at s x .1) (row-at s i .1)) (table-order code T (row-at s i .1) (row-at s x .1)) (keys-turn code (key T (row-at s x .1)) (key T (row-at s i .1)))
+
+      go : (Left (i + 1) x → _≡_ {A = ℕ × Comparison} (j, c) (stop-from true (table-order code T (row-at s x .1)) (rows s (i + 1) (n - (i + 1))) (i + 1)) → Walked (i + 1) x j)
+          → (b : Bool) → stops? true (table-order code T (row-at s x .1) (row-at s i .1)) ≡ b → Walked i x j
+      go further true q =
+          let f : i ≡ j = sym (ap (λ (w : ℕ × Comparison). w .0) (e ∙ stop-here true (table-order code T (row-at s x .1)) s n i (omega arith) (sym q))) in
+          (omega arith, λ h. absurd (omega arith), λ h. subst (λ k. Left (k + 1) k) f (left-step i x i true (omega arith) (same ∙ q) refl l))
+      go further false q =
+          let w = further (left-step i x x false (omega arith) (same ∙ q) refl l) (e ∙ stop-past true (table-order code T (row-at s x .1)) s n i (omega arith) (sym q)) in
+          (omega (arith, w .0), w .1, w .2)
 
 -- ## By code
 

@@ -12,14 +12,11 @@ use Rattle.definitions.specs.Stage.{Reduction, Stage}
 use Rattle.definitions.specs.Run as definition
 use Rattle.definitions.specs.Run.{Run, by-code}
 use Rattle.definitions.specs.Layout.{Words, rows, vectors-at}
-use Rattle.definitions.specs.Lists.{choose}
-use Rattle.definitions.specs.Order.{greater?}
-use Rattle.orders.specs.Images.{table-of, table-order, Tabled, Key, key-of, compare-keys}
+use Rattle.orders.specs.Images.{table-of, table-order, Tabled}
 use Rattle.reducers.specs.Search.{Small, Spanned}
 use Rattle.reduce.specs.declared.Ground.{Ground}
 use Rattle.reduce.specs.declared.Added.{Added}
 use Rattle.reduce.specs.declared.Added.the-variants.{Rows, Refused}
-use Rattle.reduce.specs.declared.Best.{Best}
 
 -- document 01's limits, but for those that the ground names
 abbrev pub limits-of : Ground → Limits
@@ -80,12 +77,3 @@ abbrev pub first-row : Words → ℕ → ℕ
 first-row ends zero = 0
 first-row ends (suc zero) = 0
 first-row ends (suc (suc j)) = getD ends j 0
-
--- ## Picks
-
--- a place, and the key of the monomial there
-abbrev pub best-of : Best → ℕ × Key
-best-of b = (b .place, key-of (b .image))
-
-abbrev pub better-key : ℕ → ℕ × Key → ℕ → Key → ℕ × Key
-better-key code best i k = choose (greater? (compare-keys code k (best .1))) (i, k) best

@@ -7,13 +7,11 @@ ghost use lib.ListN.{length};
 ghost use Rattle.definitions.specs.Monomial.{vector-of};
 ghost use Rattle.definitions.specs.Vectors.{store};
 ghost use Rattle.definitions.specs.Run.{add-term, unless-dropped, dropped?, add-products, multiple, by-code, greatest as greatest-definition};
-ghost use Rattle.definitions.specs.Order.{greater?};
 ghost use Rattle.definitions.specs.Layout.{row-at, rows};
-ghost use Rattle.orders.specs.Images.{comparison-of, key, key-of, table-of, table-order, Tabled};
+ghost use Rattle.orders.specs.Images.{key, key-of, table-of, table-order, Tabled};
 ghost use Rattle.terms.specs.Rows.{term-of};
-ghost use Rattle.reduce.specs.Grounds.{reduction-of, Tables, Family, family-of, first-row, added-of, Within, best-of, better-key};
+ghost use Rattle.reduce.specs.Grounds.{reduction-of, Tables, Family, family-of, first-row, added-of, Within};
 use monomial::Monomial;
-use orders::Comparison;
 use orders::Image;
 use reducers::Answer;
 use sums::Stored;
@@ -36,12 +34,6 @@ pub struct Ground {
 pub enum Added {
     Rows(usize),
     Refused(u16),
-}
-
-// The greatest term so far: its place and its image.
-pub struct Best {
-    pub place: usize,
-    pub image: Image,
 }
 
 // A term into a sum in the order of arrival: 14 where it is full.
@@ -183,42 +175,24 @@ fn image_at(value: &[u16], i: usize, below: &[u16], images: usize) -> Image
     orders::image_of(below, images, m)
 }
 
-fn is_greater(c: Comparison) -> bool
-    ensures { λ r. ⌜ r ≡ greater? (comparison-of c) ⌝ }
-{
-    match c {
-        Comparison::Greater => true,
-        Comparison::Equal => false,
-        Comparison::Smaller => false,
-    }
-}
-
-// The better of the best so far and the term at place i.
-fn better(code: u16, best: Best, i: usize, image: Image) -> Best
-    ensures { λ r. ⌜ best-of r ≡ better-key code (best-of best) i (key-of image) ⌝ }
-{
-    let old = best.image;
-    let c = orders::compare_images(code, image, old);
-    if is_greater(c) {
-        return Best { place: i, image };
-    }
-    best
-}
-
-// The place of the greatest of n terms.
+// The place of the greatest of n terms: walks from each best so far to the next.
 pub fn greatest(value: &[u16], n: usize, code: u16, below: &[u16], images: usize) -> usize
     requires { ⌜ (0 < n) × (n * 10 ≤ length (now value)) × (images * 10 ≤ length (now below)) × Tabled images (now below) ⌝ }
     ensures { λ r. ⌜ some r ≡ greatest-definition (table-order code (table-of images (now (below .entry)))) (rows (now (value .entry)) 0 n) ⌝ }
 {
-    let image = image_at(value, 0, below, images);
-    let mut best = Best { place: 0, image };
-    let mut i = 1;
+    let mut best: usize = 0;
+    let mut i: usize = 1;
     while i < n {
-        let other = image_at(value, i, below, images);
-        best = better(code, best, i, other);
-        i += 1;
+        let image = image_at(value, best, below, images);
+        let x = sums::walk(value, i, n, code, below, images, image, true);
+        let j = x.row;
+        if n <= j {
+            return best;
+        }
+        best = j;
+        i = j + 1;
     }
-    best.place
+    best
 }
 
 // The place that the pick code says, of n terms.

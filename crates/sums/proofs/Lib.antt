@@ -2,3 +2,4 @@ pub mod Sought
 pub mod Placing
 pub mod Outcomes
 pub mod Rowwise
+pub mod Walking

@@ -103,11 +103,21 @@ pub fn set_coefficient(s: &mut [u16], i: usize, c: u16)
     s[i * 10] = c;
 }
 
+// An exponent's word, read, in sixteen bits: eight of them are compared at once without being packed.
+fn clamped(x: u16) -> u16
+    ensures { λ r. ⌜ r ≡ byte x ⌝ }
+{
+    if x < 256 {
+        return x;
+    }
+    255
+}
+
 // 1 where the word, read as an exponent, is not x; else the mark.
 fn mark_other(mark: u16, word: u16, x: u8) -> u16
     ensures { λ r. ⌜ r ≡ mark-by (mathlib.Core.Bool.not (eqb x (byte word))) mark ⌝ }
 {
-    if narrow(word) != x {
+    if clamped(word) != monomial::wide(x) {
         return 1;
     }
     mark

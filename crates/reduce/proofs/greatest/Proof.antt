@@ -1,47 +1,72 @@
 use native.Mathlib.Omega.{arith}
-use Prim.Native.Nat.{_-_, _≤_}
-use Rattle.orders.specs.Images.{key-of, table-of}
-use Rattle.reduce.proofs.Picking.{Running, running-first, running-more, running-end}
+use mathlib.Core.Path.{refl, ap, _∙_}
+use Prim.Native.Nat.{_-_, _<_, _≤_}
+use Rattle.definitions.specs.Layout.{rows}
+use Rattle.orders.specs.Images.{table-of, key, compare-keys, comparison-of}
+use Rattle.sums.specs.Places.{stop-from}
+use Rattle.reduce.proofs.Picking.{Left, left-first, left-end, left-walked}
+use mathlib.Core.Bool.{true}
 use Rattle.reduce.proofs.greatest.Statement.{statement}
 use Rattle.reduce.proofs.greatest.Tie as tie
 
 abbrev Inv-loop : tie.InvT-loop
-Inv-loop value n code below images best₀ i₀ best i = (1 ≤ i) × Running code (table-of images below) value n i (best .place) (key-of (best .image))
+Inv-loop value n code below images best₀ i₀ best i = (1 ≤ i) × (best < n) × Left code (table-of images below) value n i best
 
 abbrev μ-loop : tie.MeasureT-loop
 μ-loop value n code below images best₀ i₀ best i = n - i
 
-image-at-requires : tie.Need-image-at-requires Inv-loop μ-loop
-image-at-requires c κs = (omega arith, omega arith, c .before .before .pre .3)
-
 loop-holds : tie.Need-loop-holds Inv-loop μ-loop
 loop-holds c =
-    let a = c .before .before .before .args in
-    (omega arith, running-first (a .code) (table-of (a .images) (a .below .now)) (a .value .now) (a .n) (key-of (c .image-at .result)) (omega arith) (c .image-at .ensures))
+    let a = c .before .before .args in
+    (omega arith, omega arith, left-first (a .code) (table-of (a .images) (a .below .now)) (a .value .now) (a .n) (omega arith))
 
-image-at-requires-2 : tie.Need-image-at-requires-2 Inv-loop μ-loop
-image-at-requires-2 c κs = (omega arith, omega arith, c .before .before .before .before .before .pre .3)
+image-at-requires : tie.Need-image-at-requires Inv-loop μ-loop
+image-at-requires c κs = (omega arith, omega arith, c .before .before .before .before .pre .3)
 
-better-requires : tie.Need-better-requires Inv-loop μ-loop
-better-requires c κs = omega arith
+walk-requires : tie.Need-walk-requires Inv-loop μ-loop
+walk-requires c κs = (omega arith, omega arith, c .before .before .before .before .before .pre .3)
+
+returns : tie.Need-returns Inv-loop μ-loop
+returns c =
+    let l = c .before .before .before .before .loop in
+    let a = c .before .before .before .before .before .before .before .args in
+    let T = table-of (a .images) (a .below .now) in
+    let x = c .before .walk .result in
+    let w =
+    left-walked (a .code) T (a .value .now) (a .n) (l .best) (a .n - l .i) (l .i) (x .row) (comparison-of (x .comparison)) refl (l .inv .2)
+    (c .before .walk .ensures ∙ ap (λ k. stop-from true (λ u. compare-keys (a .code) k (key T u)) (rows (a .value .now) (l .i) (a .n - l .i)) (l .i)) (c .before .before .image-at .ensures)) in
+    w .1 (c .if1 .taken)
 
 add-i : tie.Need-add-i Inv-loop μ-loop
 add-i c = omega arith
 
 loop-less : tie.Need-loop-less Inv-loop μ-loop
-loop-less c = omega arith
+loop-less c =
+    let l = c .before .before .before .before .loop in
+    let a = c .before .before .before .before .before .before .before .args in
+    let T = table-of (a .images) (a .below .now) in
+    let x = c .before .walk .result in
+    let w =
+    left-walked (a .code) T (a .value .now) (a .n) (l .best) (a .n - l .i) (l .i) (x .row) (comparison-of (x .comparison)) refl (l .inv .2)
+    (c .before .walk .ensures ∙ ap (λ k. stop-from true (λ u. compare-keys (a .code) k (key T u)) (rows (a .value .now) (l .i) (a .n - l .i)) (l .i)) (c .before .before .image-at .ensures)) in
+    omega (arith, w .0)
 
 loop-again : tie.Need-loop-again Inv-loop μ-loop
 loop-again c =
+    let l = c .before .before .before .before .loop in
     let a = c .before .before .before .before .before .before .before .args in
-    let l = c .before .before .before .loop in
-    (omega arith, running-more (a .code) (table-of (a .images) (a .below .now)) (a .value .now) (a .n) (l .i) (l .best .place) (c .better .result .place) (key-of (l .best .image)) (key-of (c .better .result .image)) (key-of (c .before .image-at2 .result)) (omega arith) (l .inv .1) (c .before .image-at2 .ensures) (c .better .ensures))
+    let T = table-of (a .images) (a .below .now) in
+    let x = c .before .walk .result in
+    let w =
+    left-walked (a .code) T (a .value .now) (a .n) (l .best) (a .n - l .i) (l .i) (x .row) (comparison-of (x .comparison)) refl (l .inv .2)
+    (c .before .walk .ensures ∙ ap (λ k. stop-from true (λ u. compare-keys (a .code) k (key T u)) (rows (a .value .now) (l .i) (a .n - l .i)) (l .i)) (c .before .before .image-at .ensures)) in
+    (omega arith, omega arith, w .2 (omega arith))
 
-returns : tie.Need-returns Inv-loop μ-loop
-returns c =
-    let a = c .before .before .before .before .before .args in
+returns-2 : tie.Need-returns-2 Inv-loop μ-loop
+returns-2 c =
     let l = c .before .loop in
-    running-end (a .code) (table-of (a .images) (a .below .now)) (a .value .now) (a .n) (l .i) (l .best .place) (key-of (l .best .image)) (omega arith) (l .inv .1)
+    let a = c .before .before .before .before .args in
+    left-end (a .code) (table-of (a .images) (a .below .now)) (a .value .now) (a .n) (l .i) (l .best) (omega arith) (l .inv .2)
 
 pub greatest-spec : {M : Type 1} → statement M
 greatest-spec =
@@ -49,11 +74,11 @@ greatest-spec =
     (tie.spec
     Inv-loop
     μ-loop
-    image-at-requires
     loop-holds
-    image-at-requires-2
-    better-requires
+    image-at-requires
+    walk-requires
+    returns
     add-i
     loop-less
     loop-again
-    returns)
+    returns-2)

@@ -8,20 +8,23 @@ use Rattle.definitions.specs.Layout.{byte}
 use Rattle.terms.proofs.mark_other.Statement.{statement}
 use Rattle.terms.proofs.mark_other.Tie as tie
 
-narrow-requires : tie.Need-narrow-requires
-narrow-requires c κs = search needs
+clamped-requires : tie.Need-clamped-requires
+clamped-requires c κs = search needs
+
+wide-requires : tie.Need-wide-requires
+wide-requires c κs = search needs
 
 returns : tie.Need-returns
 returns c =
-    let a = c .before .before .args in
-    let e : eqb (a .x) (byte (a .word)) ≡ false = ne-eqb (a .x) (byte (a .word)) (λ q. c .if1 .taken (c .before .narrow .ensures ∙ sym q)) in
+    let a = c .before .before .before .args in
+    let e : eqb (a .x) (byte (a .word)) ≡ false = ne-eqb (a .x) (byte (a .word)) (λ q. c .if1 .taken (c .before .before .clamped .ensures ∙ sym q ∙ sym (c .before .wide .ensures .0))) in
     sym (ap (λ b. mark-by (not b) (a .mark)) e)
 
 returns-2 : tie.Need-returns-2
 returns-2 c =
-    let a = c .before .before .args in
-    let e : eqb (a .x) (byte (a .word)) ≡ true = eq-eqb (a .x) (byte (a .word)) (sym (c .if1 .left) ∙ c .before .narrow .ensures) in
+    let a = c .before .before .before .args in
+    let e : eqb (a .x) (byte (a .word)) ≡ true = eq-eqb (a .x) (byte (a .word)) (sym (c .before .wide .ensures .0) ∙ sym (c .if1 .left) ∙ c .before .before .clamped .ensures) in
     sym (ap (λ b. mark-by (not b) (a .mark)) e)
 
 pub mark-other-spec : {M : Type 1} → statement M
-mark-other-spec = tie.close (tie.spec narrow-requires returns returns-2)
+mark-other-spec = tie.close (tie.spec clamped-requires wide-requires returns returns-2)
