@@ -1,5 +1,5 @@
 -- The tests passed one by one, and what is answered.
-use mathlib.Core.Path.{_≡_, sym, ap, _∙_, subst}
+use mathlib.Core.Path.{_≡_, refl, sym, ap, _∙_, subst, subst₃}
 use mathlib.Core.Bool.{Bool, true, false}
 use mathlib.Core.List.{[]}
 use Prim.Native.Nat.{ℕ, suc, _-_, _≤_}
@@ -17,12 +17,12 @@ use Rattle.definitions.proofs.Tests.{and-left, and-right, between-low, between-
 use Rattle.definitions.proofs.Numbers as numbers
 use Rattle.definitions.proofs.Numbers.{limit-number?, Numbered, lift-level-number}
 use Rattle.lift.specs.Vectors.{lifted-vectors}
-use Rattle.lifting.specs.Stages.{Base, Within, limits-with, leveled-of}
+use Rattle.lifting.specs.Stages.{Base, Within, limits-with, leveled-of, Stored-as}
 use Rattle.lifting.specs.declared.Bounds.{Bounds}
 use Rattle.lifting.specs.declared.Leveled.{Leveled}
 use Rattle.lifting.specs.declared.Leveled.the-variants.{Vectors, Refused, Stopped}
 use Rattle.engine_lift.specs.Lifts.{own-pick?}
-use Rattle.lifts.specs.Limited.{within?, fits?, complete-number, lifted-within, number-of, count-of, told, called}
+use Rattle.lifts.specs.Limited.{within?, fits?, complete-number, lifted-within, number-of, count-of, used-of, told, Counted, called}
 
 -- ## Not 16
 
@@ -77,43 +77,54 @@ complete-says s k way h e =
 
 -- ## The answer
 
+limited : (number : ℕ) → Numbered limit-number? (refusal {A = Level} number) → number ≡ 0 → ⊥
+limited number (numbers.refuses t) z = subst (λ i. T (limit-number? i)) z t
+limited number (numbers.stops t) z = absurd t
+
 answered : (b : Bounds) (s cache out : Words) (k : ℕ) (way : Way) (n : ℕ) (x : Leveled) (v : Words) → leveled-of x out v ≡ lifted-within b s k way cache n
     → (u : Vector) × (told (number-of x) (count-of x) out u ≡ lifted-within b s k way cache n)
 answered b s cache out k way n (Vectors count used) v e = ([], e)
 answered b s cache out k way n (Refused number) v e =
-    let m : number ≡ 0 → ⊥ = λ z. limited number (subst (Numbered limit-number?) (sym e) (lift-level-number (limits-with b) (getD s 0 0) (getD s 2 0) (levels-at document-01 s (suc (k - 1))) (lifting-by way cache) n)) z in
+    let m = limited number (subst (Numbered limit-number?) (sym e) (lift-level-number (limits-with b) (getD s 0 0) (getD s 2 0) (levels-at document-01 s (suc (k - 1))) (lifting-by way cache) n)) in
     ([], ap (λ t. choose t (done (lifted-vectors out 0)) (refused number 0 [])) (ne-eqb number 0 m) ∙ e)
-  where
-    none-is : (number : ℕ) → T (limit-number? number) → number ≡ 0 → ⊥
-    none-is number t z = subst (λ i. T (limit-number? i)) z t
-
-    limited : (number : ℕ) → Numbered limit-number? (refusal {A = Level} number) → number ≡ 0 → ⊥
-    limited number (numbers.refuses t) z = none-is number t z
-    limited number (numbers.stops t) z = absurd t
 answered b s cache out k way n (Stopped i) v e = (rows v 0 i, e)
+
+counted : (b : Bounds) (s cache out : Words) (k : ℕ) (way : Way) (n : ℕ) (x : Leveled) (v : Words) → leveled-of x out v ≡ lifted-within b s k way cache n → Stored-as x out
+    → Counted (number-of x) (count-of x) (used-of x) out
+counted b s cache out k way n (Vectors count used) v e h = (λ z. h .1, λ m. absurd (m refl))
+counted b s cache out k way n (Refused number) v e h =
+    let m = limited number (subst (Numbered limit-number?) (sym e) (lift-level-number (limits-with b) (getD s 0 0) (getD s 2 0) (levels-at document-01 s (suc (k - 1))) (lifting-by way cache) n)) in
+    (λ z. absurd (m z), λ o. (refl, refl))
+counted b s cache out k way n (Stopped i) v e h = (λ z. absurd (not-suc-le-zero {n = 0} (omega (arith, z))), λ o. (refl, refl))
 
 module _ (b : Bounds) (s work out cache : Words) (k : ℕ) (way : Way) where
   abbrev by-tests : ℕ → Bool → ℕ → Result Level
   by-tests n fit number = choose fit (choose (eqb number 0) (lifted-within b s k way cache n) (refused number 0 [])) (refused 16 0 [])
 
-  abbrev pub Called : ℕ → ℕ → Words → Type 0
-  Called number count z = (n : ℕ) × (v : Vector) × (told number count z v ≡ called b s work out cache k way n)
+  abbrev pub Called : ℕ → ℕ → ℕ → Words → Type 0
+  Called number count used z = ((n : ℕ) × (v : Vector) × (told number count z v ≡ called b s work out cache k way n)) × Counted number count used z
 
-  pub short : false ≡ fits? s work out way b → (z : Words) (count : ℕ) → Called 16 count z
-  short e z count = (0, [], ap (λ f. by-tests 0 f (complete-number s k way)) e)
+  none-counted : (number : ℕ) → (number ≡ 0 → ⊥) → (z : Words) → Counted number 0 0 z
+  none-counted number m z = (λ e. absurd (m e), λ o. (refl, refl))
+
+  pub short : false ≡ fits? s work out way b → (z : Words) → Called 16 0 0 z
+  short e z = ((0, [], ap (λ f. by-tests 0 f (complete-number s k way)) e), none-counted 16 (λ o. not-suc-le-zero {n = 0} (omega (arith, o))) z)
 
   module _ (fit : true ≡ fits? s work out way b) where
-    pub refused-early : (number : ℕ) → number ≡ complete-number s k way → (number ≡ 0 → ⊥) → (z : Words) (count : ℕ) → Called number count z
-    refused-early number e m z count = (
-      0,
-      [],
-      ap (λ t. choose t (done (lifted-vectors z count)) (refused number 0 [])) (ne-eqb number 0 m)
-          ∙ sym (ap (λ t. choose t (lifted-within b s k way cache 0) (refused number 0 [])) (ne-eqb number 0 m))
-          ∙ (λ i. by-tests 0 (fit i) (e i)),
+    pub refused-early : (number : ℕ) → number ≡ complete-number s k way → (number ≡ 0 → ⊥) → (z : Words) → Called number 0 0 z
+    refused-early number e m z = (
+      (
+        0,
+        [],
+        ap (λ t. choose t (done (lifted-vectors z 0)) (refused number 0 [])) (ne-eqb number 0 m)
+            ∙ sym (ap (λ t. choose t (lifted-within b s k way cache 0) (refused number 0 [])) (ne-eqb number 0 m))
+            ∙ (λ i. by-tests 0 (fit i) (e i)),
+      ),
+      none-counted number m z,
     )
 
-    pub lifted : 0 ≡ complete-number s k way → (x : Leveled) (number count n : ℕ) (z v : Words) → number ≡ number-of x → count ≡ count-of x
-        → leveled-of x z v ≡ lifted-within b s k way cache n → Called number count z
-    lifted e x number count n z v p q h =
+    pub lifted : 0 ≡ complete-number s k way → (x : Leveled) (number count used n : ℕ) (z v : Words) → number ≡ number-of x → count ≡ count-of x → used ≡ used-of x → Stored-as x z
+        → leveled-of x z v ≡ lifted-within b s k way cache n → Called number count used z
+    lifted e x number count used n z v p q u g h =
         let a = answered b s cache z k way n x v h in
-        (n, a .0, (λ i. told (p i) (q i) z (a .0)) ∙ a .1 ∙ (λ i. by-tests n (fit i) (e i)))
+        ((n, a .0, (λ i. told (p i) (q i) z (a .0)) ∙ a .1 ∙ (λ i. by-tests n (fit i) (e i))), subst₃ (λ number count used. Counted number count used z) (sym p) (sym q) (sym u) (counted b s cache z k way n x v h g))

@@ -1,4 +1,5 @@
 -- Levels lifted within limits that may be smaller, and what the call answers.
+use mathlib.Core.Path.{_≡_}
 use mathlib.Core.Bool.{Bool}
 use mathlib.Core.List.{[]}
 use Prim.Native.Nat.{ℕ, suc, _-_}
@@ -10,7 +11,7 @@ use Rattle.definitions.specs.Monomial.{Vector, Level}
 use Rattle.definitions.specs.Result.{Result, done, refused}
 use Rattle.definitions.specs.Lifting.{lift-level}
 use Rattle.definitions.specs.Layout.{Words, Way, lifting-by, work-words, levels-at, holds-state?}
-use Rattle.lift.specs.Vectors.{lifted-vectors}
+use Rattle.lift.specs.Vectors.{lifted-vectors, Kept}
 use Rattle.lifting.specs.Stages.{limits-with}
 use Rattle.lifting.specs.declared.Bounds.{Bounds}
 use Rattle.lifting.specs.declared.Leveled.{Leveled}
@@ -54,6 +55,10 @@ used-of (Stopped n) = 0
 -- what is answered: so many vectors in the slice, or a refusal
 abbrev pub told : ℕ → ℕ → Words → Vector → Result Level
 told number count out v = choose (eqb number 0) (done (lifted-vectors out count)) (refused number 0 v)
+
+-- how many vectors and rows there are; none where the call is refused
+abbrev pub Counted : ℕ → ℕ → ℕ → Words → Type 0
+Counted number count used out = (number ≡ 0 → Kept count used out) × ((number ≡ 0 → ⊥) → (count ≡ 0) × (used ≡ 0))
 
 -- 16, then 11 and 12, then the level
 abbrev pub called : Bounds → Words → Words → Words → Words → ℕ → Way → ℕ → Result Level

@@ -6,10 +6,10 @@ ghost use lib.ListN.{length};
 ghost use Rattle.definitions.specs.Limits.{document-01};
 ghost use Rattle.definitions.specs.Monomial.{Vector};
 ghost use Rattle.definitions.specs.Layout.{Words, work-words};
-ghost use Rattle.lifting.specs.Stages.{Base, Within, leveled-of};
+ghost use Rattle.lifting.specs.Stages.{Base, Within, leveled-of, Stored-as};
 ghost use Rattle.engine_lift.specs.Lifts.{way-of};
 ghost use Rattle.calls.specs.Coded.{coded-way};
-ghost use Rattle.lifts.specs.Limited.{within?, fits?, complete-number, lifted-within, number-of, count-of, used-of, told, bounds-by, called};
+ghost use Rattle.lifts.specs.Limited.{within?, fits?, complete-number, lifted-within, number-of, count-of, used-of, told, Counted, bounds-by, called};
 use engine_lift::Way;
 use lifting::Bounds;
 use lifting::Leveled;
@@ -45,7 +45,7 @@ fn lift_by(
     b: Bounds,
 ) -> Leveled
     requires { ⌜ Base (now state) (k - 1) × (1 ≤ k) × (k ≤ 9) × (25728 ≤ length (now out)) × (work-words document-01 (way-of way) ≤ length (now work)) × Within b ⌝ }
-    ensures { λ x. ⌜ ((n : ℕ) × (v : Words) × (leveled-of x (now (out .exit)) v ≡ lifted-within b (now (state .entry)) k (way-of way) (now (cache .entry)) n)) ⌝ }
+    ensures { λ x. ⌜ ((n : ℕ) × (v : Words) × (leveled-of x (now (out .exit)) v ≡ lifted-within b (now (state .entry)) k (way-of way) (now (cache .entry)) n)) × Stored-as x (now (out .exit)) ⌝ }
 {
     match way {
         Way::Division => {
@@ -144,7 +144,7 @@ pub extern "C" fn lifts_level(
     count: &mut usize,
     used: &mut usize,
 ) -> u16
-    ensures { λ x. ⌜ ((n : ℕ) × (v : Vector) × (told x (now (count .exit)) (now (out .exit)) v ≡ called (bounds-by working vector tree room) (now (state .entry)) (now (work .entry)) (now (out .entry)) (now (cache .entry)) level (coded-way way pick) n)) ⌝ }
+    ensures { λ x. ⌜ ((n : ℕ) × (v : Vector) × (told x (now (count .exit)) (now (out .exit)) v ≡ called (bounds-by working vector tree room) (now (state .entry)) (now (work .entry)) (now (out .entry)) (now (cache .entry)) level (coded-way way pick) n)) × Counted x (now (count .exit)) (now (used .exit)) (now (out .exit)) ⌝ }
 {
     let b = Bounds {
         working,

@@ -5,7 +5,7 @@ use mathlib.Core.List.{[]}
 use Prim.Native.Nat.{ℕ, _-_, _≤_}
 use lib.ListN.{length}
 use Rattle.lifts.specs.Limited.{lifted-within}
-use Rattle.lifting.specs.Stages.{leveled-of}
+use Rattle.lifting.specs.Stages.{leveled-of, Stored-as}
 use Rattle.engine_lift.specs.Lifts.{way-of}
 use Rattle.definitions.specs.Layout.{Words, work-words}
 use Rattle.definitions.specs.Limits.{document-01}
@@ -66,7 +66,7 @@ returns c =
     let s = a .state .now in
     let P = c .before .before .before .before .before .before .before .before .before .before .before .before .before .pre in
     let L = c .before .before .before .before .lift-level in
-    subst (λ x. ((n : ℕ) × (v : Words) × (leveled-of (L .result) (L .last .0) v ≡ lifted-within (a .b) s (a .k) (way-of x) (a .cache .now) n))) (sym (c .before .before .before .before .before .before .before .enum-told .given .1)) (L .ensures .0)
+    subst (λ x. ((n : ℕ) × (v : Words) × (leveled-of (L .result) (L .last .0) v ≡ lifted-within (a .b) s (a .k) (way-of x) (a .cache .now) n)) × Stored-as (L .result) (L .last .0)) (sym (c .before .before .before .before .before .before .before .enum-told .given .1)) (L .ensures .0, L .ensures .1)
 
 same-length-3 : tie.Need-same-length-3
 same-length-3 c = search needs
@@ -80,7 +80,7 @@ returns-2 c =
     let s = a .state .now in
     let P = c .before .before .before .before .before .before .before .before .before .before .before .before .before .before .pre in
     let L = c .before .before .before .before .lift-level2 in
-    subst (λ x. ((n : ℕ) × (v : Words) × (leveled-of (L .result) (L .last .0) v ≡ lifted-within (a .b) s (a .k) (way-of x) (a .cache .now) n))) (sym (c .before .before .before .before .before .before .before .before .way .given .1)) (L .ensures .0)
+    subst (λ x. ((n : ℕ) × (v : Words) × (leveled-of (L .result) (L .last .0) v ≡ lifted-within (a .b) s (a .k) (way-of x) (a .cache .now) n)) × Stored-as (L .result) (L .last .0)) (sym (c .before .before .before .before .before .before .before .before .way .given .1)) (L .ensures .0, L .ensures .1)
 
 same-length-5 : tie.Need-same-length-5
 same-length-5 c = search needs
@@ -97,7 +97,7 @@ returns-3 c =
     let s = a .state .now in
     let P = c .before .before .before .before .before .before .before .before .before .before .before .before .before .before .before .before .pre in
     let L = c .before .before .before .before .before .before .lift-level3 in
-    subst (λ x. ((n : ℕ) × (v : Words) × (leveled-of (L .result) (L .last .0) v ≡ lifted-within (a .b) s (a .k) (way-of x) (a .cache .now) n))) (sym (c .before .before .before .before .before .before .before .before .before .before .enum-told2 .given .1)) (0, [], L .ensures .0)
+    subst (λ x. ((n : ℕ) × (v : Words) × (leveled-of (L .result) (L .last .0) v ≡ lifted-within (a .b) s (a .k) (way-of x) (a .cache .now) n)) × Stored-as (L .result) (L .last .0)) (sym (c .before .before .before .before .before .before .before .before .before .before .enum-told2 .given .1)) ((0, [], L .ensures .0), L .ensures .1)
 
 pub lift-by-spec : {M : Type 1} → statement M
 lift-by-spec =

@@ -51,7 +51,7 @@ returns c =
     let L = c .before .before .before .before .before .before .before .before .before .lift-by in
     let t = c .tell .ensures in
     let e : c .before .before .before .before .before .before .before .before .before .before .before .before .before .before .complete .result ≡ 0 = omega arith in
-    subst (λ y. Called (bounds-by (a .working) (a .vector) (a .tree) (a .room)) s (a .work .now) (a .out .now) (a .cache .now) (a .level) y (c .tell .result) (c .tell .last .1 .0) (L .last .0)) (c .before .before .before .before .before .before .before .before .before .before .before .before .before .before .before .before .before .before .before .way-by .ensures) (lifted (bounds-by (a .working) (a .vector) (a .tree) (a .room)) s (a .work .now) (a .out .now) (a .cache .now) (a .level) (way-of (c .before .before .before .before .before .before .before .before .before .before .before .before .before .before .before .before .before .before .before .way-by .result)) (sym (c .before .before .before .before .before .before .before .before .before .before .before .before .before .before .before .if1 .taken) ∙ c .before .before .before .before .before .before .before .before .before .before .before .before .before .before .before .before .fits2 .ensures) (sym e ∙ c .before .before .before .before .before .before .before .before .before .before .before .before .before .before .complete .ensures) (L .result) (c .tell .result) (c .tell .last .1 .0) (L .ensures .0) (L .last .0) (L .ensures .1) (t .0) (t .1) (L .ensures .2))
+    subst (λ y. Called (bounds-by (a .working) (a .vector) (a .tree) (a .room)) s (a .work .now) (a .out .now) (a .cache .now) (a .level) y (c .tell .result) (c .tell .last .1 .0) (c .tell .last .1 .1 .0) (L .last .0)) (c .before .before .before .before .before .before .before .before .before .before .before .before .before .before .before .before .before .before .before .way-by .ensures) (lifted (bounds-by (a .working) (a .vector) (a .tree) (a .room)) s (a .work .now) (a .out .now) (a .cache .now) (a .level) (way-of (c .before .before .before .before .before .before .before .before .before .before .before .before .before .before .before .before .before .before .before .way-by .result)) (sym (c .before .before .before .before .before .before .before .before .before .before .before .before .before .before .before .if1 .taken) ∙ c .before .before .before .before .before .before .before .before .before .before .before .before .before .before .before .before .fits2 .ensures) (sym e ∙ c .before .before .before .before .before .before .before .before .before .before .before .before .before .before .complete .ensures) (L .result) (c .tell .result) (c .tell .last .1 .0) (c .tell .last .1 .1 .0) (L .ensures .0 .0) (L .last .0) (L .ensures .0 .1) (t .0) (t .1) (t .2) (L .ensures .1) (L .ensures .0 .2))
 
 same-length-4 : tie.Need-same-length-4
 same-length-4 c = search needs
@@ -63,7 +63,7 @@ returns-2 : tie.Need-returns-2
 returns-2 c =
     let a = c .before .before .before .before .before .before .before .before .before .before .before .args in
     let s = a .state .now in
-    subst (λ y. Called (bounds-by (a .working) (a .vector) (a .tree) (a .room)) s (a .work .now) (a .out .now) (a .cache .now) (a .level) y (c .before .complete .result) (0) (a .out .now)) (c .before .before .before .before .before .before .way-by .ensures) (refused-early (bounds-by (a .working) (a .vector) (a .tree) (a .room)) s (a .work .now) (a .out .now) (a .cache .now) (a .level) (way-of (c .before .before .before .before .before .before .way-by .result)) (sym (c .before .before .if1 .taken) ∙ c .before .before .before .fits2 .ensures) (c .before .complete .result) (c .before .complete .ensures) (λ z. not-suc-le-zero {n = 0} (omega (arith, z))) (a .out .now) 0)
+    subst (λ y. Called (bounds-by (a .working) (a .vector) (a .tree) (a .room)) s (a .work .now) (a .out .now) (a .cache .now) (a .level) y (c .before .complete .result) 0 0 (a .out .now)) (c .before .before .before .before .before .before .way-by .ensures) (refused-early (bounds-by (a .working) (a .vector) (a .tree) (a .room)) s (a .work .now) (a .out .now) (a .cache .now) (a .level) (way-of (c .before .before .before .before .before .before .way-by .result)) (sym (c .before .before .if1 .taken) ∙ c .before .before .before .fits2 .ensures) (c .before .complete .result) (c .before .complete .ensures) (λ z. not-suc-le-zero {n = 0} (omega (arith, z))) (a .out .now))
 
 same-length-6 : tie.Need-same-length-6
 same-length-6 c = search needs
@@ -75,7 +75,7 @@ returns-3 : tie.Need-returns-3
 returns-3 c =
     let a = c .before .before .before .before .before .before .before .before .before .args in
     let s = a .state .now in
-    subst (λ y. Called (bounds-by (a .working) (a .vector) (a .tree) (a .room)) s (a .work .now) (a .out .now) (a .cache .now) (a .level) y (16) (0) (a .out .now)) (c .before .before .before .before .way-by .ensures) (short (bounds-by (a .working) (a .vector) (a .tree) (a .room)) s (a .work .now) (a .out .now) (a .cache .now) (a .level) (way-of (c .before .before .before .before .way-by .result)) (sym (c .if1 .left) ∙ c .before .fits2 .ensures) (a .out .now) 0)
+    subst (λ y. Called (bounds-by (a .working) (a .vector) (a .tree) (a .room)) s (a .work .now) (a .out .now) (a .cache .now) (a .level) y 16 0 0 (a .out .now)) (c .before .before .before .before .way-by .ensures) (short (bounds-by (a .working) (a .vector) (a .tree) (a .room)) s (a .work .now) (a .out .now) (a .cache .now) (a .level) (way-of (c .before .before .before .before .way-by .result)) (sym (c .if1 .left) ∙ c .before .fits2 .ensures) (a .out .now))
 
 pub lifts-level-spec : {M : Type 1} → statement M
 lifts-level-spec =

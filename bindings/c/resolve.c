@@ -1,0 +1,194 @@
+/* Resolves a problem file by all three ways: the vectors and terms of each level, and whether the ways agree.
+ *
+ *     resolve FILE [CACHE]      the tree's cache has so many terms (1,000 without it)
+ *
+ * Exits with 0 if the basis is accepted and the ways agree as far as they go, with 1 if the file is refused or they do not agree, with 2 if it can not be read. */
+#include <stdio.h>
+#include <stdlib.h>
+#include <string.h>
+#include "tagetessash.h"
+
+#define LEVELS (TAGETESSASH_HIGHEST_LEVEL + 1)
+
+/* The vectors of a level as they were fetched, one after the other. */
+typedef struct {
+    int there;
+    size_t vectors;
+    size_t words;
+    uint16_t *rows;
+} fetched;
+
+static const char *const ways[] = { "division", "hybrid, greatest term first", "tree with a cache" };
+
+/* Of exactly this length, so that a memory checker sees a word too many. */
+static uint16_t *words(size_t count)
+{
+    uint16_t *buffer = malloc(count == 0 ? 1 : count * sizeof *buffer);
+    if (buffer == NULL) {
+        fprintf(stderr, "resolve: no memory\n");
+        exit(2);
+    }
+    return buffer;
+}
+
+static uint8_t *read_whole(const char *name, size_t *bytes)
+{
+    FILE *in = fopen(name, "rb");
+    uint8_t *file = NULL;
+    size_t room = 0;
+    int c;
+    *bytes = 0;
+    if (in == NULL) {
+        perror(name);
+        exit(2);
+    }
+    while ((c = getc(in)) != EOF) {
+        if (*bytes == room) {
+            room = room == 0 ? 4096 : 2 * room;
+            file = realloc(file, room);
+            if (file == NULL)
+                exit(2);
+        }
+        file[(*bytes)++] = (uint8_t)c;
+    }
+    if (ferror(in)) {
+        perror(name);
+        exit(2);
+    }
+    fclose(in);
+    /* to its very length; a file without bytes is null and 0 */
+    if (file != NULL) {
+        uint8_t *exact = realloc(file, *bytes);
+        if (exact != NULL)
+            file = exact;
+    }
+    return file;
+}
+
+static void say_refusal(uint16_t number, size_t place)
+{
+    const char *name = tagetessash_place_name(number);
+    if (name == NULL)
+        printf("  refused %d: %s\n", number, tagetessash_meaning(number));
+    else
+        printf("  refused %d at %s %zu: %s\n", number, name, place, tagetessash_meaning(number));
+}
+
+static void say_level(const uint16_t *state, size_t level)
+{
+    printf("  level %zu: %s %zu, terms %zu\n", level, level == 0 ? "elements" : "vectors", tagetessash_count(state, level),
+        tagetessash_level_terms(state, level));
+}
+
+static void say_term(const tagetessash_term *term, size_t variables)
+{
+    size_t x;
+    printf("    %d of component %d, exponents", term->coefficient, term->component);
+    for (x = 0; x < variables; x++)
+        printf(" %d", term->exponents[x]);
+    printf("\n");
+}
+
+/* All vectors of a complete level, by fetching. */
+static fetched fetch_level(const uint16_t *state, uint16_t *out, size_t level)
+{
+    fetched all;
+    size_t v, place;
+    all.there = 1;
+    all.vectors = tagetessash_count(state, level);
+    all.words = 0;
+    all.rows = words(tagetessash_level_terms(state, level) * TAGETESSASH_ROW_WORDS);
+    for (v = 1; v <= all.vectors; v++) {
+        size_t here;
+        uint16_t number = tagetessash_fetch(state, TAGETESSASH_STATE_WORDS, out, TAGETESSASH_OUT_WORDS, level, v, &place);
+        if (number != TAGETESSASH_DONE) {
+            say_refusal(number, place);
+            exit(1);
+        }
+        here = tagetessash_row_count(out, TAGETESSASH_OUT_WORDS) * TAGETESSASH_ROW_WORDS;
+        if (here != tagetessash_terms(state, level, v) * TAGETESSASH_ROW_WORDS) {
+            printf("  vector %zu of level %zu was fetched with another number of terms\n", v, level);
+            exit(1);
+        }
+        memcpy(all.rows + all.words, out, here * sizeof *out);
+        all.words += here;
+    }
+    return all;
+}
+
+int main(int arguments, char **argument)
+{
+    size_t file_bytes, cache_words, place, level;
+    size_t cache_terms = arguments > 2 ? strtoul(argument[2], NULL, 10) : 1000;
+    uint8_t *file;
+    uint16_t *state, *out, *cache, number, way;
+    fetched first[LEVELS];
+    int agree = 1, whole = 1, read = 1;
+
+    if (arguments < 2) {
+        fprintf(stderr, "resolve FILE [CACHE]\n");
+        return 2;
+    }
+    file = read_whole(argument[1], &file_bytes);
+    state = words(TAGETESSASH_STATE_WORDS);
+    out = words(TAGETESSASH_OUT_WORDS);
+    cache_words = cache_terms * TAGETESSASH_ROW_WORDS;
+    cache = cache_words == 0 ? NULL : words(cache_words);
+    memset(first, 0, sizeof first);
+
+    for (way = TAGETESSASH_DIVISION; way <= TAGETESSASH_TREE; way++) {
+        size_t work_words = way == TAGETESSASH_TREE ? TAGETESSASH_TREE_WORK_WORDS : TAGETESSASH_WORK_WORDS;
+        uint16_t *work = words(work_words);
+
+        printf("%s\n", ways[way]);
+        number = tagetessash_read(file, file_bytes, state, TAGETESSASH_STATE_WORDS, work, work_words, &place);
+        if (number != TAGETESSASH_DONE) {
+            say_refusal(number, place);
+            if (number == TAGETESSASH_NO_BASIS) {
+                size_t terms = tagetessash_row_count(work, work_words);
+                tagetessash_term leading = tagetessash_row(work, 0);
+                printf("  division stops at a value, terms %zu, the leading one\n", terms);
+                say_term(&leading, TAGETESSASH_VARIABLES);
+            }
+            free(work);
+            read = 0;
+            break;
+        }
+        say_level(state, 0);
+        for (level = 1; level <= TAGETESSASH_HIGHEST_LEVEL; level++) {
+            fetched now;
+            number = tagetessash_lift(
+                state, TAGETESSASH_STATE_WORDS, work, work_words, cache, cache_words, level, way, TAGETESSASH_GREATEST, &place);
+            if (number != TAGETESSASH_DONE) {
+                say_refusal(number, place);
+                whole = 0;
+                break;
+            }
+            say_level(state, level);
+            now = fetch_level(state, out, level);
+            if (!first[level].there)
+                first[level] = now;
+            else {
+                if (now.vectors != first[level].vectors || now.words != first[level].words
+                    || memcmp(now.rows, first[level].rows, now.words * sizeof *now.rows) != 0) {
+                    printf("  level %zu differs from what another way gave\n", level);
+                    agree = 0;
+                }
+                free(now.rows);
+            }
+            if (tagetessash_count(state, level) == 0)
+                break;
+        }
+        free(work);
+    }
+    if (read)
+        printf("the ways %s\n", !agree ? "do not agree" : whole ? "agree" : "agree as far as they go");
+
+    for (level = 0; level < LEVELS; level++)
+        free(first[level].rows);
+    free(cache);
+    free(out);
+    free(state);
+    free(file);
+    return agree && read ? 0 : 1;
+}

@@ -1,0 +1,98 @@
+//! The library's three functions, as include/tagetessash.h declares them.
+
+extern "C" {
+    fn tagetessash_read(
+        file: *const u8,
+        file_bytes: usize,
+        state: *mut u16,
+        state_words: usize,
+        work: *mut u16,
+        work_words: usize,
+        place: *mut usize,
+    ) -> u16;
+    fn tagetessash_lift(
+        state: *mut u16,
+        state_words: usize,
+        work: *mut u16,
+        work_words: usize,
+        cache: *mut u16,
+        cache_words: usize,
+        level: usize,
+        way: u16,
+        pick: u16,
+        place: *mut usize,
+    ) -> u16;
+    fn tagetessash_fetch(
+        state: *const u16,
+        state_words: usize,
+        out: *mut u16,
+        out_words: usize,
+        level: usize,
+        vector: usize,
+        place: *mut usize,
+    ) -> u16;
+}
+
+/// Number and place.
+pub fn read(file: &[u8], state: &mut [u16], work: &mut [u16]) -> (u16, usize) {
+    let mut place = 0;
+    // SAFETY: each pointer and length are those of a slice that lives through the call; the slices do not overlap
+    let number = unsafe {
+        tagetessash_read(
+            file.as_ptr(),
+            file.len(),
+            state.as_mut_ptr(),
+            state.len(),
+            work.as_mut_ptr(),
+            work.len(),
+            &mut place,
+        )
+    };
+    (number, place)
+}
+
+/// Number and place.
+pub fn lift(
+    state: &mut [u16],
+    work: &mut [u16],
+    cache: &mut [u16],
+    level: usize,
+    way: u16,
+    pick: u16,
+) -> (u16, usize) {
+    let mut place = 0;
+    // SAFETY: as above
+    let number = unsafe {
+        tagetessash_lift(
+            state.as_mut_ptr(),
+            state.len(),
+            work.as_mut_ptr(),
+            work.len(),
+            cache.as_mut_ptr(),
+            cache.len(),
+            level,
+            way,
+            pick,
+            &mut place,
+        )
+    };
+    (number, place)
+}
+
+/// Number and place.
+pub fn fetch(state: &[u16], out: &mut [u16], level: usize, vector: usize) -> (u16, usize) {
+    let mut place = 0;
+    // SAFETY: as above
+    let number = unsafe {
+        tagetessash_fetch(
+            state.as_ptr(),
+            state.len(),
+            out.as_mut_ptr(),
+            out.len(),
+            level,
+            vector,
+            &mut place,
+        )
+    };
+    (number, place)
+}

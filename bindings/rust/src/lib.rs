@@ -1,0 +1,203 @@
+//! Syzygies of a Gröbner basis over a small prime field, level upon level, by the proved engine.
+//!
+//! An [`Engine`] owns the buffers that the engine's calls are lent. [`Engine::read`] takes a problem file, [`Engine::lift`] makes a level complete,
+//! [`Engine::fetch`] gives a vector of it.
+//!
+//! ```
+//! let file = b"R,7,2,1,1\nT,1,1,1,1,0\nT,1,1,1,0,1\nT,2,1,1,0,2\nT,2,1,1,0,0\nE,4\n";
+//! let mut engine = tagetessash::Engine::new();
+//! engine.read(file)?;
+//! engine.lift(1, tagetessash::Way::Division)?;
+//! assert_eq!(engine.count(1), 1);
+//! let vector = engine.fetch(1, 1)?;
+//! assert_eq!(vector[0].component, 2); // x1 times the second element stands in front
+//! # Ok::<(), tagetessash::Refusal>(())
+//! ```
+
+#![warn(missing_docs)]
+
+mod calls;
+mod refusal;
+#[cfg(test)]
+mod tests;
+
+pub use refusal::Refusal;
+
+/// The highest level.
+pub const HIGHEST_LEVEL: usize = 9;
+/// The length of the tree's cache in terms, unless [`Engine::with_cache`] says another.
+pub const CACHE_TERMS: usize = 1_000;
+
+const STATE_WORDS: usize = 206_095;
+const WORK_WORDS: usize = 5_120;
+const TREE_WORK_WORDS: usize = 40_960;
+const OUT_WORDS: usize = 5_120;
+const ROW_WORDS: usize = 10;
+/// The tree calls itself and may take 3 MiB of the stack, more than a thread of Rust's has.
+const TREE_STACK: usize = 8 << 20;
+
+/// By which way a level is lifted. All give the same vectors wherever they are not refused; 13 to 15 may come by one and not by another.
+#[derive(Clone, Copy, Debug, PartialEq, Eq, Hash)]
+pub enum Way {
+    /// the leading term of the working value at each step
+    Division,
+    /// terms of lower order are dropped as they arise, and a step picks any term
+    Hybrid(Pick),
+    /// subtrees, which are kept in the cache
+    Tree,
+}
+
+/// Which term of the working value a step of the hybrid way picks.
+#[derive(Clone, Copy, Debug, PartialEq, Eq, Hash)]
+pub enum Pick {
+    /// the greatest
+    Greatest,
+    /// the newest
+    Newest,
+    /// the oldest
+    Oldest,
+}
+
+/// A coefficient with its monomial.
+#[derive(Clone, Copy, Debug, PartialEq, Eq, Hash)]
+pub struct Term {
+    /// 1 to p − 1
+    pub coefficient: u16,
+    /// Of level 0's module 1 to s, of a level above it the number of a vector of the level below.
+    pub component: u16,
+    /// x1's first; 0 past the last variable
+    pub exponents: [u8; 8],
+}
+
+/// The state with the buffers that calls need. A new one has no basis.
+#[derive(Clone)]
+pub struct Engine {
+    state: Vec<u16>,
+    work: Vec<u16>,
+    cache: Vec<u16>,
+    out: Vec<u16>,
+}
+
+impl Default for Engine {
+    fn default() -> Engine {
+        Engine::new()
+    }
+}
+
+impl Engine {
+    /// An engine without a basis, its cache of [`CACHE_TERMS`].
+    pub fn new() -> Engine {
+        Engine::with_cache(CACHE_TERMS)
+    }
+
+    /// An engine whose cache has room for so many terms. That changes no vector, only the tree's time and whether 14 comes.
+    pub fn with_cache(terms: usize) -> Engine {
+        Engine {
+            state: vec![0; STATE_WORDS],
+            work: vec![0; TREE_WORK_WORDS],
+            cache: vec![0; terms.saturating_mul(ROW_WORDS)],
+            out: vec![0; OUT_WORDS],
+        }
+    }
+
+    /// Reads a problem file and accepts its elements as level 0 if they are a Gröbner basis. What was there before is gone, refused or not.
+    pub fn read(&mut self, file: &[u8]) -> Result<(), Refusal> {
+        answer(calls::read(
+            file,
+            &mut self.state,
+            &mut self.work[..WORK_WORDS],
+        ))
+    }
+
+    /// Lifts a level, 1 to 9, over the complete level below it, and drops the levels above it. Refused by 13 to 15 it leaves no basis.
+    ///
+    /// The tree runs on a thread of its own, which has the stack that it may need.
+    ///
+    /// # Panics
+    ///
+    /// If the system has no thread to give.
+    pub fn lift(&mut self, level: usize, way: Way) -> Result<(), Refusal> {
+        let state = &mut self.state[..];
+        let cache = &mut self.cache[..];
+        answer(match way {
+            Way::Division => {
+                let work = &mut self.work[..WORK_WORDS];
+                calls::lift(state, work, cache, level, 0, 0)
+            }
+            Way::Hybrid(pick) => {
+                let work = &mut self.work[..WORK_WORDS];
+                let code = match pick {
+                    Pick::Greatest => 1,
+                    Pick::Newest => 2,
+                    Pick::Oldest => 3,
+                };
+                calls::lift(state, work, cache, level, 1, code)
+            }
+            Way::Tree => {
+                let work = &mut self.work[..];
+                std::thread::scope(|scope| {
+                    std::thread::Builder::new()
+                        .stack_size(TREE_STACK)
+                        .spawn_scoped(scope, || calls::lift(state, work, cache, level, 2, 0))
+                        .expect("a thread for the tree")
+                        .join()
+                        .expect("the call returns")
+                })
+            }
+        })
+    }
+
+    /// Vector 1 to [`Engine::count`] of a complete level, 1 to 9, its greatest term first.
+    pub fn fetch(&mut self, level: usize, vector: usize) -> Result<Vec<Term>, Refusal> {
+        answer(calls::fetch(&self.state, &mut self.out, level, vector))?;
+        Ok(terms(&self.out))
+    }
+
+    /// How many levels are complete: 0 without a basis, else levels 0 to this − 1.
+    pub fn complete(&self) -> usize {
+        usize::from(self.state[4])
+    }
+
+    /// How many vectors a level has, of level 0 how many elements; 0 for a level that is not complete.
+    pub fn count(&self, level: usize) -> usize {
+        if level < self.complete() {
+            usize::from(self.state[5 + 129 * level])
+        } else {
+            0
+        }
+    }
+
+    /// How many terms the vectors of a level have together.
+    pub fn terms(&self, level: usize) -> usize {
+        match self.count(level) {
+            0 => 0,
+            count => usize::from(self.state[5 + 129 * level + count]),
+        }
+    }
+
+    /// If the last reading was refused with 9, the value where division stopped, its greatest term first: a combination of the elements whose leading
+    /// monomial none of theirs divides. Else it is empty.
+    pub fn stopped_at(&self) -> Vec<Term> {
+        terms(&self.work)
+    }
+}
+
+fn answer((number, place): (u16, usize)) -> Result<(), Refusal> {
+    match number {
+        0 => Ok(()),
+        _ => Err(Refusal { number, place }),
+    }
+}
+
+/// The rows in front of the zeros.
+fn terms(words: &[u16]) -> Vec<Term> {
+    words
+        .chunks_exact(ROW_WORDS)
+        .take_while(|row| row[0] != 0)
+        .map(|row| Term {
+            coefficient: row[0],
+            component: row[1],
+            exponents: std::array::from_fn(|x| row[2 + x] as u8),
+        })
+        .collect()
+}

@@ -1,0 +1,203 @@
+/* The three calls of Tagetessash: read a problem file, lift a level, fetch a vector.
+ *
+ * The caller lends every buffer. The library keeps nothing between calls but what stands in the state, allocates nothing and has no data of its own, so
+ * that threads with buffers of their own may call it at a time. C99 and C++.
+ *
+ * What a pointer and the length behind it must be: so many bytes or words that may be read (and written, unless it is const) through the call. With
+ * length 0 a pointer may be null, else it must not. Words are aligned as a uint16_t. The buffers of one call and its place do not overlap. place is not
+ * null. The library can not test any of this; whatever else the buffers hold, every call returns and keeps to them.
+ *
+ * Every call returns a number, 0 or a refusal's, and writes its place (see below). After
+ *     11, 12, 16            no buffer is changed
+ *     1 to 9, 13 to 15      every buffer lent for writing is zero throughout, the state with it; but 9 leaves a value in the work area
+ *     0                     the work area, the cache and what is unused of the state and of out are zero
+ */
+#ifndef TAGETESSASH_H
+#define TAGETESSASH_H
+
+#include <stddef.h>
+#include <stdint.h>
+
+#ifdef __cplusplus
+extern "C" {
+#endif
+
+/* How many words a buffer has at the least; a shorter one is refused with 16, a longer one may be lent. The file and the cache may have any length. */
+#define TAGETESSASH_STATE_WORDS 206095
+#define TAGETESSASH_WORK_WORDS 5120       /* to read, and to lift by division or hybrid */
+#define TAGETESSASH_TREE_WORK_WORDS 40960 /* to lift by the tree */
+#define TAGETESSASH_OUT_WORDS 5120
+
+/* A term is a row of words: its coefficient, its component, its eight exponents (x1's first, zero past the last variable). */
+#define TAGETESSASH_ROW_WORDS 10
+#define TAGETESSASH_VARIABLES 8
+#define TAGETESSASH_HIGHEST_LEVEL 9
+
+/* By which way a level is lifted. All three give the same vectors wherever they are not refused; 13 to 15 may come by one and not by another. */
+enum {
+    TAGETESSASH_DIVISION = 0,
+    TAGETESSASH_HYBRID = 1,
+    TAGETESSASH_TREE = 2
+};
+
+/* Which term a step of the hybrid way picks; the other ways do not look at the code. */
+enum {
+    TAGETESSASH_GREATEST = 1,
+    TAGETESSASH_NEWEST = 2,
+    TAGETESSASH_OLDEST = 3
+};
+
+/* The number that a call returns. */
+enum {
+    TAGETESSASH_DONE = 0,
+
+    /* the file; the place is the line (an absent line has the next number) */
+    TAGETESSASH_BAD_LINE = 1,       /* line shape or sequence wrong, line missing or after E; file too long (place 0) */
+    TAGETESSASH_BAD_PRIME = 2,      /* p not prime, or not 2 to 32,767 */
+    TAGETESSASH_BAD_RING = 3,       /* n not 1 to 8, order not 1 to 3 or s not 1 to 16 */
+    TAGETESSASH_BAD_TERM = 4,       /* coefficient 0 or p or more, component not 1 to s, exponent above 255 */
+    TAGETESSASH_BAD_ELEMENT = 5,    /* element number out of sequence or above 64 */
+    TAGETESSASH_NOT_DESCENDING = 6, /* term not below the one before it in its element */
+    TAGETESSASH_BAD_COUNT = 7,      /* E's count is 0 or not the number of T lines */
+    TAGETESSASH_TOO_MANY_TERMS = 8, /* a 2,049th T line */
+
+    /* no Groebner basis: the place is the number of a frame term whose division stops, and the work area holds the value where it stops, in rows */
+    TAGETESSASH_NO_BASIS = 9,
+
+    /* the call; place 0 */
+    TAGETESSASH_NO_LEVEL = 11,     /* no accepted basis, or the level that is needed is not complete: k - 1 to lift level k, k to fetch from it */
+    TAGETESSASH_BAD_NUMBER = 12,   /* level not 1 to 9, vector not 1 to its level's count, way or pick code that there is not */
+    TAGETESSASH_SHORT_BUFFER = 16, /* a buffer is shorter than its length above */
+
+    /* a limit; the place is the level, 0 while a basis is being accepted */
+    TAGETESSASH_EXPONENT_LIMIT = 13, /* a product has an exponent above 255 */
+    TAGETESSASH_TERM_LIMIT = 14,     /* a 513th term of a working value or vector, or a 4,097th in the tree's work area */
+    TAGETESSASH_LEVEL_LIMIT = 15     /* a 129th frame term, or a 2,049th term of a level above 0 */
+};
+
+/* Reads a problem file and accepts or refuses its basis. After 0 the state has level 0, the file's elements, and no other level. */
+uint16_t tagetessash_read(const uint8_t *file, size_t file_bytes, uint16_t *state, size_t state_words, uint16_t *work, size_t work_words, size_t *place);
+
+/* Forms the frame of a level, 1 to 9, and lifts all its terms; the level below must be complete. After 0 the level is complete and those above it are dropped.
+ * The cache is for the tree (a term takes a row); it is zeroed whichever way lifts. The tree calls itself: it may take 3 MiB of the stack. */
+uint16_t tagetessash_lift(uint16_t *state, size_t state_words, uint16_t *work, size_t work_words, uint16_t *cache, size_t cache_words, size_t level,
+    uint16_t way, uint16_t pick, size_t *place);
+
+/* Writes a vector, 1 to the level's count, of a complete level, 1 to 9, into out: its rows, greatest term first, then zeros. */
+uint16_t tagetessash_fetch(const uint16_t *state, size_t state_words, uint16_t *out, size_t out_words, size_t level, size_t vector, size_t *place);
+
+/* What rows hold. */
+typedef struct {
+    uint16_t coefficient;
+    uint16_t component; /* level 0: of the file's module; above it: the number of a vector of the level below */
+    uint16_t exponents[TAGETESSASH_VARIABLES];
+} tagetessash_term;
+
+/* How many rows stand in front of the zeros: of out after a fetch, of the work area after 9. */
+static inline size_t tagetessash_row_count(const uint16_t *rows, size_t words)
+{
+    size_t i = 0;
+    while (i < words / TAGETESSASH_ROW_WORDS && rows[i * TAGETESSASH_ROW_WORDS] != 0)
+        i++;
+    return i;
+}
+
+/* Row i, the first is 0. */
+static inline tagetessash_term tagetessash_row(const uint16_t *rows, size_t i)
+{
+    const uint16_t *row = rows + i * TAGETESSASH_ROW_WORDS;
+    tagetessash_term term;
+    size_t x;
+    term.coefficient = row[0];
+    term.component = row[1];
+    for (x = 0; x < TAGETESSASH_VARIABLES; x++)
+        term.exponents[x] = row[2 + x];
+    return term;
+}
+
+/* What a state holds, for states as calls leave them (or all zero: nothing). */
+
+/* p, n, the order code and s of the file's first line */
+static inline uint16_t tagetessash_prime(const uint16_t *state) { return state[0]; }
+static inline uint16_t tagetessash_variables(const uint16_t *state) { return state[1]; }
+static inline uint16_t tagetessash_order(const uint16_t *state) { return state[2]; }
+static inline uint16_t tagetessash_components(const uint16_t *state) { return state[3]; }
+
+/* how many levels are complete: 0 without a basis, else levels 0 to this - 1 */
+static inline size_t tagetessash_complete(const uint16_t *state) { return state[4]; }
+
+/* how many vectors a level has, of level 0 how many elements; 0 for a level that is not complete */
+static inline size_t tagetessash_count(const uint16_t *state, size_t level)
+{
+    return level < tagetessash_complete(state) ? state[5 + 129 * level] : 0;
+}
+
+/* how many terms the first so many vectors of a level have together */
+static inline size_t tagetessash_end(const uint16_t *state, size_t level, size_t vectors)
+{
+    return vectors != 0 && vectors <= tagetessash_count(state, level) ? state[5 + 129 * level + vectors] : 0;
+}
+
+/* how many terms a level has */
+static inline size_t tagetessash_level_terms(const uint16_t *state, size_t level)
+{
+    return tagetessash_end(state, level, tagetessash_count(state, level));
+}
+
+/* how many terms a vector has; 0 for a vector that there is not */
+static inline size_t tagetessash_terms(const uint16_t *state, size_t level, size_t vector)
+{
+    return vector != 0 && vector <= tagetessash_count(state, level)
+        ? tagetessash_end(state, level, vector) - tagetessash_end(state, level, vector - 1)
+        : 0;
+}
+
+/* the rows of a vector (of level 0: of an element, which can not be fetched), as they stand in the state; null for a vector that there is not */
+static inline const uint16_t *tagetessash_rows(const uint16_t *state, size_t level, size_t vector)
+{
+    return tagetessash_terms(state, level, vector) != 0
+        ? state + 1295 + 20480 * level + TAGETESSASH_ROW_WORDS * tagetessash_end(state, level, vector - 1)
+        : NULL;
+}
+
+/* What a number means, in words. */
+static inline const char *tagetessash_meaning(uint16_t number)
+{
+    switch (number) {
+    case TAGETESSASH_DONE: return "done";
+    case TAGETESSASH_BAD_LINE: return "a line has the wrong shape or stands in the wrong place, or the file is too long";
+    case TAGETESSASH_BAD_PRIME: return "p is not a prime from 2 to 32,767";
+    case TAGETESSASH_BAD_RING: return "the number of variables, the order code or the number of components is out of range";
+    case TAGETESSASH_BAD_TERM: return "a coefficient, component or exponent is out of range";
+    case TAGETESSASH_BAD_ELEMENT: return "an element number is out of sequence or above 64";
+    case TAGETESSASH_NOT_DESCENDING: return "a term is not below the one before it in its element";
+    case TAGETESSASH_BAD_COUNT: return "the count of T lines is 0 or wrong";
+    case TAGETESSASH_TOO_MANY_TERMS: return "there are more than 2,048 T lines";
+    case TAGETESSASH_NO_BASIS: return "the elements are no Groebner basis";
+    case TAGETESSASH_NO_LEVEL: return "there is no accepted basis, or the level that is needed is not complete";
+    case TAGETESSASH_BAD_NUMBER: return "there is no such level, vector, way or pick code";
+    case TAGETESSASH_EXPONENT_LIMIT: return "a product has an exponent above 255";
+    case TAGETESSASH_TERM_LIMIT: return "a working value, a vector or the tree's work area is full";
+    case TAGETESSASH_LEVEL_LIMIT: return "a level has too many frame terms or too many terms";
+    case TAGETESSASH_SHORT_BUFFER: return "a buffer is too short";
+    default: return "no number of a call";
+    }
+}
+
+/* What a number's place counts; null for numbers whose place is 0. */
+static inline const char *tagetessash_place_name(uint16_t number)
+{
+    if (number >= TAGETESSASH_BAD_LINE && number <= TAGETESSASH_TOO_MANY_TERMS)
+        return "line";
+    if (number == TAGETESSASH_NO_BASIS)
+        return "frame term";
+    if (number >= TAGETESSASH_EXPONENT_LIMIT && number <= TAGETESSASH_LEVEL_LIMIT)
+        return "level";
+    return NULL;
+}
+
+#ifdef __cplusplus
+}
+#endif
+
+#endif

@@ -1,0 +1,183 @@
+/* What the header says beyond the answers that resolve prints: null with length 0, buffers one word too short, wrong numbers, levels dropped, the accessors. */
+#include <stdio.h>
+#include <stdlib.h>
+#include <string.h>
+#include "tagetessash.h"
+
+static int failures;
+
+#define CHECK(what) \
+    do { \
+        if (!(what)) { \
+            printf("line %d: not %s\n", __LINE__, #what); \
+            failures++; \
+        } \
+    } while (0)
+
+static const char three[] = "R,7,3,3,1\nT,1,1,1,1,0,0\nT,2,1,1,0,1,0\nT,3,2,1,0,0,1\nE,3\n";
+static const char no_basis[] = "R,7,2,1,1\nT,1,1,1,2,0\nT,2,1,1,1,1\nT,2,1,1,0,2\nE,3\n";
+
+static uint16_t *words(size_t count)
+{
+    uint16_t *buffer = malloc(count * sizeof *buffer);
+    if (buffer == NULL)
+        exit(2);
+    return buffer;
+}
+
+/* every word is this one */
+static int all(const uint16_t *buffer, size_t count, uint16_t word)
+{
+    size_t i;
+    for (i = 0; i < count; i++)
+        if (buffer[i] != word)
+            return 0;
+    return 1;
+}
+
+static void fill(uint16_t *buffer, size_t count, uint16_t word)
+{
+    size_t i;
+    for (i = 0; i < count; i++)
+        buffer[i] = word;
+}
+
+static uint16_t *state, *work, *tree, *out, *before;
+static size_t place;
+
+static uint16_t read_text(const char *text)
+{
+    return tagetessash_read((const uint8_t *)text, strlen(text), state, TAGETESSASH_STATE_WORDS, work, TAGETESSASH_WORK_WORDS, &place);
+}
+
+static uint16_t lift(size_t level, uint16_t way, uint16_t pick)
+{
+    return tagetessash_lift(state, TAGETESSASH_STATE_WORDS, work, TAGETESSASH_WORK_WORDS, NULL, 0, level, way, pick, &place);
+}
+
+static uint16_t fetch(size_t level, size_t vector)
+{
+    return tagetessash_fetch(state, TAGETESSASH_STATE_WORDS, out, TAGETESSASH_OUT_WORDS, level, vector, &place);
+}
+
+/* the number, place 0, and no word of the state changed */
+#define REFUSED(call, refusal) \
+    do { \
+        memcpy(before, state, TAGETESSASH_STATE_WORDS * sizeof *state); \
+        place = 99; \
+        CHECK((call) == (refusal)); \
+        CHECK(place == 0); \
+        CHECK(memcmp(before, state, TAGETESSASH_STATE_WORDS * sizeof *state) == 0); \
+    } while (0)
+
+static void null_with_length_0(void)
+{
+    fill(state, TAGETESSASH_STATE_WORDS, 5);
+    fill(work, TAGETESSASH_WORK_WORDS, 5);
+    CHECK(tagetessash_read(NULL, 0, state, TAGETESSASH_STATE_WORDS, work, TAGETESSASH_WORK_WORDS, &place) == TAGETESSASH_BAD_LINE);
+    CHECK(place == 1);
+    CHECK(all(state, TAGETESSASH_STATE_WORDS, 0) && all(work, TAGETESSASH_WORK_WORDS, 0));
+    CHECK(tagetessash_read(NULL, 0, NULL, 0, NULL, 0, &place) == TAGETESSASH_SHORT_BUFFER && place == 0);
+    CHECK(tagetessash_lift(NULL, 0, NULL, 0, NULL, 0, 1, TAGETESSASH_TREE, 0, &place) == TAGETESSASH_SHORT_BUFFER && place == 0);
+    CHECK(tagetessash_fetch(NULL, 0, NULL, 0, 1, 1, &place) == TAGETESSASH_SHORT_BUFFER && place == 0);
+}
+
+static void without_a_basis(void)
+{
+    fill(state, TAGETESSASH_STATE_WORDS, 0);
+    CHECK(tagetessash_complete(state) == 0 && tagetessash_count(state, 0) == 0 && tagetessash_rows(state, 0, 1) == NULL);
+    REFUSED(lift(1, TAGETESSASH_DIVISION, 0), TAGETESSASH_NO_LEVEL);
+    REFUSED(fetch(1, 1), TAGETESSASH_NO_LEVEL);
+    fill(state, TAGETESSASH_STATE_WORDS, 65535);
+    REFUSED(lift(1, TAGETESSASH_DIVISION, 0), TAGETESSASH_NO_LEVEL);
+    REFUSED(fetch(1, 1), TAGETESSASH_NO_LEVEL);
+}
+
+static void one_word_short(void)
+{
+    const uint8_t *file = (const uint8_t *)three;
+    size_t bytes = strlen(three);
+    CHECK(read_text(three) == TAGETESSASH_DONE);
+    fill(work, TAGETESSASH_WORK_WORDS, 5);
+    fill(tree, TAGETESSASH_TREE_WORK_WORDS, 5);
+    fill(out, TAGETESSASH_OUT_WORDS, 5);
+    REFUSED(tagetessash_read(file, bytes, state, TAGETESSASH_STATE_WORDS - 1, work, TAGETESSASH_WORK_WORDS, &place), TAGETESSASH_SHORT_BUFFER);
+    REFUSED(tagetessash_read(file, bytes, state, TAGETESSASH_STATE_WORDS, work, TAGETESSASH_WORK_WORDS - 1, &place), TAGETESSASH_SHORT_BUFFER);
+    REFUSED(tagetessash_lift(state, TAGETESSASH_STATE_WORDS, work, TAGETESSASH_WORK_WORDS - 1, NULL, 0, 1, TAGETESSASH_DIVISION, 0, &place),
+        TAGETESSASH_SHORT_BUFFER);
+    REFUSED(tagetessash_lift(state, TAGETESSASH_STATE_WORDS, tree, TAGETESSASH_TREE_WORK_WORDS - 1, NULL, 0, 1, TAGETESSASH_TREE, 0, &place),
+        TAGETESSASH_SHORT_BUFFER);
+    REFUSED(tagetessash_fetch(state, TAGETESSASH_STATE_WORDS, out, TAGETESSASH_OUT_WORDS - 1, 1, 1, &place), TAGETESSASH_SHORT_BUFFER);
+    CHECK(all(work, TAGETESSASH_WORK_WORDS, 5) && all(tree, TAGETESSASH_TREE_WORK_WORDS, 5) && all(out, TAGETESSASH_OUT_WORDS, 5));
+    CHECK(tagetessash_lift(state, TAGETESSASH_STATE_WORDS, tree, TAGETESSASH_TREE_WORK_WORDS, NULL, 0, 1, TAGETESSASH_TREE, 0, &place) == TAGETESSASH_DONE);
+    CHECK(all(tree, TAGETESSASH_TREE_WORK_WORDS, 0));
+}
+
+static void levels_and_accessors(void)
+{
+    size_t level, v, i;
+    CHECK(read_text(three) == TAGETESSASH_DONE && place == 0);
+    CHECK(tagetessash_prime(state) == 7 && tagetessash_variables(state) == 3 && tagetessash_order(state) == 3 && tagetessash_components(state) == 1);
+    CHECK(tagetessash_complete(state) == 1 && tagetessash_count(state, 0) == 3 && tagetessash_level_terms(state, 0) == 3);
+    CHECK(tagetessash_row(tagetessash_rows(state, 0, 3), 0).coefficient == 2 && tagetessash_row(tagetessash_rows(state, 0, 3), 0).exponents[2] == 1);
+    REFUSED(lift(2, TAGETESSASH_DIVISION, 0), TAGETESSASH_NO_LEVEL);
+    REFUSED(lift(0, TAGETESSASH_DIVISION, 0), TAGETESSASH_BAD_NUMBER);
+    REFUSED(lift(10, TAGETESSASH_DIVISION, 0), TAGETESSASH_BAD_NUMBER);
+    REFUSED(lift(1, TAGETESSASH_HYBRID, 0), TAGETESSASH_BAD_NUMBER);
+    REFUSED(lift(1, TAGETESSASH_HYBRID, 4), TAGETESSASH_BAD_NUMBER);
+    REFUSED(lift(1, 3, TAGETESSASH_GREATEST), TAGETESSASH_BAD_NUMBER);
+    CHECK(lift(1, TAGETESSASH_HYBRID, TAGETESSASH_NEWEST) == TAGETESSASH_DONE);
+    CHECK(lift(2, TAGETESSASH_HYBRID, TAGETESSASH_OLDEST) == TAGETESSASH_DONE);
+    CHECK(tagetessash_complete(state) == 3 && tagetessash_count(state, 1) == 3 && tagetessash_count(state, 2) == 1);
+    CHECK(tagetessash_count(state, 3) == 0 && tagetessash_terms(state, 2, 2) == 0 && tagetessash_terms(state, 2, 0) == 0);
+    for (level = 1; level <= 2; level++)
+        for (v = 1; v <= tagetessash_count(state, level); v++) {
+            size_t terms = tagetessash_terms(state, level, v);
+            fill(out, TAGETESSASH_OUT_WORDS, 5);
+            CHECK(fetch(level, v) == TAGETESSASH_DONE && place == 0);
+            CHECK(terms != 0 && tagetessash_row_count(out, TAGETESSASH_OUT_WORDS) == terms);
+            CHECK(memcmp(out, tagetessash_rows(state, level, v), terms * TAGETESSASH_ROW_WORDS * sizeof *out) == 0);
+            CHECK(all(out + terms * TAGETESSASH_ROW_WORDS, TAGETESSASH_OUT_WORDS - terms * TAGETESSASH_ROW_WORDS, 0));
+            for (i = 0; i < terms; i++)
+                CHECK(tagetessash_row(out, i).component >= 1 && tagetessash_row(out, i).component <= tagetessash_count(state, level - 1));
+        }
+    fill(out, TAGETESSASH_OUT_WORDS, 5);
+    REFUSED(fetch(1, 0), TAGETESSASH_BAD_NUMBER);
+    REFUSED(fetch(1, 4), TAGETESSASH_BAD_NUMBER);
+    REFUSED(fetch(0, 1), TAGETESSASH_BAD_NUMBER);
+    REFUSED(fetch(3, 1), TAGETESSASH_NO_LEVEL);
+    CHECK(all(out, TAGETESSASH_OUT_WORDS, 5));
+    CHECK(lift(1, TAGETESSASH_DIVISION, 0) == TAGETESSASH_DONE);
+    CHECK(tagetessash_complete(state) == 2 && tagetessash_count(state, 2) == 0);
+}
+
+/* 9 shows 6y^3 and empties the state */
+static void value_after_9(void)
+{
+    CHECK(read_text(no_basis) == TAGETESSASH_NO_BASIS && place == 1);
+    CHECK(tagetessash_row_count(work, TAGETESSASH_WORK_WORDS) == 1);
+    CHECK(tagetessash_row(work, 0).coefficient == 6 && tagetessash_row(work, 0).component == 1 && tagetessash_row(work, 0).exponents[1] == 3);
+    CHECK(all(work + TAGETESSASH_ROW_WORDS, TAGETESSASH_WORK_WORDS - TAGETESSASH_ROW_WORDS, 0) && all(state, TAGETESSASH_STATE_WORDS, 0));
+}
+
+int main(void)
+{
+    state = words(TAGETESSASH_STATE_WORDS);
+    before = words(TAGETESSASH_STATE_WORDS);
+    work = words(TAGETESSASH_WORK_WORDS);
+    tree = words(TAGETESSASH_TREE_WORK_WORDS);
+    out = words(TAGETESSASH_OUT_WORDS);
+    null_with_length_0();
+    without_a_basis();
+    one_word_short();
+    levels_and_accessors();
+    value_after_9();
+    free(state);
+    free(before);
+    free(work);
+    free(tree);
+    free(out);
+    if (failures == 0)
+        printf("edges of the C interface: as the header says\n");
+    return failures != 0;
+}
