@@ -1,4 +1,5 @@
 -- What the contracts of the calls give together: the definitions' list of calls, and with it the demands.
+use Rattle.definitions.specs.Lifting.{by-tree}
 use mathlib.Core.Path.{_≡_, refl, sym, ap, _∙_, subst}
 use mathlib.Core.Bool.{Bool, true, false}
 use mathlib.Core.Option.{Option, some}
@@ -11,8 +12,8 @@ use Rattle.definitions.specs.Lists.{_then_}
 use Rattle.definitions.specs.Monomial.{Level}
 use Rattle.definitions.specs.Result.{Result, done}
 use Rattle.definitions.specs.Problem.{Bytes, Parameters, problem}
-use Rattle.definitions.specs.State.{State}
-use Rattle.definitions.specs.Calls.{settled, read-reply}
+use Rattle.definitions.specs.State.{State, sound?}
+use Rattle.definitions.specs.Calls.{settled, read-reply, lift}
 use Rattle.definitions.specs.Reckoning.{nothing, reckon-all}
 use Rattle.definitions.specs.Layout.{Words, meant, division, long-enough?, Read, read-left, Lift, Lent, read-with, lift-with, fetch-with, Left, lent-call, lent-calls}
 use Rattle.definitions.proofs.Steady.{answered?, steady-from}
@@ -96,3 +97,10 @@ pub made-right : (state : Words) (cs : List Lent) (ls : List Left) → Made stat
 made-right state cs ls t s =
     let x : (n : ℕ) × (lent-calls document-01 n state cs ≡ some ls) = all-calls state cs ls t in
     demand-3-of-document-01 .calls (x .0) state cs ls (x .1) s
+
+-- ## The tree's cache
+
+-- "the cache's length changes no vector": two liftings of a level by the tree, with any two caches, leave the same state wherever neither is refused
+pub any-cache : (n m : ℕ) (X : State) (k room room′ : ℕ) (Y Y′ : State) → T (sound? document-01 X)
+    → lift document-01 n X k (by-tree room) ≡ done Y → lift document-01 m X k (by-tree room′) ≡ done Y′ → Y ≡ Y′
+any-cache n m X k room room′ Y Y′ = demand-3-of-document-01 .ways-agree n m X k (by-tree room) (by-tree room′) Y Y′
