@@ -1,13 +1,13 @@
-/* The three calls of Tagetessash: read a problem file, lift a level, fetch a vector.
+/* The three calls of Tagetessash: read a problem file, lift a level, fetch a vector; and the sheet of a file in one call.
  *
  * The caller lends every buffer. The library keeps nothing between calls but what stands in the state, allocates nothing and has no data of its own, so
  * that threads with buffers of their own may call it at a time. C99 and C++.
  *
  * What a pointer and the length behind it must be: so many bytes or words that may be read (and written, unless it is const) through the call. With
- * length 0 a pointer may be null, else it must not. Words are aligned as a uint16_t. The buffers of one call and its place do not overlap. place is not
- * null. The library can not test any of this; whatever else the buffers hold, every call returns and keeps to them.
+ * length 0 a pointer may be null, else it must not. Words are aligned as a uint16_t. The buffers of one call and its place do not overlap. place and
+ * length are not null. The library can not test any of this; whatever else the buffers hold, every call returns and keeps to them.
  *
- * Every call returns a number, 0 or a refusal's, and writes its place (see below). After
+ * Each of the three calls returns a number, 0 or a refusal's, and writes its place (see below). After
  *     11, 12, 16            no buffer is changed
  *     1 to 9, 13 to 15      every buffer lent for writing is zero throughout, the state with it; but 9 leaves a value in the work area
  *     0                     the work area, the cache and what is unused of the state and of out are zero
@@ -27,6 +27,7 @@ extern "C" {
 #define TAGETESSASH_WORK_WORDS 5120       /* to read, and to lift by division or hybrid */
 #define TAGETESSASH_TREE_WORK_WORDS 40960 /* to lift by the tree */
 #define TAGETESSASH_OUT_WORDS 5120
+#define TAGETESSASH_SHEET_BYTES 1400000   /* the sheet's out has bytes */
 
 /* A term is a row of words: its coefficient, its component, its eight exponents (x1's first, zero past the last variable). */
 #define TAGETESSASH_ROW_WORDS 10
@@ -85,6 +86,12 @@ uint16_t tagetessash_lift(uint16_t *state, size_t state_words, uint16_t *work, s
 
 /* Writes a vector, 1 to the level's count, of a complete level, 1 to 9, into out: its rows, greatest term first, then zeros. */
 uint16_t tagetessash_fetch(const uint16_t *state, size_t state_words, uint16_t *out, size_t out_words, size_t level, size_t vector, size_t *place);
+
+/* Writes the sheet of a problem file, the bytes that the program prints, into out, zeros after them, and how many there are into length. Returns 0 for every
+ * file, a refused one too (its X line says so), or 16, which changes no buffer and has length 0. After 0 state and work are zero: they are lent for the work alone.
+ * It lifts by the hybrid way with the newest term, which on some files takes very long. */
+uint16_t tagetessash_sheet(const uint8_t *file, size_t file_bytes, uint16_t *state, size_t state_words, uint16_t *work, size_t work_words, uint8_t *out,
+    size_t out_bytes, size_t *length);
 
 /* What rows hold. */
 typedef struct {

@@ -1,4 +1,4 @@
-/* What the header says beyond the answers that resolve prints: null with length 0, buffers one word too short, wrong numbers, levels dropped, the accessors. */
+/* What the header says beyond the answers that resolve prints: null with length 0, buffers one word too short, wrong numbers, levels dropped, the accessors, the sheet. */
 #include <stdio.h>
 #include <stdlib.h>
 #include <string.h>
@@ -160,6 +160,34 @@ static void value_after_9(void)
     CHECK(all(work + TAGETESSASH_ROW_WORDS, TAGETESSASH_WORK_WORDS - TAGETESSASH_ROW_WORDS, 0) && all(state, TAGETESSASH_STATE_WORDS, 0));
 }
 
+/* the bytes, zeros after them, nothing left in the other buffers; 16 a byte or word too short */
+static void the_sheet(void)
+{
+    static const char expected[] = "X,9,1\nW,6,1,0,3\n";
+    const uint8_t *file = (const uint8_t *)no_basis;
+    size_t bytes = strlen(no_basis), length = 99, i;
+    uint8_t *sheet = malloc(TAGETESSASH_SHEET_BYTES);
+    if (sheet == NULL)
+        exit(2);
+    memset(sheet, 5, TAGETESSASH_SHEET_BYTES);
+    fill(state, TAGETESSASH_STATE_WORDS, 5);
+    fill(work, TAGETESSASH_WORK_WORDS, 5);
+    CHECK(tagetessash_sheet(file, bytes, state, TAGETESSASH_STATE_WORDS - 1, work, TAGETESSASH_WORK_WORDS, sheet, TAGETESSASH_SHEET_BYTES, &length) == TAGETESSASH_SHORT_BUFFER);
+    CHECK(tagetessash_sheet(file, bytes, state, TAGETESSASH_STATE_WORDS, work, TAGETESSASH_WORK_WORDS - 1, sheet, TAGETESSASH_SHEET_BYTES, &length) == TAGETESSASH_SHORT_BUFFER);
+    CHECK(tagetessash_sheet(file, bytes, state, TAGETESSASH_STATE_WORDS, work, TAGETESSASH_WORK_WORDS, sheet, TAGETESSASH_SHEET_BYTES - 1, &length) == TAGETESSASH_SHORT_BUFFER);
+    CHECK(length == 0 && all(state, TAGETESSASH_STATE_WORDS, 5) && all(work, TAGETESSASH_WORK_WORDS, 5));
+    for (i = 0; i < TAGETESSASH_SHEET_BYTES && sheet[i] == 5; i++)
+        ;
+    CHECK(i == TAGETESSASH_SHEET_BYTES);
+    CHECK(tagetessash_sheet(file, bytes, state, TAGETESSASH_STATE_WORDS, work, TAGETESSASH_WORK_WORDS, sheet, TAGETESSASH_SHEET_BYTES, &length) == TAGETESSASH_DONE);
+    CHECK(length == strlen(expected) && memcmp(sheet, expected, strlen(expected)) == 0);
+    for (i = length; i < TAGETESSASH_SHEET_BYTES && sheet[i] == 0; i++)
+        ;
+    CHECK(i == TAGETESSASH_SHEET_BYTES);
+    CHECK(all(state, TAGETESSASH_STATE_WORDS, 0) && all(work, TAGETESSASH_WORK_WORDS, 0));
+    free(sheet);
+}
+
 int main(void)
 {
     state = words(TAGETESSASH_STATE_WORDS);
@@ -172,6 +200,7 @@ int main(void)
     one_word_short();
     levels_and_accessors();
     value_after_9();
+    the_sheet();
     free(state);
     free(before);
     free(work);

@@ -1,9 +1,9 @@
-//! Links the static library of the sheet's call, which `rt staticlib sheets` writes.
+//! Links the static library of the public calls, which `rt staticlib calls` writes.
 
 fn main() {
     let folder = std::env::var("CARGO_MANIFEST_DIR").expect("cargo sets it");
     let library = format!("{folder}/../../target/staticlib");
     println!("cargo:rustc-link-search=native={library}");
-    println!("cargo:rustc-link-lib=static=sheets");
-    println!("cargo:rerun-if-changed={library}/libsheets.a");
+    println!("cargo:rustc-link-lib=static=calls");
+    println!("cargo:rerun-if-changed={library}/libcalls.a");
 }

@@ -1,12 +1,13 @@
-// The three calls for programs in other languages: include/tagetessash.h declares them.
-// Knows: crates engine and engine_lift. A slice is a pointer and a length.
+// The three calls, and the sheet as one, for programs in other languages: include/tagetessash.h declares them.
+// Knows: crates engine, engine_lift and sheet. A slice is a pointer and a length.
 ghost use mathlib.Core.Path.{_≡_};
 ghost use mathlib.Core.Option.{some};
 ghost use Prim.Native.Nat.{ℕ};
 ghost use Rattle.definitions.specs.Limits.{document-01};
 ghost use Rattle.definitions.specs.Layout.{read-call, lift-call, fetch-call};
 ghost use Rattle.engine_lift.specs.Lifts.{way-of};
-ghost use Rattle.calls.specs.Coded.{coded-way, read-told, lift-told, fetch-told};
+ghost use Rattle.sheet.specs.Sheets.{called};
+ghost use Rattle.calls.specs.Coded.{coded-way, read-told, lift-told, fetch-told, sheet-told};
 use engine_lift::Way;
 
 // "read a file and accept or refuse its basis"
@@ -68,5 +69,21 @@ pub extern "C" fn tagetessash_fetch(
 {
     let r = engine::fetch(state, out, level, vector);
     *place = r.place;
+    r.number
+}
+
+// "The sheet printed": 0, and its bytes are the first `length` of out; or 16.
+#[no_mangle]
+pub extern "C" fn tagetessash_sheet(
+    file: &[u8],
+    state: &mut [u16],
+    work: &mut [u16],
+    out: &mut [u8],
+    length: &mut usize,
+) -> u16
+    ensures { λ x. ⌜ ((n : ℕ) × (sheet-told x (now (length .exit)) (now (state .exit)) (now (work .exit)) (now (out .exit)) ≡ called n (now (file .entry)) (now (state .entry)) (now (work .entry)) (now (out .entry)))) ⌝ }
+{
+    let r = sheet::sheet(file, state, work, out);
+    *length = r.length;
     r.number
 }
