@@ -1,5 +1,6 @@
 // The rows that a tree's lifting works on: sums in the work area, and finished subtrees in the cache or at the work area's end.
-// Knows: crate definitions' Tree. An entry of the cache is its rows, then a row with its monomial and, for a coefficient, their number.
+// Knows: crate definitions' Tree.
+// An entry of the cache is its rows, then a row with its monomial and, for a coefficient, their number.
 ghost use mathlib.Core.Path.{_≡_};
 ghost use Prim.Native.Nat.{_+_, _-_, _*_, _≤_, _<_};
 ghost use lib.ListN.{length, take, drop};

@@ -1,5 +1,6 @@
 // The three calls, and the sheet as one, for programs in other languages: include/tagetessash.h declares them.
-// Knows: crates engine, engine_lift and sheet. A slice is a pointer and a length.
+// Knows: crates engine, engine_lift and sheet.
+// A slice is a pointer and a length.
 ghost use mathlib.Core.Path.{_≡_};
 ghost use mathlib.Core.Option.{some};
 ghost use Prim.Native.Nat.{ℕ};

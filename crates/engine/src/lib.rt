@@ -1,5 +1,6 @@
 // The calls over lent buffers: reading with acceptance, fetching.
-// Knows: crate definitions' Layout. A call asks for nothing: a buffer that is too short is 16, words that hold no state are 11.
+// Knows: crate definitions' Layout.
+// A call asks for nothing: a buffer that is too short is 16, words that hold no state are 11.
 ghost use mathlib.Core.Path.{_≡_};
 ghost use mathlib.Core.Option.{some};
 ghost use Prim.Native.Nat.{ℕ, _≤_, _<_};

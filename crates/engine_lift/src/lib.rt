@@ -1,5 +1,6 @@
 // The call that lifts a level, by division, hybrid or the tree.
-// Knows: crate definitions' Layout and Calls. A call asks for nothing: a buffer that is too short is 16, words that hold no state are 11.
+// Knows: crate definitions' Layout and Calls.
+// A call asks for nothing: a buffer that is too short is 16, words that hold no state are 11.
 ghost use mathlib.Core.Path.{_≡_};
 ghost use mathlib.Core.List.{[]};
 ghost use mathlib.Core.Option.{some};

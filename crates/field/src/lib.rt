@@ -1,5 +1,6 @@
 // Arithmetic modulo p, for p up to 65,535.
-// Knows: crate definitions' Field. All products are formed in u32.
+// Knows: crate definitions' Field.
+// All products are formed in u32.
 ghost use mathlib.Core.Path.{_≡_};
 ghost use Prim.Native.Nat.{_<_};
 ghost use Rattle.definitions.specs.Field.{plus, times as times-definition, minus, inverse as inverse-definition, prime?};

@@ -1,5 +1,6 @@
 // One line of a file at a time, held to a shape: a letter and so many numbers.
-// Knows: crate definitions' Problem, up to `shaped`. A position counts bytes from the file's start; `drop at file` is what is left of it.
+// Knows: crate definitions' Problem, up to `shaped`.
+// A position counts bytes from the file's start; `drop at file` is what is left of it.
 ghost use mathlib.Core.Path.{_≡_};
 ghost use Prim.Native.Nat.{_≤_, _<_};
 ghost use lib.ListN.{drop};

@@ -1,5 +1,6 @@
 // Frames for programs in other languages: their tests against the unrelated implementation call crate frame through this function.
 // Knows: crate frame's `form`, 15 and 16.
+// No code of the engine calls it.
 ghost use mathlib.Core.Path.{_≡_};
 ghost use Rattle.frames.specs.Called.{told, told-of, called};
 use sums::Stored;

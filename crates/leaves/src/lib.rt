@@ -1,5 +1,6 @@
 // The leaves for programs in other languages: each function works through many rows, so that the bench beside plain Rust times no calls.
 // Knows: crates orders, monomial, reducers and sums; the tables of a state by crate stages.
+// No code of the engine calls it.
 ghost use mathlib.Core.Path.{_≡_};
 ghost use mathlib.Core.List.{[]};
 ghost use Prim.Native.Nat.{_+_, _*_, _≤_, _<_, _/_};

@@ -1,5 +1,6 @@
 // The state as words: the soundness test behind 11, and the tables of images that it makes as it goes.
 // Knows: crate definitions' Layout and State, with document 01's limits (docs/BUFFERS.md).
+// It writes nothing of the state; that is crate writing.
 ghost use mathlib.Core.Path.{_≡_};
 ghost use mathlib.Core.Bool.{not};
 ghost use Prim.Native.Nat.{_+_, _-_, _*_, _≤_, _<_};

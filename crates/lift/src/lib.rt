@@ -1,5 +1,6 @@
 // All frame terms of a level by division or hybrid, and acceptance by division.
-// Knows: crate definitions' Lifting. The vectors lifted are kept in one lent slice: first the end of each vector's rows, from word 128 on the rows.
+// Knows: crate definitions' Lifting.
+// The vectors lifted are kept in one lent slice: first the end of each vector's rows, from word 128 on the rows.
 ghost use mathlib.Core.Path.{_≡_};
 ghost use mathlib.Core.List.{[]};
 ghost use Prim.Native.Nat.{ℕ, _+_, _*_, _≤_, _<_};

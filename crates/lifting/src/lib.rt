@@ -1,5 +1,6 @@
 // A complete level of a state made ready, and what stands over it lifted or divided.
-// Knows: crate definitions' Lifting over a state's words, within limits that may be smaller than document 01's. Tables and frame are arrays of these functions' own frames, made once a call.
+// Knows: crate definitions' Lifting over a state's words, within limits that may be smaller than document 01's.
+// Tables and frame are arrays of these functions' own frames, made once a call.
 ghost use mathlib.Core.Path.{_≡_};
 ghost use Prim.Native.Nat.{ℕ, suc, _*_, _≤_};
 ghost use lib.ListN.{length};

@@ -1,5 +1,6 @@
 // Levels lifted within limits that may be smaller than document 01's, for programs in other languages: tests against the unrelated implementation meet 13 to 15 at every place.
 // Knows: crates lifting and tree_level, and the tests of crate engine_lift.
+// No code of the engine calls it.
 ghost use mathlib.Core.Path.{_≡_};
 ghost use Prim.Native.Nat.{ℕ, _-_, _≤_};
 ghost use lib.ListN.{length};

@@ -1,5 +1,6 @@
 // The lines of a problem file one by one: the tests of each in their order, and what it says.
-// Knows: crate definitions' Problem, tests and refusals of R, T and E lines. The sequence of lines is decided by `first_line` and `next_line` alone.
+// Knows: crate definitions' Problem, tests and refusals of R, T and E lines.
+// The sequence of lines is decided by `first_line` and `next_line` alone.
 ghost use mathlib.Core.Path.{_≡_};
 ghost use Prim.Native.Nat.{_≤_};
 ghost use lib.ListN.{take, drop};

@@ -1,5 +1,6 @@
-// Monomials: eight exponents by value and a component; the three orders on level 0; images and the order of every other level.
-// Knows: crate definitions' Monomial and Order.
+// Monomials: eight exponents by value and a component; product with 13's test, quotient, lcm, division, degree.
+// Knows: crate definitions' Monomial.
+// Exponents travel by value as [u8; 8]; what a slice holds is crate terms.
 ghost use mathlib.Core.Path.{_≡_};
 ghost use Prim.Native.Nat.{_-_, _<_, max};
 ghost use lib.Dec.{ltb};

@@ -1,5 +1,6 @@
 // Comparing: the three orders, images on level 0, and through them the order of every level.
-// Knows: crate definitions' Order. An image is a monomial of level 0 whose exponents may pass 255: level k's are at most 255 · (k + 1), so 16 bits hold them.
+// Knows: crate definitions' Order.
+// An image is a monomial of level 0 whose exponents may pass 255: level k's are at most 255 · (k + 1), so 16 bits hold them.
 ghost use mathlib.Core.Path.{_≡_};
 ghost use mathlib.Core.List.{[]};
 ghost use Prim.Native.Nat.{_+_, _*_, _≤_};

@@ -1,5 +1,6 @@
 // The sheet's lines as bytes in a lent buffer.
-// Knows: crate definitions' Sheet. Each function answers where its bytes end.
+// Knows: crate definitions' Sheet.
+// Each function answers where its bytes end.
 ghost use mathlib.Core.Path.{_≡_};
 ghost use mathlib.Core.List.{[], _∷_};
 ghost use Prim.Native.Nat.{_+_, _-_, _*_, _≤_, _<_};

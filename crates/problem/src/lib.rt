@@ -1,5 +1,6 @@
 // The reader: from the bytes of a problem file to the words of a state, or a refusal from 1 to 8 with its place.
-// Knows: crate definitions' Problem and the state's words in its Layout. The state that it leaves is read, not accepted: only a call that goes on to accept it may use it.
+// Knows: crate definitions' Problem and the state's words in its Layout.
+// The state that it leaves is read, not accepted: only a call that goes on to accept it may use it.
 ghost use mathlib.Core.Path.{_≡_};
 ghost use Prim.Native.Nat.{_+_, _≤_, _<_};
 ghost use lib.ListN.{length, getD, drop, replicate};

@@ -1,5 +1,6 @@
 // The reader for programs in other languages: its tests against the unrelated implementation call it through this function.
 // Knows: crate problem's `read`, and 16.
+// No code of the engine calls it.
 ghost use mathlib.Core.Path.{_≡_};
 ghost use Rattle.reader.specs.Called.{called};
 

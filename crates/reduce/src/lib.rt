@@ -1,5 +1,6 @@
 // Products into a working value, the picks, and one step of a run.
-// Knows: crate definitions' Run. The value and the vector are rows from row 0 of two lent slices; tables are lent beside them.
+// Knows: crate definitions' Run.
+// The value and the vector are rows from row 0 of two lent slices; tables are lent beside them.
 ghost use mathlib.Core.Path.{_≡_};
 ghost use mathlib.Core.Option.{some};
 ghost use Prim.Native.Nat.{_+_, _-_, _*_, _≤_, _<_};

@@ -1,5 +1,6 @@
 // The reducer rule over a table of leading rows, and the multiple of a row by a term.
-// Knows: crate definitions' Reducer. The table's coefficients are the inverses of the leading ones; spans say in which part of the table a component's rows stand.
+// Knows: crate definitions' Reducer.
+// The table's coefficients are the inverses of the leading ones; spans say in which part of the table a component's rows stand.
 ghost use mathlib.Core.Path.{_≡_};
 ghost use Prim.Native.Nat.{_+_, _-_, _*_, _≤_, _<_};
 ghost use lib.ListN.{length};

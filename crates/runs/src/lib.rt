@@ -1,5 +1,6 @@
 // The run of one frame term by division or hybrid: a loop of steps, with no bound on them but the falling number of crate ending.
-// Knows: crate definitions' Run. Value and vector are rows from row 0 of two lent slices.
+// Knows: crate definitions' Run.
+// Value and vector are rows from row 0 of two lent slices.
 ghost use mathlib.Core.Path.{_≡_};
 ghost use mathlib.Core.List.{[]};
 ghost use Prim.Native.Nat.{ℕ, _*_, _≤_, _<_};

@@ -1,5 +1,6 @@
 // The sheet of a file, for every file.
-// Knows: crate definitions' Sheet, and the calls that it is made of. It prints level by level into one buffer and keeps nothing else of them.
+// Knows: crate definitions' Sheet, and the calls that it is made of.
+// It prints level by level into one buffer and keeps nothing else of them.
 ghost use mathlib.Core.Path.{_≡_};
 ghost use Prim.Native.Nat.{ℕ, _+_, _-_, _*_, _≤_, _<_};
 ghost use lib.Dec.{T};

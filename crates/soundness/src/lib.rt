@@ -1,5 +1,6 @@
 // The soundness test for programs in other languages: its tests against the unrelated implementation call it through this function.
 // Knows: crate levels' `sound`, and 16.
+// No code of the engine calls it.
 ghost use mathlib.Core.Path.{_≡_};
 ghost use Rattle.soundness.specs.Numbered.{number-of};
 

@@ -1,5 +1,6 @@
 // What the lifting of a level reads of the state, made once a call: the tables of images below and above it, the leading rows of the level below, the spans of their components.
 // Knows: crate definitions' Stage, through the tables of crates tables and levels.
+// It reads a state whose soundness its caller has tested.
 ghost use mathlib.Core.Path.{_≡_};
 ghost use Prim.Native.Nat.{_≤_, _<_};
 ghost use lib.Dec.{T};

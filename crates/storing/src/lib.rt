@@ -1,5 +1,6 @@
 // A lifted level written into the state, vector after vector, and made complete.
-// Knows: crate definitions' Layout, through crate writing. The vectors stand in a slice of their own: their ends first, their rows from word 128 on.
+// Knows: crate definitions' Layout, through crate writing.
+// The vectors stand in a slice of their own: their ends first, their rows from word 128 on.
 ghost use mathlib.Core.Path.{_≡_};
 ghost use mathlib.Core.List.{_∷_};
 ghost use Prim.Native.Nat.{_≤_, _<_};

@@ -1,5 +1,6 @@
 // The lifting of a term and the lifting of a list, which call each other; what falls is the work area that unfinished subtrees leave.
-// Knows: crate definitions' Tree. Unfinished sums are one stack from row 0 of the work area, so the row where a sum starts is the number of terms that count elsewhere.
+// Knows: crate definitions' Tree.
+// Unfinished sums are one stack from row 0 of the work area, so the row where a sum starts is the number of terms that count elsewhere.
 ghost use mathlib.Core.Path.{_≡_};
 ghost use Prim.Native.Nat.{_+_, _-_, _*_, _≤_, _<_};
 ghost use lib.Dec.{ltb};

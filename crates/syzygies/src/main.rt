@@ -1,5 +1,6 @@
 // The program that people run: the sheet of the problem file on standard input, written to standard output.
-// Knows: crate sheet. It reads, makes one call and writes; all buffers are its own.
+// Knows: crate sheet.
+// It reads, makes one call and writes; all buffers are its own.
 ghost use mathlib.Core.Path.{_≡_};
 ghost use mathlib.Core.Option.{some};
 ghost use Prim.Native.Nat.{ℕ, _≤_};

@@ -1,5 +1,6 @@
 // Terms as rows of ten words in a lent slice: coefficient, component, eight exponents.
-// Knows: crate definitions' Vectors and the rows of its Layout. Every function works on the rows from row 0 of the slice that it is lent.
+// Knows: crate definitions' Vectors and the rows of its Layout.
+// Every function works on the rows from row 0 of the slice that it is lent.
 ghost use mathlib.Core.Path.{_≡_};
 ghost use mathlib.Core.Bool.{true};
 ghost use mathlib.Core.List.{_∷_};

@@ -1,5 +1,6 @@
 // All frame terms of a level by the tree, with a cache of any length.
-// Knows: crate definitions' Tree and Lifting. A frame term's vector is made where it stays, behind the vectors before it (crate lift says how they are kept).
+// Knows: crate definitions' Tree and Lifting.
+// A frame term's vector is made where it stays, behind the vectors before it (crate lift says how they are kept).
 ghost use mathlib.Core.Path.{_≡_};
 ghost use mathlib.Core.List.{[]};
 ghost use Prim.Native.Nat.{_+_, _-_, _*_, _/_, _≤_, _<_};

@@ -1,5 +1,6 @@
 // The level over a complete level of a state by the tree.
-// Knows: crate definitions' Lifting and Tree over a state's words, within limits that may be smaller than document 01's. Tables and frame are arrays of these functions' own frames, made once a call.
+// Knows: crate definitions' Lifting and Tree over a state's words, within limits that may be smaller than document 01's.
+// Tables and frame are arrays of these functions' own frames, made once a call.
 ghost use mathlib.Core.Path.{_≡_};
 ghost use mathlib.Core.List.{[]};
 ghost use Prim.Native.Nat.{suc, _/_, _≤_};

@@ -1,5 +1,6 @@
 // Writing the state: a finished vector appended, a level completed, unused places zeroed; and reading a vector out.
 // Knows: crate definitions' Layout (encode), with document 01's limits.
+// What it writes is always in range, since rows are written as they are read.
 ghost use mathlib.Core.Path.{_≡_};
 ghost use Prim.Native.Nat.{_+_, _-_, _*_, _≤_, _<_};
 ghost use lib.Dec.{T};
