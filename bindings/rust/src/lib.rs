@@ -1,7 +1,7 @@
 //! Syzygies of a Gröbner basis over a small prime field, level upon level, by the proved engine.
 //!
 //! An [`Engine`] owns the buffers that the engine's calls are lent. [`Engine::read`] takes a problem file, [`Engine::lift`] makes a level complete,
-//! [`Engine::fetch`] gives a vector of it.
+//! [`Engine::fetch`] gives a vector of it. [`sheet`] prints all levels of a file at once.
 //!
 //! ```
 //! let file = b"R,7,2,1,1\nT,1,1,1,1,0\nT,1,1,1,0,1\nT,2,1,1,0,2\nT,2,1,1,0,0\nE,4\n";
@@ -33,6 +33,7 @@ const WORK_WORDS: usize = 5_120;
 const TREE_WORK_WORDS: usize = 40_960;
 const OUT_WORDS: usize = 5_120;
 const ROW_WORDS: usize = 10;
+const SHEET_BYTES: usize = 1_400_000;
 /// The tree calls itself and may take 3 MiB of the stack, more than a thread of Rust's has.
 const TREE_STACK: usize = 8 << 20;
 
@@ -180,6 +181,20 @@ impl Engine {
     pub fn stopped_at(&self) -> Vec<Term> {
         terms(&self.work)
     }
+}
+
+/// The sheet of a problem file, the bytes that the program prints, for every file: a refused one has an X line. It lifts by the hybrid way with the
+/// newest term, which on some files takes very long; [`Engine::lift`] by another way does not.
+pub fn sheet(file: &[u8]) -> Vec<u8> {
+    let mut out = vec![0; SHEET_BYTES];
+    let (_, length) = calls::sheet(
+        file,
+        &mut vec![0; STATE_WORDS],
+        &mut vec![0; WORK_WORDS],
+        &mut out,
+    );
+    out.truncate(length);
+    out
 }
 
 fn answer((number, place): (u16, usize)) -> Result<(), Refusal> {
