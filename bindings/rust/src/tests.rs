@@ -1,4 +1,4 @@
-use crate::{Engine, Pick, Refusal, Term, Way};
+use crate::{sheet, Engine, Pick, Refusal, Term, Way};
 
 const PRINTED: &[u8] = b"R,7,2,1,1\nT,1,1,1,1,0\nT,1,1,1,0,1\nT,2,1,1,0,2\nT,2,1,1,0,0\nE,4\n";
 /// A tree as deep as its work area allows (tests/common has how it is made).
@@ -94,8 +94,7 @@ fn the_deepest_tree() {
 /// the printed example of document 01, and instance 10: "empty file prints `X,1,1`"
 #[test]
 fn the_sheet_of_every_file() {
-    let file = b"R,7,2,1,1\nT,1,1,1,1,0\nT,1,1,1,0,1\nT,2,1,1,0,2\nT,2,1,1,0,0\nE,4\n";
     let lines = "S,1,1,1,2,1,0\nS,1,1,6,1,0,2\nS,1,1,6,1,0,0\nS,1,1,1,2,0,1\nZ,1,1\nZ,2,0\n";
-    assert_eq!(crate::sheet(file), lines.as_bytes());
-    assert_eq!(crate::sheet(b""), b"X,1,1\n");
+    assert_eq!(sheet(PRINTED), lines.as_bytes());
+    assert_eq!(sheet(b""), b"X,1,1\n");
 }
