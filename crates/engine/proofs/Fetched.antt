@@ -1,7 +1,7 @@
 -- Fetching, test by test.
 use mathlib.Core.Path.{_≡_, refl, sym, ap, _∙_}
 use mathlib.Core.Bool.{Bool, true, false, not, _||_}
-use Prim.Native.Nat.{ℕ, zero, suc, _≤_, _<_}
+use Prim.Native.Nat.{ℕ, _≤_, _<_}
 use native.Mathlib.Omega.{arith}
 use borrow.Author.Tests.{le-leb, lt-leb, lt-ltb, le-ltb}
 use lib.Dec.{T, leb}
@@ -12,14 +12,10 @@ use Rattle.definitions.specs.Monomial.{vector-of}
 use Rattle.definitions.specs.Stage.{highest}
 use Rattle.definitions.specs.State.{State, empty, sound?, has-level?, up-to}
 use Rattle.definitions.specs.Calls.{refuse, fetch as fetch-definition}
-use Rattle.definitions.specs.Layout.{Words, Fetch, rows-of, padded, level-at, levels-at, decode, holds-state?, all-words-sound?, meant, fetch-left, fetch-call}
-use Rattle.definitions.proofs.Tests.{true-is, and-right}
+use Rattle.definitions.specs.Layout.{Words, Fetch, rows-of, padded, level-at, levels-at, decode, holds-state?, meant, fetch-left, fetch-call}
+use Rattle.definitions.proofs.Tests.{true-is}
 use Rattle.levels.specs.Places.{count-at}
-use Rattle.stages.proofs.Complete.{highest-is, meant-is, complete-count}
-
-length-levels : (s : Words) (h : ℕ) → length (levels-at document-01 s h) ≡ h
-length-levels s zero = refl
-length-levels s (suc h) = ap suc (length-levels s h)
+use Rattle.stages.proofs.Complete.{highest-is, meant-is, complete-count, length-levels, holds-sound}
 
 module _ (s out : Words) (k v : ℕ) where
   -- by the tests' values
@@ -57,9 +53,7 @@ module _ (s out : Words) (k v : ℕ) where
         X = decode document-01 s
 
         sound-is : sound? document-01 X ≡ true
-        sound-is =
-            true-is (sound? document-01 X)
-            (and-right (all-words-sound? document-01 s (getD s 4 0)) (sound? document-01 X) (and-right (leb (getD s 4 0) 10) (all-words-sound? document-01 s (getD s 4 0) and sound? document-01 X) holds))
+        sound-is = true-is (sound? document-01 X) (holds-sound s holds)
 
         in-state : (inside has own : Bool) → between 1 k 9 ≡ inside → has-level? X k ≡ has → between 1 v (length (highest (up-to X k))) ≡ own
             → by-tests true true X true inside has own ≡ fetch-call document-01 k v s out

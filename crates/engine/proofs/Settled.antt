@@ -36,6 +36,9 @@ use Rattle.engine.specs.Replies.{settled-words, accepted-words}
 
 -- ## Acceptance
 
+pub zeroed : (area : ℕ) (w : Words) → length w ≡ area → cleared w 0 ≡ padded area (rows-of [])
+zeroed area w e = ap (λ a. padded a []) e
+
 accepted-finished : (x : Accepted) (v : Vector) → T (finished? (accepted-with x v))
 accepted-finished Yes v = tt
 accepted-finished (Refused number place) v = tt
@@ -48,15 +51,12 @@ module _ (s : Words) (long : 206095 ≤ length s) (whole : s ≡ encode document
   pub accept-over : (x : Accepted) → accepted-with x v ≡ accepted-over s n → T (finished? (accepted-over s n))
   accept-over x e = subst (λ r. T (finished? r)) e (accepted-finished x v)
 
-  zeroed : (w : Words) → length w ≡ area → cleared w 0 ≡ padded area (rows-of [])
-  zeroed w e = ap (λ a. padded a []) e
-
   pub accept-yes : (w : Words) → length w ≡ area → done tt ≡ accepted-over s n → _≡_ {A = Read} (0, 0, s, cleared w 0) (accepted-words n s area)
-  accept-yes w l e = (λ i. (0, 0, whole i, zeroed w l i)) ∙ ap goes-on e
+  accept-yes w l e = (λ i. (0, 0, whole i, zeroed area w l i)) ∙ ap goes-on e
 
   pub accept-refused : (number place : ℕ) (w : Words) → length w ≡ area → refused number place [] ≡ accepted-over s n
       → _≡_ {A = Read} (number, place, cleared s 0, cleared w 0) (accepted-words n s area)
-  accept-refused number place w l e = (λ i. (number, place, cleared-empties s long i, zeroed w l i)) ∙ ap goes-on e
+  accept-refused number place w l e = (λ i. (number, place, cleared-empties s long i, zeroed area w l i)) ∙ ap goes-on e
 
   pub accept-stopped : (i : ℕ) (w : Words) → length w ≡ area → w ≡ padded (length w) (rows-of v) → refused 9 i v ≡ accepted-over s n
       → _≡_ {A = Read} (9, i, cleared s 0, w) (accepted-words n s area)

@@ -3,7 +3,7 @@ use mathlib.Core.Path.{_≡_, refl, sym, ap, _∙_}
 use mathlib.Core.Bool.{Bool, true, false, not, _||_}
 use mathlib.Core.Option.{Option, some}
 use mathlib.Core.List.{_∷_}
-use Prim.Native.Nat.{ℕ, zero, suc, _-_, _≤_, _<_}
+use Prim.Native.Nat.{ℕ, suc, _-_, _≤_, _<_}
 use native.Mathlib.Omega.{arith}
 use borrow.Author.Tests.{le-leb, lt-leb, lt-ltb, le-ltb}
 use lib.Dec.{T, leb}
@@ -15,15 +15,11 @@ use Rattle.definitions.specs.Result.{Result, done, refused, unfinished, finishe
 use Rattle.definitions.specs.State.{State, empty, sound?, has-level?}
 use Rattle.definitions.specs.Lifting.{lift-level}
 use Rattle.definitions.specs.Calls.{refuse, settled, pick-code?, lift}
-use Rattle.definitions.specs.Layout.{Words, Way, division, hybrid, tree, Lift, lifting-by, work-words, levels-at, decode, holds-state?, all-words-sound?, meant, lift-left, lift-call}
-use Rattle.definitions.proofs.Tests.{true-is, and-right}
+use Rattle.definitions.specs.Layout.{Words, Way, division, hybrid, tree, Lift, lifting-by, work-words, levels-at, decode, holds-state?, meant, lift-left, lift-call}
+use Rattle.definitions.proofs.Tests.{true-is}
 use Rattle.levels.specs.Places.{parameters-at}
-use Rattle.stages.proofs.Complete.{up-to-is, meant-is}
+use Rattle.stages.proofs.Complete.{up-to-is, meant-is, length-levels, holds-sound}
 use Rattle.engine_lift.specs.Lifts.{own-pick?, settled-lift, state-over, lifted-over}
-
-length-levels : (s : Words) (h : ℕ) → length (levels-at document-01 s h) ≡ h
-length-levels s zero = refl
-length-levels s (suc h) = ap suc (length-levels s h)
 
 own-pick-is : (way : Way) (cache : Words) → pick-code? (lifting-by way cache) ≡ own-pick? way
 own-pick-is division cache = refl
@@ -73,9 +69,7 @@ module _ (s w z : Words) (k : ℕ) (way : Way) where
         X = decode document-01 s
 
         sound-is : sound? document-01 X ≡ true
-        sound-is =
-            true-is (sound? document-01 X)
-            (and-right (all-words-sound? document-01 s (getD s 4 0)) (sound? document-01 X) (and-right (leb (getD s 4 0) 10) (all-words-sound? document-01 s (getD s 4 0) and sound? document-01 X) holds))
+        sound-is = true-is (sound? document-01 X) (holds-sound s holds)
 
         in-state : (n : ℕ) (inside has own : Bool) → between 1 k 9 ≡ inside → has-level? X (k - 1) ≡ has → pick-code? (lifting-by way z) ≡ own
             → by-tests n true true X true inside has own ≡ lift-call document-01 n k way s w z

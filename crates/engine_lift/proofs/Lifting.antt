@@ -15,7 +15,7 @@ use Rattle.definitions.specs.Problem.{Parameters}
 use Rattle.definitions.specs.State.{empty, vector-sound?, levels-sound?}
 use Rattle.definitions.specs.Run.{by-code}
 use Rattle.definitions.specs.Lifting.{Lifting, by-division, by-hybrid, by-tree, limited-frame, lift-all, lift-level}
-use Rattle.definitions.specs.Layout.{Words, Lift, rows, rows-of, padded, encode, vectors-at, level-at, levels-at}
+use Rattle.definitions.specs.Layout.{Words, Lift, rows, encode, vectors-at, level-at, levels-at, holds-state?}
 use Rattle.definitions.proofs.Tests.{and-left, and-right, between-high}
 use Rattle.definitions.proofs.Sound.{level-says, vector-says}
 use Rattle.definitions.proofs.Modular.{prime-says}
@@ -38,6 +38,10 @@ use Rattle.tree_level.specs.Over.{tree-over}
 use Rattle.lifting.proofs.Readying.{sound-levels, prime-at}
 use Rattle.storing.specs.Stored.{Kept-apart, with-level}
 use Rattle.engine_lift.specs.Lifts.{Chosen, by-picks, by-leading, Settles, settled-lift, state-over}
+use Rattle.engine.proofs.Settled.{zeroed}
+
+pub few-variables : (s : Words) → 206095 ≤ length s → T (holds-state? document-01 s) → getD s 1 0 ≤ 8
+few-variables s long holds = between-high 1 (getD s 1 0) 8 (and-left (between 1 (getD s 1 0) 8) (between 1 (getD s 2 0) 3 and between 1 (getD s 3 0) 16) (holds-said s long holds .3))
 
 module _ (s : Words) (j : ℕ) (b : Base s j) where
   abbrev below : List Level
@@ -46,9 +50,6 @@ module _ (s : Words) (j : ℕ) (b : Base s j) where
   abbrev q : Parameters
   q = parameters-at s
 
-  eight : q .n ≤ 8
-  eight = between-high 1 (q .n) 8 (and-left (between 1 (q .n) 8) (between 1 (q .code) 3 and between 1 (q .s) 16) (holds-said s (b .long) (b .holds) .3))
-
   abbrev Right : Result Level → Type 0
   Right (done f) = T (levels-sound? document-01 q (f ∷ below))
   Right (refused number place value) = T (limit-number? number) × (value ≡ [])
@@ -56,7 +57,7 @@ module _ (s : Words) (j : ℕ) (b : Base s j) where
 
   right : (way : Lifting) (n : ℕ) → Right (lift-level document-01 (q .p) (q .code) below way n)
   right way n =
-      go (over document-01 q (prime-says (q .p) (prime-at s j b)) eight (omega arith) below (sound-levels s j b) .lifts way n)
+      go (over document-01 q (prime-says (q .p) (prime-at s j b)) (few-variables s (b .long) (b .holds)) (omega arith) below (sound-levels s j b) .lifts way n)
       (lift-level-number document-01 (q .p) (q .code) below way n)
     where
       go : {x : Result Level} → Gives (Lift-right document-01 q below) x → Numbered limit-number? x → Right x
@@ -146,18 +147,15 @@ module _ (s : Words) (j : ℕ) (b : Base s j) (out : Words) (long : 20608 ≤ le
 
 -- ## What is left
 
+pub emptied : (room : ℕ) (z : Words) → length z ≡ room → cleared z 0 ≡ replicate room 0
+emptied room z e = let d : length z - 0 ≡ room = omega (arith, e) in ap (λ a. replicate a 0) d
+
 module _ (s : Words) (long : 206095 ≤ length s) (k : ℕ) (area room : ℕ) where
-  zeroed : (z : Words) → length z ≡ area → cleared z 0 ≡ padded area (rows-of [])
-  zeroed z e = ap (λ a. padded a []) e
-
-  emptied : (z : Words) → length z ≡ room → cleared z 0 ≡ replicate room 0
-  emptied z e = let d : length z - 0 ≡ room = omega (arith, e) in ap (λ a. replicate a 0) d
-
   pub lifted-words : (x : Leveled) (count used : ℕ) (out z y w : Words) → x ≡ Vectors count used → z ≡ encode document-01 (length s) (with-level s k count out) → length y ≡ area → length w ≡ room
       → _≡_ {A = Lift} (0, 0, z, cleared y 0, cleared w 0) (settled-lift (length s) area room (state-over s k (leveled-of x out [])))
-  lifted-words x count used out z y w e p ly lw = (λ i. (0, 0, p i, zeroed y ly i, emptied w lw i)) ∙ ap (λ r. settled-lift (length s) area room (state-over s k (leveled-of r out []))) (sym e)
+  lifted-words x count used out z y w e p ly lw = (λ i. (0, 0, p i, zeroed area y ly i, emptied room w lw i)) ∙ ap (λ r. settled-lift (length s) area room (state-over s k (leveled-of r out []))) (sym e)
 
   pub refused-words : (x : Leveled) (number : ℕ) (out y w : Words) → x ≡ Refused number → length y ≡ area → length w ≡ room
       → _≡_ {A = Lift} (number, k, cleared s 0, cleared y 0, cleared w 0) (settled-lift (length s) area room (state-over s k (leveled-of x out [])))
   refused-words x number out y w e ly lw =
-      (λ i. (number, k, cleared-empties s long i, zeroed y ly i, emptied w lw i)) ∙ ap (λ r. settled-lift (length s) area room (state-over s k (leveled-of r out []))) (sym e)
+      (λ i. (number, k, cleared-empties s long i, zeroed area y ly i, emptied room w lw i)) ∙ ap (λ r. settled-lift (length s) area room (state-over s k (leveled-of r out []))) (sym e)

@@ -13,8 +13,8 @@ use Rattle.definitions.specs.Field.{prime?}
 use Rattle.definitions.specs.Monomial.{Monomial, Level}
 use Rattle.definitions.specs.Order.{Comparison, compare-over}
 use Rattle.definitions.specs.Reducer.{heads}
-use Rattle.definitions.specs.State.{levels-sound?, sound?}
-use Rattle.definitions.specs.Layout.{Words, level-at, levels-at, decode, all-words-sound?}
+use Rattle.definitions.specs.State.{levels-sound?}
+use Rattle.definitions.specs.Layout.{Words, level-at, levels-at, decode}
 use Rattle.definitions.proofs.Tests.{and-right}
 use Rattle.definitions.proofs.Sound.{sound-says, level-says}
 use Rattle.ending.specs.Well.{Well}
@@ -33,6 +33,7 @@ use Rattle.reduce.specs.Grounds.{Tables, Family}
 use Rattle.runs.specs.Stages.{Images, order-of, stage-of}
 use Rattle.lifting.specs.Stages.{Base, limits-with, ground-at, stage-at}
 use Rattle.lifting.specs.declared.Bounds.{Bounds}
+use Rattle.stages.proofs.Complete.{holds-sound}
 
 -- the ends of a level's vectors, to the state's end
 pub ends-part : (s : Words) (j : ℕ) → take (length s - (6 + j * 129)) (drop (6 + j * 129) s) ≡ ends-from s j
@@ -40,11 +41,6 @@ ends-part s j = let e : 6 + j * 129 ≡ suc (5 + j * 129) = omega arith in whole
 
 module _ (s : Words) (j : ℕ) (b : Base s j) where
   -- ## Sound levels
-
-  sound-state : T (sound? document-01 (decode document-01 s))
-  sound-state =
-      and-right (all-words-sound? document-01 s (getD s 4 0)) (sound? document-01 (decode document-01 s))
-      (and-right (leb (getD s 4 0) 10) (all-words-sound? document-01 s (getD s 4 0) and sound? document-01 (decode document-01 s)) (b .holds))
 
   lower : (h : ℕ) → j < h → T (levels-sound? document-01 (parameters-at s) (levels-at document-01 s h)) → T (levels-sound? document-01 (parameters-at s) (levels-at document-01 s (suc j)))
   lower zero l t = absurd (not-suc-le-zero l)
@@ -59,7 +55,7 @@ module _ (s : Words) (j : ℕ) (b : Base s j) where
           (level-says document-01 (parameters-at s) (level-at document-01 s (suc h)) (level-at document-01 s h) (levels-at document-01 s h) t .under)
 
   pub sound-levels : T (levels-sound? document-01 (parameters-at s) (levels-at document-01 s (suc j)))
-  sound-levels = lower (getD s 4 0) (b .has) (sound-says document-01 (decode document-01 s) sound-state .levels)
+  sound-levels = lower (getD s 4 0) (b .has) (sound-says document-01 (decode document-01 s) (holds-sound s (b .holds)) .levels)
 
   pub prime-at : T (prime? (getD s 0 0))
   prime-at = and-right (leb (getD s 0 0) 32767) (prime? (getD s 0 0)) (holds-said s (b .long) (b .holds) .2)

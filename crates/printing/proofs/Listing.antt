@@ -1,14 +1,15 @@
 -- Lines after lines: one row more, one vector more.
 use mathlib.Core.Path.{_≡_, refl, sym, ap, _∙_}
 use mathlib.Core.List.{[], _∷_, _++_, append-assoc, append-nil}
-use Prim.Native.Nat.{ℕ, zero, suc, _+_, _-_, _<_, _≤_}
+use Prim.Native.Nat.{ℕ, suc, _+_, _-_, _<_, _≤_}
 use native.Mathlib.Omega.{arith}
 use lib.ListN.{length, getD, take}
-use lib.Seq.{take-suc, length-take-le}
+use lib.Seq.{length-take-le}
 use Rattle.definitions.specs.Monomial.{Term, Vector, Level}
 use Rattle.definitions.specs.Layout.{Words, rows, vectors-at}
 use Rattle.definitions.specs.Sheet.{printed, term-fields, letter-S, letter-W, s-lines, vector-lines, w-lines}
 use Rattle.tables.specs.Cuts.{start-of, cut-level}
+use Rattle.tables.proofs.Cutting.{cut-more}
 
 pub no-rows : (s : Words) (a : ℕ) → [] ≡ rows s a 0
 unfolding rows
@@ -35,22 +36,6 @@ vector-lines-last n k v (g ∷ fs) f =
 
 -- ## Vectors by their ends
 
-abbrev final : ℕ → Words → ℕ
-final a [] = a
-final a (e ∷ es) = final e es
-
-vectors-more : (s : Words) (a : ℕ) (es : Words) (e : ℕ) → vectors-at s a (es ++ e ∷ []) ≡ vectors-at s a es ++ rows s (final a es) (e - final a es) ∷ []
-vectors-more s a [] e = refl
-vectors-more s a (d ∷ es) e = ap (λ f. rows s a (d - a) ∷ f) (vectors-more s d es e)
-
-final-last : (a : ℕ) (es : Words) (e : ℕ) → final a (es ++ e ∷ []) ≡ e
-final-last a [] e = refl
-final-last a (d ∷ es) e = final-last d es e
-
-final-of : (j : ℕ) (ends : Words) → j ≤ length ends → final 0 (take j ends) ≡ start-of ends j
-final-of zero ends h = refl
-final-of (suc j) ends h = ap (final 0) (take-suc ends j 0 (omega arith)) ∙ final-last 0 (take j ends) (getD ends j 0)
-
 length-vectors : (s : Words) (a : ℕ) (es : Words) → length (vectors-at s a es) ≡ length es
 length-vectors s a [] = refl
 length-vectors s a (e ∷ es) = ap suc (length-vectors s e es)
@@ -58,18 +43,11 @@ length-vectors s a (e ∷ es) = ap suc (length-vectors s e es)
 pub length-cut : (j : ℕ) (level ends : Words) → j ≤ length ends → length (cut-level j level ends) ≡ j
 length-cut j level ends h = length-vectors level 0 (take j ends) ∙ length-take-le j ends h
 
-cut-more : (j : ℕ) (level ends : Words) → j < length ends → cut-level (suc j) level ends ≡ cut-level j level ends ++ rows level (start-of ends j) (getD ends j 0 - start-of ends j) ∷ []
-cut-more j level ends h =
-    ap (vectors-at level 0) (take-suc ends j 0 h) ∙ vectors-more level 0 (take j ends) (getD ends j 0)
-    ∙ ap (λ a. vectors-at level 0 (take j ends) ++ rows level a (getD ends j 0 - a) ∷ []) (final-of j ends (omega arith))
-
 pub vector-more : (n k j : ℕ) (level ends : Words) → j < length ends
     → vector-lines n k 1 (cut-level j level ends) ++ s-lines n k (j + 1) (rows level (start-of ends j) (getD ends j 0 - start-of ends j)) ≡ vector-lines n k 1 (cut-level (j + 1) level ends)
 vector-more n k j level ends h =
     let f = rows level (start-of ends j) (getD ends j 0 - start-of ends j) in
     let e : j + 1 ≡ 1 + length (cut-level j level ends) = omega (arith, length-cut j level ends (omega arith)) in
-    let d : suc j ≡ j + 1 = omega arith in
     ap (λ i. vector-lines n k 1 (cut-level j level ends) ++ s-lines n k i f) e
     ∙ sym (vector-lines-last n k 1 (cut-level j level ends) f)
     ∙ sym (ap (vector-lines n k 1) (cut-more j level ends h))
-    ∙ ap (λ i. vector-lines n k 1 (cut-level i level ends)) d

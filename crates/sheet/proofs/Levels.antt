@@ -20,15 +20,14 @@ use Rattle.definitions.specs.Stage.{highest}
 use Rattle.definitions.specs.Calls.{settled, lift}
 use Rattle.definitions.specs.Layout.{Words, Lift, hybrid, lift-left, lift-call, encode, decode, level-at, levels-at, ends-at, holds-state?, words-sound?, all-words-sound?, ascending?, exponents-fit?, last-end}
 use Rattle.definitions.specs.Sheet.{printed, level-lines, if-more, level-then, levels-from}
-use Rattle.definitions.proofs.Tests.{true-is, and-left, and-right, between-high, between-shown}
+use Rattle.definitions.proofs.Tests.{true-is, and-left, and-right, between-shown}
 use Rattle.definitions.proofs.Numbers.{limit-number?}
 use Rattle.definitions.proofs.RoundTrip.{decode-encode, holds-encode, length-encode}
 use Rattle.definitions.proofs.Steady.{answered?, steady-from}
 use Rattle.definitions.proofs.Bound.{lift-steady, levels-from-steady}
 use Rattle.demands.proofs.Lifts.{Lifted-to, one-more, limit-met, still-lifting, lifted-to, with-level, height-up-to}
 use Rattle.levels.specs.Places.{count-at, ends-from}
-use Rattle.levels.proofs.StateTests.{holds-said}
-use Rattle.stages.proofs.Complete.{words-below}
+use Rattle.stages.proofs.Complete.{words-below, length-levels, holds-sound}
 use Rattle.engine_lift.proofs.Called.{after-tests}
 use Rattle.printing.specs.Lines.{Short}
 
@@ -51,25 +50,18 @@ short-level s long holds k h f j l =
     let v = ascends-each 2048 0 (ends-at document-01 s k) (and-left (ascending? 2048 0 (ends-at document-01 s k)) (small s k) u) j (omega (arith, length-take-le (count-at s k) (ends-from s k) f)) in
     subst (λ e. e ≤ 2048) (getD-take (count-at s k) (ends-from s k) j 0 l) v
 
-pub few-variables : (s : Words) → 206095 ≤ length s → T (holds-state? document-01 s) → getD s 1 0 ≤ 8
-few-variables s long holds = between-high 1 (getD s 1 0) 8 (and-left (between 1 (getD s 1 0) 8) (between 1 (getD s 2 0) 3 and between 1 (getD s 3 0) 16) (holds-said s long holds .3))
-
 -- ## What a lifting leaves
 
 abbrev or-else : Lift → Option Lift → Lift
 or-else r none = r
 or-else r (some a) = a
 
-pub length-levels : (s : Words) (h : ℕ) → length (levels-at document-01 s h) ≡ h
-length-levels s zero = refl
-length-levels s (suc h) = ap suc (length-levels s h)
-
 module _ (s w z : Words) (k : ℕ) (long : 206095 ≤ length s) (wide : 5120 ≤ length w) (holds : T (holds-state? document-01 s)) (height : getD s 4 0 ≡ k) (low : 1 ≤ k) (high : k ≤ 9) where
   abbrev X : State
   X = decode document-01 s
 
   sound-is : T (sound? document-01 X)
-  sound-is = and-right (all-words-sound? document-01 s (getD s 4 0)) (sound? document-01 X) (and-right (leb (getD s 4 0) 10) (all-words-sound? document-01 s (getD s 4 0) and sound? document-01 X) holds)
+  sound-is = holds-sound s holds
 
   abbrev left : Result State → Option Lift
   left x = settled x then λ a. some (lift-left document-01 s w z a)

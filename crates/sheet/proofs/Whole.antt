@@ -27,7 +27,8 @@ use Rattle.lifting.specs.Stages.{accepted-over}
 use Rattle.engine.proofs.Settled.{decoded, accepted-is}
 use Rattle.printing.specs.Lines.{Printed}
 use Rattle.sheet.specs.Sheets.{accepted-sheet, Told, called}
-use Rattle.sheet.proofs.Levels.{length-levels}
+use Rattle.stages.proofs.Complete.{length-levels}
+use Rattle.engine_lift.proofs.Lifting.{emptied}
 
 -- ## A basis
 
@@ -79,9 +80,6 @@ module _ (size : ℕ) (file : Bytes) (number place : ℕ) (s : Words) (some-numb
 
 -- ## The call
 
-zeroed : (s z : Words) → length z ≡ length s → cleared z 0 ≡ zeros s
-zeroed s z e = let d : length z - 0 ≡ length s = omega (arith, e) in ap (λ n. replicate n 0) d
-
 behind : (out after : Bytes) (r : ℕ) (bytes : Bytes) → Printed out after 0 r bytes → length after ≡ length out → cleared after r ≡ padded (length out) bytes
 behind out after r bytes p e =
     let d : length after - r ≡ length out - length bytes = omega (arith, e, p .ends) in
@@ -109,7 +107,7 @@ module _ (file : Bytes) (state work : Words) (out : Bytes) where
           → length s ≡ length state → length w ≡ length work → length o ≡ length out → Called 0 r (cleared s 0) (cleared w 0) (cleared o r)
       whole-sheet h n bytes e r s w o p ls lw lo = (
         n,
-        (λ i. some (0, sum-none i, zeroed state s ls i, zeroed work w lw i, behind out o r bytes p lo i))
+        (λ i. some (0, sum-none i, emptied (length state) s ls i, emptied (length work) w lw i, behind out o r bytes p lo i))
             ∙ ap (λ x. x then λ bs. some (0, length bs, zeros state, zeros work, padded (length out) bs)) e
             ∙ sym (λ i. by-tests n (le-leb 206095 (length state) long i) (le-leb 5120 (length work) wide i) (le-leb 1400000 (length out) h i)),
       )

@@ -60,8 +60,7 @@ fn levels_from(out: &mut [u8], at: usize, state: &mut [u16], work: &mut [u16], k
         }
         return levels_from(out, a, state, work, k + 1);
     }
-    let x = printing::pair_line(out, at, 88, number, r.place);
-    x
+    printing::pair_line(out, at, 88, number, r.place)
 }
 
 // A file that was read: accepted or refused.

@@ -33,7 +33,7 @@ drop-levels s (suc h) k l = go (ℕ-discrete k (suc h)) (drop-levels s h k)
     go (yes e) r = let z : suc h - k ≡ 0 = omega arith in ap (λ n. drop n (levels-at document-01 s (suc h))) z ∙ ap (levels-at document-01 s) (sym e)
     go (no e) r = let z : suc h - k ≡ suc (h - k) = omega arith in ap (λ n. drop n (levels-at document-01 s (suc h))) z ∙ r (omega arith)
 
-length-levels : (s : Words) (k : ℕ) → length (levels-at document-01 s k) ≡ k
+pub length-levels : (s : Words) (k : ℕ) → length (levels-at document-01 s k) ≡ k
 length-levels s zero = refl
 length-levels s (suc k) = ap suc (length-levels s k)
 
@@ -50,6 +50,11 @@ meant-is s t = go (holds-state? document-01 s) t
     go : (b : Bool) → T b → _≡_ {A = State} (elim b [ true ↦ decode document-01 s | false ↦ empty ]) (decode document-01 s)
     go true t = refl
     go false t = absurd t
+
+pub holds-sound : (s : Words) → T (holds-state? document-01 s) → T (sound? document-01 (decode document-01 s))
+holds-sound s t =
+    and-right (all-words-sound? document-01 s (getD s 4 0)) (sound? document-01 (decode document-01 s))
+    (and-right (leb (getD s 4 0) 10) (all-words-sound? document-01 s (getD s 4 0) and sound? document-01 (decode document-01 s)) t)
 
 module _ (s : Words) (long : 206095 ≤ length s) (t : T (holds-state? document-01 s)) where
   -- how many vectors a complete level has

@@ -7,10 +7,10 @@ use lib.ListN.{getD}
 use Rattle.printing.proofs.Spelling.{after, spelled}
 use Rattle.definitions.specs.Sheet.{printed, w-lines}
 use Rattle.lifting.specs.Stages.{accepted-with, Shown}
-use Rattle.sheet.proofs.Levels.{few-variables}
 use Rattle.sheet.proofs.Whole.{accepted-yes, accepted-refused, accepted-stopped}
 use Rattle.sheet.proofs.accept.Statement.{statement}
 use Rattle.sheet.proofs.accept.Tie as tie
+use Rattle.engine_lift.proofs.Lifting.{few-variables}
 
 accept-level-requires : tie.Need-accept-level-requires
 accept-level-requires c κs = search needs
