@@ -1,4 +1,5 @@
-//! The library's three functions, as include/tagetessash.h declares them.
+//! The calls themselves, over slices of any length. [`crate::Engine`] lends them buffers that are long enough, and a stack that the tree needs; the
+//! tests and the bench of this repository lend others.
 
 extern "C" {
     fn tagetessash_read(
@@ -46,7 +47,7 @@ extern "C" {
 
 /// Number and place.
 pub fn read(file: &[u8], state: &mut [u16], work: &mut [u16]) -> (u16, usize) {
-    let mut place = 0;
+    let mut place = usize::MAX;
     // SAFETY: each pointer and length are those of a slice that lives through the call; the slices do not overlap
     let number = unsafe {
         tagetessash_read(
@@ -71,7 +72,7 @@ pub fn lift(
     way: u16,
     pick: u16,
 ) -> (u16, usize) {
-    let mut place = 0;
+    let mut place = usize::MAX;
     // SAFETY: as above
     let number = unsafe {
         tagetessash_lift(
@@ -92,7 +93,7 @@ pub fn lift(
 
 /// Number and place.
 pub fn fetch(state: &[u16], out: &mut [u16], level: usize, vector: usize) -> (u16, usize) {
-    let mut place = 0;
+    let mut place = usize::MAX;
     // SAFETY: as above
     let number = unsafe {
         tagetessash_fetch(
@@ -110,7 +111,7 @@ pub fn fetch(state: &[u16], out: &mut [u16], level: usize, vector: usize) -> (u1
 
 /// Number and how many bytes `out` has in front.
 pub fn sheet(file: &[u8], state: &mut [u16], work: &mut [u16], out: &mut [u8]) -> (u16, usize) {
-    let mut length = 0;
+    let mut length = usize::MAX;
     // SAFETY: each pointer and length are those of a slice that lives through the call; the slices do not overlap
     let number = unsafe {
         tagetessash_sheet(

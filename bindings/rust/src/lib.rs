@@ -16,7 +16,8 @@
 
 #![warn(missing_docs)]
 
-mod calls;
+#[doc(hidden)]
+pub mod calls;
 mod refusal;
 #[cfg(test)]
 mod tests;

@@ -1,9 +1,9 @@
 //! One file through the proved call and the unrelated implementation: number, length, the sheet's bytes, and what stands in the buffers afterwards.
 
-use crate::proved;
 use reference::random::Random;
 use reference::sheet::sheet;
 use reference::Limits;
+use tagetessash::calls;
 
 /// What `spoil` changes in one answer of the call or of the program, so that the comparison itself is tried.
 #[derive(Clone, Copy, PartialEq, Eq)]
@@ -93,7 +93,7 @@ impl Compare {
         let state = &mut self.state[..lengths.0];
         let work = &mut self.work[..lengths.1];
         let out = &mut self.out[..lengths.2];
-        let (mut number, mut length) = proved::sheet(file, state, work, out);
+        let (mut number, mut length) = calls::sheet(file, state, work, out);
         if let Some((at, what)) = self.spoil.filter(|(at, _)| *at == self.files) {
             assert_eq!(at, self.files);
             match what {
@@ -134,7 +134,7 @@ impl Compare {
         self.work.fill(self.random.bits() as u16);
         self.out.fill(self.random.bits() as u8);
         let before = (self.state.clone(), self.work.clone(), self.out.clone());
-        let answer = proved::sheet(
+        let answer = calls::sheet(
             file,
             &mut self.state[..state],
             &mut self.work[..work],

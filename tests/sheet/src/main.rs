@@ -7,7 +7,6 @@
 
 mod compare;
 mod program;
-mod proved;
 
 use common::examples::examples;
 use common::files::{
