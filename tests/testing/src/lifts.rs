@@ -1,4 +1,4 @@
-//! Proved lifting of one level, through its static library.
+//! Proved lifting of one level, through the static library.
 
 extern "C" {
     fn lifts_level(

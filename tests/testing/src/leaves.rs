@@ -1,4 +1,4 @@
-//! The proved leaves, through their static library.
+//! The proved leaves, through the static library.
 
 extern "C" {
     fn leaves_descents(rows: *const u16, length: usize, n: usize, code: u16) -> usize;

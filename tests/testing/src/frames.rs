@@ -1,4 +1,4 @@
-//! The proved frames, through their static library.
+//! The proved frames, through the static library.
 
 extern "C" {
     fn frames_form(

@@ -1,4 +1,4 @@
-//! The proved soundness test, through its static library.
+//! The proved soundness test, through the static library.
 
 extern "C" {
     fn soundness_number(state: *const u16, state_length: usize) -> u16;

@@ -1,4 +1,4 @@
-//! The proved reader, through its static library.
+//! The proved reader, through the static library.
 
 extern "C" {
     fn reader_read(
