@@ -9,7 +9,7 @@ ghost use Rattle.definitions.specs.Monomial.{Vector};
 ghost use Rattle.definitions.specs.Layout.{Words, work-words};
 ghost use Rattle.lifting.specs.Stages.{Base, Within, leveled-of, Stored-as};
 ghost use Rattle.engine_lift.specs.Lifts.{way-of};
-ghost use Rattle.calls.specs.Coded.{coded-way};
+ghost use Rattle.engine_lift.specs.Codes.{coded-way};
 ghost use Rattle.testing.specs.Lifts.{within?, fits?, complete-number, lifted-within, number-of, count-of, used-of, told, Counted, bounds-by, called};
 use engine_lift::Way;
 use lifting::Bounds;
@@ -153,7 +153,7 @@ pub extern "C" fn lifts_level(
         tree,
         room,
     };
-    let w = calls::way_by(way, pick);
+    let w = engine_lift::way_by(way, pick);
     *count = 0;
     *used = 0;
     if fits(state, work, out, w, b) {

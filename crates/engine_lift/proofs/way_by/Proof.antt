@@ -1,9 +1,9 @@
 use mathlib.Core.Path.{sym, ap}
 use Prim.Native.Nat.{_-_}
-use Rattle.calls.proofs.Coding.{no-way}
-use Rattle.calls.specs.Coded.{coded-way}
-use Rattle.calls.proofs.way_by.Statement.{statement}
-use Rattle.calls.proofs.way_by.Tie as tie
+use Rattle.engine_lift.proofs.Coding.{no-way}
+use Rattle.engine_lift.specs.Codes.{coded-way}
+use Rattle.engine_lift.proofs.way_by.Statement.{statement}
+use Rattle.engine_lift.proofs.way_by.Tie as tie
 
 returns : tie.Need-returns
 returns c = sym (ap (λ w. coded-way w (c .before .args .pick)) (c .match .keys1))
