@@ -2,11 +2,10 @@
 //! Both form the same frame, in turns; the ratio is that of the medians. One argument: how many turns.
 
 mod plain;
-#[path = "../../../tests/frames/src/proved.rs"]
-mod proved;
 
 use std::hint::black_box;
 use std::time::{Duration, Instant};
+use testing::frames as proved;
 
 const ROW: usize = 10;
 const HEADS: usize = 128;

@@ -4,11 +4,11 @@
 
 mod by_value;
 mod plain;
-mod proved;
 
 use plain::ROW;
 use std::hint::black_box;
 use std::time::{Duration, Instant};
+use testing::leaves as proved;
 
 /// Operands of one call; terms of one sum.
 const OPERANDS: usize = 4_096;

@@ -10,14 +10,10 @@ use reference::random::Random;
 use reference::Limits;
 use std::hint::black_box;
 use std::time::{Duration, Instant};
-
-extern "C" {
-    fn soundness_number(state: *const u16, state_length: usize) -> u16;
-}
+use testing::soundness;
 
 fn proved(state: &[u16]) -> bool {
-    // SAFETY: the pointer and the length are those of a slice that lives through the call
-    unsafe { soundness_number(state.as_ptr(), state.len()) == 0 }
+    soundness::number(state) == 0
 }
 
 fn timed(test: fn(&[u16]) -> bool, state: &[u16]) -> Duration {

@@ -4,31 +4,7 @@
 mod plain;
 
 use std::time::{Duration, Instant};
-
-extern "C" {
-    fn reader_read(
-        file: *const u8,
-        file_length: usize,
-        state: *mut u16,
-        state_length: usize,
-        place: *mut usize,
-    ) -> u16;
-}
-
-fn proved(file: &[u8], state: &mut [u16]) -> (u16, usize) {
-    let mut place = 0;
-    // SAFETY: the pointers and lengths are those of slices that live through the call
-    let number = unsafe {
-        reader_read(
-            file.as_ptr(),
-            file.len(),
-            state.as_mut_ptr(),
-            state.len(),
-            &mut place,
-        )
-    };
-    (number, place)
-}
+use testing::reader::read as proved;
 
 /// One element of 2,048 terms, descending in the order of the code, every line 32 bytes long but some shorter by a digit.
 fn largest_file(code: u16) -> Vec<u8> {

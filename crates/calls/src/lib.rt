@@ -6,10 +6,9 @@ ghost use mathlib.Core.Option.{some};
 ghost use Prim.Native.Nat.{ℕ};
 ghost use Rattle.definitions.specs.Limits.{document-01};
 ghost use Rattle.definitions.specs.Layout.{read-call, lift-call, fetch-call};
-ghost use Rattle.engine_lift.specs.Lifts.{way-of};
+ghost use Rattle.engine_lift.specs.Codes.{coded-way};
 ghost use Rattle.sheet.specs.Sheets.{called};
-ghost use Rattle.calls.specs.Coded.{coded-way, read-told, lift-told, fetch-told, sheet-told};
-use engine_lift::Way;
+ghost use Rattle.calls.specs.Coded.{read-told, lift-told, fetch-told, sheet-told};
 
 // "read a file and accept or refuse its basis"
 #[no_mangle]
@@ -26,18 +25,6 @@ pub extern "C" fn tagetessash_read(
     r.number
 }
 
-// 0 division, 1 hybrid, 2 the tree. Any other code is hybrid with a pick code that there is not: 12.
-pub fn way_by(way: u16, pick: u16) -> Way
-    ensures { λ x. ⌜ way-of x ≡ coded-way way pick ⌝ }
-{
-    match way {
-        0 => Way::Division,
-        1 => Way::Hybrid(pick),
-        2 => Way::Tree,
-        _ => Way::Hybrid(0),
-    }
-}
-
 // "form the frame of level k and lift all its terms, in number order, by one of three ways"
 #[no_mangle]
 pub extern "C" fn tagetessash_lift(
@@ -51,7 +38,7 @@ pub extern "C" fn tagetessash_lift(
 ) -> u16
     ensures { λ x. ⌜ ((n : ℕ) × (some (lift-told x (now (place .exit)) (now (state .exit)) (now (work .exit)) (now (cache .exit))) ≡ lift-call document-01 n level (coded-way way pick) (now (state .entry)) (now (work .entry)) (now (cache .entry)))) ⌝ }
 {
-    let w = way_by(way, pick);
+    let w = engine_lift::way_by(way, pick);
     let r = engine_lift::lift(state, work, cache, level, w);
     *place = r.place;
     r.number

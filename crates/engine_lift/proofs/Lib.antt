@@ -1,2 +1,3 @@
 pub mod Lifting
 pub mod Called
+pub mod Coding

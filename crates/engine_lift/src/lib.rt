@@ -13,6 +13,7 @@ ghost use Rattle.definitions.specs.Layout.{work-words, lift-call, holds-state?}
 ghost use Rattle.terms.specs.Rows.{cleared};
 ghost use Rattle.lifting.specs.Stages.{Base, usual, lift-over, leveled-of};
 ghost use Rattle.tree_level.specs.Over.{tree-over};
+ghost use Rattle.engine_lift.specs.Codes.{coded-way};
 ghost use Rattle.engine_lift.specs.Lifts.{Chosen, Settles, lift-reply, settled-lift, state-over, way-of, own-pick?, lifted-over};
 use engine::Reply;
 use lifting::Leveled;
@@ -23,6 +24,18 @@ pub enum Way {
     Division,
     Hybrid(u16),
     Tree,
+}
+
+// 0 division, 1 hybrid, 2 the tree. Any other code is hybrid with a pick code that there is not: 12.
+pub fn way_by(way: u16, pick: u16) -> Way
+    ensures { λ x. ⌜ way-of x ≡ coded-way way pick ⌝ }
+{
+    match way {
+        0 => Way::Division,
+        1 => Way::Hybrid(pick),
+        2 => Way::Tree,
+        _ => Way::Hybrid(0),
+    }
 }
 
 // Everything zeroed: "the state is empty and each buffer lent for writing is zeroed".

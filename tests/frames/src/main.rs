@@ -3,8 +3,6 @@
 //!     test-frames [LISTS [SEED]]           at least so many lists of leading monomials (150,000 without it)
 //!     test-frames spoil number|count|row   spoils one answer: the run must find it and exit with 1
 
-mod proved;
-
 use common::examples::examples;
 use reference::engine::State;
 use reference::frame::frame;
@@ -14,6 +12,7 @@ use reference::order::Order;
 use reference::random::Random;
 use reference::reader::read_problem;
 use reference::Limits;
+use testing::frames as proved;
 
 const LISTS: u64 = 150_000;
 const SEED: u64 = 20_250_204;

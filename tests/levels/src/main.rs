@@ -3,8 +3,6 @@
 //!     test-levels [STATES [SEED]]   at least so many states (400,000 without it)
 //!     test-levels spoil             spoils one answer: the run must find it and exit with 1
 
-mod proved;
-
 use common::states::{alter, full_basis, long_basis, random_basis, Size};
 use reference::buffers::{read_state, state_words, write_state, Layout};
 use reference::engine::{sound, Basis, State};
@@ -14,6 +12,7 @@ use reference::generate::problems::{
 use reference::lifting::Way;
 use reference::random::Random;
 use reference::Limits;
+use testing::soundness as proved;
 
 const STATES: u64 = 400_000;
 const SEED: u64 = 20_250_202;

@@ -1,12 +1,12 @@
 //! One level lifted by both: number, count and every word of the result.
 
-use crate::proved::{self, Asked, Lent};
 use reference::buffers::{state_words, work_words, write_state, ROW};
 use reference::engine::{Basis, State};
 use reference::lifting::{lift_level, Stop, Usage, Way};
 use reference::monomial::Level;
 use reference::random::Random;
 use reference::Limits;
+use testing::lifts::{self as proved, Asked, Lent};
 
 /// Words that hold the ends, and all that a level can take.
 pub const ENDS: usize = 128;

@@ -5,14 +5,12 @@
 //!     test-lifts spoil number|count|used|end|row    spoils one answer: the run must find it and exit with 1
 
 mod compare;
-mod proved;
 
 use common::deep::{deep, on_small_stack, DEEPEST};
 use common::examples::examples;
 use common::files::many_monomials;
 use common::states::{random_basis as random_state, Size as StateSize};
 use compare::{Compare, Lifted, Spoiled, NUMBERS, OUT, WAYS};
-use proved::Asked;
 use reference::engine::Basis;
 use reference::generate::files::limit_file;
 use reference::generate::problems::{random_basis, Size};
@@ -21,6 +19,7 @@ use reference::monomial::Level;
 use reference::random::Random;
 use reference::reader::{read_problem, Problem};
 use reference::Limits;
+use testing::lifts::Asked;
 
 const BASES: u64 = 20_000;
 const SEED: u64 = 20_250_301;

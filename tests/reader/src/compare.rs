@@ -1,11 +1,11 @@
 //! One file through both readers: number, place and every word of the state.
 
-use crate::proved;
 use reference::buffers::{state_words, write_state};
 use reference::engine::{Basis, State};
 use reference::random::Random;
 use reference::reader::read_problem;
 use reference::Limits;
+use testing::reader as proved;
 
 /// What `spoil` changes in one answer of the proved reader, so that the comparison itself is tried.
 #[derive(Clone, Copy, PartialEq, Eq)]

@@ -4,7 +4,6 @@
 //!     test-reader spoil number|place|word   spoils one answer: the run must find it and exit with 1
 
 mod compare;
-mod proved;
 
 use common::files::{changed_at, fields_of, random_problem, with_field, FIELDS, WRITTEN};
 use compare::{Compare, Spoiled};

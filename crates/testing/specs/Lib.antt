@@ -1,0 +1,5 @@
+pub mod Reader
+pub mod Soundness
+pub mod Frames
+pub mod Leaves
+pub mod Lifts

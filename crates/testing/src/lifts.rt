@@ -1,0 +1,168 @@
+// Levels lifted within limits that may be smaller than document 01's, for programs in other languages: tests against the unrelated implementation meet 13 to 15 at every place.
+// Knows: crates lifting and tree_level, and the tests of crate engine_lift.
+// No code of the engine calls it.
+ghost use mathlib.Core.Path.{_≡_};
+ghost use Prim.Native.Nat.{ℕ, _-_, _≤_};
+ghost use lib.ListN.{length};
+ghost use Rattle.definitions.specs.Limits.{document-01};
+ghost use Rattle.definitions.specs.Monomial.{Vector};
+ghost use Rattle.definitions.specs.Layout.{Words, work-words};
+ghost use Rattle.lifting.specs.Stages.{Base, Within, leveled-of, Stored-as};
+ghost use Rattle.engine_lift.specs.Lifts.{way-of};
+ghost use Rattle.engine_lift.specs.Codes.{coded-way};
+ghost use Rattle.testing.specs.Lifts.{within?, fits?, complete-number, lifted-within, number-of, count-of, used-of, told, Counted, bounds-by, called};
+use engine_lift::Way;
+use lifting::Bounds;
+use lifting::Leveled;
+use runs::Strategy;
+
+// Limits that the buffers' lengths suffice for.
+fn within(b: Bounds) -> bool
+    ensures { λ r. ⌜ r ≡ within? b ⌝ }
+{
+    if 512 < b.working {
+        return false;
+    }
+    if 512 < b.vector {
+        return false;
+    }
+    if b.vector == 0 {
+        return false;
+    }
+    if 4096 < b.tree {
+        return false;
+    }
+    b.room <= 2048
+}
+
+// Every test is passed.
+fn lift_by(
+    out: &mut [u16],
+    work: &mut [u16],
+    cache: &mut [u16],
+    state: &[u16],
+    k: usize,
+    way: Way,
+    b: Bounds,
+) -> Leveled
+    requires { ⌜ Base (now state) (k - 1) × (1 ≤ k) × (k ≤ 9) × (25728 ≤ length (now out)) × (work-words document-01 (way-of way) ≤ length (now work)) × Within b ⌝ }
+    ensures { λ x. ⌜ ((n : ℕ) × (v : Words) × (leveled-of x (now (out .exit)) v ≡ lifted-within b (now (state .entry)) k (way-of way) (now (cache .entry)) n)) × Stored-as x (now (out .exit)) ⌝ }
+{
+    match way {
+        Way::Division => {
+            let w = Strategy {
+                drops: false,
+                pick: 1,
+                stops: false,
+            };
+            lifting::lift_level(out, work, state, k - 1, w, b)
+        }
+        Way::Hybrid(pick) => {
+            let w = Strategy {
+                drops: true,
+                pick,
+                stops: false,
+            };
+            lifting::lift_level(out, work, state, k - 1, w, b)
+        }
+        Way::Tree => tree_level::lift_level(out, cache, work, state, k - 1, b),
+    }
+}
+
+// Not 16.
+fn fits(state: &[u16], work: &[u16], out: &[u16], way: Way, b: Bounds) -> bool
+    ensures { λ r. ⌜ r ≡ fits? (now (state .entry)) (now (work .entry)) (now (out .entry)) (way-of way) b ⌝ }
+{
+    if state.len() < 206095 {
+        return false;
+    }
+    if work.len() < engine_lift::work_length(way) {
+        return false;
+    }
+    if out.len() < 25728 {
+        return false;
+    }
+    within(b)
+}
+
+// 11, 12, or 0 where neither comes.
+fn complete(state: &[u16], k: usize, way: Way) -> u16
+    requires { ⌜ 206095 ≤ length (now state) ⌝ }
+    ensures { λ r. ⌜ r ≡ complete-number (now (state .entry)) k (way-of way) ⌝ }
+{
+    if levels::sound(state) {
+        if engine::level_number(k) {
+            let height = levels::place(state[4]);
+            if height < k {
+                return 11;
+            }
+            if engine_lift::own_pick(way) {
+                return 0;
+            }
+        }
+        return 12;
+    }
+    11
+}
+
+// How many vectors and rows, or a refusal's number.
+fn tell(x: Leveled, count: &mut usize, used: &mut usize) -> u16
+    ensures { λ r. ⌜ (r ≡ number-of x) × (now (count .exit) ≡ count-of x) × (now (used .exit) ≡ used-of x) ⌝ }
+{
+    match x {
+        Leveled::Vectors(n, rows) => {
+            *count = n;
+            *used = rows;
+            0
+        }
+        Leveled::Refused(number) => {
+            *count = 0;
+            *used = 0;
+            number
+        }
+        Leveled::Stopped(_n) => {
+            *count = 0;
+            *used = 0;
+            9
+        }
+    }
+}
+
+// The level over levels 0 to k − 1 of a state: on 0 the slice holds the ends of the vectors, and their rows from word 128 on.
+#[no_mangle]
+pub extern "C" fn lifts_level(
+    out: &mut [u16],
+    work: &mut [u16],
+    cache: &mut [u16],
+    state: &[u16],
+    level: usize,
+    way: u16,
+    pick: u16,
+    working: usize,
+    vector: usize,
+    tree: usize,
+    room: usize,
+    count: &mut usize,
+    used: &mut usize,
+) -> u16
+    ensures { λ x. ⌜ ((n : ℕ) × (v : Vector) × (told x (now (count .exit)) (now (out .exit)) v ≡ called (bounds-by working vector tree room) (now (state .entry)) (now (work .entry)) (now (out .entry)) (now (cache .entry)) level (coded-way way pick) n)) × Counted x (now (count .exit)) (now (used .exit)) (now (out .exit)) ⌝ }
+{
+    let b = Bounds {
+        working,
+        vector,
+        tree,
+        room,
+    };
+    let w = engine_lift::way_by(way, pick);
+    *count = 0;
+    *used = 0;
+    if fits(state, work, out, w, b) {
+        let number = complete(state, level, w);
+        if number == 0 {
+            let x = lift_by(out, work, cache, state, level, w, b);
+            return tell(x, count, used);
+        }
+        return number;
+    }
+    16
+}

@@ -1,0 +1,19 @@
+// The soundness test for programs in other languages: its tests against the unrelated implementation call it through this function.
+// Knows: crate levels' `sound`, and 16.
+// No code of the engine calls it.
+ghost use mathlib.Core.Path.{_≡_};
+ghost use Rattle.testing.specs.Soundness.{number-of};
+
+// 16 for a state that is too short, 11 for one that counts as no accepted basis, 0 for any other.
+#[no_mangle]
+pub extern "C" fn soundness_number(state: &[u16]) -> u16
+    ensures { λ r. ⌜ r ≡ number-of (now (state .entry)) ⌝ }
+{
+    if state.len() < 206095 {
+        return 16;
+    }
+    if levels::sound(state) {
+        return 0;
+    }
+    11
+}
