@@ -27,11 +27,11 @@ pub mod Accepting
 pub mod Exact
 pub mod Kept
 pub mod Over
+pub mod Reader
 pub mod Reckonings
 pub mod Demand2
 pub mod Lifts
 pub mod Held
-pub mod Places
 pub mod Sheets
 pub mod Forms
 pub mod Demand1
