@@ -46,7 +46,8 @@ module _ (lim : Limits) (o : T (sensible? lim)) where
 
   pub well-formed : (bytes : Bytes) (q : Parameters) (f : Level) → Well-formed-file lim bytes q f → T (sound? lim (basis-state (q, f)))
   well-formed bytes q f w =
-      if-done-says (λ f. T (sound? lim (basis-state f))) (problem lim bytes) (problem-sound lim (few-variables lim o) bytes) (q, f) (files lim o .taken bytes q f w)
+      if-done-says (λ f. T (sound? lim (basis-state f))) (problem lim bytes) (problem-sound lim (few-variables lim o) bytes) (q, f)
+      (files lim o .taken bytes q f w)
 
   -- ## Reading
 

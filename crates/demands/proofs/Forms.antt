@@ -96,7 +96,8 @@ module _ (lim : Limits) (o : T (sensible? lim)) where
       Form : Lift → Type 0
       Form = Lift-form lim k way state work cache
 
-      settles : T (long-enough? lim way state work) → T (not (eleven? lim X k (k - 1))) → T (lifts? lim k by) → T (sound? lim X) → T (between 1 k (lim .levels)) → T (has-level? X (k - 1)) → {x : Result State}
+      settles : T (long-enough? lim way state work) → T (not (eleven? lim X k (k - 1))) → T (lifts? lim k by) → T (sound? lim X) → T (between 1 k (lim .levels))
+          → T (has-level? X (k - 1)) → {x : Result State}
           → lift lim n X k by ≡ x → Lifted-to lim X k x
           → Holds Form (settled x then λ a. some (left a))
       settles t u y s r c e (one-more g w) =
@@ -150,7 +151,8 @@ module _ (lim : Limits) (o : T (sensible? lim)) where
       Form : Fetch → Type 0
       Form = Fetch-form lim k v state out
 
-      fetched : T (out-long-enough? lim state out) → T (not (eleven? lim X k k)) → T (sound? lim X) → (T (between 1 k (lim .levels)) → T (has-level? X k)) → T (fetches? lim X k v)
+      fetched : T (out-long-enough? lim state out) → T (not (eleven? lim X k k)) → T (sound? lim X) → (T (between 1 k (lim .levels)) → T (has-level? X k))
+          → T (fetches? lim X k v)
           → Form (fetch-left out (fetch X k v))
       fetched t u s c r = fetched-as t u s r refl (vector-in (X .parameters) (up-to X k) v (levels-stay lim X s k) (omega (arith, height, low))
           (and-right (between 1 k (lim .levels)) (between 1 v (length (highest (up-to X k)))) r) out

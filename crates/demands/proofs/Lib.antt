@@ -39,3 +39,4 @@ pub mod Stored
 pub mod Demand3
 pub mod PrintedFile
 pub mod Idle
+pub mod TooEarly

@@ -43,11 +43,14 @@ pub data Reading (lim : Limits) (bytes : Bytes) : Result State → Type 0 where
 
 module _ (lim : Limits) (o : T (sensible? lim)) where
   -- what reading gives, of what the reader gave
-  read-from : (n : ℕ) (bytes : Bytes) (x : Result (Parameters × Level)) → problem lim bytes ≡ x → Answered lim bytes x → Reading lim bytes (x >>= accepted lim n)
+  read-from : (n : ℕ) (bytes : Bytes) (x : Result (Parameters × Level)) → problem lim bytes ≡ x → Answered lim bytes x
+      → Reading lim bytes (x >>= accepted lim n)
   read-from n bytes unfinished e r = still-reading
-  read-from n bytes (refused number place value) e r = subst (λ v. Reading lim bytes (refused number place v)) (sym (r .1)) (refused-reading (ill-formed (r .0)))
+  read-from n bytes (refused number place value) e r =
+      subst (λ v. Reading lim bytes (refused number place v)) (sym (r .1)) (refused-reading (ill-formed (r .0)))
   read-from n bytes (done (q, f)) e w =
-      at (ap (λ z. z >>= accepted lim n) e) (accepted-right lim q (sound-prime lim o X h) (sound-eight lim o X h) (vector-room lim o) f (sound-says lim X h .levels) n)
+      at (ap (λ z. z >>= accepted lim n) e)
+      (accepted-right lim q (sound-prime lim o X h) (sound-eight lim o X h) (vector-room lim o) f (sound-says lim X h .levels) n)
     where
       X : State
       X = basis-state (q, f)

@@ -190,14 +190,17 @@ module _ (lim : Limits) (o : T (sensible? lim)) where
         abbrev Fetched : Left → Type 0
         Fetched a = Called R (fetch-with k v out) a × Fetch-right lim R (fetch-with k v out) a
 
-        fetch-twelve : (T (between 1 k (lim .levels)) → T (has-level? X k)) → (b : Bool) → (T b → T (fetches? lim X k v)) → Fetched (left (choose (not b) (refuse 12 X) (fetch X k v)))
+        fetch-twelve : (T (between 1 k (lim .levels)) → T (has-level? X k)) → (b : Bool) → (T b → T (fetches? lim X k v))
+            → Fetched (left (choose (not b) (refuse 12 X) (fetch X k v)))
         fetch-twelve s false y = (h, λ e. absurd (omega arith))
         fetch-twelve s true y =
             let d : T (between 1 k (lim .levels)) = and-left (between 1 k (lim .levels)) (between 1 v (length (highest (up-to X k)))) (y tt) in
-            let c : T (between 1 v (length (highest (up-to X k)))) = and-right (between 1 k (lim .levels)) (between 1 v (length (highest (up-to X k)))) (y tt) in
+            let c : T (between 1 v (length (highest (up-to X k)))) =
+            and-right (between 1 k (lim .levels)) (between 1 v (length (highest (up-to X k)))) (y tt) in
             (h, λ e. (X .levels, held-agrees lim R X (h .holds) .levels, and-both (has-level? X k) (between 1 v (length (highest (up-to X k)))) (s d) c, refl))
 
-        fetch-eleven : (b : Bool) → ((T b → ⊥) → T (sound? lim X) × (T (between 1 k (lim .levels)) → T (has-level? X k))) → Fetched (left (choose b (refuse 11 X) (choose (not (fetches? lim X k v)) (refuse 12 X) (fetch X k v))))
+        fetch-eleven : (b : Bool) → ((T b → ⊥) → T (sound? lim X) × (T (between 1 k (lim .levels)) → T (has-level? X k)))
+            → Fetched (left (choose b (refuse 11 X) (choose (not (fetches? lim X k v)) (refuse 12 X) (fetch X k v))))
         fetch-eleven true f = (h, λ e. absurd (omega arith))
         fetch-eleven false f = fetch-twelve (f (λ x. x) .1) (fetches? lim X k v) (λ x. x)
 

@@ -38,7 +38,8 @@ readable lim =
 abbrev pub readable? : Limits → Bool
 readable? lim = every (λ (x : ℕ × ℕ). leb (x .0) (x .1)) (readable lim)
 
--- The limits may be any with eight exponents, exponents of 8 bits, room for a vector's first term, and readable files: document 01's, and those of later requests
+-- The limits may be any with eight exponents, exponents of 8 bits, room for a vector's first term, and files that can be read: document 01's, and those
+-- of later requests
 abbrev pub sensible? : Limits → Bool
 sensible? lim = leb (lim .variables) 8 and leb (lim .exponent) 255 and leb 1 (lim .vector) and readable? lim
 
@@ -66,7 +67,8 @@ pub data Not-accepted (lim : Limits) (bytes : Bytes) (q : Parameters) : ℕ → 
 -- the number, the place and the value with which reading is refused: 1 to 8 at the first bad line, for its reason, or as above
 pub data Refused-reading (lim : Limits) (bytes : Bytes) : ℕ → ℕ → Vector → Type 0 where
   ill-formed : {number place : ℕ} → Refused-right lim bytes number place → Refused-reading lim bytes number place []
-  not-accepted : {q : Parameters} {number place : ℕ} {value : Vector} → Not-accepted lim bytes q number place value → Refused-reading lim bytes number place value
+  not-accepted : {q : Parameters} {number place : ℕ} {value : Vector} → Not-accepted lim bytes q number place value
+      → Refused-reading lim bytes number place value
 
 -- the lines of levels 1 to h, of levels held highest first
 abbrev pub printed-levels : ℕ → List Level → Bytes
