@@ -88,7 +88,8 @@ read-decides state file work a q f t e = holds-at (sym (t .1 .1)) (go (long-enou
     settles demands.Read-right.open-yet = results.nothing
 
     go : (b : Bool)
-        → Holds (λ (r : Read). Decides q f (r .0)) (read-reply document-01 (t .1 .0) (meant document-01 state) b file then λ y. some (read-left document-01 state work y))
+        → Holds (λ (r : Read). Decides q f (r .0))
+        (read-reply document-01 (t .1 .0) (meant document-01 state) b file then λ y. some (read-left document-01 state work y))
     go true = settles (demand-2-of-document-01 .reading (t .1 .0) file q f e)
     go false = holds too-short
 

@@ -58,13 +58,15 @@ module _ (lim : Limits) (wide : Wide lim) (room : Roomy lim) where
         b .is .no-value,
       )
 
-      by-lines : length bytes ≤ lim .file → (r : Result (Parameters × Level)) → problem lim bytes ≡ r → If-refused (Bad-lines lim wide room (lines bytes)) r → Answered lim bytes r
+      by-lines : length bytes ≤ lim .file → (r : Result (Parameters × Level)) → problem lim bytes ≡ r → If-refused (Bad-lines lim wide room (lines bytes)) r
+          → Answered lim bytes r
       by-lines l (done x) e b = let t = taken-only lim (wide .variables-in-eight) bytes (x .0) (x .1) e in record { text = t .0; well = t .1; fits = l }
       by-lines l (refused number place value) e b = bad-line l number place value e b
       by-lines l unfinished e b = b
 
       sized : (c : Bool) → leb (length bytes) (lim .file) ≡ c → Answered lim bytes (unless-refused c 1 0 >>= λ u. first-line lim (lines bytes))
-      sized true e = by-lines (leb-true (length bytes) (lim .file) e) (first-line lim (lines bytes)) (ap (λ c. unless-refused c 1 0 >>= λ u. first-line lim (lines bytes)) e) (lines-bad lim wide room (lines bytes))
+      sized true e = by-lines (leb-true (length bytes) (lim .file) e) (first-line lim (lines bytes))
+          (ap (λ c. unless-refused c 1 0 >>= λ u. first-line lim (lines bytes)) e) (lines-bad lim wide room (lines bytes))
       sized false e = (too-long refl refl (leb-false (length bytes) (lim .file) e), refl)
 
   refuses : (bytes : Bytes) (number place : ℕ) → Refused-right lim bytes number place → problem lim bytes ≡ refused number place []
@@ -73,7 +75,8 @@ module _ (lim : Limits) (wide : Wide lim) (room : Roomy lim) where
 
   pub reader-right : Reader-right lim
   reader-right = record {
-    taken = λ bytes q f w. subst (λ b. problem lim b ≡ done (q, f)) (sym (w .text)) (file-taken lim wide q f (w .well) (subst (λ b. length b ≤ lim .file) (w .text) (w .fits)));
+    taken = λ bytes q f w. subst (λ b. problem lim b ≡ done (q, f)) (sym (w .text))
+        (file-taken lim wide q f (w .well) (subst (λ b. length b ≤ lim .file) (w .text) (w .fits)));
     refuses = refuses;
     answered = answered;
     once = λ q r f g w u e. done-only (q, f) (r, g) (sym (lines-taken lim wide q f w) ∙ ap (λ b. first-line lim (lines b)) e ∙ lines-taken lim wide r g u);

@@ -23,5 +23,6 @@ sheet-right lim wide room bytes = go (problem lim bytes) refl (reader-right lim 
     go (done x) e a = of-elements (x .0) (x .1) a (λ bound. ap (sheet-from lim bound) e)
     go (refused number place value) e a =
         of-refusal number place (a .0)
-        (λ bound. ap (sheet-from lim bound) e ∙ ap (λ v. some (x-lines 0 number place v)) (a .1) ∙ ap some (append-nil (printed letter-X (number ∷ place ∷ []))))
+        (λ bound. ap (sheet-from lim bound) e ∙ ap (λ v. some (x-lines 0 number place v)) (a .1)
+        ∙ ap some (append-nil (printed letter-X (number ∷ place ∷ []))))
     go unfinished e a = absurd a

@@ -32,7 +32,8 @@ pub record Reader-right (lim : Limits) : Type 0 where
   -- and each file is the one or the other
   pub answered : (bytes : Bytes) → Answered lim bytes (problem lim bytes)
   -- a text says one thing
-  pub once : (q r : Parameters) (f g : Level) → Well-formed lim q f → Well-formed lim r g → file-of q f ≡ file-of r g → _≡_ {A = Parameters × Level} (q, f) (r, g)
+  pub once : (q r : Parameters) (f g : Level) → Well-formed lim q f → Well-formed lim r g → file-of q f ≡ file-of r g
+      → _≡_ {A = Parameters × Level} (q, f) (r, g)
 
 -- the sheet of a file is that of its parameters and elements, or `X,number,place` alone
 pub data Sheet-right (lim : Limits) (bytes : Bytes) : Type 0 where

@@ -60,17 +60,22 @@ pub data Bad-later (lim : Limits) (q : Parameters) (f : Level) : List Line → �
   bad-term : {line : Line} {later : List Line} {number : ℕ} (i : ℕ) (t : Term) → length (t .1 .0) ≡ 8 → All (λ x. x ≡ 0) (drop (q .n) (t .1 .0))
       → Says lim letter-T (3 + q .n) line (i ∷ term-fields (q .n) t) → Bad-term lim q f i t number
       → Bad-later lim q f (line ∷ later) number
-  bad-count : {line : Line} {later : List Line} (c : ℕ) → Says lim letter-E 1 line (c ∷ []) → ¬ ((1 ≤ c) × (c ≡ terms-of f)) → Bad-later lim q f (line ∷ later) 7
+  bad-count : {line : Line} {later : List Line} (c : ℕ) → Says lim letter-E 1 line (c ∷ []) → ¬ ((1 ≤ c) × (c ≡ terms-of f))
+      → Bad-later lim q f (line ∷ later) 7
 
 -- the number and the place of a refusal, with the lines of the file
 pub data Reason (lim : Limits) (bytes : Bytes) (number place : ℕ) : Type 0 where
   no-first : number ≡ 1 → place ≡ 1 → lines bytes ≡ [] → Reason lim bytes number place
-  first-shape : number ≡ 1 → place ≡ 1 → (line : Line) (later : List Line) → lines bytes ≡ line ∷ later → ((v : List ℕ) → ¬ (Says lim letter-R 4 line v)) → Reason lim bytes number place
-  first-prime : number ≡ 2 → place ≡ 1 → (line : Line) (later : List Line) → lines bytes ≡ line ∷ later → (p n code s : ℕ) → Says lim letter-R 4 line (p ∷ n ∷ code ∷ s ∷ [])
+  first-shape : number ≡ 1 → place ≡ 1 → (line : Line) (later : List Line) → lines bytes ≡ line ∷ later → ((v : List ℕ) → ¬ (Says lim letter-R 4 line v))
+      → Reason lim bytes number place
+  first-prime : number ≡ 2 → place ≡ 1 → (line : Line) (later : List Line) → lines bytes ≡ line ∷ later → (p n code s : ℕ)
+      → Says lim letter-R 4 line (p ∷ n ∷ code ∷ s ∷ [])
       → ¬ (Prime p × (p ≤ lim .prime-bound)) → Reason lim bytes number place
-  first-range : number ≡ 3 → place ≡ 1 → (line : Line) (later : List Line) → lines bytes ≡ line ∷ later → (p n code s : ℕ) → Says lim letter-R 4 line (p ∷ n ∷ code ∷ s ∷ [])
+  first-range : number ≡ 3 → place ≡ 1 → (line : Line) (later : List Line) → lines bytes ≡ line ∷ later → (p n code s : ℕ)
+      → Says lim letter-R 4 line (p ∷ n ∷ code ∷ s ∷ [])
       → Prime p × (p ≤ lim .prime-bound) → ¬ (Well-formed-parameters lim (record { p = p; n = n; code = code; s = s })) → Reason lim bytes number place
   later-line : (q : Parameters) (f : Level) → So-far lim q f → (tail : Bytes) → bytes ≡ first-line-of q ++ (elements-lines (q .n) 1 f ++ tail)
       → place ≡ 2 + terms-of f → Bad-later lim q f (lines tail) number → Reason lim bytes number place
-  after-end : number ≡ 1 → (q : Parameters) (f : Level) → So-far lim q f → 1 ≤ terms-of f → (tail : Bytes) (line : Line) (later : List Line) → lines tail ≡ line ∷ later
+  after-end : number ≡ 1 → (q : Parameters) (f : Level) → So-far lim q f → 1 ≤ terms-of f → (tail : Bytes) (line : Line) (later : List Line)
+      → lines tail ≡ line ∷ later
       → bytes ≡ first-line-of q ++ (elements-lines (q .n) 1 f ++ (end-line f ++ tail)) → place ≡ 3 + terms-of f → Reason lim bytes number place
