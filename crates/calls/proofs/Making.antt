@@ -11,13 +11,14 @@ use Rattle.definitions.specs.Limits.{document-01}
 use Rattle.definitions.specs.Lists.{_then_}
 use Rattle.definitions.specs.Monomial.{Level}
 use Rattle.definitions.specs.Result.{Result, done}
-use Rattle.definitions.specs.Problem.{Bytes, Parameters, problem}
+use Rattle.definitions.specs.Problem.{Bytes, Parameters}
 use Rattle.definitions.specs.State.{State, sound?}
 use Rattle.definitions.specs.Calls.{settled, read-reply, lift}
 use Rattle.definitions.specs.Reckoning.{nothing, reckon-all}
 use Rattle.definitions.specs.Layout.{Words, meant, division, long-enough?, Read, read-left, Lift, Lent, read-with, lift-with, fetch-with, Left, lent-call, lent-calls}
 use Rattle.definitions.proofs.Steady.{answered?, steady-from}
 use Rattle.definitions.proofs.Bound.{lent-call-steady, lent-calls-steady}
+use Rattle.files.specs.Files.{Well-formed-file}
 use Rattle.demands.specs.Demands as demands
 use Rattle.demands.specs.Demands.{Starts, numbered, left-by, Leaves, Fetches-right, Read-right}
 use Rattle.demands.proofs.Results as results
@@ -32,14 +33,14 @@ answered x a e = subst (λ z. T (answered? z)) (sym e) tt
 
 one-call : (state : Words) (c : Lent) (a : Left) → Told state c a → (n : ℕ) × (lent-call document-01 n state c ≡ some a)
 one-call state (read-with file work) a t = (
-  t .0,
+  t .1 .0,
   ap (λ x. x then λ (r : Read). some (record { number = r .0; place = r .1; state = r .2; out = [] })) (sym (t .1 .1))
-      ∙ ap (λ z. some (record { number = a .number; place = a .place; state = a .state; out = z })) (sym (t .1 .2)),
+      ∙ ap (λ z. some (record { number = a .number; place = a .place; state = a .state; out = z })) (sym (t .2)),
 )
 one-call state (lift-with k way work cache) a t = (
-  t .0,
-  ap (λ x. x then λ (r : Lift). some (record { number = r .0; place = r .1; state = r .2; out = [] })) (sym (t .1 .2))
-      ∙ ap (λ z. some (record { number = a .number; place = a .place; state = a .state; out = z })) (sym (t .1 .3)),
+  t .2 .0,
+  ap (λ x. x then λ (r : Lift). some (record { number = r .0; place = r .1; state = r .2; out = [] })) (sym (t .2 .1))
+      ∙ ap (λ z. some (record { number = a .number; place = a .place; state = a .state; out = z })) (sym (t .3)),
 )
 one-call state (fetch-with k v out) a t = (
   0,
@@ -76,7 +77,7 @@ one-answer state cs ls ls′ t t′ =
 
 -- Demand 2: reading accepts exactly the Gröbner bases, where no limit is met
 pub read-decides : (state : Words) (file : Bytes) (work : Words) (a : Left) (q : Parameters) (f : Level) → Told state (read-with file work) a
-    → problem document-01 file ≡ done (q, f) → Decides q f (a .number)
+    → Well-formed-file document-01 file q f → Decides q f (a .number)
 read-decides state file work a q f t e = holds-at (sym (t .1 .1)) (go (long-enough? document-01 division state work))
   where
     settles : {x : Result State} → Read-right document-01 q f x
@@ -87,8 +88,9 @@ read-decides state file work a q f t e = holds-at (sym (t .1 .1)) (go (long-enou
     settles demands.Read-right.open-yet = results.nothing
 
     go : (b : Bool)
-        → Holds (λ (r : Read). Decides q f (r .0)) (read-reply document-01 (t .0) (meant document-01 state) b file then λ y. some (read-left document-01 state work y))
-    go true = settles (demand-2-of-document-01 .reading (t .0) file q f e)
+        → Holds (λ (r : Read). Decides q f (r .0))
+        (read-reply document-01 (t .1 .0) (meant document-01 state) b file then λ y. some (read-left document-01 state work y))
+    go true = settles (demand-2-of-document-01 .reading (t .1 .0) file q f e)
     go false = holds too-short
 
 -- Demand 3: what the calls left is the reckoning's, and each fetch gave its vector

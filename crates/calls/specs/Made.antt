@@ -1,24 +1,22 @@
 -- A list of calls that a program makes, as the contracts tell it: each call within a bound of its own, its state the next one's.
 use mathlib.Core.Path.{_≡_}
-use mathlib.Core.Option.{some}
 use mathlib.Core.List.{List, [], _∷_}
 use Prim.Native.Nat.{ℕ}
 use lib.Dec.{T}
-use Rattle.definitions.specs.Limits.{document-01}
 use Rattle.definitions.specs.Monomial.{Level}
 use Rattle.definitions.specs.Problem.{Parameters}
-use Rattle.definitions.specs.Layout.{Words, Lent, read-with, lift-with, fetch-with, Left, read-call, lift-call, fetch-call}
+use Rattle.definitions.specs.Layout.{Words, Lent, read-with, lift-with, fetch-with, Left}
 use Rattle.demands.specs.Notions.{Gröbner-basis}
 use Rattle.demands.specs.Demands.{limit?}
-use Rattle.calls.specs.Coded.{read-told, lift-told, fetch-told}
+use Rattle.calls.specs.Coded.{Read-says, Lift-says, Fetch-says}
 
 -- what the contract of a call says of its answer, with what it left in the buffers that are not handed on
 abbrev pub Told : Words → Lent → Left → Type 0
 Told state (read-with file work) a =
-    (n : ℕ) × ((work′ : Words) × (some (read-told (a .number) (a .place) (a .state) work′) ≡ read-call document-01 n file state work) × (a .out ≡ []))
+    (work′ : Words) × Read-says (a .number) (a .place) (a .state) work′ file state work × (a .out ≡ [])
 Told state (lift-with k way work cache) a =
-    (n : ℕ) × ((work′ cache′ : Words) × (some (lift-told (a .number) (a .place) (a .state) work′ cache′) ≡ lift-call document-01 n k way state work cache) × (a .out ≡ []))
-Told state (fetch-with k v out) a = (fetch-told (a .number) (a .place) (a .out) ≡ fetch-call document-01 k v state out) × (a .state ≡ state)
+    (work′ cache′ : Words) × Lift-says (a .number) (a .place) (a .state) work′ cache′ k way state work cache × (a .out ≡ [])
+Told state (fetch-with k v out) a = Fetch-says (a .number) (a .place) (a .out) k v state out × (a .state ≡ state)
 
 -- nobody else writes the state between the calls
 abbrev pub Made : Words → List Lent → List Left → Type 0

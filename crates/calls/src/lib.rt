@@ -2,13 +2,10 @@
 // Knows: crates engine, engine_lift and sheet.
 // A slice is a pointer and a length.
 ghost use mathlib.Core.Path.{_≡_};
-ghost use mathlib.Core.Option.{some};
 ghost use Prim.Native.Nat.{ℕ};
-ghost use Rattle.definitions.specs.Limits.{document-01};
-ghost use Rattle.definitions.specs.Layout.{read-call, lift-call, fetch-call};
 ghost use Rattle.engine_lift.specs.Codes.{coded-way};
 ghost use Rattle.sheet.specs.Sheets.{called};
-ghost use Rattle.calls.specs.Coded.{read-told, lift-told, fetch-told, sheet-told};
+ghost use Rattle.calls.specs.Coded.{Read-says, Lift-says, Fetch-says, sheet-told};
 
 // "read a file and accept or refuse its basis"
 #[no_mangle]
@@ -18,7 +15,7 @@ pub extern "C" fn tagetessash_read(
     work: &mut [u16],
     place: &mut usize,
 ) -> u16
-    ensures { λ x. ⌜ ((n : ℕ) × (some (read-told x (now (place .exit)) (now (state .exit)) (now (work .exit))) ≡ read-call document-01 n (now (file .entry)) (now (state .entry)) (now (work .entry)))) ⌝ }
+    ensures { λ x. ⌜ Read-says x (now (place .exit)) (now (state .exit)) (now (work .exit)) (now (file .entry)) (now (state .entry)) (now (work .entry)) ⌝ }
 {
     let r = engine::read(file, state, work);
     *place = r.place;
@@ -36,7 +33,7 @@ pub extern "C" fn tagetessash_lift(
     pick: u16,
     place: &mut usize,
 ) -> u16
-    ensures { λ x. ⌜ ((n : ℕ) × (some (lift-told x (now (place .exit)) (now (state .exit)) (now (work .exit)) (now (cache .exit))) ≡ lift-call document-01 n level (coded-way way pick) (now (state .entry)) (now (work .entry)) (now (cache .entry)))) ⌝ }
+    ensures { λ x. ⌜ Lift-says x (now (place .exit)) (now (state .exit)) (now (work .exit)) (now (cache .exit)) level (coded-way way pick) (now (state .entry)) (now (work .entry)) (now (cache .entry)) ⌝ }
 {
     let w = engine_lift::way_by(way, pick);
     let r = engine_lift::lift(state, work, cache, level, w);
@@ -53,7 +50,7 @@ pub extern "C" fn tagetessash_fetch(
     vector: usize,
     place: &mut usize,
 ) -> u16
-    ensures { λ x. ⌜ fetch-told x (now (place .exit)) (now (out .exit)) ≡ fetch-call document-01 level vector (now (state .entry)) (now (out .entry)) ⌝ }
+    ensures { λ x. ⌜ Fetch-says x (now (place .exit)) (now (out .exit)) level vector (now (state .entry)) (now (out .entry)) ⌝ }
 {
     let r = engine::fetch(state, out, level, vector);
     *place = r.place;

@@ -50,10 +50,10 @@ module _ (lim : Limits) (o : T (sensible? lim)) where
   read-length file state work r (Demands.Read-form.too-short t) = refl
 
   lift-length : (k : ℕ) (way : Way) (state work cache : Words) (r : Lift) → Lift-form lim k way state work cache r → length (r .2) ≡ length state
-  lift-length k way state work cache r (lifted-as X g bound t e d s) =
+  lift-length k way state work cache r (lifted-as X g bound t e u y d s) =
       length-encode lim (small-exponents lim o) (length state) (record { parameters = X .parameters; levels = g ∷ up-to X (k - 1) }) s
       (long-state lim o way state work t)
-  lift-length k way state work cache r (Demands.Lift-form.refused-as t u) = length-replicate (length state) 0
+  lift-length k way state work cache r (Demands.Lift-form.refused-as b t u y e l) = length-replicate (length state) 0
   lift-length k way state work cache r (Demands.Lift-form.no-level t u) = refl
   lift-length k way state work cache r (Demands.Lift-form.no-number t u x) = refl
   lift-length k way state work cache r (Demands.Lift-form.too-short t) = refl

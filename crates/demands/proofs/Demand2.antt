@@ -8,19 +8,22 @@ use Rattle.definitions.specs.Limits.{Limits, document-01}
 use Rattle.definitions.specs.Monomial.{Monomial, Vector, Level, leading, leading-monomials}
 use Rattle.definitions.specs.Order.{compare-over}
 use Rattle.definitions.specs.Frame.{frame}
-use Rattle.definitions.specs.Result.{Result, done, refused, _>>=_}
+use Rattle.definitions.specs.Result.{Result, refused, _>>=_}
 use Rattle.definitions.specs.Problem.{Bytes, Parameters, problem}
 use Rattle.definitions.specs.State.{State, sound?}
 use Rattle.definitions.specs.Calls.{accepted, read}
 use Rattle.definitions.proofs.Results.{if-done-says}
 use Rattle.definitions.proofs.Sound.{sound-says}
 use Rattle.definitions.proofs.Reading.{basis-state, problem-sound}
+use Rattle.files.specs.Files.{Well-formed-file}
+use Rattle.files.specs.Answers.{Refused-right}
 use Rattle.demands.specs.Notions.{put-for, Leads, Gröbner-basis}
 use Rattle.demands.specs.Frames.{Is-frame}
 use Rattle.demands.specs.Exact.{Shows-why}
 use Rattle.demands.specs.Demands.{sensible?, limit?, Read-right, accepts, limited, stopped, open-yet, accepted?, decided?, Demand-2}
 use Rattle.demands.proofs.Frames.{is-frame, only-frame}
 use Rattle.demands.proofs.Over.{few-variables, vector-room, sound-prime, sound-eight, Over, over, accepted-right}
+use Rattle.demands.proofs.Reader.{files}
 
 -- what 9 shows is no Gröbner basis: its leading monomial is that of a combination, and not divided
 pub shows : (lim : Limits) (q : Parameters) (f : Level) (value : Vector) → Shows-why lim q f value → Gröbner-basis q [] f → ⊥
@@ -41,20 +44,22 @@ module _ (lim : Limits) (o : T (sensible? lim)) where
       let X : State = record { parameters = q; levels = levels } in
       over lim q (sound-prime lim o X h) (sound-eight lim o X h) (vector-room lim o) levels (sound-says lim X h .levels)
 
-  pub well-formed : (bytes : Bytes) (q : Parameters) (f : Level) → problem lim bytes ≡ done (q, f) → T (sound? lim (basis-state (q, f)))
-  well-formed bytes q f e = if-done-says (λ f. T (sound? lim (basis-state f))) (problem lim bytes) (problem-sound lim (few-variables lim o) bytes) (q, f) e
+  pub well-formed : (bytes : Bytes) (q : Parameters) (f : Level) → Well-formed-file lim bytes q f → T (sound? lim (basis-state (q, f)))
+  well-formed bytes q f w =
+      if-done-says (λ f. T (sound? lim (basis-state f))) (problem lim bytes) (problem-sound lim (few-variables lim o) bytes) (q, f)
+      (files lim o .taken bytes q f w)
 
   -- ## Reading
 
-  pub reading : (n : ℕ) (bytes : Bytes) (q : Parameters) (f : Level) → problem lim bytes ≡ done (q, f) → Read-right lim q f (read lim n bytes)
-  reading n bytes q f e = subst (λ x. Read-right lim q f (x >>= accepted lim n)) (sym e)
+  pub reading : (n : ℕ) (bytes : Bytes) (q : Parameters) (f : Level) → Well-formed-file lim bytes q f → Read-right lim q f (read lim n bytes)
+  reading n bytes q f w = subst (λ x. Read-right lim q f (x >>= accepted lim n)) (sym (files lim o .taken bytes q f w))
       (accepted-right lim q (sound-prime lim o X h) (sound-eight lim o X h) (vector-room lim o) f (sound-says lim X h .levels) n)
     where
       X : State
       X = basis-state (q, f)
 
       h : T (sound? lim X)
-      h = well-formed bytes q f e
+      h = well-formed bytes q f w
 
   -- a limit's number is not 9
   not-nine : (number : ℕ) → T (limit? number) → T (eqb number 9) → ⊥
@@ -66,9 +71,8 @@ module _ (lim : Limits) (o : T (sensible? lim)) where
   exactly q f x (stopped {value = value} i w) t = ((λ a. absurd a), (λ gb. absurd (shows lim q f value w gb)))
   exactly q f x open-yet t = absurd t
 
-  ill-formed : (n : ℕ) (bytes : Bytes) (number place : ℕ) (value : Vector) → problem lim bytes ≡ refused number place value
-      → read lim n bytes ≡ refused number place value
-  ill-formed n bytes number place value e = ap (λ x. x >>= accepted lim n) e
+  ill-formed : (n : ℕ) (bytes : Bytes) (number place : ℕ) → Refused-right lim bytes number place → read lim n bytes ≡ refused number place []
+  ill-formed n bytes number place r = ap (λ x. x >>= accepted lim n) (files lim o .refuses bytes number place r)
 
   -- ## The frame
 
@@ -82,8 +86,9 @@ module _ (lim : Limits) (o : T (sensible? lim)) where
 
   pub demand-2 : Demand-2 lim
   demand-2 = record {
+    files = files lim o;
     reading = reading;
-    exactly = λ n bytes q f e. exactly q f (read lim n bytes) (reading n bytes q f e);
+    exactly = λ n bytes q f w. exactly q f (read lim n bytes) (reading n bytes q f w);
     shows = shows lim;
     well-formed = well-formed;
     generated = λ q f below h. over-sound q (f ∷ below) h .generates;

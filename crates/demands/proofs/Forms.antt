@@ -24,7 +24,7 @@ use Rattle.definitions.proofs.Refusals.{encode-empty}
 use Rattle.definitions.proofs.Rows.{length-rows-of}
 use Rattle.definitions.proofs.RoundTrip.{eights}
 use Rattle.demands.specs.Demands
-use Rattle.demands.specs.Demands.{sensible?, out-long-enough?, Refused-reading, ill-formed, no-basis, limit-met}
+use Rattle.demands.specs.Demands.{sensible?, out-long-enough?, no-basis, limit-met, Refused-reading, ill-formed, not-accepted}
 use Rattle.demands.specs.Demands.{Read-form, accepted-as, Lift-form, lifted-as, Fetch-form, fetched-as}
 use Rattle.demands.proofs.Results.{Holds, holds, nothing}
 use Rattle.demands.proofs.Over.{small-exponents}
@@ -54,9 +54,9 @@ module _ (lim : Limits) (o : T (sensible? lim)) where
   value-room : (file : Bytes) (state work : Words) → T (long-enough? lim division state work) → {number place : ℕ} {value : Vector}
       → Refused-reading lim file number place value
       → length (rows-of value) ≤ length work
-  value-room file state work t (ill-formed e b) = omega arith
-  value-room file state work t (limit-met e l) = omega arith
-  value-room file state work t (no-basis {q} {value = value} e i s) =
+  value-room file state work t (ill-formed b) = omega arith
+  value-room file state work t (not-accepted (limit-met b w d l)) = omega arith
+  value-room file state work t (not-accepted {q} (no-basis {value = value} b w d i s)) =
       let r : lim .working * 10 ≤ length work = long-work division state work t in
       rows-room q (q .s) (lim .working) value (s .sound) (s .short) work (omega arith)
 
@@ -96,29 +96,32 @@ module _ (lim : Limits) (o : T (sensible? lim)) where
       Form : Lift → Type 0
       Form = Lift-form lim k way state work cache
 
-      settles : T (long-enough? lim way state work) → T (sound? lim X) → T (between 1 k (lim .levels)) → T (has-level? X (k - 1)) → {x : Result State}
-          → Lifted-to lim X k x
+      settles : T (long-enough? lim way state work) → T (not (eleven? lim X k (k - 1))) → T (lifts? lim k by) → T (sound? lim X) → T (between 1 k (lim .levels))
+          → T (has-level? X (k - 1)) → {x : Result State}
+          → lift lim n X k by ≡ x → Lifted-to lim X k x
           → Holds Form (settled x then λ a. some (left a))
-      settles t s r c (one-more g w) =
+      settles t u y s r c e (one-more g w) =
           let l : k - 1 < length (X .levels) = ltb→lt (k - 1) (length (X .levels)) c in
           holds (subst (λ z. Form (0, 0, encode lim (length state) (record { parameters = X .parameters; levels = g ∷ up-to X (k - 1) }), z, zeros cache))
-          (sym (all-zeros work)) (lifted-as X g (w .bound) t refl (w .reckons) (with-level lim X s k r l g (w .sound))))
-      settles t s r c (Lifts.limit-met {number} u) =
+          (sym (all-zeros work)) (lifted-as X g (w .bound) t refl u y (w .reckons) (with-level lim X s k r l g (w .sound))))
+      settles t u y s r c e (Lifts.limit-met {number} l) =
           holds (subst₂ (λ y z. Form (number, k, y, z, zeros cache)) (sym (encode-empty lim (length state) (long-state way state work t)))
-          (sym (all-zeros work)) (Demands.Lift-form.refused-as t u))
-      settles t s r c still-lifting = nothing
+          (sym (all-zeros work)) (Demands.Lift-form.refused-as n t u y e l))
+      settles t u y s r c e still-lifting = nothing
 
       twelve : T (long-enough? lim way state work) → T (not (eleven? lim X k (k - 1))) → T (sound? lim X) × (T (between 1 k (lim .levels)) → T (has-level? X (k - 1)))
-          → (b : Bool) → (T b → T (between 1 k (lim .levels))) → (T (not b) → T (not (lifts? lim k by)))
+          → (b : Bool) → (T b → T (lifts? lim k by)) → (T (not b) → T (not (lifts? lim k by)))
           → Holds Form (choose (not b) (some (refuse 12 X)) (settled (lift lim n X k by)) then λ a. some (left a))
-      twelve t u s true r z = settles t (s .0) (r tt) (s .1 (r tt)) (lifted-to lim o X (s .0) k by n)
+      twelve t u s true r z =
+          let d : T (between 1 k (lim .levels)) = and-left (between 1 k (lim .levels)) (pick-code? by) (r tt) in
+          settles t u (r tt) (s .0) d (s .1 d) refl (lifted-to lim o X (s .0) k by n)
       twelve t u s false r z = holds (Demands.Lift-form.no-number t u (z tt))
 
       eleven : T (long-enough? lim way state work) → (b : Bool) → (T b → T (eleven? lim X k (k - 1))) → (T (not b) → T (not (eleven? lim X k (k - 1))))
           → ((T b → ⊥) → T (sound? lim X) × (T (between 1 k (lim .levels)) → T (has-level? X (k - 1))))
           → Holds Form (choose b (some (refuse 11 X)) (choose (not (lifts? lim k by)) (some (refuse 12 X)) (settled (lift lim n X k by))) then λ a. some (left a))
       eleven t true y z s = holds (Demands.Lift-form.no-level t (y tt))
-      eleven t false y z s = twelve t (z tt) (s (λ x. x)) (lifts? lim k by) (and-left (between 1 k (lim .levels)) (pick-code? by)) (λ x. x)
+      eleven t false y z s = twelve t (z tt) (s (λ x. x)) (lifts? lim k by) (λ x. x) (λ x. x)
 
       go : (b : Bool) → (T b → T (long-enough? lim way state work)) → (T (not b) → T (not (long-enough? lim way state work)))
           → Holds Form (lift-reply lim n X b k by then λ a. some (left a))
@@ -148,9 +151,10 @@ module _ (lim : Limits) (o : T (sensible? lim)) where
       Form : Fetch → Type 0
       Form = Fetch-form lim k v state out
 
-      fetched : T (out-long-enough? lim state out) → T (sound? lim X) → (T (between 1 k (lim .levels)) → T (has-level? X k)) → T (fetches? lim X k v)
+      fetched : T (out-long-enough? lim state out) → T (not (eleven? lim X k k)) → T (sound? lim X) → (T (between 1 k (lim .levels)) → T (has-level? X k))
+          → T (fetches? lim X k v)
           → Form (fetch-left out (fetch X k v))
-      fetched t s c r = fetched-as t s r refl (vector-in (X .parameters) (up-to X k) v (levels-stay lim X s k) (omega (arith, height, low))
+      fetched t u s c r = fetched-as t u s r refl (vector-in (X .parameters) (up-to X k) v (levels-stay lim X s k) (omega (arith, height, low))
           (and-right (between 1 k (lim .levels)) (between 1 v (length (highest (up-to X k)))) r) out
           (leb→le (out-words lim) (length out) (and-right (leb (state-words lim) (length state)) (leb (out-words lim) (length out)) t)))
         where
@@ -166,7 +170,7 @@ module _ (lim : Limits) (o : T (sensible? lim)) where
       twelve : T (out-long-enough? lim state out) → T (not (eleven? lim X k k)) → T (sound? lim X) × (T (between 1 k (lim .levels)) → T (has-level? X k))
           → (b : Bool) → (T b → T (fetches? lim X k v)) → (T (not b) → T (not (fetches? lim X k v)))
           → Form (fetch-left out (choose (not b) (refuse 12 X) (fetch X k v)))
-      twelve t u s true y z = fetched t (s .0) (s .1) (y tt)
+      twelve t u s true y z = fetched t u (s .0) (s .1) (y tt)
       twelve t u s false y z = Demands.Fetch-form.no-number t u (z tt)
 
       eleven : T (out-long-enough? lim state out) → (b : Bool) → (T b → T (eleven? lim X k k)) → (T (not b) → T (not (eleven? lim X k k)))

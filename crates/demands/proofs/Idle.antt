@@ -1,18 +1,21 @@
 -- The idle engines of document 01's list are shut out, by computation.
 use mathlib.Core.Path.{_≡_, refl, sym, ap, _∙_, subst}
 use mathlib.Core.Bool.{not}
+use mathlib.Core.Option.{Option, none, some}
 use mathlib.Core.List.{List, [], _∷_, _++_}
 use Prim.Native.Nat.{ℕ, _≤_}
 use native.Mathlib.Omega.{arith}
 use native.Mathlib.Nat.{le-refl}
 use lib.Dec.{T, leb, eqb, eqb-refl, le→leb, T-not}
 use lib.ListN.{length, getD, replicate, length-replicate}
-use Rattle.definitions.specs.Limits.{document-01}
+use Rattle.definitions.specs.Limits.{Limits, document-01}
 use Rattle.definitions.specs.Monomial.{Level, leading-term, leading-monomials}
 use Rattle.definitions.specs.Stage.{highest}
 use Rattle.definitions.specs.Frame.{frame}
+use Rattle.definitions.specs.Lifting.{by-tree}
 use Rattle.definitions.specs.Problem.{Bytes, Parameters}
 use Rattle.definitions.specs.State.{State}
+use Rattle.definitions.specs.Calls.{Reply, refuse, settled, lift}
 use Rattle.definitions.specs.Sheet.{decimal, printed, letter-Z, x-lines}
 use Rattle.definitions.specs.Layout.{Words, padded, state-words, work-words, division, long-enough?, encode, Read}
 use Rattle.definitions.proofs.Tests.{and-both}
@@ -20,7 +23,9 @@ use Rattle.definitions.proofs.Text.{text}
 use Rattle.definitions.proofs.Instances.{xyz, xy, f₁, g₁}
 use Rattle.definitions.proofs.Views.{limited}
 use Rattle.demands.specs.Exact.{Level-right}
-use Rattle.demands.specs.Idle.{Engine, Right, Empty-always, Level-2-empty, Refuses-all, Count-invented, Early-14, Reads-right, Untouched, Zero-vector, Idle-shut-out}
+use Rattle.demands.specs.Idle.{Engine, Right, Empty-always, Level-2-empty, Refuses-all, Count-invented, Early-14, Early-14-vector, Tree-engine}
+use Rattle.demands.specs.Idle.{Lifts-right, Early-14-tree}
+use Rattle.demands.specs.Idle.{Reads-right, Untouched, Zero-vector, Idle-shut-out}
 use Rattle.demands.proofs.Stored.{at-zeros}
 use Rattle.demands.proofs.PrintedFile.{printed-file, q₁, X₁, reads}
 
@@ -87,14 +92,36 @@ Y₁ = record { parameters = q₁; levels = g₁ ∷ f₁ ∷ [] }
 count-invented : (E : Engine) (count : ℕ) → Right document-01 E → Count-invented document-01 count E → ⊥
 count-invented E count r i =
     let (later, e) = i 99 printed-file X₁ Y₁ refl refl in
-    let (none, d) = i 99 one-file X₀ Y₀ refl refl in
+    let (nothing, d) = i 99 one-file X₀ Y₀ refl refl in
     let one : 49 ≡ getD (decimal count ++ 10 ∷ []) 0 0 = ap (λ l. getD l 60 0) (sym (prints E r) ∙ e) ∙ first-byte (decimal count) later in
-    let zero : 48 ≡ getD (decimal count ++ 10 ∷ []) 0 0 = ap (λ l. getD l 4 0) (sym (r 99 one-file (text ("Z,1,0" ∷ [])) refl) ∙ d) ∙ first-byte (decimal count) none in
+    let zero : 48 ≡ getD (decimal count ++ 10 ∷ []) 0 0 =
+    ap (λ l. getD l 4 0) (sym (r 99 one-file (text ("Z,1,0" ∷ [])) refl) ∙ d) ∙ first-byte (decimal count) nothing in
     omega (arith, one, zero)
 
 -- two terms are enough for the printed file, and one is not
 early-14 : (E : Engine) → Right (limited 255 128 2048 2 512 4096) E → Early-14 (limited 255 128 2048 2 512 4096) E → ⊥
 early-14 E r i = differ 0 printed-lines (text ("X,14,0" ∷ [])) tt (sym (r 99 printed-file printed-lines refl) ∙ i 99 printed-file (text ("X,14,0" ∷ [])) refl)
+
+-- four terms are enough for its vector, and three are not
+early-14-vector : (E : Engine) → Right (limited 255 128 2048 512 4 4096) E → Early-14-vector (limited 255 128 2048 512 4 4096) E → ⊥
+early-14-vector E r i =
+    differ 0 printed-lines (text ("X,14,0" ∷ [])) tt (sym (r 99 printed-file printed-lines refl) ∙ i 99 printed-file (text ("X,14,0" ∷ [])) refl)
+
+-- what lifting level 1 over the printed file by the tree answers, without a cache
+abbrev by-the-tree : Limits → Option Reply
+by-the-tree lim = settled (lift lim 99 X₁ 1 (by-tree 0))
+
+abbrev reply-in : Option Reply → Reply
+reply-in none = refuse 16 X₁
+reply-in (some a) = a
+
+-- three terms in the unfinished subtrees are enough for it, and two are not
+early-14-tree : (E : Tree-engine) → Lifts-right (limited 255 128 2048 512 512 3) E → Early-14-tree (limited 255 128 2048 512 512 3) E → ⊥
+early-14-tree E r i =
+    let e : E X₁ 1 0 ≡ reply-in (by-the-tree (limited 255 128 2048 512 512 3)) = r 99 X₁ 1 0 (reply-in (by-the-tree (limited 255 128 2048 512 512 3))) refl in
+    let d : E X₁ 1 0 ≡ reply-in (by-the-tree (limited 255 128 2048 512 512 2)) = i 99 X₁ 1 0 (reply-in (by-the-tree (limited 255 128 2048 512 512 2))) refl in
+    let z : _≡_ {A = ℕ} 0 14 = ap (λ (a : Reply). a .number) (sym e ∙ d) in
+    omega arith
 
 -- ## Buffers
 
@@ -135,7 +162,7 @@ zero-vectors q code below f l z =
     let d : _≡_ {A = ℕ} 0 1 = ap (λ t. t .0) e in
     omega arith
 
-pub idle-shut-out : Idle-shut-out document-01 (limited 255 128 2048 2 512 4096)
+pub idle-shut-out : Idle-shut-out document-01 (limited 255 128 2048 2 512 4096) (limited 255 128 2048 512 4 4096) (limited 255 128 2048 512 512 3)
 idle-shut-out = record {
   empty-always = empty-always;
   level-2-empty = level-2-empty;
@@ -143,5 +170,7 @@ idle-shut-out = record {
   count-invented = count-invented;
   untouched = untouched;
   early-14 = early-14;
+  early-14-vector = early-14-vector;
+  early-14-tree = early-14-tree;
   zero-vectors = zero-vectors;
 }

@@ -27,11 +27,11 @@ pub mod Accepting
 pub mod Exact
 pub mod Kept
 pub mod Over
+pub mod Reader
 pub mod Reckonings
 pub mod Demand2
 pub mod Lifts
 pub mod Held
-pub mod Places
 pub mod Sheets
 pub mod Forms
 pub mod Demand1
@@ -39,3 +39,4 @@ pub mod Stored
 pub mod Demand3
 pub mod PrintedFile
 pub mod Idle
+pub mod TooEarly

@@ -27,7 +27,7 @@ use Rattle.definitions.proofs.Sound.{sound-says}
 use Rattle.demands.specs.Notions.{Gröbner-basis, Leading-generated, Member}
 use Rattle.demands.specs.Picks.{All-pick, run-by}
 use Rattle.demands.specs.Exact.{Level-right}
-use Rattle.demands.specs.Demands.{sensible?, Read-right, accepts, limited, stopped, open-yet}
+use Rattle.demands.specs.Demands.{readable?, sensible?, Read-right, accepts, limited, stopped, open-yet}
 use Rattle.demands.proofs.Results.{Gives, ends-map}
 use Rattle.demands.proofs.Exponents.{out-length}
 use Rattle.demands.proofs.Levels.{Mono, TLevel, mono, flat, flats, flat-at, flat-length, leading-vec, lm}
@@ -49,16 +49,22 @@ use Rattle.demands.proofs.Kept.{lift-kept}
 
 module _ (lim : Limits) (o : T (sensible? lim)) where
   pub few-variables : lim .variables ≤ 8
-  few-variables = leb→le (lim .variables) 8 (and-left (leb (lim .variables) 8) (leb (lim .exponent) 255 and leb 1 (lim .vector)) o)
+  few-variables = leb→le (lim .variables) 8 (and-left (leb (lim .variables) 8) (leb (lim .exponent) 255 and leb 1 (lim .vector) and readable? lim) o)
 
-  later : T (leb (lim .exponent) 255 and leb 1 (lim .vector))
-  later = and-right (leb (lim .variables) 8) (leb (lim .exponent) 255 and leb 1 (lim .vector)) o
+  later : T (leb (lim .exponent) 255 and leb 1 (lim .vector) and readable? lim)
+  later = and-right (leb (lim .variables) 8) (leb (lim .exponent) 255 and leb 1 (lim .vector) and readable? lim) o
 
   pub small-exponents : lim .exponent ≤ 255
-  small-exponents = leb→le (lim .exponent) 255 (and-left (leb (lim .exponent) 255) (leb 1 (lim .vector)) later)
+  small-exponents = leb→le (lim .exponent) 255 (and-left (leb (lim .exponent) 255) (leb 1 (lim .vector) and readable? lim) later)
+
+  last : T (leb 1 (lim .vector) and readable? lim)
+  last = and-right (leb (lim .exponent) 255) (leb 1 (lim .vector) and readable? lim) later
 
   pub vector-room : 1 ≤ lim .vector
-  vector-room = leb→le 1 (lim .vector) (and-right (leb (lim .exponent) 255) (leb 1 (lim .vector)) later)
+  vector-room = leb→le 1 (lim .vector) (and-left (leb 1 (lim .vector)) (readable? lim) last)
+
+  pub are-readable : T (readable? lim)
+  are-readable = and-right (leb 1 (lim .vector)) (readable? lim) last
 
   -- the parameters of a sound state
   pub sound-prime : (X : State) → T (sound? lim X) → Prime (X .parameters .p)

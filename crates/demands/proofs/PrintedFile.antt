@@ -15,12 +15,13 @@ use Rattle.definitions.specs.Result.{done}
 use Rattle.definitions.specs.Stage.{stage-over}
 use Rattle.definitions.specs.Run.{Strategy, hybrid-strategy}
 use Rattle.definitions.specs.Lifting.{by-division, lift-level}
-use Rattle.definitions.specs.Problem.{Bytes, Parameters, problem}
+use Rattle.definitions.specs.Problem.{Bytes, Parameters}
 use Rattle.definitions.specs.State.{State, sound?}
 use Rattle.definitions.specs.Calls.{read, read-reply}
 use Rattle.definitions.specs.Layout.{Words, padded, encode, meant, division, long-enough?, read-left, read-call, Lent, Left, lent-calls}
 use Rattle.definitions.proofs.Text.{text}
 use Rattle.definitions.proofs.Instances.{xy, f₁, g₁}
+use Rattle.files.specs.Files.{Well-formed-file}
 use Rattle.demands.specs.Notions.{Gröbner-basis, Member}
 use Rattle.demands.specs.Picks.{All-pick, run-by}
 use Rattle.demands.specs.Exact.{Level-right, Exact}
@@ -45,8 +46,8 @@ q₁ = record { p = 7; n = 2; code = 1; s = 1 }
 abbrev pub X₁ : State
 X₁ = record { parameters = q₁; levels = f₁ ∷ [] }
 
-pub well-formed : problem document-01 printed-file ≡ done (q₁, f₁)
-well-formed = refl
+pub well-formed : Well-formed-file document-01 printed-file q₁ f₁
+well-formed = demand-2-of-document-01 .files .answered printed-file
 
 pub sound : T (sound? document-01 X₁)
 sound = tt

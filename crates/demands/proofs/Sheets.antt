@@ -14,63 +14,68 @@ use Rattle.definitions.specs.Result.{Result, done, refused, unfinished, _>>=_}
 use Rattle.definitions.specs.Lifting.{by-hybrid}
 use Rattle.definitions.specs.Problem.{Bytes, Parameters, problem}
 use Rattle.definitions.specs.State.{State, up-to, sound?}
-use Rattle.definitions.specs.Calls.{accepted, read}
-use Rattle.definitions.specs.Sheet.{sheet, sheet-of, levels-from, level-then, if-more, level-lines, variables-of}
+use Rattle.definitions.specs.Calls.{accepted, read, lift}
+use Rattle.definitions.specs.Sheet.{sheet, sheet-of, levels-from, level-then, if-more, level-lines, printed, letter-X, x-lines, variables-of}
 use Rattle.definitions.proofs.Tests.{and-left, and-right, between-shown}
 use Rattle.definitions.proofs.Sound.{sound-says}
 use Rattle.definitions.proofs.Reading.{basis-state}
+use Rattle.files.specs.Files.{Well-formed-file}
+use Rattle.files.specs.Answers.{Answered}
 use Rattle.demands.specs.Demands
-use Rattle.demands.specs.Demands.{sensible?, Read-right, accepts, limited, stopped, Bad-line, Refused-reading, ill-formed, no-basis, limit-met, printed-levels, Listed, Sheet-form, listing, cut-off, not-read}
+use Rattle.demands.specs.Demands.{sensible?, Read-right, accepts, limited, stopped, no-basis, limit-met, Refused-reading, ill-formed, not-accepted}
+use Rattle.demands.specs.Demands.{printed-levels, Listed, Sheet-form, listing, cut-off, not-read, not-taken}
 use Rattle.demands.proofs.Results.{Holds, holds, nothing, holds-then}
 use Rattle.demands.proofs.Over.{vector-room, sound-prime, sound-eight, Lift-right, accepted-right}
 use Rattle.demands.proofs.Reckonings.{tower-reckons}
+use Rattle.demands.proofs.Reader.{files}
 use Rattle.demands.proofs.Demand2.{well-formed}
 use Rattle.demands.proofs.Lifts
 use Rattle.demands.proofs.Lifts.{Lifted-to, one-more, still-lifting, lifted-to}
 use Rattle.demands.proofs.Held.{Standing, level-stands}
-use Rattle.demands.proofs.Places
-use Rattle.demands.proofs.Places.{Refused-by, problem-at}
 
 -- ## Reading
 
 pub data Reading (lim : Limits) (bytes : Bytes) : Result State → Type 0 where
-  taken : {q : Parameters} {f : Level} → problem lim bytes ≡ done (q, f) → Standing lim q f 0 (f ∷ [])
+  taken : {q : Parameters} {f : Level} → Well-formed-file lim bytes q f → Standing lim q f 0 (f ∷ [])
       → Reading lim bytes (done (record { parameters = q; levels = f ∷ [] }))
   refused-reading : {number place : ℕ} {value : Vector} → Refused-reading lim bytes number place value → Reading lim bytes (refused number place value)
   still-reading : Reading lim bytes unfinished
 
 module _ (lim : Limits) (o : T (sensible? lim)) where
-  pub reading : (n : ℕ) (bytes : Bytes) → Reading lim bytes (read lim n bytes)
-  reading n bytes = go (problem lim bytes) refl (problem-at lim bytes)
+  -- what reading gives, of what the reader gave
+  read-from : (n : ℕ) (bytes : Bytes) (x : Result (Parameters × Level)) → problem lim bytes ≡ x → Answered lim bytes x
+      → Reading lim bytes (x >>= accepted lim n)
+  read-from n bytes unfinished e r = still-reading
+  read-from n bytes (refused number place value) e r =
+      subst (λ v. Reading lim bytes (refused number place v)) (sym (r .1)) (refused-reading (ill-formed (r .0)))
+  read-from n bytes (done (q, f)) e w =
+      at (ap (λ z. z >>= accepted lim n) e)
+      (accepted-right lim q (sound-prime lim o X h) (sound-eight lim o X h) (vector-room lim o) f (sound-says lim X h .levels) n)
     where
-      go : (x : Result (Parameters × Level)) → problem lim bytes ≡ x → Refused-by (λ number place value. Bad-line lim bytes number place × (value ≡ [])) x
-          → Reading lim bytes (x >>= accepted lim n)
-      go unfinished e r = still-reading
-      go (refused number place value) e (Places.refuses (b, z)) =
-          subst (λ v. Reading lim bytes (refused number place v)) (sym z) (refused-reading (ill-formed (e ∙ ap (refused number place) z) b))
-      go (done (q, f)) e r = at (accepted-right lim q (sound-prime lim o X h) (sound-eight lim o X h) (vector-room lim o) f (sound-says lim X h .levels) n)
-        where
-          X : State
-          X = basis-state (q, f)
+      X : State
+      X = basis-state (q, f)
 
-          h : T (sound? lim X)
-          h = well-formed lim o bytes q f e
+      h : T (sound? lim X)
+      h = well-formed lim o bytes q f w
 
-          at : {y : Result State} → Read-right lim q f y → Reading lim bytes y
-          at (accepts gb) = taken e (record { height = refl; tower = refl; sound = h; exact = gb })
-          at (limited t) = refused-reading (limit-met e t)
-          at (stopped t s) = refused-reading (no-basis e t s)
-          at Demands.open-yet = still-reading
+      at : {y : Result State} → read lim n bytes ≡ y → Read-right lim q f y → Reading lim bytes y
+      at d (accepts gb) = taken w (record { height = refl; tower = refl; sound = h; exact = gb })
+      at d (limited t) = refused-reading (not-accepted (limit-met n w d t))
+      at d (stopped t s) = refused-reading (not-accepted (no-basis n w d t s))
+      at d Demands.open-yet = still-reading
+
+  pub reading : (n : ℕ) (bytes : Bytes) → Reading lim bytes (read lim n bytes)
+  reading n bytes = read-from n bytes (problem lim bytes) refl (files lim o .answered bytes)
 
   -- ## The levels
 
   abbrev filled? : Level → Bool
   filled? f = not (empty? f)
 
-  module _ (bytes : Bytes) (q : Parameters) (f : Level) (e : problem lim bytes ≡ done (q, f)) (bound : ℕ) where
+  module _ (bytes : Bytes) (q : Parameters) (f : Level) (w : Well-formed-file lim bytes q f) (bound : ℕ) where
     listed : (g : Level) (below : List Level) → Standing lim q f (length below) (g ∷ below) → T (every filled? below) → Listed lim bytes q g below
     listed g below s t =
-        record { basis = f; well-formed = e; reckoned = tower-reckons lim q f (g ∷ below) (length below) (s .height) (s .tower); exact = s .exact; filled = t }
+        record { basis = f; well-formed = w; reckoned = tower-reckons lim q f (g ∷ below) (length below) (s .height) (s .tower); exact = s .exact; filled = t }
 
     -- the bytes after those of the levels so far
     abbrev After : Level → List Level → Bytes → Type 0
@@ -100,7 +105,7 @@ module _ (lim : Limits) (o : T (sensible? lim)) where
         holds (subst (Sheet-form lim bytes) (sym (append-nil (printed-levels (q .n) (g ∷ below))))
         (listing (listed g below s (and-right (filled? g) (every filled? below) t)) (inr (omega arith))))
     levels-form (suc left) g below s t l =
-        go (lifted-to lim o (so-far g below) (s .sound) k (by-hybrid 2) bound) (λ h st u. levels-form left h (g ∷ below) st u (omega arith))
+        go refl (lifted-to lim o (so-far g below) (s .sound) k (by-hybrid 2) bound) (λ h st u. levels-form left h (g ∷ below) st u (omega arith))
       where
         k : ℕ
         k = suc (length below)
@@ -118,16 +123,16 @@ module _ (lim : Limits) (o : T (sensible? lim)) where
         grown (v ∷ h) st more = holds-then (more (v ∷ h) st t) (λ out p.
             holds (subst (Sheet-form lim bytes) (append-assoc (printed-levels (q .n) (g ∷ below)) (level-lines (q .n) k (v ∷ h)) out) p))
 
-        go : {x : Result State} → Lifted-to lim (so-far g below) k x → Further
+        go : {x : Result State} → lift lim bound (so-far g below) k (by-hybrid 2) ≡ x → Lifted-to lim (so-far g below) k x → Further
             → Holds (After g below) (level-then (q .n) k (λ Y. levels-from lim bound left (suc k) Y) x)
-        go (one-more h w) more =
+        go d (one-more h w) more =
             subst (λ z. Holds (After g below) (if-more (empty? h) (q .n) k h
             (λ u. levels-from lim bound left (suc k) (record { parameters = q; levels = h ∷ z })))) (sym (all-stay g below))
             (grown h (next g below s room h w) more)
-        go (Lifts.limit-met {number} u) more =
-            holds (cut-off number (listed g below s (and-right (filled? g) (every filled? below) t))
-            (is-filled g (and-left (filled? g) (every filled? below) t)) room u)
-        go still-lifting more = nothing
+        go d (Lifts.limit-met {number} u) more =
+            holds (cut-off number bound (listed g below s (and-right (filled? g) (every filled? below) t))
+            (is-filled g (and-left (filled? g) (every filled? below) t)) room d u)
+        go d still-lifting more = nothing
 
   -- ## The sheet
 
@@ -138,7 +143,18 @@ module _ (lim : Limits) (o : T (sensible? lim)) where
   pub sheet-form : (n : ℕ) (bytes : Bytes) → Holds (Sheet-form lim bytes) (sheet lim n bytes)
   sheet-form n bytes = go (reading n bytes)
     where
+      variables : {q : Parameters} {f : Level} → Well-formed-file lim bytes q f → variables-of (problem lim bytes) ≡ q .n
+      variables {q} {f} w = ap variables-of (files lim o .taken bytes q f w)
+
+      refusal : {number place : ℕ} {value : Vector} → Refused-reading lim bytes number place value
+          → Sheet-form lim bytes (x-lines (variables-of (problem lim bytes)) number place value)
+      refusal (ill-formed {number} {place} r) = subst (Sheet-form lim bytes) (sym (append-nil (printed letter-X (number ∷ place ∷ [])))) (not-read r)
+      refusal (not-accepted (no-basis {place = place} {value = value} b w d t s)) =
+          subst (λ n. Sheet-form lim bytes (x-lines n 9 place value)) (sym (variables w)) (not-taken (no-basis b w d t s))
+      refusal (not-accepted (limit-met {number = number} b w d l)) =
+          subst (λ n. Sheet-form lim bytes (x-lines n number 0 [])) (sym (variables w)) (not-taken (limit-met b w d l))
+
       go : {x : Result State} → Reading lim bytes x → Holds (Sheet-form lim bytes) (sheet-of lim n (variables-of (problem lim bytes)) x)
-      go (taken {q} {f} e s) = levels-form bytes q f e n (lim .levels) f [] s (basis-filled q f (s .sound)) (omega arith)
-      go (refused-reading r) = holds (not-read r)
+      go (taken {q} {f} w s) = levels-form bytes q f w n (lim .levels) f [] s (basis-filled q f (s .sound)) (omega arith)
+      go (refused-reading r) = holds (refusal r)
       go still-reading = nothing

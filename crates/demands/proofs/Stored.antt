@@ -13,13 +13,14 @@ use Rattle.definitions.specs.Lists.{_and_, _then_, choose, between}
 use Rattle.definitions.specs.Result.{Result}
 use Rattle.definitions.specs.Lifting.{Lifting}
 use Rattle.definitions.specs.Problem.{Bytes}
-use Rattle.definitions.specs.State.{State, empty, has-level?, levels-sound?, sound?}
+use Rattle.definitions.specs.State.{State, empty, has-level?, up-to, levels-sound?, sound?}
+use Rattle.definitions.specs.Stage.{highest}
 use Rattle.definitions.specs.Calls.{Call, reading, lifting, Reply, refuse, settled, lift, fetch, eleven?, pick-code?, lifts?, fetches?, read-reply, lift-reply, fetch-reply}
 use Rattle.definitions.specs.Reckoning.{Reckoning, nothing, succeeds, fails, reckon}
 use Rattle.definitions.specs.Layout.{Words, zeros, state-words, encode, meant, decode, holds-state?, state-after, rows-after, levels-at, all-words-sound?}
 use Rattle.definitions.specs.Layout.{Way, division, lifting-by, long-enough?, work-words, out-words, Read, read-left, Lift}
 use Rattle.definitions.specs.Layout.{Lent, read-with, lift-with, fetch-with, Left, lent-call}
-use Rattle.definitions.proofs.Tests.{false-is, and-left, and-right}
+use Rattle.definitions.proofs.Tests.{false-is, and-left, and-right, and-both}
 use Rattle.definitions.proofs.Sound.{sound-says}
 use Rattle.definitions.proofs.Numbers.{read-number?}
 use Rattle.definitions.proofs.Refusals.{keeps?, encode-empty}
@@ -189,17 +190,23 @@ module _ (lim : Limits) (o : T (sensible? lim)) where
         abbrev Fetched : Left → Type 0
         Fetched a = Called R (fetch-with k v out) a × Fetch-right lim R (fetch-with k v out) a
 
-        fetch-twelve : (b : Bool) → Fetched (left (choose (not b) (refuse 12 X) (fetch X k v)))
-        fetch-twelve false = (h, λ e. absurd (omega arith))
-        fetch-twelve true = (h, λ e. (X .levels, held-agrees lim R X (h .holds) .levels, refl))
+        fetch-twelve : (T (between 1 k (lim .levels)) → T (has-level? X k)) → (b : Bool) → (T b → T (fetches? lim X k v))
+            → Fetched (left (choose (not b) (refuse 12 X) (fetch X k v)))
+        fetch-twelve s false y = (h, λ e. absurd (omega arith))
+        fetch-twelve s true y =
+            let d : T (between 1 k (lim .levels)) = and-left (between 1 k (lim .levels)) (between 1 v (length (highest (up-to X k)))) (y tt) in
+            let c : T (between 1 v (length (highest (up-to X k)))) =
+            and-right (between 1 k (lim .levels)) (between 1 v (length (highest (up-to X k)))) (y tt) in
+            (h, λ e. (X .levels, held-agrees lim R X (h .holds) .levels, and-both (has-level? X k) (between 1 v (length (highest (up-to X k)))) (s d) c, refl))
 
-        fetch-eleven : (b : Bool) → Fetched (left (choose b (refuse 11 X) (choose (not (fetches? lim X k v)) (refuse 12 X) (fetch X k v))))
-        fetch-eleven true = (h, λ e. absurd (omega arith))
-        fetch-eleven false = fetch-twelve (fetches? lim X k v)
+        fetch-eleven : (b : Bool) → ((T b → ⊥) → T (sound? lim X) × (T (between 1 k (lim .levels)) → T (has-level? X k)))
+            → Fetched (left (choose b (refuse 11 X) (choose (not (fetches? lim X k v)) (refuse 12 X) (fetch X k v))))
+        fetch-eleven true f = (h, λ e. absurd (omega arith))
+        fetch-eleven false f = fetch-twelve (f (λ x. x) .1) (fetches? lim X k v) (λ x. x)
 
         fetch-long : (b : Bool) → Fetched (left (fetch-reply lim X b k v))
         fetch-long false = (h, λ e. absurd (omega arith))
-        fetch-long true = fetch-eleven (eleven? lim X k k)
+        fetch-long true = fetch-eleven (eleven? lim X k k) (not-eleven lim X k k)
 
         pub fetch-stored : Holds (λ a. Called R (fetch-with k v out) a × Fetch-right lim R (fetch-with k v out) a) (lent-call lim n state (fetch-with k v out))
         fetch-stored = holds (fetch-long (leb (state-words lim) (length state) and leb (out-words lim) (length out)))

@@ -5,7 +5,7 @@ use mathlib.Core.Bool.{Bool, true, false, not}
 use mathlib.Core.Option.{Option, none, some}
 use mathlib.Core.List.{List, [], _∷_, _++_}
 use Prim.Native.Nat.{ℕ, suc, _-_, _<_, _≤_}
-use lib.Dec.{T, leb, eqb}
+use lib.Dec.{T, leb, ltb, eqb}
 use lib.ListN.{length, drop}
 use Rattle.definitions.specs.Limits.{Limits}
 use Rattle.definitions.specs.Lists.{_and_, every, empty?, between}
@@ -14,22 +14,34 @@ use Rattle.definitions.specs.Frame.{frame}
 use Rattle.definitions.specs.Result.{Result, done, refused, unfinished}
 use Rattle.definitions.specs.Stage.{highest, stage-over}
 use Rattle.definitions.specs.Run.{Strategy}
-use Rattle.definitions.specs.Lifting.{Lifting}
-use Rattle.definitions.specs.Problem.{Bytes, Parameters, lines, problem}
+use Rattle.definitions.specs.Lifting.{Lifting, by-hybrid}
+use Rattle.definitions.specs.Problem.{Bytes, Parameters}
 use Rattle.definitions.specs.State.{State, empty, up-to, sound?}
 use Rattle.definitions.specs.Calls.{Call, reading, lifting, fetching, read, lift, eleven?, lifts?, fetches?}
 use Rattle.definitions.specs.Reckoning.{Reckoning, nothing, reckon, reckon-all, reckoned-vector, reckoned-level}
-use Rattle.definitions.specs.Sheet.{sheet, level-lines, x-lines, variables-of}
+use Rattle.definitions.specs.Sheet.{sheet, printed, letter-X, level-lines, x-lines}
 use Rattle.definitions.specs.Layout.{Words, rows-of, padded, zeros, state-words, encode, meant, out-words, Way, division, lifting-by, long-enough?}
 use Rattle.definitions.specs.Layout.{Read, read-call, Lift, lift-call, Fetch, fetch-call, Lent, read-with, lift-with, fetch-with, Left, lent-call, lent-calls}
+use Rattle.files.specs.Files.{Well-formed-file}
+use Rattle.files.specs.Answers.{Refused-right, Reader-right}
 use Rattle.demands.specs.Notions.{Gröbner-basis, Leading-generated, Member}
 use Rattle.demands.specs.Frames.{Is-frame}
 use Rattle.demands.specs.Picks.{All-pick, run-by}
 use Rattle.demands.specs.Exact.{Shows-why, Exact, Reckons}
 
--- The limits may be any with eight exponents, exponents of 8 bits and room for a vector's first term: document 01's, and those of later requests
+-- each at most the one beside it: the numbers of a well-formed file are within a field, and there is a file of one term
+abbrev pub readable : Limits → List (ℕ × ℕ)
+readable lim =
+    (255, lim .field) ∷ (lim .prime-bound, lim .field) ∷ (lim .components, lim .field) ∷ (lim .elements, lim .field) ∷ (lim .t-lines, lim .field)
+    ∷ (2, lim .prime-bound) ∷ (1, lim .variables) ∷ (1, lim .components) ∷ (1, lim .elements) ∷ (1, lim .t-lines) ∷ []
+
+abbrev pub readable? : Limits → Bool
+readable? lim = every (λ (x : ℕ × ℕ). leb (x .0) (x .1)) (readable lim)
+
+-- The limits may be any with eight exponents, exponents of 8 bits, room for a vector's first term, and files that can be read: document 01's, and those
+-- of later requests
 abbrev pub sensible? : Limits → Bool
-sensible? lim = leb (lim .variables) 8 and leb (lim .exponent) 255 and leb 1 (lim .vector)
+sensible? lim = leb (lim .variables) 8 and leb (lim .exponent) 255 and leb 1 (lim .vector) and readable? lim
 
 -- "13 to 15 where the run meets them"
 abbrev pub limit? : ℕ → Bool
@@ -45,18 +57,18 @@ out-long-enough? lim state out = leb (state-words lim) (length state) and leb (o
 
 -- ## Demand 1: every file and every call has an answer, of the form that document 01 names
 
--- "the place is the line (an absent line has the next number)"; "file too long (line 0, tested first)"
-pub data Bad-line (lim : Limits) (bytes : Bytes) : ℕ → ℕ → Type 0 where
-  at-line : {number place : ℕ} → T (between 1 number 8) → T (between 1 place (suc (length (lines bytes)))) → Bad-line lim bytes number place
-  too-long : lim .file < length bytes → Bad-line lim bytes 1 0
+-- a well-formed file refused all the same, where the run ends so: "for 9 the frame term's number, for 13 to 15 .. 0 while accepting"
+pub data Not-accepted (lim : Limits) (bytes : Bytes) (q : Parameters) : ℕ → ℕ → Vector → Type 0 where
+  no-basis : {f : Level} {place : ℕ} {value : Vector} (bound : ℕ) → Well-formed-file lim bytes q f → read lim bound bytes ≡ refused 9 place value
+      → T (between 1 place (length (frame (lim .numbering (q .code)) (leading-monomials f)))) → Shows-why lim q f value → Not-accepted lim bytes q 9 place value
+  limit-met : {f : Level} {number : ℕ} (bound : ℕ) → Well-formed-file lim bytes q f → read lim bound bytes ≡ refused number 0 [] → T (limit? number)
+      → Not-accepted lim bytes q number 0 []
 
--- the number, the place and the value with which reading is refused: "for 9 the frame term's number, for 13 to 15 .. 0 while accepting"
+-- the number, the place and the value with which reading is refused: 1 to 8 at the first bad line, for its reason, or as above
 pub data Refused-reading (lim : Limits) (bytes : Bytes) : ℕ → ℕ → Vector → Type 0 where
-  ill-formed : {number place : ℕ} → problem lim bytes ≡ refused number place [] → Bad-line lim bytes number place
-      → Refused-reading lim bytes number place []
-  no-basis : {q : Parameters} {f : Level} {place : ℕ} {value : Vector} → problem lim bytes ≡ done (q, f)
-      → T (between 1 place (length (frame (lim .numbering (q .code)) (leading-monomials f)))) → Shows-why lim q f value → Refused-reading lim bytes 9 place value
-  limit-met : {q : Parameters} {f : Level} {number : ℕ} → problem lim bytes ≡ done (q, f) → T (limit? number) → Refused-reading lim bytes number 0 []
+  ill-formed : {number place : ℕ} → Refused-right lim bytes number place → Refused-reading lim bytes number place []
+  not-accepted : {q : Parameters} {number place : ℕ} {value : Vector} → Not-accepted lim bytes q number place value
+      → Refused-reading lim bytes number place value
 
 -- the lines of levels 1 to h, of levels held highest first
 abbrev pub printed-levels : ℕ → List Level → Bytes
@@ -67,7 +79,7 @@ printed-levels n (g ∷ f ∷ below) = printed-levels n (f ∷ below) ++ level-l
 -- the reckoning's levels of the file, the highest first; none of those below has count 0
 pub record Listed (lim : Limits) (bytes : Bytes) (q : Parameters) (g : Level) (below : List Level) : Type 0 where
   pub basis : Level
-  pub well-formed : problem lim bytes ≡ done (q, basis)
+  pub well-formed : Well-formed-file lim bytes q basis
   pub reckoned : Reckons lim (record { basis = some (q, basis); h = length below }) (g ∷ below)
   pub exact : Exact lim q (g ∷ below)
   pub filled : T (every (λ f. not (empty? f)) below)
@@ -76,16 +88,18 @@ pub record Listed (lim : Limits) (bytes : Bytes) (q : Parameters) (g : Level) (b
 pub data Sheet-form (lim : Limits) (bytes : Bytes) : Bytes → Type 0 where
   listing : {q : Parameters} {g : Level} {below : List Level} → Listed lim bytes q g below → (g ≡ []) ⊎ (length below ≡ lim .levels)
       → Sheet-form lim bytes (printed-levels (q .n) (g ∷ below))
-  cut-off : {q : Parameters} {g : Level} {below : List Level} (number : ℕ) → Listed lim bytes q g below → ¬ (g ≡ []) → length below < lim .levels
+  cut-off : {q : Parameters} {g : Level} {below : List Level} (number bound : ℕ) → Listed lim bytes q g below → ¬ (g ≡ []) → length below < lim .levels
+      → lift lim bound (record { parameters = q; levels = g ∷ below }) (suc (length below)) (by-hybrid 2) ≡ refused number (suc (length below)) []
       → T (limit? number)
       → Sheet-form lim bytes (printed-levels (q .n) (g ∷ below) ++ x-lines (q .n) number (suc (length below)) [])
-  not-read : {number place : ℕ} {value : Vector} → Refused-reading lim bytes number place value
-      → Sheet-form lim bytes (x-lines (variables-of (problem lim bytes)) number place value)
+  not-read : {number place : ℕ} → Refused-right lim bytes number place → Sheet-form lim bytes (printed letter-X (number ∷ place ∷ []))
+  not-taken : {q : Parameters} {number place : ℕ} {value : Vector} → Not-accepted lim bytes q number place value
+      → Sheet-form lim bytes (x-lines (q .n) number place value)
 
 -- Number, place and the buffers after reading: "After 1 to 9 and 13 to 15 the state is empty and each buffer lent for writing is zeroed; 9 leaves
 -- in the work area the value where division stopped, descending, zeros after it."
 pub data Read-form (lim : Limits) (file : Bytes) (state work : Words) : Read → Type 0 where
-  accepted-as : {q : Parameters} {f : Level} → T (long-enough? lim division state work) → problem lim file ≡ done (q, f)
+  accepted-as : {q : Parameters} {f : Level} → T (long-enough? lim division state work) → Well-formed-file lim file q f
       → Read-form lim file state work (0, 0, encode lim (length state) (record { parameters = q; levels = f ∷ [] }), zeros work)
   refused-as : {number place : ℕ} {value : Vector} → T (long-enough? lim division state work) → Refused-reading lim file number place value
       → length (rows-of value) ≤ length work → Read-form lim file state work (number, place, zeros state, padded (length work) (rows-of value))
@@ -95,11 +109,13 @@ pub data Read-form (lim : Limits) (file : Bytes) (state work : Words) : Read →
 -- "Lifting a complete level again drops the levels above it", "11, 12, 16 change no buffer and no state".
 pub data Lift-form (lim : Limits) (k : ℕ) (way : Way) (state work cache : Words) : Lift → Type 0 where
   lifted-as : (X : State) (g : Level) (bound : ℕ) → T (long-enough? lim way state work) → meant lim state ≡ X
+      → T (not (eleven? lim X k (k - 1))) → T (lifts? lim k (lifting-by way cache))
       → reckoned-level lim bound (X .parameters .p) (X .parameters .code) (up-to X (k - 1)) ≡ some g
       → T (sound? lim (record { parameters = X .parameters; levels = g ∷ up-to X (k - 1) }))
       → Lift-form lim k way state work cache
       (0, 0, encode lim (length state) (record { parameters = X .parameters; levels = g ∷ up-to X (k - 1) }), zeros work, zeros cache)
-  refused-as : {number : ℕ} → T (long-enough? lim way state work) → T (limit? number)
+  refused-as : {number : ℕ} (bound : ℕ) → T (long-enough? lim way state work) → T (not (eleven? lim (meant lim state) k (k - 1)))
+      → T (lifts? lim k (lifting-by way cache)) → lift lim bound (meant lim state) k (lifting-by way cache) ≡ refused number k [] → T (limit? number)
       → Lift-form lim k way state work cache (number, k, zeros state, zeros work, zeros cache)
   no-level : T (long-enough? lim way state work) → T (eleven? lim (meant lim state) k (k - 1)) → Lift-form lim k way state work cache (11, 0, state, work, cache)
   no-number : T (long-enough? lim way state work) → T (not (eleven? lim (meant lim state) k (k - 1))) → T (not (lifts? lim k (lifting-by way cache)))
@@ -108,8 +124,8 @@ pub data Lift-form (lim : Limits) (k : ℕ) (way : Way) (state work cache : Word
 
 -- .. after fetching: "a fetched vector is followed by zeros to its buffer's end"
 pub data Fetch-form (lim : Limits) (k v : ℕ) (state out : Words) : Fetch → Type 0 where
-  fetched-as : {w : Vector} → T (out-long-enough? lim state out) → T (sound? lim (meant lim state)) → T (fetches? lim (meant lim state) k v)
-      → w ≡ vector-of (level-of (meant lim state .levels) k) v → length (rows-of w) ≤ length out
+  fetched-as : {w : Vector} → T (out-long-enough? lim state out) → T (not (eleven? lim (meant lim state) k k)) → T (sound? lim (meant lim state))
+      → T (fetches? lim (meant lim state) k v) → w ≡ vector-of (level-of (meant lim state .levels) k) v → length (rows-of w) ≤ length out
       → Fetch-form lim k v state out (0, 0, padded (length out) (rows-of w))
   no-level : T (out-long-enough? lim state out) → T (eleven? lim (meant lim state) k k) → Fetch-form lim k v state out (11, 0, out)
   no-number : T (out-long-enough? lim state out) → T (not (eleven? lim (meant lim state) k k)) → T (not (fetches? lim (meant lim state) k v))
@@ -154,21 +170,22 @@ decided? (refused number place value) = eqb number 9
 decided? unfinished = false
 
 pub record Demand-2 (lim : Limits) : Type 0 where
-  pub reading : (n : ℕ) (bytes : Bytes) (q : Parameters) (f : Level) → problem lim bytes ≡ done (q, f) → Read-right lim q f (read lim n bytes)
+  -- each file is well-formed and read as the one thing that it says, or refused for its reason
+  pub files : Reader-right lim
+  pub reading : (n : ℕ) (bytes : Bytes) (q : Parameters) (f : Level) → Well-formed-file lim bytes q f → Read-right lim q f (read lim n bytes)
   -- accepted exactly if a Gröbner basis
-  pub exactly : (n : ℕ) (bytes : Bytes) (q : Parameters) (f : Level) → problem lim bytes ≡ done (q, f) → T (decided? (read lim n bytes))
+  pub exactly : (n : ℕ) (bytes : Bytes) (q : Parameters) (f : Level) → Well-formed-file lim bytes q f → T (decided? (read lim n bytes))
       → T (accepted? (read lim n bytes)) ↔ Gröbner-basis q [] f
   -- what 9 shows is no Gröbner basis
   pub shows : (q : Parameters) (f : Level) (value : Vector) → Shows-why lim q f value → Gröbner-basis q [] f → ⊥
-  -- what the reader takes is a sound state with level 0 alone
-  pub well-formed : (bytes : Bytes) (q : Parameters) (f : Level) → problem lim bytes ≡ done (q, f)
+  -- a well-formed file is a sound state with level 0 alone
+  pub well-formed : (bytes : Bytes) (q : Parameters) (f : Level) → Well-formed-file lim bytes q f
       → T (sound? lim (record { parameters = q; levels = f ∷ [] }))
   -- document 01's Gröbner bases are those whose leading monomials generate the leading module, on every level of a sound state
   pub generated : (q : Parameters) (f : Level) (below : List Level) → T (sound? lim (record { parameters = q; levels = f ∷ below }))
       → Gröbner-basis q below f ↔ Leading-generated q below f
-  -- a file that is not well-formed is refused as the reader refuses it
-  pub ill-formed : (n : ℕ) (bytes : Bytes) (number place : ℕ) (value : Vector) → problem lim bytes ≡ refused number place value
-      → read lim n bytes ≡ refused number place value
+  -- a file that is not well-formed is refused for its reason
+  pub ill-formed : (n : ℕ) (bytes : Bytes) (number place : ℕ) → Refused-right lim bytes number place → read lim n bytes ≡ refused number place []
   -- the frame of each level of a sound state, in each order that numbers it, is the minimal one, and the only one
   pub framed : (q : Parameters) (f : Level) (below : List Level) → T (sound? lim (record { parameters = q; levels = f ∷ below })) → (code : ℕ)
       → Is-frame code f (frame code (leading-monomials f)) × ((ts : List Monomial) → Is-frame code f ts → ts ≡ frame code (leading-monomials f))
@@ -206,12 +223,13 @@ First-reads (c ∷ cs) (a ∷ ls) = Reads c a
 abbrev pub Starts : Words → List Lent → List Left → Type 0
 Starts state cs ls = (state ≡ zeros state) ⊎ First-reads cs ls
 
--- "fetching gives its vector v of level k": of the moment of the call
+-- "fetching gives its vector v of level k": of the moment of the call, where k ≤ h and v is a number of level k's
 abbrev pub Fetch-right : Limits → Reckoning → Lent → Left → Type 0
 Fetch-right lim R (read-with file work) a = Unit {0}
 Fetch-right lim R (lift-with k way work cache) a = Unit {0}
 Fetch-right lim R (fetch-with k v out) a =
-    a .number ≡ 0 → (levels : List Level) × Reckons lim R levels × (a .out ≡ padded (length out) (rows-of (vector-of (level-of levels k) v)))
+    a .number ≡ 0 → (levels : List Level) × Reckons lim R levels × T (ltb k (length levels) and between 1 v (length (level-of levels k)))
+    × (a .out ≡ padded (length out) (rows-of (vector-of (level-of levels k) v)))
 
 abbrev pub Fetches-right : Limits → Reckoning → List Lent → List Left → Type 0
 Fetches-right lim R [] ls = Unit {0}

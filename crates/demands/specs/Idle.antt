@@ -8,10 +8,10 @@ use Rattle.definitions.specs.Limits.{Limits}
 use Rattle.definitions.specs.Monomial.{Vector, Level}
 use Rattle.definitions.specs.Result.{done}
 use Rattle.definitions.specs.Stage.{highest}
-use Rattle.definitions.specs.Lifting.{by-hybrid}
+use Rattle.definitions.specs.Lifting.{by-hybrid, by-tree}
 use Rattle.definitions.specs.Problem.{Bytes, Parameters, problem}
 use Rattle.definitions.specs.State.{State}
-use Rattle.definitions.specs.Calls.{read, lift}
+use Rattle.definitions.specs.Calls.{Reply, settled, read, lift}
 use Rattle.definitions.specs.Sheet.{sheet, printed, letter-Z, vector-lines, level-lines, x-lines}
 use Rattle.definitions.specs.Layout.{Words, Read, read-call}
 use Rattle.demands.specs.Exact.{Level-right}
@@ -42,9 +42,9 @@ abbrev pub Count-invented : Limits → ℕ → Engine → Type 0
 Count-invented lim count E = (n : ℕ) (file : Bytes) (X Y : State) → read lim n file ≡ done X → lift lim n X 1 (by-hybrid 2) ≡ done Y
     → (later : Bytes) × (E file ≡ vector-lines (X .parameters .n) 1 1 (highest (Y .levels)) ++ printed letter-Z (1 ∷ count ∷ []) ++ later)
 
--- one term less in a working value
-abbrev pub one-less : Limits → Limits
-one-less lim = record {
+-- document 01's limits on what 14 counts, changed: the terms of a working value, of a vector, of the tree's area
+abbrev pub with-room : Limits → ℕ → ℕ → ℕ → Limits
+with-room lim working vector tree = record {
   prime-bound = lim .prime-bound;
   variables = lim .variables;
   components = lim .components;
@@ -56,15 +56,30 @@ one-less lim = record {
   vectors = lim .vectors;
   level-terms = lim .level-terms;
   levels = lim .levels;
-  working = lim .working - 1;
-  vector = lim .vector;
-  tree = lim .tree;
+  working = working;
+  vector = vector;
+  tree = tree;
   numbering = lim .numbering;
 }
 
--- "14 before a 513th term exists": a term too early
+-- "14 before a 513th term exists": a term too early in a working value
 abbrev pub Early-14 : Limits → Engine → Type 0
-Early-14 lim E = Right (one-less lim) E
+Early-14 lim E = Right (with-room lim (lim .working - 1) (lim .vector) (lim .tree)) E
+
+-- .. in a vector
+abbrev pub Early-14-vector : Limits → Engine → Type 0
+Early-14-vector lim E = Right (with-room lim (lim .working) (lim .vector - 1) (lim .tree)) E
+
+-- what lifting level k of a state by the tree answers, with a cache of so many terms
+abbrev pub Tree-engine : Type 0
+Tree-engine = State → ℕ → ℕ → Reply
+
+abbrev pub Lifts-right : Limits → Tree-engine → Type 0
+Lifts-right lim E = (n : ℕ) (X : State) (k room : ℕ) (a : Reply) → settled (lift lim n X k (by-tree room)) ≡ some a → E X k room ≡ a
+
+-- .. in the unfinished subtrees together
+abbrev pub Early-14-tree : Limits → Tree-engine → Type 0
+Early-14-tree lim E = Lifts-right (with-room lim (lim .working) (lim .vector) (lim .tree - 1)) E
 
 -- what reading leaves
 abbrev pub Reads-right : Limits → (Bytes → Words → Words → Read) → Type 0
@@ -80,13 +95,15 @@ pub record Zero-vector (f : Level) : Type 0 where
   pub inside : k < length f
   pub zero : getD f k [] ≡ []
 
-pub record Idle-shut-out (lim small : Limits) : Type 0 where
+pub record Idle-shut-out (lim working vector tree : Limits) : Type 0 where
   pub empty-always : (E : Engine) → Right lim E → Empty-always lim E → ⊥
   pub level-2-empty : (E : Engine) → Right lim E → Level-2-empty lim E → ⊥
   pub refuses-all : (E : Engine) → Right lim E → Refuses-all E → ⊥
   pub count-invented : (E : Engine) (count : ℕ) → Right lim E → Count-invented lim count E → ⊥
   pub untouched : (R : Bytes → Words → Words → Read) → Reads-right lim R → Untouched R → ⊥
   -- with limits that are small, so that the term can be seen
-  pub early-14 : (E : Engine) → Right small E → Early-14 small E → ⊥
+  pub early-14 : (E : Engine) → Right working E → Early-14 working E → ⊥
+  pub early-14-vector : (E : Engine) → Right vector E → Early-14-vector vector E → ⊥
+  pub early-14-tree : (E : Tree-engine) → Lifts-right tree E → Early-14-tree tree E → ⊥
   -- by its frame term in front
   pub zero-vectors : (q : Parameters) (code : ℕ) (below : List Level) (f : Level) → Level-right q code below f → Zero-vector f → ⊥

@@ -22,8 +22,8 @@ use Rattle.definitions.proofs.Results.{if-done-says}
 use Rattle.definitions.proofs.Reading.{problem-sound, basis-state}
 use Rattle.definitions.proofs.RoundTrip.{decode-encode, holds-encode, length-encode}
 use Rattle.definitions.proofs.Refusals.{encode-empty}
-use Rattle.demands.specs.Demands.{Bad-line}
-use Rattle.demands.proofs.Places.{Refused-by, refuses, problem-at}
+use Rattle.files.specs.Answers.{Answered}
+use Rattle.files.proofs.Reader.{document-reader}
 use Rattle.terms.specs.Rows.{cleared}
 use Rattle.writing.proofs.Growth.{cleared-empties}
 use Rattle.levels.proofs.StateTests.{holds-said}
@@ -117,12 +117,12 @@ pub record Refused-file (size area : ℕ) (file : Bytes) (r : Read) : Type 0 whe
 module _ (size area : ℕ) (big : 206095 ≤ size) (file : Bytes) (number place : ℕ) (s : Words) (some-number : number ≡ 0 → ⊥) where
   pub file-refused : _≡_ {A = ℕ × ℕ × Words} (number, place, s) (read-as size (problem document-01 file)) → (w : Words) → length w ≡ area
       → Refused-file size area file (number, place, s, cleared w 0)
-  file-refused e w l = go (problem document-01 file) refl (problem-at document-01 file) e
+  file-refused e w l = go (problem document-01 file) refl (document-reader .answered file) e
     where
-      go : (x : Result (Parameters × Level)) → problem document-01 file ≡ x → Refused-by (λ number place value. Bad-line document-01 file number place × (value ≡ [])) x
+      go : (x : Result (Parameters × Level)) → problem document-01 file ≡ x → Answered document-01 file x
           → _≡_ {A = ℕ × ℕ × Words} (number, place, s) (read-as size x) → Refused-file size area file (number, place, s, cleared w 0)
       go (done f) p b q = absurd (some-number (ap (λ t. t .0) q))
-      go (refused m o value) p (refuses b) q = record {
+      go (refused m o value) p b q = record {
         words =
             (λ i. (q i .0, q i .1, (ap (λ t. t .2) q ∙ sym (encode-empty document-01 size big)) i, (ap (λ a. padded a []) l ∙ ap (λ x. padded area (rows-of x)) (sym (b .1))) i))
             ∙ sym (ap (λ x. settled-words size area (x >>= accepted document-01 0)) p);

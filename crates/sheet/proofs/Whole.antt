@@ -19,8 +19,8 @@ use Rattle.definitions.specs.Layout.{Words, padded, zeros, decode, level-at}
 use Rattle.definitions.specs.Sheet.{printed, w-lines, levels-from, variables-of, sheet-of, sheet}
 use Rattle.definitions.proofs.Steady.{answered?, steady-from}
 use Rattle.definitions.proofs.Bound.{accept-steady, levels-from-steady}
-use Rattle.demands.specs.Demands.{Bad-line}
-use Rattle.demands.proofs.Places.{Refused-by, refuses, problem-at}
+use Rattle.files.specs.Answers.{Answered}
+use Rattle.files.proofs.Reader.{document-reader}
 use Rattle.terms.specs.Rows.{cleared}
 use Rattle.problem.specs.Reading.{read-as, words-read}
 use Rattle.lifting.specs.Stages.{accepted-over}
@@ -66,12 +66,12 @@ module _ (size : ℕ) (big : 206095 ≤ size) (file : Bytes) (f : Parameters × 
 
 module _ (size : ℕ) (file : Bytes) (number place : ℕ) (s : Words) (some-number : number ≡ 0 → ⊥) where
   pub refused-sheet : _≡_ {A = ℕ × ℕ × Words} (number, place, s) (read-as size (problem document-01 file)) → some (printed 88 (number ∷ place ∷ [])) ≡ sheet document-01 0 file
-  refused-sheet e = go (problem document-01 file) refl (problem-at document-01 file) e
+  refused-sheet e = go (problem document-01 file) refl (document-reader .answered file) e
     where
-      go : (x : Result (Parameters × Level)) → problem document-01 file ≡ x → Refused-by (λ number place value. Bad-line document-01 file number place × (value ≡ [])) x
+      go : (x : Result (Parameters × Level)) → problem document-01 file ≡ x → Answered document-01 file x
           → _≡_ {A = ℕ × ℕ × Words} (number, place, s) (read-as size x) → some (printed 88 (number ∷ place ∷ [])) ≡ sheet document-01 0 file
       go (done f) p b q = absurd (some-number (ap (λ t. t .0) q))
-      go (refused m o value) p (refuses b) q =
+      go (refused m o value) p b q =
           (λ i. some (printed 88 (q i .0 ∷ q i .1 ∷ [])))
           ∙ ap some (sym (append-nil (printed 88 (m ∷ o ∷ []))))
           ∙ ap (λ v. some (printed 88 (m ∷ o ∷ []) ++ w-lines 0 v)) (sym (b .1))

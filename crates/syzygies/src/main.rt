@@ -56,7 +56,7 @@ fn main() {
     let n = io::read_full(STDIN_FILENO, &mut file);
     // read_full stops at the input's end and where a read fails: what came before a failure is not the file
     let mut more = [0u8; 1];
-    if n < 65537 && libc::read(STDIN_FILENO, &mut more) < 0 {
+    if n < 65537 && libc::read(STDIN_FILENO, &mut more) != 0 {
         io::write_all(
             STDERR_FILENO,
             &[b'n', b'o', b't', b' ', b'r', b'e', b'a', b'd', b'\n'],

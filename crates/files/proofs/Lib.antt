@@ -1,0 +1,11 @@
+pub mod Decimals
+pub mod Lines
+pub mod Forms
+pub mod Taken
+pub mod Only
+pub mod First
+pub mod Why
+pub mod Because
+pub mod Reader
+pub mod Sheets
+pub mod Examples

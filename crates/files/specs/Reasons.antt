@@ -1,0 +1,81 @@
+-- "Refusals from the input" 1 to 8, each with its reason in plain notions; "1, then 2, 3 for R; 1, 8, 5, 4, 6 for T; 1, 7 for E".
+use mathlib.Core.Path.{_≡_}
+use mathlib.Core.Logic.{_⊎_}
+use mathlib.Core.Option.{some}
+use mathlib.Core.List.{List, [], _∷_, _++_}
+use Prim.Native.Nat.{ℕ, suc, _+_, _≤_, _<_}
+use lib.ListN.{length, drop}
+use Rattle.definitions.specs.Limits.{Limits}
+use Rattle.definitions.specs.Lists.{last}
+use Rattle.definitions.specs.Monomial.{Term, Vector, Level}
+use Rattle.definitions.specs.Order.{greater, compare-over}
+use Rattle.definitions.specs.Problem.{Bytes, Line, Parameters, letter-R, letter-T, letter-E, lines, last-term}
+use Rattle.definitions.specs.State.{terms-of}
+use Rattle.definitions.specs.Sheet.{printed, term-fields}
+use Rattle.definitions.proofs.Modular.{Prime}
+use Rattle.definitions.proofs.Members.{All}
+use Rattle.files.specs.Files.{elements-lines, end-line, first-line-of, Well-formed-parameters, Well-formed-element}
+
+-- the elements of the lines so far are in order
+pub record So-far (lim : Limits) (q : Parameters) (f : Level) : Type 0 where
+  pub parameters : Well-formed-parameters lim q
+  pub few : length f ≤ lim .elements
+  pub short : terms-of f ≤ lim .t-lines
+  pub elements : All (Well-formed-element lim q) f
+
+-- the line is the letter and so many numbers, each within a field
+pub record Says (lim : Limits) (letter count : ℕ) (line : Line) (v : List ℕ) : Type 0 where
+  pub text : lines (printed letter v) ≡ line ∷ []
+  pub counted : length v ≡ count
+  pub within : All (λ x. x ≤ lim .field) v
+
+-- "Elements run from 1 without gaps", "above 64"
+abbrev pub In-sequence : Limits → Level → ℕ → Type 0
+In-sequence lim f i = ((i ≡ suc (length f)) ⊎ ((i ≡ length f) × (1 ≤ length f))) × (i ≤ lim .elements)
+
+-- "coefficient 0 or ≥ p, component outside 1..s, exponent above 255" does not hold
+pub record In-range (lim : Limits) (q : Parameters) (t : Term) : Type 0 where
+  pub coefficient-from : 1 ≤ t .0
+  pub coefficient-below : t .0 < q .p
+  pub component-from : 1 ≤ t .1 .1
+  pub component-to : t .1 .1 ≤ q .s
+  pub exponents-to : All (λ x. x ≤ lim .exponent) (t .1 .0)
+
+-- the term begins an element or is below the one before it
+abbrev pub Below : ℕ → Level → ℕ → Term → Type 0
+Below code f i t = (i ≡ suc (length f)) ⊎ ((u : Term) → last-term (last f) ≡ some u → compare-over code [] (u .1) (t .1) ≡ greater)
+
+-- the line of term t for element i, after the elements f: "8, 5, 4, 6"
+pub data Bad-term (lim : Limits) (q : Parameters) (f : Level) (i : ℕ) (t : Term) : ℕ → Type 0 where
+  too-many : lim .t-lines ≤ terms-of f → Bad-term lim q f i t 8
+  out-of-sequence : terms-of f < lim .t-lines → ¬ (In-sequence lim f i) → Bad-term lim q f i t 5
+  out-of-range : terms-of f < lim .t-lines → In-sequence lim f i → ¬ (In-range lim q t) → Bad-term lim q f i t 4
+  not-below : terms-of f < lim .t-lines → In-sequence lim f i → In-range lim q t → ¬ (Below (q .code) f i t) → Bad-term lim q f i t 6
+
+-- the lines after R and the T lines of f
+pub data Bad-later (lim : Limits) (q : Parameters) (f : Level) : List Line → ℕ → Type 0 where
+  absent : Bad-later lim q f [] 1
+  no-shape : {line : Line} {later : List Line} → ((v : List ℕ) → ¬ (Says lim letter-T (3 + q .n) line v)) → ((v : List ℕ) → ¬ (Says lim letter-E 1 line v))
+      → Bad-later lim q f (line ∷ later) 1
+  bad-term : {line : Line} {later : List Line} {number : ℕ} (i : ℕ) (t : Term) → length (t .1 .0) ≡ 8 → All (λ x. x ≡ 0) (drop (q .n) (t .1 .0))
+      → Says lim letter-T (3 + q .n) line (i ∷ term-fields (q .n) t) → Bad-term lim q f i t number
+      → Bad-later lim q f (line ∷ later) number
+  bad-count : {line : Line} {later : List Line} (c : ℕ) → Says lim letter-E 1 line (c ∷ []) → ¬ ((1 ≤ c) × (c ≡ terms-of f))
+      → Bad-later lim q f (line ∷ later) 7
+
+-- the number and the place of a refusal, with the lines of the file
+pub data Reason (lim : Limits) (bytes : Bytes) (number place : ℕ) : Type 0 where
+  no-first : number ≡ 1 → place ≡ 1 → lines bytes ≡ [] → Reason lim bytes number place
+  first-shape : number ≡ 1 → place ≡ 1 → (line : Line) (later : List Line) → lines bytes ≡ line ∷ later → ((v : List ℕ) → ¬ (Says lim letter-R 4 line v))
+      → Reason lim bytes number place
+  first-prime : number ≡ 2 → place ≡ 1 → (line : Line) (later : List Line) → lines bytes ≡ line ∷ later → (p n code s : ℕ)
+      → Says lim letter-R 4 line (p ∷ n ∷ code ∷ s ∷ [])
+      → ¬ (Prime p × (p ≤ lim .prime-bound)) → Reason lim bytes number place
+  first-range : number ≡ 3 → place ≡ 1 → (line : Line) (later : List Line) → lines bytes ≡ line ∷ later → (p n code s : ℕ)
+      → Says lim letter-R 4 line (p ∷ n ∷ code ∷ s ∷ [])
+      → Prime p × (p ≤ lim .prime-bound) → ¬ (Well-formed-parameters lim (record { p = p; n = n; code = code; s = s })) → Reason lim bytes number place
+  later-line : (q : Parameters) (f : Level) → So-far lim q f → (tail : Bytes) → bytes ≡ first-line-of q ++ (elements-lines (q .n) 1 f ++ tail)
+      → place ≡ 2 + terms-of f → Bad-later lim q f (lines tail) number → Reason lim bytes number place
+  after-end : number ≡ 1 → (q : Parameters) (f : Level) → So-far lim q f → 1 ≤ terms-of f → (tail : Bytes) (line : Line) (later : List Line)
+      → lines tail ≡ line ∷ later
+      → bytes ≡ first-line-of q ++ (elements-lines (q .n) 1 f ++ (end-line f ++ tail)) → place ≡ 3 + terms-of f → Reason lim bytes number place
