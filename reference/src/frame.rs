@@ -6,9 +6,13 @@ use crate::monomial::{
 use crate::order::Order;
 use std::collections::BTreeMap;
 
+/// "Frame terms with the same component are .. numbered by ascending lexicographic monomial,
+/// whatever the file's order code" (request A10).
+pub const NUMBERING: Order = Order::Lexicographic;
+
 /// The frame over the elements `f_1 .. f_r`: "for each i, the minimal generators of the monomial
 /// ideal (LM f_1 .. LM f_{i−1}) : LM f_i .. coefficient 1 .. Numbered by i ascending, then
-/// monomial ascending in the file's order."
+/// monomial ascending" in the given order.
 pub fn frame(elements: &[Vector], order: Order) -> Vec<Monomial> {
     let mut terms = Vec::new();
     for i in 0..elements.len() {

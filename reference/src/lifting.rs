@@ -1,7 +1,7 @@
 //! Lifting the frame of a level by the three ways, and acceptance.
 
 use crate::field::Field;
-use crate::frame::{frame, Reducer, Reducers};
+use crate::frame::{frame, Reducer, Reducers, NUMBERING};
 use crate::limits::Limits;
 use crate::monomial::{
     leading_coefficient, multiply, Exponents, Level, Monomial, Parameters, Term, Vector,
@@ -315,7 +315,7 @@ impl<'a> Lifter<'a> {
 
     /// Forms the frame of the level. 15: "a 129th frame term, before any division or lifting".
     pub fn frame(&mut self) -> Result<Vec<Monomial>, Stop> {
-        let terms = frame(self.elements, self.modules.order);
+        let terms = frame(self.elements, NUMBERING);
         self.usage.frame = terms.len() as u64;
         if self.usage.frame > self.limits.vectors {
             return Err(Stop::Refused(15));

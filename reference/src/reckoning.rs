@@ -4,7 +4,7 @@
 //! rule and the orders with the rest, but none of the three ways.
 
 use crate::field::Field;
-use crate::frame::{frame, Reducer, Reducers};
+use crate::frame::{frame, Reducer, Reducers, NUMBERING};
 use crate::lifting::{descending, Sum};
 use crate::monomial::{
     leading_coefficient, multiply, Exponents, Level, Monomial, Parameters, Term, Vector,
@@ -81,7 +81,7 @@ impl<'a> Reckoner<'a> {
     }
 
     fn level(&mut self) -> Result<Level, GaveUp> {
-        frame(self.elements, self.modules.order)
+        frame(self.elements, NUMBERING)
             .iter()
             .map(|frame_term| self.vector(frame_term))
             .collect()

@@ -44,7 +44,7 @@ fn check_level(basis: &Basis, k: usize) {
     let field = Field::new(basis.parameters.p);
     let order = basis.parameters.file_order();
     let elements = &basis.levels[k - 1];
-    let terms = frame(elements, order);
+    let terms = frame(elements, Order::Lexicographic);
     assert_eq!(terms.len(), basis.levels[k].len());
     let modules = Modules::new(order, &basis.levels[..k]);
     for (vector, frame_term) in basis.levels[k].iter().zip(&terms) {

@@ -9,7 +9,7 @@ use reference::field::Field;
 use reference::generate::problems::{problem_file, random_basis, Size};
 use reference::lifting::{lift_level, Stop, Way};
 use reference::monomial::{divides, multiply, Exponents, Level, Monomial, Term, Vector};
-use reference::order::Modules;
+use reference::order::{Modules, Order};
 use reference::random::Random;
 use reference::Limits;
 use std::cmp::Ordering;
@@ -244,7 +244,7 @@ impl Literal<'_> {
 
     /// All monomials in the box that are multiples into the ideal and minimal among those.
     fn frame(&self) -> Vec<Monomial> {
-        let order = self.modules.order;
+        let order = Order::Lexicographic;
         let mut terms = Vec::new();
         for (i, element) in self.elements.iter().enumerate() {
             let own = &element[0].monomial;

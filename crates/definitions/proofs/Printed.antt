@@ -119,7 +119,7 @@ two-lines = record {
   working = 512;
   vector = 512;
   tree = 4_096;
-  numbering = λ code. code;
+  numbering = λ code. 1;
 }
 
 eight : sheet two-lines 99 (text ("R,7,2,1,1" ∷ "T,1,1,1,1,0" ∷ "T,2,1,1,0,1" ∷ "T,9,0,9,0,0" ∷ "E,3" ∷ [])) ≡ some (text ("X,8,4" ∷ []))
@@ -208,12 +208,27 @@ ascending-components = refl
 equal-once : frame 1 (xy 1 0 1 ∷ xy 1 0 1 ∷ xy 0 1 1 ∷ []) ≡ xy 0 0 2 ∷ xy 1 0 3 ∷ []
 equal-once = refl
 
--- "then monomial ascending in the file's order": LM x², y³, xy has y²·e_3 and x·e_3; code 1 has y² first, code 2 has x first
+-- "then monomial ascending": LM x², y³, xy has y²·e_3 and x·e_3; code 1 has y² first, code 2 has x first
 by-code-1 : frame 1 (xy 2 0 1 ∷ xy 0 3 1 ∷ xy 1 1 1 ∷ []) ≡ xy 2 0 2 ∷ xy 0 2 3 ∷ xy 1 0 3 ∷ []
 by-code-1 = refl
 
 by-code-2 : frame 2 (xy 2 0 1 ∷ xy 0 3 1 ∷ xy 1 1 1 ∷ []) ≡ xy 2 0 2 ∷ xy 1 0 3 ∷ xy 0 2 3 ∷ []
 by-code-2 = refl
+
+-- "numbered by ascending lexicographic monomial, whatever the file's order code" (A10): f = x, y², 1 has y²·e_3, then x·e_3, in all codes
+abbrev lexicographically : List String
+lexicographically =
+    "S,1,1,1,2,1,0" ∷ "S,1,1,6,1,0,2" ∷ "S,1,2,1,3,0,2" ∷ "S,1,2,6,2,0,0" ∷ "S,1,3,1,3,1,0" ∷ "S,1,3,6,1,0,0" ∷ "Z,1,3"
+    ∷ "S,2,1,1,3,0,2" ∷ "S,2,1,6,2,1,0" ∷ "S,2,1,6,1,0,0" ∷ "Z,2,1" ∷ "Z,3,0" ∷ []
+
+numbered-in-code-1 : prints ("R,7,2,1,1" ∷ "T,1,1,1,1,0" ∷ "T,2,1,1,0,2" ∷ "T,3,1,1,0,0" ∷ "E,3" ∷ []) lexicographically
+numbered-in-code-1 = refl
+
+numbered-in-code-2 : prints ("R,7,2,2,1" ∷ "T,1,1,1,1,0" ∷ "T,2,1,1,0,2" ∷ "T,3,1,1,0,0" ∷ "E,3" ∷ []) lexicographically
+numbered-in-code-2 = refl
+
+numbered-in-code-3 : prints ("R,7,2,3,1" ∷ "T,1,1,1,1,0" ∷ "T,2,1,1,0,2" ∷ "T,3,1,1,0,0" ∷ "E,3" ∷ []) lexicographically
+numbered-in-code-3 = refl
 
 -- ## The lengths and places of docs/BUFFERS.md
 

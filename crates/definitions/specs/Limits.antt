@@ -1,5 +1,5 @@
 -- "Limits": each a named number, so that the rules on 13, 14 and 15 can be tried with small ones.
--- Requests A4, A10 and A11 change prime-bound, numbering and working.
+-- Request A10 has changed numbering; requests A4 and A11 change prime-bound and working.
 use Prim.Native.Nat.{ℕ}
 
 pub record Limits : Type 0 where
@@ -31,9 +31,11 @@ pub record Limits : Type 0 where
   pub vector : ℕ
   -- "4,096 terms in the tree's work area"
   pub tree : ℕ
-  -- "Numbered by i ascending, then monomial ascending in the file's order": the code of the order that numbers, from the file's
+  -- "Frame terms with the same component are from now on numbered by ascending lexicographic monomial, whatever the file's order code" (A10):
+  -- the code of the order that numbers, from the file's
   pub numbering : ℕ → ℕ
 
+-- document 01's, as the requests that have landed leave them
 abbrev pub document-01 : Limits
 document-01 = record {
   prime-bound = 32_767;
@@ -50,5 +52,5 @@ document-01 = record {
   working = 512;
   vector = 512;
   tree = 4_096;
-  numbering = λ code. code;
+  numbering = λ code. 1;
 }

@@ -84,11 +84,11 @@ file-65537 = refl
 nine-at-two : prints ("R,7,2,1,1" ∷ "T,1,1,1,2,0" ∷ "T,2,1,1,2,0" ∷ "T,3,1,1,1,1" ∷ "T,3,1,1,0,2" ∷ "E,4" ∷ []) ("X,9,2" ∷ "W,6,1,0,3" ∷ [])
 nine-at-two = refl
 
--- "then monomial ascending in the file's order": in code 2 x·e_3 comes before y²·e_3
-numbered-by-code-2 : prints ("R,7,2,2,1" ∷ "T,1,1,1,2,0" ∷ "T,2,1,1,0,3" ∷ "T,3,1,1,1,1" ∷ "E,3" ∷ [])
-    ("S,1,1,1,2,2,0" ∷ "S,1,1,6,1,0,3" ∷ "S,1,2,1,3,1,0" ∷ "S,1,2,6,1,0,1" ∷ "S,1,3,1,3,0,2" ∷ "S,1,3,6,2,1,0" ∷ "Z,1,3"
-    ∷ "S,2,1,1,3,1,0" ∷ "S,2,1,6,2,0,2" ∷ "S,2,1,1,1,0,0" ∷ "Z,2,1" ∷ "Z,3,0" ∷ [])
-numbered-by-code-2 = refl
+-- "numbered by ascending lexicographic monomial, whatever the file's order code": in code 2 y²·e_3 comes before x·e_3
+numbered-lexicographically : prints ("R,7,2,2,1" ∷ "T,1,1,1,2,0" ∷ "T,2,1,1,0,3" ∷ "T,3,1,1,1,1" ∷ "E,3" ∷ [])
+    ("S,1,1,1,2,2,0" ∷ "S,1,1,6,1,0,3" ∷ "S,1,2,1,3,0,2" ∷ "S,1,2,6,2,1,0" ∷ "S,1,3,1,3,1,0" ∷ "S,1,3,6,1,0,1" ∷ "Z,1,3"
+    ∷ "S,2,1,1,3,0,2" ∷ "S,2,1,6,2,1,0" ∷ "S,2,1,6,1,0,0" ∷ "Z,2,1" ∷ "Z,3,0" ∷ [])
+numbered-lexicographically = refl
 
 -- the sheet is "hybrid, pick code 2": by code 3 it would be printed in full
 abbrev linear-file : List String
@@ -134,7 +134,7 @@ tiny = record {
   working = 4;
   vector = 4;
   tree = 4;
-  numbering = λ code. code;
+  numbering = λ code. 1;
 }
 
 abbrev words : Words

@@ -60,7 +60,10 @@ module _ (s : Words) (j : ℕ) (b : Base s j) where
   framed-at lim count words f = record {
     few = f .few;
     fits = f .fits;
-    components = λ i h. let c = frame-components (getD s 2 0) (leading-monomials (level-at document-01 s j)) words count (f .terms) i h in (c .0, omega (arith, c .1, length-level));
+    components = λ i h.
+        let F = leading-monomials (level-at document-01 s j) in
+        let c = frame-components (document-01 .numbering (getD s 2 0)) F words count (f .terms) i h in
+        (c .0, omega (arith, c .1, length-level));
   }
 
   -- ## What lifting asks for
@@ -110,14 +113,18 @@ module _ (s : Words) (j : ℕ) (b : Base s j) where
 
 -- ## The frame first
 
+-- the frame, numbered lexicographically, if a level has room for it
+abbrev if-room : ℕ → List Monomial → Result (List Monomial)
+if-room code F = if-few (leb (length (frame (document-01 .numbering code) F)) 128) (frame (document-01 .numbering code) F)
+
 -- more frame terms than a level has vectors
 pub too-many : {A : Type 0} (code : ℕ) (f : Level) (F : List Monomial) (go : List Monomial → Result A) → F ≡ leading-monomials f
-    → refusal 15 ≡ if-few (leb (length (frame code F)) 128) (frame code F) → refusal 15 ≡ (limited-frame document-01 code f >>= go)
-too-many code f F go e h = ap (λ r. r >>= go) (h ∙ ap (λ ms. if-few (leb (length (frame code ms)) 128) (frame code ms)) e)
+    → refusal 15 ≡ if-room code F → refusal 15 ≡ (limited-frame document-01 code f >>= go)
+too-many code f F go e h = ap (λ r. r >>= go) (h ∙ ap (if-room code) e)
 
 pub few-enough : {A : Type 0} (code : ℕ) (f : Level) (F ms : List Monomial) (go : List Monomial → Result A) → F ≡ leading-monomials f
-    → done ms ≡ if-few (leb (length (frame code F)) 128) (frame code F) → go ms ≡ (limited-frame document-01 code f >>= go)
-few-enough code f F ms go e h = ap (λ r. r >>= go) (h ∙ ap (λ ms. if-few (leb (length (frame code ms)) 128) (frame code ms)) e)
+    → done ms ≡ if-room code F → go ms ≡ (limited-frame document-01 code f >>= go)
+few-enough code f F ms go e h = ap (λ r. r >>= go) (h ∙ ap (if-room code) e)
 
 abbrev Says : List Monomial → Result (List Monomial) → Type 0
 Says F (done ms) = ms ≡ F

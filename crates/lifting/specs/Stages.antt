@@ -88,7 +88,7 @@ strategy-at b s j w = record { drops = w .drops; pick = by-code (stage-at b s j 
 pub record Framed-by (s : Words) (j count : ℕ) (words : Words) : Type 0 where
   pub few : count ≤ 128
   pub fits : count * 10 ≤ length words
-  pub terms : frame-terms words count ≡ frame (getD s 2 0) (leading-monomials (level-at document-01 s j))
+  pub terms : frame-terms words count ≡ frame (document-01 .numbering (getD s 2 0)) (leading-monomials (level-at document-01 s j))
 
 -- what lifting these frame terms gives; the value of one without a reducer is not kept
 abbrev pub lifted-over : Bounds → Words → ℕ → Strategy → ℕ → Words → Lifted → Words → Type 0

@@ -134,8 +134,8 @@ fn lift_with(
     let mut framed = [0u16; 1280];
     let mut gens = [0u16; 1280];
     let r = levels::count_of(state, j);
-    let code = state[2];
-    match frame::form(&mut framed, 128, &mut gens, heads, r, code) {
+    // numbered by code 1, the lexicographic order, whatever the file's (A10)
+    match frame::form(&mut framed, 128, &mut gens, heads, r, 1) {
         Stored::Full => Leveled::Refused(15),
         Stored::Rows(n) => match lift_frame(
             out,
@@ -250,8 +250,8 @@ fn accept_with(
     let mut framed = [0u16; 1280];
     let mut gens = [0u16; 1280];
     let r = levels::count_of(state, 0);
-    let code = state[2];
-    match frame::form(&mut framed, 128, &mut gens, heads, r, code) {
+    // numbered by code 1, the lexicographic order, whatever the file's (A10)
+    match frame::form(&mut framed, 128, &mut gens, heads, r, 1) {
         Stored::Full => Accepted::Refused(15, 0),
         Stored::Rows(n) => accept_frame(work, state, &framed, n, heads, spans, below, above),
     }
