@@ -133,9 +133,11 @@ pub fn reducer_of(heads: &[u16], r: usize, spans: &[u16], k: usize, p: u16, t: T
     let m = t.monomial;
     let found = search(heads, r, spans, k, m);
     let Answer::Reducer(j, h) = found else {
+        let unit = Monomial::UNIT;
+        let e = unit.exponents;
         return Found {
             answer: Answer::LowerOrder,
-            quotient: [0; 8],
+            quotient: e,
         };
     };
     let u = terms::row(heads, j - 1);

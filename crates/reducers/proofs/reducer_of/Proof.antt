@@ -23,8 +23,9 @@ enum-told c = search needs
 
 returns : tie.Need-returns
 returns c =
-    let a = c .before .before .before .before .before .before .args in
-    searched-lower (a .p) (rows (a .heads .now) 0 (a .r)) (term-of (a .t)) (sym (c .enum-told .given .1) ∙ c .before .before .search .ensures)
+    let b = c .before in
+    let a = b .before .before .before .before .before .before .args in
+    searched-lower (a .p) (rows (a .heads .now) 0 (a .r)) (term-of (a .t)) (sym (b .enum-told .given .1) ∙ b .before .before .search .ensures)
 
 sub-row : tie.Need-sub-row
 sub-row c =
