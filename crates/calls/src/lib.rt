@@ -8,6 +8,7 @@ ghost use Rattle.definitions.specs.Limits.{document-01};
 ghost use Rattle.definitions.specs.Layout.{read-call, lift-call, fetch-call};
 ghost use Rattle.engine_lift.specs.Codes.{coded-way};
 ghost use Rattle.sheet.specs.Sheets.{called};
+ghost use Rattle.calls.specs.Version.{version};
 ghost use Rattle.calls.specs.Coded.{read-told, lift-told, fetch-told, sheet-told};
 
 // "read a file and accept or refuse its basis"
@@ -74,4 +75,12 @@ pub extern "C" fn tagetessash_sheet(
     let r = sheet::sheet(file, state, work, out);
     *length = r.length;
     r.number
+}
+
+// Which version of the calls, of the state's layout and of the sheet this library has.
+#[no_mangle]
+pub extern "C" fn tagetessash_version() -> u16
+    ensures { λ x. ⌜ x ≡ version ⌝ }
+{
+    1
 }
