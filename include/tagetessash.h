@@ -1,5 +1,7 @@
 /* The three calls of Tagetessash: read a problem file, lift a level, fetch a vector; and the sheet of a file in one call.
  *
+ * A header of one version does not fit a library of another: if (tagetessash_version() != TAGETESSASH_VERSION) do not go on.
+ *
  * The caller lends every buffer. The library keeps nothing between calls but what stands in the state, allocates nothing and has no data of its own, so
  * that threads with buffers of their own may call it at a time. C99 and C++.
  *
@@ -21,6 +23,17 @@
 #ifdef __cplusplus
 extern "C" {
 #endif
+
+/* Grows with every change of a function here, of the state's layout, of which vectors a level has or of what the sheet prints. */
+#define TAGETESSASH_VERSION 1
+
+/* How many bytes of stack a call finds enough, from where it is called, so that a thread of this size and what its own functions need is safe. Of the stack
+ * alone the library can not tell you that it is too small: the process dies. All calls but the tree's have arrays of fixed length and do not call themselves:
+ * the sheet and lifting by division take 136 KiB, by hybrid 133, reading 29, fetching 11 (measured on x86-64, the thread's own few KiB included), whatever
+ * the file; the rest is for what runs beside them in the thread. The tree calls itself, 4,096 deep at the most, since each unfinished subtree holds a term of
+ * the work area: 2,885 KiB measured at that depth. */
+#define TAGETESSASH_STACK_BYTES 262144
+#define TAGETESSASH_TREE_STACK_BYTES 4194304
 
 /* How many words a buffer has at the least; a shorter one is refused with 16, a longer one may be lent. The file and the cache may have any length. */
 #define TAGETESSASH_STATE_WORDS 206095
@@ -80,7 +93,8 @@ enum {
 uint16_t tagetessash_read(const uint8_t *file, size_t file_bytes, uint16_t *state, size_t state_words, uint16_t *work, size_t work_words, size_t *place);
 
 /* Forms the frame of a level, 1 to 9, and lifts all its terms; the level below must be complete. After 0 the level is complete and those above it are dropped.
- * The cache is for the tree (a term takes a row); it is zeroed whichever way lifts. The tree calls itself: it may take 3 MiB of the stack. */
+ * The cache is for the tree (a term takes a row); it is zeroed whichever way lifts. 4,096 rows serve every basis of examples/ well. The tree calls itself:
+ * it needs TAGETESSASH_TREE_STACK_BYTES. */
 uint16_t tagetessash_lift(uint16_t *state, size_t state_words, uint16_t *work, size_t work_words, uint16_t *cache, size_t cache_words, size_t level,
     uint16_t way, uint16_t pick, size_t *place);
 
@@ -92,6 +106,9 @@ uint16_t tagetessash_fetch(const uint16_t *state, size_t state_words, uint16_t *
  * It lifts by the hybrid way with the newest term, which on some files takes very long. */
 uint16_t tagetessash_sheet(const uint8_t *file, size_t file_bytes, uint16_t *state, size_t state_words, uint16_t *work, size_t work_words, uint8_t *out,
     size_t out_bytes, size_t *length);
+
+/* The version of the library. */
+uint16_t tagetessash_version(void);
 
 /* What rows hold. */
 typedef struct {

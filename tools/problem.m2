@@ -1,23 +1,78 @@
--- A problem file from Macaulay2: problem g is its text. The columns of g are a Groebner basis (gens gb), over a polynomial ring over ZZ/p with
--- MonomialOrder => Lex, GLex or GRevLex. problem(g, Sort => true) sorts them by ascending lexicographic leading monomials, so that the list ends with
--- level n. docs/GUIDE.md has an example.
-problem = {Sort => false} >> o -> g -> (
-    R := ring g;
+-- A problem file from Macaulay2: problem G is its text, over a polynomial ring over ZZ/p with MonomialOrder => Lex, GLex or GRevLex. G is
+--     a Matrix   its columns as they stand, which should be a Groebner basis (gens gb)
+--     an Ideal   gens gb of it
+--     a Module   gens gb of its presentation: the relations among its generators, so that the module itself is resolved
+-- and standard error says which was taken. Options, as in problem(G, Rank => 3):
+--     Rank => s      the rank of the free module, else that of the matrix's target
+--     Sort => true   elements with leading terms in one component ascend lexicographically by these; components ascend
+-- What a problem file can not say is an error: a file without it would be another problem. docs/GUIDE.md has examples.
+
+-- The order's code; an error in every ring but polynomial rings over ZZ/p with one of the three orders.
+problemCode = R -> (
+    if not instance(R, Ring) then error "this lies in no ring";
+    if instance(R, QuotientRing) and instance(ambient R, PolynomialRing) then
+        error "the ring is a quotient ring; take the polynomial ring and put the relations with the generators";
+    if not instance(R, PolynomialRing) then error("the ring is no polynomial ring (" | toString class R | ")");
+    K := coefficientRing R;
+    if not (instance(K, QuotientRing) and ambient K === ZZ and isPrime char K) then
+        error("the coefficients are " | toString describe K | "; ZZ/p is wanted for a prime p, as in ZZ/32003[x,y,z]");
+    if char K > 32749 then error("the characteristic is " | toString char K | "; the largest prime that is taken is 32749");
+    if isSkewCommutative R then error "variables of the ring do not commute: it is skew commutative";
+    if isWeylAlgebra R then error "variables of the ring do not commute: it is a Weyl algebra";
     n := numgens R;
+    if n < 1 then error "the ring has no variables";
+    if n > 8 then error("the ring has " | toString n | " variables; 8 are the most");
+    o := options monoid R;
+    if o.Inverses then error "variables of the ring are invertible";
     ones := toList (n : 1);
+    kept := toString select(toList o.MonomialOrder, x -> x#0 =!= MonomialSize);
     -- GLex is kept as weights and Lex
-    code := position({{Lex => n}, {Weights => ones, Lex => n}, {GRevLex => ones}},
-        o -> toString (o | {Position => Up}) == toString select(toList (options monoid R).MonomialOrder, x -> x#0 =!= MonomialSize));
-    if code === null then error "the ring's order must be Lex, GLex or GRevLex";
-    leads := for j from 0 to numColumns g - 1 list {first exponents sum flatten entries leadTerm g_{j}, j};
-    if o.Sort then g = g_(apply(sort leads, last));
-    lines := for j from 0 to numColumns g - 1 list (
+    code := position({{Lex => n}, {Weights => ones, Lex => n}, {GRevLex => ones}}, x -> toString (x | {Position => Up}) == kept);
+    if code === null then error("the ring's order is " | kept | "; it must be Lex, GLex or GRevLex (all degrees 1), with Position => Up last");
+    code + 1)
+
+problem = arguments -> (
+    arguments = if instance(arguments, Sequence) then toList arguments else {arguments};
+    G := arguments#0;
+    if not (instance(G, Matrix) or instance(G, Ideal) or instance(G, Module)) then
+        error("a matrix, an ideal or a module is wanted; this is of type " | toString class G);
+    R := ring G;
+    code := problemCode R;
+    p := char R;
+    (g, took) := if instance(G, Ideal) then (gens gb G, "gens gb of the ideal")
+        else if instance(G, Module) then (gens gb presentation G, "gens gb of the module's presentation: the relations among its generators")
+        else (G, "the columns of the matrix as they stand");
+    if not isFreeModule target g then error "the columns lie in a module that is not free; take problem of the module itself, or a matrix into a free module";
+    if schreyerOrder target g != 0 then error "the columns lie in a module with a Schreyer order, which is not the ring's; take map(R^s, , entries g)";
+    rows := numRows g;
+    s := rows;
+    sorted := false;
+    for a in drop(arguments, 1) do
+        if instance(a, Option) and toString a#0 == "Rank" and instance(a#1, ZZ) then s = a#1
+        else if instance(a, Option) and toString a#0 == "Sort" and instance(a#1, Boolean) then sorted = a#1
+        else error "the options are Rank => a number and Sort => true or false";
+    used := 1 + max({-1} | apply(select(rows, i -> g^{i} != 0), i -> i));
+    if s < used then error("component " | toString used | " occurs; the rank can not be " | toString s);
+    if s > 16 then error("the free module has rank " | toString s | "; 16 is the most");
+    if g == 0 then error "zero has no Groebner basis with an element: there is nothing to lift";
+    if numColumns g > 64 then error("there are " | toString numColumns g | " generators; 64 are the most");
+    for j from 0 to numColumns g - 1 do if g_{j} == 0 then error("generator " | toString (j + 1) | " is zero; compress leaves zeros out");
+    -- a column as its terms, each coefficient, component, exponents, the greatest first
+    elements := for j from 0 to numColumns g - 1 list (
         v := g_{j};
         while v != 0 list (
             t := leadTerm v;
             i := position(flatten entries t, c -> c != 0);
             v = v - t;
-            toString splice ("T", j + 1, lift(leadCoefficient t_(i, 0), ZZ) % char R, i + 1, toSequence first exponents t_(i, 0))));
-    lines = apply(flatten lines, l -> replace("[() ]", "", l));
-    R1 := concatenate between(",", {"R", toString char R, toString n, toString (code + 1), toString numRows g});
-    concatenate apply({R1} | lines | {"E," | toString (#lines)}, l -> l | "\n"))
+            {lift(leadCoefficient t_(i, 0), ZZ) % p, i + 1} | first exponents t_(i, 0)));
+    if sorted then elements = sort(elements, x -> drop(x#0, 1));
+    for j from 0 to #elements - 1 do (
+        highest := max flatten apply(elements#j, t -> drop(t, 2));
+        if highest > 255 then error("generator " | toString (j + 1) | " has exponent " | toString highest | "; 255 is the largest"));
+    count := sum(elements, x -> #x);
+    if count > 2048 then error("there are " | toString count | " terms; 2048 are the most");
+    line := x -> concatenate(between(",", apply(x, toString)), "\n");
+    stderr << "-- problem: " << took << ", " << #elements << (if #elements == 1 then " element" else " elements") << endl;
+    concatenate({line {"R", p, numgens R, code, s}}
+        | flatten apply(#elements, j -> apply(elements#j, t -> line({"T", j + 1} | t)))
+        | {line {"E", count}}))

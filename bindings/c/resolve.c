@@ -1,8 +1,13 @@
-/* Resolves a problem file by all three ways: the vectors and terms of each level, and whether the ways agree.
+/* Resolves a problem file by all three ways, or by one: how many vectors and terms each level has, the vectors if asked, and whether the ways agree.
  *
- *     resolve FILE [CACHE]      the tree's cache has so many terms (1,000 without it)
+ *     resolve [-v] [-w WAY] [-c TERMS] FILE
  *
- * Exits with 0 if the basis is accepted and the ways agree as far as they go, with 1 if the file is refused or they do not agree, with 2 if it can not be read. */
+ *     -v          prints the vectors too, as the sheet does, after the first way that lifts a level
+ *     -w WAY      division, greatest, newest, oldest (hybrid by that term) or tree; without it division, greatest and tree
+ *     -c TERMS    the tree's cache has so many terms, 4,096 without it
+ *
+ * Exits with 0 if the basis is accepted and the ways agree as far as they go (one way alone must go to the end), with 1 if the file is refused or they do not
+ * agree, with 2 if it is used wrongly. */
 #include <stdio.h>
 #include <stdlib.h>
 #include <string.h>
@@ -18,7 +23,22 @@ typedef struct {
     uint16_t *rows;
 } fetched;
 
-static const char *const ways[] = { "division", "hybrid, greatest term first", "tree with a cache" };
+/* a way's name on the command line, what is printed for it, the call's codes, and whether it is taken when none is named */
+typedef struct {
+    const char *name, *heading;
+    uint16_t way, pick;
+    int usual;
+} a_way;
+
+static const a_way ways[] = {
+    { "division", "division", TAGETESSASH_DIVISION, 0, 1 },
+    { "greatest", "hybrid, greatest term first", TAGETESSASH_HYBRID, TAGETESSASH_GREATEST, 1 },
+    { "newest", "hybrid, newest term first", TAGETESSASH_HYBRID, TAGETESSASH_NEWEST, 0 },
+    { "oldest", "hybrid, oldest term first", TAGETESSASH_HYBRID, TAGETESSASH_OLDEST, 0 },
+    { "tree", "tree with a cache", TAGETESSASH_TREE, 0, 1 },
+};
+#define WAYS (sizeof ways / sizeof *ways)
+#define CACHE_TERMS 4096
 
 /* Of exactly this length, so that a memory checker sees a word too many. */
 static uint16_t *words(size_t count)
@@ -116,31 +136,77 @@ static fetched fetch_level(const uint16_t *state, uint16_t *out, size_t level)
     return all;
 }
 
+/* The vectors of a level as lines of the sheet. */
+static void say_vectors(const uint16_t *state, size_t level, const fetched *all)
+{
+    size_t v, t, x, row = 0;
+    for (v = 1; v <= all->vectors; v++) {
+        for (t = 0; t < tagetessash_terms(state, level, v); t++, row++) {
+            tagetessash_term term = tagetessash_row(all->rows, row);
+            printf("S,%zu,%zu,%d,%d", level, v, term.coefficient, term.component);
+            for (x = 0; x < tagetessash_variables(state); x++)
+                printf(",%d", term.exponents[x]);
+            printf("\n");
+        }
+    }
+}
+
+static int usage(void)
+{
+    fprintf(stderr, "resolve [-v] [-w division|greatest|newest|oldest|tree] [-c TERMS] FILE\n");
+    return 2;
+}
+
 int main(int arguments, char **argument)
 {
-    size_t file_bytes, cache_words, place, level;
-    size_t cache_terms = arguments > 2 ? strtoul(argument[2], NULL, 10) : 1000;
+    size_t file_bytes, cache_words, place, level, w, only = WAYS, cache_terms = CACHE_TERMS;
+    const char *name = NULL;
     uint8_t *file;
-    uint16_t *state, *out, *cache, number, way;
+    uint16_t *state, *out, *cache, number;
     fetched first[LEVELS];
-    int agree = 1, whole = 1, read = 1;
+    int agree = 1, whole = 1, read = 1, vectors = 0, a;
 
-    if (arguments < 2) {
-        fprintf(stderr, "resolve FILE [CACHE]\n");
+    for (a = 1; a < arguments; a++) {
+        if (strcmp(argument[a], "-v") == 0)
+            vectors = 1;
+        else if (strcmp(argument[a], "-w") == 0 && a + 1 < arguments) {
+            a++;
+            for (only = 0; only < WAYS && strcmp(ways[only].name, argument[a]) != 0; only++)
+                ;
+            if (only == WAYS)
+                return usage();
+        } else if (strcmp(argument[a], "-c") == 0 && a + 1 < arguments) {
+            char *end;
+            a++;
+            cache_terms = strtoul(argument[a], &end, 10);
+            if (*end != 0 || end == argument[a] || argument[a][0] == '-' || cache_terms > SIZE_MAX / sizeof *cache / TAGETESSASH_ROW_WORDS)
+                return usage();
+        } else if (argument[a][0] != '-' && name == NULL)
+            name = argument[a];
+        else
+            return usage();
+    }
+    if (name == NULL)
+        return usage();
+    if (tagetessash_version() != TAGETESSASH_VERSION) {
+        fprintf(stderr, "resolve: the library has version %d, the header %d\n", tagetessash_version(), TAGETESSASH_VERSION);
         return 2;
     }
-    file = read_whole(argument[1], &file_bytes);
+    file = read_whole(name, &file_bytes);
     state = words(TAGETESSASH_STATE_WORDS);
     out = words(TAGETESSASH_OUT_WORDS);
     cache_words = cache_terms * TAGETESSASH_ROW_WORDS;
     cache = cache_words == 0 ? NULL : words(cache_words);
     memset(first, 0, sizeof first);
 
-    for (way = TAGETESSASH_DIVISION; way <= TAGETESSASH_TREE; way++) {
-        size_t work_words = way == TAGETESSASH_TREE ? TAGETESSASH_TREE_WORK_WORDS : TAGETESSASH_WORK_WORDS;
-        uint16_t *work = words(work_words);
+    for (w = 0; w < WAYS && read; w++) {
+        size_t work_words = ways[w].way == TAGETESSASH_TREE ? TAGETESSASH_TREE_WORK_WORDS : TAGETESSASH_WORK_WORDS;
+        uint16_t *work;
 
-        printf("%s\n", ways[way]);
+        if (only == WAYS ? !ways[w].usual : w != only)
+            continue;
+        work = words(work_words);
+        printf("%s\n", ways[w].heading);
         number = tagetessash_read(file, file_bytes, state, TAGETESSASH_STATE_WORDS, work, work_words, &place);
         if (number != TAGETESSASH_DONE) {
             say_refusal(number, place);
@@ -158,7 +224,7 @@ int main(int arguments, char **argument)
         for (level = 1; level <= TAGETESSASH_HIGHEST_LEVEL; level++) {
             fetched now;
             number = tagetessash_lift(
-                state, TAGETESSASH_STATE_WORDS, work, work_words, cache, cache_words, level, way, TAGETESSASH_GREATEST, &place);
+                state, TAGETESSASH_STATE_WORDS, work, work_words, cache, cache_words, level, ways[w].way, ways[w].pick, &place);
             if (number != TAGETESSASH_DONE) {
                 say_refusal(number, place);
                 whole = 0;
@@ -166,9 +232,11 @@ int main(int arguments, char **argument)
             }
             say_level(state, level);
             now = fetch_level(state, out, level);
-            if (!first[level].there)
+            if (!first[level].there) {
                 first[level] = now;
-            else {
+                if (vectors)
+                    say_vectors(state, level, &now);
+            } else {
                 if (now.vectors != first[level].vectors || now.words != first[level].words
                     || memcmp(now.rows, first[level].rows, now.words * sizeof *now.rows) != 0) {
                     printf("  level %zu differs from what another way gave\n", level);
@@ -181,7 +249,7 @@ int main(int arguments, char **argument)
         }
         free(work);
     }
-    if (read)
+    if (read && only == WAYS)
         printf("the ways %s\n", !agree ? "do not agree" : whole ? "agree" : "agree as far as they go");
 
     for (level = 0; level < LEVELS; level++)
@@ -190,5 +258,5 @@ int main(int arguments, char **argument)
     free(out);
     free(state);
     free(file);
-    return agree && read ? 0 : 1;
+    return agree && read && (whole || only == WAYS) ? 0 : 1;
 }

@@ -1,14 +1,17 @@
-//! Links the static library that `tools/library` writes.
+//! Links the static library: that of the folder `TAGETESSASH_LIB_DIR`, else the one that `tools/library` writes in the checkout.
 
 use std::path::Path;
 
 fn main() {
-    let folder = std::env::var("CARGO_MANIFEST_DIR").expect("cargo sets it");
-    let folder = format!("{folder}/../../target/staticlib");
+    println!("cargo:rerun-if-env-changed=TAGETESSASH_LIB_DIR");
+    let folder = std::env::var("TAGETESSASH_LIB_DIR").unwrap_or_else(|_| {
+        let checkout = std::env::var("CARGO_MANIFEST_DIR").expect("cargo sets it");
+        format!("{checkout}/../../target/staticlib")
+    });
     let library = format!("{folder}/libtagetessash.a");
     assert!(
         Path::new(&library).exists(),
-        "libtagetessash.a is not there: run tools/library first"
+        "{library} is not there: run tools/library, or set TAGETESSASH_LIB_DIR to the folder of libtagetessash.a"
     );
     println!("cargo:rustc-link-search=native={folder}");
     println!("cargo:rustc-link-lib=static=tagetessash");

@@ -1,99 +1,193 @@
-//! Resolves a problem file by all three ways: the vectors and terms of each level, and whether the ways agree. Prints what bindings/c/resolve.c prints.
+//! Resolves a problem file by all three ways, or by one: how many vectors and terms each level has, the vectors if asked, and whether the ways agree. Prints
+//! what bindings/c/resolve.c prints.
 //!
-//!     resolve FILE [CACHE]      the tree's cache has so many terms (1,000 without it)
+//!     resolve [-v] [-w WAY] [-c TERMS] FILE
 //!
-//! Exits with 0 if the basis is accepted and the ways agree as far as they go, with 1 if the file is refused or they do not agree, with 2 if it can not be read.
+//!     -v          prints the vectors too, as the sheet does, after the first way that lifts a level
+//!     -w WAY      division, greatest, newest, oldest (hybrid by that term) or tree; without it division, greatest and tree
+//!     -c TERMS    the tree's cache has so many terms, 4,096 without it
+//!
+//! Exits with 0 if the basis is accepted and the ways agree as far as they go (one way alone must go to the end), with 1 if the file is refused or they do
+//! not agree, with 2 if it is used wrongly.
 
+use std::io::{stdout, BufWriter, Result, Write};
 use std::process::ExitCode;
 use tagetessash::{Engine, Pick, Refusal, Term, Way, CACHE_TERMS, HIGHEST_LEVEL};
 
+/// A way's name on the command line, what is printed for it, and whether it is taken when none is named.
+const WAYS: [(&str, &str, Way, bool); 5] = [
+    ("division", "division", Way::Division, true),
+    (
+        "greatest",
+        "hybrid, greatest term first",
+        Way::Hybrid(Pick::Greatest),
+        true,
+    ),
+    (
+        "newest",
+        "hybrid, newest term first",
+        Way::Hybrid(Pick::Newest),
+        false,
+    ),
+    (
+        "oldest",
+        "hybrid, oldest term first",
+        Way::Hybrid(Pick::Oldest),
+        false,
+    ),
+    ("tree", "tree with a cache", Way::Tree, true),
+];
+
+struct Asked {
+    file: String,
+    vectors: bool,
+    way: Option<String>,
+    cache: usize,
+}
+
+fn asked() -> Option<Asked> {
+    let (mut file, mut vectors, mut way, mut cache) = (None, false, None, CACHE_TERMS);
+    let mut arguments = std::env::args().skip(1);
+    while let Some(word) = arguments.next() {
+        match word.as_str() {
+            "-v" => vectors = true,
+            "-w" => {
+                way = Some(
+                    arguments
+                        .next()
+                        .filter(|name| WAYS.iter().any(|way| way.0 == name))?,
+                )
+            }
+            "-c" => cache = arguments.next()?.parse().ok()?,
+            _ if word.starts_with('-') || file.is_some() => return None,
+            _ => file = Some(word),
+        }
+    }
+    Some(Asked {
+        file: file?,
+        vectors,
+        way,
+        cache,
+    })
+}
+
 fn main() -> ExitCode {
-    let arguments: Vec<String> = std::env::args().skip(1).collect();
-    let Some(name) = arguments.first() else {
-        eprintln!("resolve FILE [CACHE]");
+    let Some(asked) = asked() else {
+        eprintln!("resolve [-v] [-w division|greatest|newest|oldest|tree] [-c TERMS] FILE");
         return ExitCode::from(2);
     };
-    let cache = arguments.get(1).and_then(|word| word.parse().ok());
-    match std::fs::read(name) {
+    let resolved = std::fs::read(&asked.file)
+        .and_then(|bytes| resolve(&bytes, &asked, &mut BufWriter::new(stdout().lock())));
+    match resolved {
         Err(error) => {
-            eprintln!("{name}: {error}");
+            eprintln!("{}: {error}", asked.file);
             ExitCode::from(2)
         }
-        Ok(file) => resolve(&file, cache.unwrap_or(CACHE_TERMS)),
+        Ok(well) => ExitCode::from(u8::from(!well)),
     }
 }
 
-fn resolve(file: &[u8], cache: usize) -> ExitCode {
-    let mut engine = Engine::with_cache(cache);
+fn resolve(file: &[u8], asked: &Asked, out: &mut impl Write) -> Result<bool> {
+    let mut engine = Engine::with_cache(asked.cache);
     // the levels as the first way that reached them gave them, level 1 first
     let mut first: Vec<Vec<Vec<Term>>> = Vec::new();
     let (mut agree, mut whole) = (true, true);
-    for (name, way) in [
-        ("division", Way::Division),
-        ("hybrid, greatest term first", Way::Hybrid(Pick::Greatest)),
-        ("tree with a cache", Way::Tree),
-    ] {
-        println!("{name}");
-        if let Err(refusal) = engine.read(file) {
-            println!("  {refusal}");
-            if let [leading, rest @ ..] = engine.stopped_at().as_slice() {
-                println!(
-                    "  division stops at a value, terms {}, the leading one",
-                    rest.len() + 1
-                );
-                println!("    {}", words(leading));
-            }
-            return ExitCode::from(1);
+    for (name, heading, way, usual) in WAYS {
+        if !asked.way.as_ref().map_or(usual, |only| only == name) {
+            continue;
         }
-        println!(
+        writeln!(out, "{heading}")?;
+        if let Err(refusal) = engine.read(file) {
+            writeln!(out, "  {refusal}")?;
+            if let [leading, rest @ ..] = engine.stopped_at().as_slice() {
+                let terms = rest.len() + 1;
+                writeln!(
+                    out,
+                    "  division stops at a value, terms {terms}, the leading one"
+                )?;
+                writeln!(out, "    {}", words(leading))?;
+            }
+            return Ok(false);
+        }
+        writeln!(
+            out,
             "  level 0: elements {}, terms {}",
             engine.count(0),
             engine.terms(0)
-        );
+        )?;
         for level in 1..=HIGHEST_LEVEL {
-            match lifted(&mut engine, level, way) {
+            let vectors = match lifted(&mut engine, level, way) {
+                Ok(vectors) => vectors,
                 Err(refusal) => {
-                    println!("  {refusal}");
+                    writeln!(out, "  {refusal}")?;
                     whole = false;
                     break;
                 }
-                Ok(vectors) => {
-                    println!(
-                        "  level {level}: vectors {}, terms {}",
-                        engine.count(level),
-                        engine.terms(level)
-                    );
-                    let last = vectors.is_empty();
-                    match first.get(level - 1) {
-                        None => first.push(vectors),
-                        Some(before) if *before == vectors => {}
-                        Some(_) => {
-                            println!("  level {level} differs from what another way gave");
-                            agree = false;
-                        }
+            };
+            writeln!(
+                out,
+                "  level {level}: vectors {}, terms {}",
+                engine.count(level),
+                engine.terms(level)
+            )?;
+            let last = vectors.is_empty();
+            match first.get(level - 1) {
+                None => {
+                    if asked.vectors {
+                        say_vectors(&engine, level, out)?;
                     }
-                    if last {
-                        break;
-                    }
+                    first.push(vectors);
                 }
+                Some(before) if *before == vectors => {}
+                Some(_) => {
+                    writeln!(out, "  level {level} differs from what another way gave")?;
+                    agree = false;
+                }
+            }
+            if last {
+                break;
             }
         }
     }
-    let how = match (agree, whole) {
-        (false, _) => "do not agree",
-        (true, true) => "agree",
-        (true, false) => "agree as far as they go",
-    };
-    println!("the ways {how}");
-    ExitCode::from(u8::from(!agree))
+    if asked.way.is_none() {
+        let how = match (agree, whole) {
+            (false, _) => "do not agree",
+            (true, true) => "agree",
+            (true, false) => "agree as far as they go",
+        };
+        writeln!(out, "the ways {how}")?;
+    }
+    Ok(agree && (whole || asked.way.is_none()))
 }
 
 /// A level lifted, and all its vectors fetched.
-fn lifted(engine: &mut Engine, level: usize, way: Way) -> Result<Vec<Vec<Term>>, Refusal> {
+fn lifted(
+    engine: &mut Engine,
+    level: usize,
+    way: Way,
+) -> std::result::Result<Vec<Vec<Term>>, Refusal> {
     engine.lift(level, way)?;
     (1..=engine.count(level))
         .map(|v| engine.fetch(level, v))
         .collect()
+}
+
+/// The vectors of a level as lines of the sheet.
+fn say_vectors(engine: &Engine, level: usize, out: &mut impl Write) -> Result<()> {
+    for (number, vector) in (1..).zip(engine.vectors(level)) {
+        for term in vector.terms() {
+            write!(
+                out,
+                "S,{level},{number},{},{}",
+                term.coefficient, term.component
+            )?;
+            for exponent in &term.exponents[..engine.variables()] {
+                write!(out, ",{exponent}")?;
+            }
+            writeln!(out)?;
+        }
+    }
+    Ok(())
 }
 
 fn words(term: &Term) -> String {

@@ -43,6 +43,13 @@ extern "C" {
         out_bytes: usize,
         length: *mut usize,
     ) -> u16;
+    fn tagetessash_version() -> u16;
+}
+
+/// The library's version.
+pub fn version() -> u16 {
+    // SAFETY: it takes nothing and reads nothing
+    unsafe { tagetessash_version() }
 }
 
 /// Number and place.

@@ -1,7 +1,8 @@
 //! Syzygies of a Gröbner basis over a small prime field, level upon level, by the proved engine.
 //!
-//! An [`Engine`] owns the buffers that the engine's calls are lent. [`Engine::read`] takes a problem file, [`Engine::lift`] makes a level complete,
-//! [`Engine::fetch`] gives a vector of it. [`sheet`] prints all levels of a file at once.
+//! An [`Engine`] owns the buffers that the engine's calls are lent. [`Engine::read`] takes a problem file, which [`Problem`] writes from terms,
+//! [`Engine::lift`] makes a level complete, [`Engine::vectors`] goes over its vectors, [`Engine::fetch`] gives one of them. [`sheet`] prints all levels of a
+//! file at once.
 //!
 //! ```
 //! let file = b"R,7,2,1,1\nT,1,1,1,1,0\nT,1,1,1,0,1\nT,2,1,1,0,2\nT,2,1,1,0,0\nE,4\n";
@@ -9,25 +10,35 @@
 //! engine.read(file)?;
 //! engine.lift(1, tagetessash::Way::Division)?;
 //! assert_eq!(engine.count(1), 1);
-//! let vector = engine.fetch(1, 1)?;
-//! assert_eq!(vector[0].component, 2); // x1 times the second element stands in front
+//! for vector in engine.vectors(1) {
+//!     let front = vector.terms().next().expect("no vector is zero");
+//!     assert_eq!(front.component, 2); // x1 times the second element stands in front
+//! }
 //! # Ok::<(), tagetessash::Refusal>(())
 //! ```
 
-#![warn(missing_docs)]
+#![warn(missing_docs, missing_debug_implementations)]
+
+use std::fmt;
 
 #[doc(hidden)]
 pub mod calls;
+mod problem;
 mod refusal;
 #[cfg(test)]
 mod tests;
 
+pub use problem::Problem;
 pub use refusal::Refusal;
+
+/// The version of the library that this crate is for: `TAGETESSASH_VERSION` of the header. A library of another version is refused by a panic at the first
+/// call.
+pub const VERSION: u16 = 1;
 
 /// The highest level.
 pub const HIGHEST_LEVEL: usize = 9;
 /// The length of the tree's cache in terms, unless [`Engine::with_cache`] says another.
-pub const CACHE_TERMS: usize = 1_000;
+pub const CACHE_TERMS: usize = 4_096;
 
 const STATE_WORDS: usize = 206_095;
 const WORK_WORDS: usize = 5_120;
@@ -35,7 +46,7 @@ const TREE_WORK_WORDS: usize = 40_960;
 const OUT_WORDS: usize = 5_120;
 const ROW_WORDS: usize = 10;
 const SHEET_BYTES: usize = 1_400_000;
-/// The tree calls itself and may take 3 MiB of the stack, more than a thread of Rust's has.
+/// `TAGETESSASH_TREE_STACK_BYTES` and room for the thread's own: more than a thread of Rust's has.
 const TREE_STACK: usize = 8 << 20;
 
 /// By which way a level is lifted. All give the same vectors wherever they are not refused; 13 to 15 may come by one and not by another.
@@ -60,6 +71,37 @@ pub enum Pick {
     Oldest,
 }
 
+/// The order of monomials.
+#[derive(Clone, Copy, Debug, PartialEq, Eq, Hash)]
+pub enum Order {
+    /// code 1
+    Lexicographic,
+    /// code 2: degree, then lexicographic
+    DegreeLexicographic,
+    /// code 3
+    DegreeReverseLexicographic,
+}
+
+impl Order {
+    /// The order's code in a problem file.
+    pub fn code(&self) -> u16 {
+        match self {
+            Order::Lexicographic => 1,
+            Order::DegreeLexicographic => 2,
+            Order::DegreeReverseLexicographic => 3,
+        }
+    }
+
+    fn of(code: u16) -> Option<Order> {
+        match code {
+            1 => Some(Order::Lexicographic),
+            2 => Some(Order::DegreeLexicographic),
+            3 => Some(Order::DegreeReverseLexicographic),
+            _ => None,
+        }
+    }
+}
+
 /// A coefficient with its monomial.
 #[derive(Clone, Copy, Debug, PartialEq, Eq, Hash)]
 pub struct Term {
@@ -69,6 +111,50 @@ pub struct Term {
     pub component: u16,
     /// x1's first; 0 past the last variable
     pub exponents: [u8; 8],
+}
+
+impl Term {
+    /// A term whose exponents are given from x1's on.
+    ///
+    /// # Panics
+    ///
+    /// If there are more than eight exponents.
+    pub fn new(coefficient: u16, component: u16, exponents: &[u8]) -> Term {
+        let mut all = [0; 8];
+        all[..exponents.len()].copy_from_slice(exponents);
+        Term {
+            coefficient,
+            component,
+            exponents: all,
+        }
+    }
+
+    fn of(row: &[u16]) -> Term {
+        Term {
+            coefficient: row[0],
+            component: row[1],
+            exponents: std::array::from_fn(|x| row[2 + x] as u8),
+        }
+    }
+}
+
+/// A vector of a level, or an element of level 0, where it stands in the state.
+#[derive(Clone, Copy)]
+pub struct Vector<'a> {
+    rows: &'a [u16],
+}
+
+impl<'a> Vector<'a> {
+    /// Its terms, the greatest first.
+    pub fn terms(&self) -> impl ExactSizeIterator<Item = Term> + 'a {
+        self.rows.chunks_exact(ROW_WORDS).map(Term::of)
+    }
+}
+
+impl fmt::Debug for Vector<'_> {
+    fn fmt(&self, f: &mut fmt::Formatter) -> fmt::Result {
+        f.debug_list().entries(self.terms()).finish()
+    }
 }
 
 /// The state with the buffers that calls need. A new one has no basis.
@@ -93,7 +179,12 @@ impl Engine {
     }
 
     /// An engine whose cache has room for so many terms. That changes no vector, only the tree's time and whether 14 comes.
+    ///
+    /// # Panics
+    ///
+    /// If the library is of another version than this crate.
     pub fn with_cache(terms: usize) -> Engine {
+        fitting();
         Engine {
             state: vec![0; STATE_WORDS],
             work: vec![0; TREE_WORK_WORDS],
@@ -155,6 +246,41 @@ impl Engine {
         Ok(terms(&self.out))
     }
 
+    /// p of the file; 0 without a basis.
+    pub fn prime(&self) -> u16 {
+        self.state[0]
+    }
+
+    /// n of the file, how many variables there are; 0 without a basis.
+    pub fn variables(&self) -> usize {
+        usize::from(self.state[1])
+    }
+
+    /// The order of the file; none without a basis.
+    pub fn order(&self) -> Option<Order> {
+        Order::of(self.state[2])
+    }
+
+    /// s of the file, how many components level 0's module has; 0 without a basis.
+    pub fn components(&self) -> usize {
+        usize::from(self.state[3])
+    }
+
+    /// The vectors of a level, in number order; of level 0 the file's elements. None of a level that is not complete.
+    pub fn vectors(&self, level: usize) -> impl ExactSizeIterator<Item = Vector<'_>> {
+        let rows = match self.state.get(1295 + 20480 * level.min(HIGHEST_LEVEL)..) {
+            Some(rows) if level < self.complete() => rows,
+            _ => &[],
+        };
+        let end = move |vectors: usize| match vectors {
+            0 => 0,
+            _ => ROW_WORDS * usize::from(self.state[5 + 129 * level + vectors]),
+        };
+        (0..self.count(level)).map(move |v| Vector {
+            rows: &rows[end(v)..end(v + 1)],
+        })
+    }
+
     /// How many levels are complete: 0 without a basis, else levels 0 to this − 1.
     pub fn complete(&self) -> usize {
         usize::from(self.state[4])
@@ -184,9 +310,37 @@ impl Engine {
     }
 }
 
+/// What it holds, not the words of its buffers.
+impl fmt::Debug for Engine {
+    fn fmt(&self, f: &mut fmt::Formatter) -> fmt::Result {
+        let counts: Vec<usize> = (0..self.complete()).map(|k| self.count(k)).collect();
+        f.debug_struct("Engine")
+            .field("prime", &self.prime())
+            .field("variables", &self.variables())
+            .field("order", &self.order())
+            .field("components", &self.components())
+            .field("vectors by level", &counts)
+            .field("cache terms", &(self.cache.len() / ROW_WORDS))
+            .finish()
+    }
+}
+
+fn fitting() {
+    let version = calls::version();
+    assert!(
+        version == VERSION,
+        "libtagetessash.a has version {version}, this crate is for version {VERSION}"
+    );
+}
+
 /// The sheet of a problem file, the bytes that the program prints, for every file: a refused one has an X line. It lifts by the hybrid way with the
 /// newest term, which on some files takes very long; [`Engine::lift`] by another way does not.
+///
+/// # Panics
+///
+/// If the library is of another version than this crate.
 pub fn sheet(file: &[u8]) -> Vec<u8> {
+    fitting();
     let mut out = vec![0; SHEET_BYTES];
     let (_, length) = calls::sheet(
         file,
@@ -201,7 +355,7 @@ pub fn sheet(file: &[u8]) -> Vec<u8> {
 fn answer((number, place): (u16, usize)) -> Result<(), Refusal> {
     match number {
         0 => Ok(()),
-        _ => Err(Refusal { number, place }),
+        _ => Err(Refusal::new(number, place)),
     }
 }
 
@@ -210,10 +364,6 @@ fn terms(words: &[u16]) -> Vec<Term> {
     words
         .chunks_exact(ROW_WORDS)
         .take_while(|row| row[0] != 0)
-        .map(|row| Term {
-            coefficient: row[0],
-            component: row[1],
-            exponents: std::array::from_fn(|x| row[2 + x] as u8),
-        })
+        .map(Term::of)
         .collect()
 }

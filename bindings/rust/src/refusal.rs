@@ -2,19 +2,153 @@
 
 use std::fmt;
 
-/// Why a call gave nothing.
+/// Why a call gave nothing, and where.
 #[derive(Clone, Copy, Debug, PartialEq, Eq, Hash)]
-pub struct Refusal {
-    /// 1 to 9 or 11 to 16
-    pub number: u16,
-    /// For 1 to 8 the file's line, for 9 the number of a frame term, for 13 to 15 the level (0 while a basis is being accepted), else 0.
-    pub place: usize,
+#[non_exhaustive]
+pub enum Refusal {
+    /// 1: the file has more than 65,536 bytes
+    FileTooLong,
+    /// 1: the line has the wrong shape, is missing, or stands where it must not
+    BadLine {
+        /// the file's line, from 1
+        line: usize,
+    },
+    /// 2: p is not a prime from 2 to 32,767
+    BadPrime {
+        /// the file's line, from 1
+        line: usize,
+    },
+    /// 3: the number of variables, the order code or the number of components is out of range
+    BadRing {
+        /// the file's line, from 1
+        line: usize,
+    },
+    /// 4: a coefficient, component or exponent is out of range
+    BadTerm {
+        /// the file's line, from 1
+        line: usize,
+    },
+    /// 5: an element number is out of sequence or above 64
+    BadElement {
+        /// the file's line, from 1
+        line: usize,
+    },
+    /// 6: a term is not below the one before it in its element
+    NotDescending {
+        /// the file's line, from 1
+        line: usize,
+    },
+    /// 7: the count of T lines is 0 or wrong
+    BadCount {
+        /// the file's line, from 1
+        line: usize,
+    },
+    /// 8: a 2,049th T line
+    TooManyTerms {
+        /// the file's line, from 1
+        line: usize,
+    },
+    /// 9: the elements are no Gröbner basis; [`crate::Engine::stopped_at`] has the value that shows it
+    NoBasis {
+        /// the number of the frame term whose division stops
+        frame_term: usize,
+    },
+    /// 11: there is no accepted basis, or the level that is needed is not complete
+    NoLevel,
+    /// 12: there is no such level or vector
+    BadNumber,
+    /// 13: a product has an exponent above 255
+    ExponentLimit {
+        /// the level that was being lifted; 0 while the basis was being accepted
+        level: usize,
+    },
+    /// 14: a working value, a vector or the tree's work area is full
+    TermLimit {
+        /// the level that was being lifted; 0 while the basis was being accepted
+        level: usize,
+    },
+    /// 15: a level has too many frame terms or too many terms
+    LevelLimit {
+        /// the level that was being lifted; 0 while the basis was being accepted
+        level: usize,
+    },
+    /// 16: a buffer is too short
+    ShortBuffer,
+    /// a number that no call of this version gives
+    Other {
+        /// the number
+        number: u16,
+        /// its place
+        place: usize,
+    },
 }
 
+use Refusal::*;
+
 impl Refusal {
+    /// From the number, not 0, and the place that a call gives.
+    pub(crate) fn new(number: u16, place: usize) -> Refusal {
+        match number {
+            1 if place == 0 => FileTooLong,
+            1 => BadLine { line: place },
+            2 => BadPrime { line: place },
+            3 => BadRing { line: place },
+            4 => BadTerm { line: place },
+            5 => BadElement { line: place },
+            6 => NotDescending { line: place },
+            7 => BadCount { line: place },
+            8 => TooManyTerms { line: place },
+            9 => NoBasis { frame_term: place },
+            11 => NoLevel,
+            12 => BadNumber,
+            13 => ExponentLimit { level: place },
+            14 => TermLimit { level: place },
+            15 => LevelLimit { level: place },
+            16 => ShortBuffer,
+            _ => Other { number, place },
+        }
+    }
+
+    /// Document 01's number: 1 to 9 or 11 to 16.
+    pub fn number(&self) -> u16 {
+        match self {
+            FileTooLong | BadLine { .. } => 1,
+            BadPrime { .. } => 2,
+            BadRing { .. } => 3,
+            BadTerm { .. } => 4,
+            BadElement { .. } => 5,
+            NotDescending { .. } => 6,
+            BadCount { .. } => 7,
+            TooManyTerms { .. } => 8,
+            NoBasis { .. } => 9,
+            NoLevel => 11,
+            BadNumber => 12,
+            ExponentLimit { .. } => 13,
+            TermLimit { .. } => 14,
+            LevelLimit { .. } => 15,
+            ShortBuffer => 16,
+            Other { number, .. } => *number,
+        }
+    }
+
+    /// For 1 to 8 the file's line, for 9 the number of a frame term, for 13 to 15 the level (0 while a basis is being accepted), else 0.
+    pub fn place(&self) -> usize {
+        match *self {
+            BadLine { line } | BadPrime { line } | BadRing { line } | BadTerm { line } => line,
+            BadElement { line }
+            | NotDescending { line }
+            | BadCount { line }
+            | TooManyTerms { line } => line,
+            NoBasis { frame_term } => frame_term,
+            ExponentLimit { level } | TermLimit { level } | LevelLimit { level } => level,
+            Other { place, .. } => place,
+            FileTooLong | NoLevel | BadNumber | ShortBuffer => 0,
+        }
+    }
+
     /// What the number means.
     pub fn meaning(&self) -> &'static str {
-        match self.number {
+        match self.number() {
             1 => "a line has the wrong shape or stands in the wrong place, or the file is too long",
             2 => "p is not a prime from 2 to 32,767",
             3 => "the number of variables, the order code or the number of components is out of range",
@@ -34,9 +168,9 @@ impl Refusal {
         }
     }
 
-    /// What the place counts, for numbers that have one.
+    /// What the place counts, for refusals that have one.
     pub fn place_name(&self) -> Option<&'static str> {
-        match self.number {
+        match self.number() {
             1..=8 => Some("line"),
             9 => Some("frame term"),
             13..=15 => Some("level"),
@@ -47,9 +181,9 @@ impl Refusal {
 
 impl fmt::Display for Refusal {
     fn fmt(&self, f: &mut fmt::Formatter) -> fmt::Result {
-        write!(f, "refused {}", self.number)?;
+        write!(f, "refused {}", self.number())?;
         if let Some(name) = self.place_name() {
-            write!(f, " at {name} {}", self.place)?;
+            write!(f, " at {name} {}", self.place())?;
         }
         write!(f, ": {}", self.meaning())
     }

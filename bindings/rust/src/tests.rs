@@ -1,4 +1,4 @@
-use crate::{sheet, Engine, Pick, Refusal, Term, Way};
+use crate::{calls, sheet, Engine, Order, Pick, Problem, Refusal, Term, Way, VERSION};
 
 const PRINTED: &[u8] = b"R,7,2,1,1\nT,1,1,1,1,0\nT,1,1,1,0,1\nT,2,1,1,0,2\nT,2,1,1,0,0\nE,4\n";
 /// A tree as deep as its work area allows (tests/common has how it is made).
@@ -53,23 +53,25 @@ fn the_printed_vector_by_every_way() {
 
 #[test]
 fn refusals_in_words() {
-    let refused = |number, place| Err(Refusal { number, place });
     let mut engine = Engine::with_cache(0);
-    assert_eq!(engine.lift(1, Way::Tree), refused(11, 0));
-    assert_eq!(engine.read(b""), refused(1, 1));
-    assert_eq!(engine.read(b"R,7,2,1,1\nT,1,7,1,1,0\nE,1\n"), refused(4, 2));
-    engine.read(PRINTED).expect("a Gröbner basis");
-    assert_eq!(engine.lift(10, Way::Division), refused(12, 0));
+    assert_eq!(engine.lift(1, Way::Tree), Err(Refusal::NoLevel));
+    assert_eq!(engine.read(b""), Err(Refusal::BadLine { line: 1 }));
+    assert_eq!(engine.read(&[0; 65_537]), Err(Refusal::FileTooLong));
     assert_eq!(
-        engine.fetch(1, 1),
-        Err(Refusal {
-            number: 11,
-            place: 0
-        })
+        engine.read(b"R,7,2,1,1\nT,1,7,1,1,0\nE,1\n"),
+        Err(Refusal::BadTerm { line: 2 })
+    );
+    engine.read(PRINTED).expect("a Gröbner basis");
+    assert_eq!(engine.lift(10, Way::Division), Err(Refusal::BadNumber));
+    assert_eq!(engine.fetch(1, 1), Err(Refusal::NoLevel));
+    // instance 9 of document 01: "With x + y^255: `X,13,0`"
+    assert_eq!(
+        engine.read(b"R,7,2,1,1\nT,1,1,1,1,0\nT,1,1,1,0,255\nT,2,1,1,0,2\nE,3\n"),
+        Err(Refusal::ExponentLimit { level: 0 })
     );
     // instance 6 of document 01: "refused 9, value 6y³"
     let refusal = engine.read(b"R,7,2,1,1\nT,1,1,1,2,0\nT,2,1,1,1,1\nT,2,1,1,0,2\nE,3\n");
-    assert_eq!(refusal, refused(9, 1));
+    assert_eq!(refusal, Err(Refusal::NoBasis { frame_term: 1 }));
     assert_eq!(engine.stopped_at(), [term(6, 1, 0, 3)]);
     assert_eq!(
         refusal.unwrap_err().to_string(),
@@ -97,4 +99,153 @@ fn the_sheet_of_every_file() {
     let lines = "S,1,1,1,2,1,0\nS,1,1,6,1,0,2\nS,1,1,6,1,0,0\nS,1,1,1,2,0,1\nZ,1,1\nZ,2,0\n";
     assert_eq!(sheet(PRINTED), lines.as_bytes());
     assert_eq!(sheet(b""), b"X,1,1\n");
+}
+
+/// a refusal for each number, and back; a number that no call gives is no success
+#[test]
+fn every_number_is_a_refusal() {
+    for number in 1..100 {
+        for place in [0, 3] {
+            let refusal = Refusal::new(number, place);
+            assert_eq!(refusal.number(), number);
+            if refusal.place_name().is_some() {
+                assert_eq!(refusal.place(), place);
+            }
+            let other = Refusal::Other { number, place };
+            assert_eq!(refusal == other, number == 10 || number > 16);
+        }
+    }
+}
+
+#[test]
+fn the_library_is_of_this_version() {
+    assert_eq!(calls::version(), VERSION);
+    let header = include_str!("../../../include/tagetessash.h");
+    assert!(header.contains(&format!("#define TAGETESSASH_VERSION {VERSION}\n")));
+}
+
+/// what a state holds, and nothing without a basis
+#[test]
+fn ring_elements_and_vectors() {
+    let mut engine = Engine::new();
+    assert_eq!((engine.prime(), engine.variables()), (0, 0));
+    assert_eq!((engine.order(), engine.components()), (None, 0));
+    for level in [0, 1, 9, 10, usize::MAX] {
+        assert_eq!(engine.vectors(level).len(), 0);
+    }
+    engine
+        .read(b"R,101,3,2,2\nT,1,1,2,1,0,0\nT,1,3,1,0,0,0\nT,2,5,1,0,2,0\nE,3\n")
+        .expect("a Gröbner basis");
+    assert_eq!((engine.prime(), engine.variables()), (101, 3));
+    assert_eq!(engine.order(), Some(Order::DegreeLexicographic));
+    assert_eq!(engine.components(), 2);
+    let elements: Vec<Vec<Term>> = engine.vectors(0).map(|v| v.terms().collect()).collect();
+    assert_eq!(
+        elements,
+        [
+            vec![Term::new(1, 2, &[1]), Term::new(3, 1, &[])],
+            vec![Term::new(5, 1, &[0, 2])]
+        ]
+    );
+    assert_eq!(
+        format!("{engine:?}"),
+        "Engine { prime: 101, variables: 3, order: Some(DegreeLexicographic), components: 2, vectors by level: [2], cache terms: 4096 }"
+    );
+    engine.read(DEEP).expect("a Gröbner basis");
+    engine.lift(1, Way::Division).expect("no limit is met");
+    engine.lift(2, Way::Division).expect("no limit is met");
+    for level in 1..=2 {
+        let fetched: Vec<_> = (1..=engine.count(level))
+            .map(|v| engine.fetch(level, v).expect("it is there"))
+            .collect();
+        let seen: Vec<Vec<Term>> = engine.vectors(level).map(|v| v.terms().collect()).collect();
+        assert_eq!(seen, fetched);
+    }
+    assert_eq!(engine.vectors(3).len(), 0);
+    engine.read(PRINTED).expect("a Gröbner basis");
+    let first = engine.vectors(0).next().expect("an element");
+    assert!(
+        format!("{first:?}").starts_with("[Term { coefficient: 1, component: 1, exponents: [1, 0")
+    );
+}
+
+/// terms in any order are written descending by each order; what can not be said is refused where it stands
+#[test]
+fn problems_from_terms() {
+    let all: Vec<Term> = (0..8)
+        .map(|i| {
+            Term::new(
+                1,
+                1 + i / 4,
+                &[(i % 2) as u8, (i / 2 % 2) as u8, 1 - (i % 2) as u8],
+            )
+        })
+        .collect();
+    for order in [
+        Order::Lexicographic,
+        Order::DegreeLexicographic,
+        Order::DegreeReverseLexicographic,
+    ] {
+        let file = Problem::new(7, 3, order, 2)
+            .element(all.iter().copied())
+            .file();
+        let reversed = Problem::new(7, 3, order, 2)
+            .element(all.iter().rev().copied())
+            .file();
+        assert_eq!(file, reversed);
+        let mut engine = Engine::new();
+        engine
+            .read(&file)
+            .expect("descending, and one element is a Gröbner basis");
+        assert_eq!(engine.order(), Some(order));
+        assert_eq!(
+            engine.vectors(0).next().expect("an element").terms().len(),
+            8
+        );
+    }
+    let read = |problem: &Problem| Engine::new().read(&problem.file());
+    let ring = || Problem::new(7, 2, Order::Lexicographic, 1);
+    let x = Term::new(1, 1, &[1]);
+    assert_eq!(read(ring().element([x])), Ok(()));
+    assert_eq!(read(&ring()), Err(Refusal::BadCount { line: 2 }));
+    assert_eq!(
+        read(ring().element([x]).element([])),
+        Err(Refusal::BadTerm { line: 3 })
+    );
+    assert_eq!(
+        read(ring().element([x, x])),
+        Err(Refusal::NotDescending { line: 3 })
+    );
+    assert_eq!(
+        read(ring().element([Term::new(1, 1, &[0, 0, 1])])),
+        Err(Refusal::BadLine { line: 2 })
+    );
+    assert_eq!(
+        read(ring().element([Term::new(7, 1, &[1])])),
+        Err(Refusal::BadTerm { line: 2 })
+    );
+    assert_eq!(
+        read(&Problem::new(32771, 9, Order::Lexicographic, 1)),
+        Err(Refusal::BadPrime { line: 1 })
+    );
+    assert_eq!(
+        read(Problem::new(7, 9, Order::Lexicographic, 1).element([x])),
+        Err(Refusal::BadRing { line: 1 })
+    );
+}
+
+/// what 9 leaves, put to the elements: a step of Buchberger's algorithm
+#[test]
+fn from_generators_to_a_basis() {
+    let mut problem = Problem::new(7, 2, Order::Lexicographic, 1);
+    problem.element([Term::new(1, 1, &[2])]);
+    problem.element([Term::new(1, 1, &[1, 1]), Term::new(1, 1, &[0, 2])]);
+    let mut engine = Engine::new();
+    let mut steps = 0;
+    while let Err(refusal) = engine.read(&problem.file()) {
+        assert!(matches!(refusal, Refusal::NoBasis { .. }));
+        problem.element(engine.stopped_at());
+        steps += 1;
+    }
+    assert_eq!((steps, engine.count(0)), (1, 3));
 }

@@ -1,2 +1,3 @@
 pub mod Coded
 pub mod Made
+pub mod Version

@@ -5,6 +5,7 @@ ghost use mathlib.Core.Path.{_≡_};
 ghost use Prim.Native.Nat.{ℕ};
 ghost use Rattle.engine_lift.specs.Codes.{coded-way};
 ghost use Rattle.sheet.specs.Sheets.{called};
+ghost use Rattle.calls.specs.Version.{version};
 ghost use Rattle.calls.specs.Coded.{Read-says, Lift-says, Fetch-says, sheet-told};
 
 // "read a file and accept or refuse its basis"
@@ -71,4 +72,12 @@ pub extern "C" fn tagetessash_sheet(
     let r = sheet::sheet(file, state, work, out);
     *length = r.length;
     r.number
+}
+
+// Which version of the calls, of the state's layout and of the sheet this library has.
+#[no_mangle]
+pub extern "C" fn tagetessash_version() -> u16
+    ensures { λ x. ⌜ x ≡ version ⌝ }
+{
+    1
 }
