@@ -35,15 +35,18 @@ module _ (code : ℕ) (t : T (between 1 code 3)) where
   compare-exactly [] k m m′ h h′ =
       exactly-map (λ s. s, λ s. s) (λ e. λ i. (e .0 i, e .1 i), λ e. (ap (λ z. z .0) e, ap (λ z. z .1) e))
       (⊎-elim (λ s. inl s) (λ s. inr (sym (s .0), s .1)), ⊎-elim (λ s. inl s) (λ s. inr (sym (s .0), s .1)))
-      (exactly-tie (exponents-by code (m .0) (m′ .0)) (numbers (m .1) (m′ .1)) (exponents-exactly code t (m .0) (m′ .0) (h ∙ sym h′)) (numbers-exactly (m .1) (m′ .1)))
+      (exactly-tie (exponents-by code (m .0) (m′ .0)) (numbers (m .1) (m′ .1))
+      (exponents-exactly code t (m .0) (m′ .0) (h ∙ sym h′)) (numbers-exactly (m .1) (m′ .1)))
   compare-exactly (f ∷ below) k m m′ h h′ = over (compare-exactly below (k .1) (image f m) (image f m′) (image-has 8 f (k .0) m h) (image-has 8 f (k .0) m′ h′))
     where
-      over : Exactly (Above code below (image f m) (image f m′)) (image f m ≡ image f m′) (Above code below (image f m′) (image f m)) (compare-over code below (image f m) (image f m′))
+      over : Exactly (Above code below (image f m) (image f m′)) (image f m ≡ image f m′) (Above code below (image f m′) (image f m))
+          (compare-over code below (image f m) (image f m′))
           → Exactly (Above code (f ∷ below) m m′) (m ≡ m′) (Above code (f ∷ below) m′ m) (compare-over code (f ∷ below) m m′)
       over under =
           let both = exactly-tie (compare-over code below (image f m) (image f m′)) (numbers (m .1) (m′ .1)) under (numbers-exactly (m .1) (m′ .1)) in
           -- equal images and components: the comparison is a tie, and ties are of equal monomials
-          exactly-map (λ s. s, λ s. s) (λ e. compare-order 8 code (f ∷ below) k .apart m m′ h h′ (both .when-equal .1 e), λ e. (ap (image f) e, ap (λ z. z .1) e))
+          exactly-map (λ s. s, λ s. s)
+          (λ e. compare-order 8 code (f ∷ below) k .apart m m′ h h′ (both .when-equal .1 e), λ e. (ap (image f) e, ap (λ z. z .1) e))
           (⊎-elim (λ s. inl s) (λ s. inr (sym (s .0), s .1)), ⊎-elim (λ s. inl s) (λ s. inr (sym (s .0), s .1))) both
 
   pub answers-exactly : (below : List Level) → Leads 8 below → Answers-exactly code below
@@ -54,7 +57,8 @@ module _ (code : ℕ) (t : T (between 1 code 3)) where
     swaps = λ m m′ h h′. O .turns m m′ h h′ ∙ swapped-is (compare-over code below m m′);
     irreflexive = λ m h a. greater≢equal (sym (is m m h h a) ∙ order-same (Has 8) (compare-over code below) O m h);
     transitive = λ m m′ m″ h h′ h″ a b.
-        compare-exactly below k m m″ h h″ .when-greater .0 (order-greater (Has 8) (compare-over code below) O m m′ m″ h h′ h″ (is m m′ h h′ a) (is m′ m″ h′ h″ b));
+        compare-exactly below k m m″ h h″ .when-greater .0
+        (order-greater (Has 8) (compare-over code below) O m m′ m″ h h′ h″ (is m m′ h h′ a) (is m′ m″ h′ h″ b));
   }
     where
       O : Orders (Has 8) (compare-over code below)
@@ -72,7 +76,8 @@ module _ (code : ℕ) (t : T (between 1 code 3)) where
     above-multiplied x h [] s g y i = absurd i
     above-multiplied x h (u ∷ v) s g y (inl i) =
         subst (Above code below (shifted e x)) (sym i)
-        (compare-exactly below k (shifted e x) (shifted e (u .1)) (long x h) (long (u .1) (s .0)) .when-greater .0 (compare-order 8 code below k .multiplied e l x (u .1) h (s .0) ∙ g .0))
+        (compare-exactly below k (shifted e x) (shifted e (u .1)) (long x h) (long (u .1) (s .0)) .when-greater .0
+        (compare-order 8 code below k .multiplied e l x (u .1) h (s .0) ∙ g .0))
       where
         long : (m : Monomial) → Has 8 m → Eight (shifted e m)
         long m z = length-product 8 e (m .0) l z
@@ -85,13 +90,16 @@ module _ (code : ℕ) (t : T (between 1 code 3)) where
     })
       where
         tops : All (λ u. compare-over code below (d .first .1) (u .1) ≡ greater) (d .others)
-        tops = descending-above (Has 8) (compare-over code below) (compare-order 8 code below k .orders) (d .first) (d .others) (d .eight .0) (d .eight .1) (d .falls)
+        tops =
+            descending-above (Has 8) (compare-over code below) (compare-order 8 code below k .orders)
+            (d .first) (d .others) (d .eight .0) (d .eight .1) (d .falls)
 
 -- ## Over sound states
 
 module _ (lim : Limits) where
   leading-image : (X : State) → T (sound? lim X) → (f : Level) (below : List Level) → Descending lim (X .parameters) (f ∷ below)
-      → (m : Monomial) → Eight m → T (between 1 (m .1) (length f)) → Greatest-of (X .parameters .code) below (multiplied (m .0) (vector-of f (m .1))) (image f m)
+      → (m : Monomial) → Eight m → T (between 1 (m .1) (length f))
+      → Greatest-of (X .parameters .code) below (multiplied (m .0) (vector-of f (m .1))) (image f m)
   leading-image X s f below d m h b =
       leading-greatest (X .parameters .code) (code-in-range lim X s) below (leads lim (X .parameters) below (d .1)) (m .0) h (vector-of f (m .1)) (at (m .1) b)
     where
@@ -102,7 +110,8 @@ module _ (lim : Limits) where
   pub a2 : A2 lim
   a2 = record {
     level-0 = λ code t. answers-exactly code t [] tt;
-    induced = λ X s k. answers-exactly (X .parameters .code) (code-in-range lim X s) (up-to X k) (leads lim (X .parameters) (up-to X k) (levels-descending lim X s k));
+    induced = λ X s k.
+        answers-exactly (X .parameters .code) (code-in-range lim X s) (up-to X k) (leads lim (X .parameters) (up-to X k) (levels-descending lim X s k));
     image-leads = λ X s k f below e. leading-image X s f below (subst (Descending lim (X .parameters)) e (levels-descending lim X s k));
   }
 

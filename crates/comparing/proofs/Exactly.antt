@@ -30,9 +30,15 @@ module _ {A B C A′ B′ C′ : Type 0} where
     when-smaller = (λ e. absurd (greater≢smaller e), ⊎-elim (λ s. x .when-smaller .1 s) (λ s. absurd (greater≢equal (x .when-equal .1 (s .0)))));
   }
   exactly-tie equal d x y = record {
-    when-greater = (λ e. inr (x .when-equal .0 refl, y .when-greater .0 e), ⊎-elim (λ a. absurd (greater≢equal (sym (x .when-greater .1 a)))) (λ a. y .when-greater .1 (a .1)));
+    when-greater = (
+      λ e. inr (x .when-equal .0 refl, y .when-greater .0 e),
+      ⊎-elim (λ a. absurd (greater≢equal (sym (x .when-greater .1 a)))) (λ a. y .when-greater .1 (a .1)),
+    );
     when-equal = (λ e. (x .when-equal .0 refl, y .when-equal .0 e), λ b. y .when-equal .1 (b .1));
-    when-smaller = (λ e. inr (x .when-equal .0 refl, y .when-smaller .0 e), ⊎-elim (λ s. absurd (equal≢smaller (x .when-smaller .1 s))) (λ s. y .when-smaller .1 (s .1)));
+    when-smaller = (
+      λ e. inr (x .when-equal .0 refl, y .when-smaller .0 e),
+      ⊎-elim (λ s. absurd (equal≢smaller (x .when-smaller .1 s))) (λ s. y .when-smaller .1 (s .1)),
+    );
   }
   exactly-tie smaller d x y = record {
     when-greater = (λ e. absurd (greater≢smaller (sym e)), ⊎-elim (λ a. x .when-greater .1 a) (λ a. absurd (equal≢smaller (sym (x .when-equal .1 (a .0))))));

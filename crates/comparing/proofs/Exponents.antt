@@ -44,7 +44,8 @@ first-cons x y a b = (⊎-elim now later, λ f. back (f .place) (f .before) (f .
     later : (x ≡ y) × First-larger a b → First-larger (x ∷ a) (y ∷ b)
     later (e, f) = record { place = suc (f .place); before = before-later e f; larger = f .larger }
 
-    back : (p : ℕ) → ((j : ℕ) → j < p → exponent (x ∷ a) j ≡ exponent (y ∷ b) j) → exponent (y ∷ b) p < exponent (x ∷ a) p → (y < x) ⊎ ((x ≡ y) × First-larger a b)
+    back : (p : ℕ) → ((j : ℕ) → j < p → exponent (x ∷ a) j ≡ exponent (y ∷ b) j) → exponent (y ∷ b) p < exponent (x ∷ a) p
+        → (y < x) ⊎ ((x ≡ y) × First-larger a b)
     back zero h l = inl l
     back (suc p) h l = inr (h 0 (omega arith), record { place = p; before = λ j k. h (suc j) (omega arith); larger = l })
 
@@ -87,7 +88,8 @@ last-cons x y a b l = (⊎-elim behind now, λ f. back (f .place) (f .behind) (f
     now : (a ≡ b) × (x < y) → Last-smaller (x ∷ a) (y ∷ b)
     now (e, h) = record { place = 0; behind = behind-now e; less = h }
 
-    back : (p : ℕ) → ((j : ℕ) → p < j → exponent (x ∷ a) j ≡ exponent (y ∷ b) j) → exponent (x ∷ a) p < exponent (y ∷ b) p → Last-smaller a b ⊎ ((a ≡ b) × (x < y))
+    back : (p : ℕ) → ((j : ℕ) → p < j → exponent (x ∷ a) j ≡ exponent (y ∷ b) j) → exponent (x ∷ a) p < exponent (y ∷ b) p
+        → Last-smaller a b ⊎ ((a ≡ b) × (x < y))
     back zero h s = inr (same-places a b l (λ j. h (suc j) (omega arith)), s)
     back (suc p) h s = inl (record { place = p; behind = λ j k. h (suc j) (omega arith); less = s })
 

@@ -48,7 +48,8 @@ module _ (lim : Limits) (q : Parameters) where
 
   vectors : (c most : ℕ) (below : List Level) (f : Level) → T (every (vector-sound? lim q c most below) f) → Sound-vectors below f
   vectors c most below f h =
-      all-map (λ v. T (vector-sound? lim q c most below v)) (Descends (q .code) below) (descends c most below) f (every-all (vector-sound? lim q c most below) f h)
+      all-map (λ v. T (vector-sound? lim q c most below v)) (Descends (q .code) below) (descends c most below) f
+      (every-all (vector-sound? lim q c most below) f h)
 
   -- every level over those below it
   abbrev pub Descending : List Level → Type 0
@@ -73,7 +74,9 @@ module _ (lim : Limits) (q : Parameters) where
 
 module _ (lim : Limits) (X : State) (h : T (sound? lim X)) where
   pub levels-descending : (k : ℕ) → Descending lim (X .parameters) (up-to X k)
-  levels-descending k = dropped lim (X .parameters) (length (X .levels) - suc k) (X .levels) (descending lim (X .parameters) (X .levels) (sound-says lim X h .levels))
+  levels-descending k =
+      dropped lim (X .parameters) (length (X .levels) - suc k) (X .levels)
+      (descending lim (X .parameters) (X .levels) (sound-says lim X h .levels))
 
   pub code-in-range : T (between 1 (X .parameters .code) 3)
   code-in-range =

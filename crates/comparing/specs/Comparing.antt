@@ -41,4 +41,5 @@ pub record A2 (lim : Limits) : Type 0 where
   pub induced : (X : State) → T (sound? lim X) → (k : ℕ) → Answers-exactly (X .parameters .code) (up-to X k)
   -- where the image of m·e_i is what its name says, "the leading monomial of m·f_i": the greatest of those of m·f_i
   pub image-leads : (X : State) → T (sound? lim X) → (k : ℕ) (f : Level) (below : List Level) → up-to X k ≡ f ∷ below
-      → (m : Monomial) → Eight m → T (between 1 (m .1) (length f)) → Greatest-of (X .parameters .code) below (multiplied (m .0) (vector-of f (m .1))) (image f m)
+      → (m : Monomial) → Eight m → T (between 1 (m .1) (length f))
+      → Greatest-of (X .parameters .code) below (multiplied (m .0) (vector-of f (m .1))) (image f m)

@@ -65,7 +65,9 @@ module _ {A B C : Type 0} where
 pub compare-tells : (code : ℕ) → T (between 1 code 3) → (a b : Monomial) → length (a .exponents) ≡ 8 → length (b .exponents) ≡ 8
     → (r : Comparison) → comparison-of r ≡ compare-over code [] (monomial-of a) (monomial-of b)
     → Tells (Above code [] (monomial-of a) (monomial-of b)) (monomial-of a ≡ monomial-of b) (Above code [] (monomial-of b) (monomial-of a)) r
-compare-tells code t a b h k r e = tells r (compare-over code [] (monomial-of a) (monomial-of b)) e (compare-exactly code t [] tt (monomial-of a) (monomial-of b) h k)
+compare-tells code t a b h k r e =
+    tells r (compare-over code [] (monomial-of a) (monomial-of b)) e
+    (compare-exactly code t [] tt (monomial-of a) (monomial-of b) h k)
 
 -- ## by_code and compare_exponents
 
@@ -107,9 +109,13 @@ last-differing-swaps (x ∷ a) (y ∷ b) = tie-turns (last-differing a b) (numbe
 pub exponents-swap : (code : ℕ) (a b : Exponents) → exponents-by code b a ≡ turned (exponents-by code a b)
 exponents-swap code a b = go (eqb code 1) (eqb code 2)
   where
-    go : (x y : Bool) → _≡_ {A = definition-order.Comparison}
-        (elim x [ true ↦ lexicographic b a | false ↦ elim y [ true ↦ or-at-tie (degrees b a) (lexicographic b a) | false ↦ or-at-tie (degrees b a) (last-differing b a) ] ])
-        (turned (elim x [ true ↦ lexicographic a b | false ↦ elim y [ true ↦ or-at-tie (degrees a b) (lexicographic a b) | false ↦ or-at-tie (degrees a b) (last-differing a b) ] ]))
+    by : Bool → Bool → Exponents → Exponents → definition-order.Comparison
+    by x y a b = elim x [
+      | true ↦ lexicographic a b
+      | false ↦ elim y [ true ↦ or-at-tie (degrees a b) (lexicographic a b) | false ↦ or-at-tie (degrees a b) (last-differing a b) ]
+    ]
+
+    go : (x y : Bool) → by x y b a ≡ turned (by x y a b)
     go true y = lexicographic-swaps a b
     go false true = tie-turns (degrees a b) (lexicographic a b) (numbers-turn (degree a) (degree b)) (lexicographic-swaps a b)
     go false false = tie-turns (degrees a b) (last-differing a b) (numbers-turn (degree a) (degree b)) (last-differing-swaps a b)
@@ -137,11 +143,13 @@ answers-swap r r′ c c′ e e′ t = told-by r′ (turned c) (e′ ∙ t) ∙ a
     go Smaller = refl
 
 -- compare, of any two monomials
-pub compare-swaps : (code : ℕ) (a b : definition.Monomial) (r r′ : Comparison) → comparison-of r ≡ compare-over code [] a b → comparison-of r′ ≡ compare-over code [] b a → r′ ≡ swapped-answer r
+pub compare-swaps : (code : ℕ) (a b : definition.Monomial) (r r′ : Comparison)
+    → comparison-of r ≡ compare-over code [] a b → comparison-of r′ ≡ compare-over code [] b a → r′ ≡ swapped-answer r
 compare-swaps code a b r r′ e e′ =
     answers-swap r r′ (compare-over code [] a b) (compare-over code [] b a) e e′
     (tie-turns (exponents-by code (a .0) (b .0)) (numbers (a .1) (b .1)) (exponents-swap code (a .0) (b .0)) (numbers-turn (a .1) (b .1)))
 
 -- compare_images and against_row, of any two images
-pub images-swap : (code : ℕ) (a b : Key) (r r′ : Comparison) → comparison-of r ≡ compare-keys code a b → comparison-of r′ ≡ compare-keys code b a → r′ ≡ swapped-answer r
+pub images-swap : (code : ℕ) (a b : Key) (r r′ : Comparison)
+    → comparison-of r ≡ compare-keys code a b → comparison-of r′ ≡ compare-keys code b a → r′ ≡ swapped-answer r
 images-swap code a b r r′ e e′ = answers-swap r r′ (compare-keys code a b) (compare-keys code b a) e e′ (keys-swap code a b)
