@@ -11,7 +11,7 @@ ghost use Rattle.definitions.specs.Monomial.{divides?};
 ghost use Rattle.definitions.specs.Order.{greater?};
 ghost use Rattle.definitions.specs.Problem.{prime-in-range?, in-ranges?};
 ghost use Rattle.definitions.specs.Layout.{holds-state?};
-ghost use Rattle.orders.specs.Images.{comparison-of, exponents-raw, key-of, compare-keys, table-of, table-order, Tabled};
+ghost use Rattle.orders.specs.Images.{exponents-raw, key-of, compare-keys, table-of, table-order, Tabled};
 ghost use Rattle.levels.specs.Places.{parameters-of, parameters-at, count-at, count-below, rows-from, ends-from};
 ghost use Rattle.levels.specs.Holding.{exponent-limits as limits-definition, limit-at, bounds-of, row-holds?, follows?, all-hold?, vector-holds?, vectors-hold?, level-holds?, level-test?, levels-hold?};
 ghost use Rattle.levels.specs.Tabled.{Advanced};
@@ -172,24 +172,17 @@ fn row_holds(level: &[u16], i: usize, b: Bounds) -> bool
 
 // ## Vectors
 
-fn is_greater(c: Comparison) -> bool
-    ensures { λ r. ⌜ r ≡ greater? (comparison-of c) ⌝ }
-{
-    match c {
-        Comparison::Greater => true,
-        Comparison::Equal => false,
-        Comparison::Smaller => false,
-    }
-}
-
 // Row i is in range and below the row with the image before it.
 fn follows(level: &[u16], i: usize, b: Bounds, code: u16, before: Image, image: Image) -> bool
     requires { ⌜ i * 10 + 10 ≤ length (now level) ⌝ }
     ensures { λ r. ⌜ r ≡ (row-holds? b (now (level .entry)) i and greater? (compare-keys code (key-of before) (key-of image))) ⌝ }
 {
     let x = row_holds(level, i, b);
-    let c = orders::compare_images(code, before, image);
-    both(x, is_greater(c))
+    match orders::compare_images(code, before, image) {
+        Comparison::Greater => x,
+        Comparison::Equal => false,
+        Comparison::Smaller => false,
+    }
 }
 
 // The rows behind row `from`, up to row `to`.

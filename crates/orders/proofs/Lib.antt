@@ -3,3 +3,4 @@ pub mod Tables
 pub mod Ranks
 pub mod Induced
 pub mod RowImages
+pub mod Answers

@@ -260,11 +260,11 @@ fn row_last_differing(x: [u16; 8], s: &[u16], at: usize, table: &[u16], to: usiz
     let mut j = 8;
     while 0 < j {
         j -= 1;
-        let y = word_of(s[at + j], table[to + j]);
-        if x[j] < y {
+        let z = word_of(s[at + j], table[to + j]);
+        if x[j] < z {
             return Comparison::Greater;
         }
-        if y < x[j] {
+        if z < x[j] {
             return Comparison::Smaller;
         }
     }
@@ -339,17 +339,24 @@ fn row_exponents(s: &[u16], at: usize) -> [u16; 8]
     w
 }
 
-// A row, from word at on, whose component the table lacks.
+// The image of a row, from word at on, whose component the table lacks.
+fn own_image(s: &[u16], at: usize) -> Image
+    requires { ⌜ at + 10 ≤ length (now s) ⌝ }
+    ensures { λ k. ⌜ key-of k ≡ (exponents-at (now (s .entry)) (at + 2), (0, getD (now (s .entry)) (at + 1) 0)) ⌝ }
+{
+    let w = row_exponents(s, at + 2);
+    Image {
+        exponents: w,
+        rank: 0,
+        component: s[at + 1],
+    }
+}
+
 fn against_own(code: u16, a: Image, s: &[u16], at: usize) -> Comparison
     requires { ⌜ at + 10 ≤ length (now s) ⌝ }
     ensures { λ c. ⌜ comparison-of c ≡ compare-keys code (key-of a) (exponents-at (now (s .entry)) (at + 2), (0, getD (now (s .entry)) (at + 1) 0)) ⌝ }
 {
-    let w = row_exponents(s, at + 2);
-    let b = Image {
-        exponents: w,
-        rank: 0,
-        component: s[at + 1],
-    };
+    let b = own_image(s, at);
     compare_images(code, a, b)
 }
 
@@ -406,4 +413,95 @@ pub fn against_row(
         return against_own(code, a, s, at);
     }
     against_tabled(code, a, total, s, at, table, c * 10 - 10)
+}
+
+// ## An image against another, when the first's total degree is known; the image of a row by value, to be kept
+
+fn formed_degrees(code: u16, d: u32, y: [u16; 8]) -> Comparison
+    ensures { λ r. ⌜ comparison-of r ≡ degrees-by code d (degree y) ⌝ }
+{
+    match code {
+        1 => Comparison::Equal,
+        _ => numbers(d, total(y)),
+    }
+}
+
+fn formed_places(code: u16, x: [u16; 8], y: [u16; 8]) -> Comparison
+    ensures { λ r. ⌜ comparison-of r ≡ places-by code x y ⌝ }
+{
+    match code {
+        1 | 2 => lexicographic(x, y),
+        _ => last_differing(x, y),
+    }
+}
+
+fn formed_by_code(code: u16, x: [u16; 8], d: u32, y: [u16; 8]) -> Comparison
+    requires { ⌜ d ≡ degree x ⌝ }
+    ensures { λ r. ⌜ comparison-of r ≡ exponents-by code x y ⌝ }
+{
+    let c = formed_degrees(code, d, y);
+    if decided(c) {
+        return c;
+    }
+    formed_places(code, x, y)
+}
+
+// An image with its total degree against another.
+pub fn against_image(code: u16, a: Image, d: u32, b: Image) -> Comparison
+    requires { ⌜ d ≡ degree (a .exponents) ⌝ }
+    ensures { λ r. ⌜ comparison-of r ≡ compare-keys code (key-of a) (key-of b) ⌝ }
+{
+    let x = a.exponents;
+    let y = b.exponents;
+    let c = formed_by_code(code, x, d, y);
+    if decided(c) {
+        return c;
+    }
+    let t = numbers(wider(a.rank), wider(b.rank));
+    if decided(t) {
+        return t;
+    }
+    numbers(wider(a.component), wider(b.component))
+}
+
+fn row_words(s: &[u16], at: usize, table: &[u16], to: usize) -> [u16; 8]
+    requires { ⌜ (at + 8 ≤ length (now s)) × (to + 8 ≤ length (now table)) × Bounded (now table) to ⌝ }
+    ensures { λ r. ⌜ r ≡ row-image (now (s .entry)) at (now (table .entry)) to ⌝ }
+{
+    let mut w = [0u16; 8];
+    let mut j = 0;
+    while j < 8 {
+        w[j] = word_of(s[at + j], table[to + j]);
+        j += 1;
+    }
+    w
+}
+
+// The image of a row, from word at on, whose component's row in the table begins at word to.
+fn tabled_image(s: &[u16], at: usize, table: &[u16], to: usize) -> Image
+    requires { ⌜ (at + 10 ≤ length (now s)) × (to + 10 ≤ length (now table)) × Bounded (now table) (to + 2) ⌝ }
+    ensures { λ k. ⌜ key-of k ≡ (row-image (now (s .entry)) (at + 2) (now (table .entry)) (to + 2), (getD (now (table .entry)) (to + 1) 0, getD (now (s .entry)) (at + 1) 0)) ⌝ }
+{
+    let w = row_words(s, at + 2, table, to + 2);
+    Image {
+        exponents: w,
+        rank: table[to + 1],
+        component: s[at + 1],
+    }
+}
+
+// The image of row i.
+pub fn image_of_row(s: &[u16], i: usize, table: &[u16], r: usize) -> Image
+    requires { ⌜ (i * 10 + 10 ≤ length (now s)) × (r * 10 ≤ length (now table)) × Tabled r (now table) ⌝ }
+    ensures { λ k. ⌜ key-of k ≡ key (table-of r (now (table .entry))) (row-at (now (s .entry)) i .1) ⌝ }
+{
+    let at = i * 10;
+    let c = place(s[at + 1]);
+    if c == 0 {
+        return own_image(s, at);
+    }
+    if r < c {
+        return own_image(s, at);
+    }
+    tabled_image(s, at, table, c * 10 - 10)
 }

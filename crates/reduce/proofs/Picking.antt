@@ -14,8 +14,9 @@ use Rattle.definitions.specs.Layout.{Words, row-at, rows}
 use Rattle.definitions.proofs.Rows.{rows-first, length-rows}
 use Rattle.definitions.proofs.Comparisons.{turned}
 use Rattle.orders.specs.Images.{Table, key, table-order}
-use Rattle.sums.specs.Places.{stops?, stop-from}
-use Rattle.sums.proofs.Walking.{stop-here, stop-past, stop-end, keys-turn}
+use Rattle.orders.proofs.Answers.{keys-swap}
+use Rattle.sums.specs.Places.{beaten-from}
+use Rattle.sums.proofs.Walking.{beaten-at-row, beaten-at-end}
 use Rattle.reduce.proofs.Adding.{rows-none}
 
 better-is : (c : Comparison) (i : ℕ) (m : Monomial) (best : Best) → better c i m best ≡ choose (greater? c) (i, m) best
@@ -52,32 +53,29 @@ module _ (code : ℕ) (T : Table) (s : Words) (n : ℕ) where
       let z : n - i ≡ 0 = omega arith in
       sym (l ∙ ap some (ap (λ m. greatest-from (table-order code T) i (x, row-at s x .1) (rows s i m)) z ∙ ap (greatest-from (table-order code T) i (x, row-at s x .1)) (rows-none s i)))
 
-  -- a walk that stops where the best so far is smaller: behind the last term, or at the next best
+  -- a walk from the best so far, at place x, to the next greater: behind the last term, or at the next best
   abbrev Walked : ℕ → ℕ → ℕ → Type 0
   Walked i x j = (i ≤ j) × (n ≤ j → some x ≡ greatest (table-order code T) (rows s 0 n)) × (j < n → Left (j + 1) j)
 
-  turned-greater : (c d : Comparison) → d ≡ turned c → greater? d ≡ stops? true c
-  turned-greater greater d e = ap greater? e
-  turned-greater equal d e = ap greater? e
-  turned-greater smaller d e = ap greater? e
-
-  pub left-walked : (x : ℕ) (m i j : ℕ) (c : Comparison) → n - i ≡ m → Left i x → _≡_ {A = ℕ × Comparison} (j, c) (stop-from true (table-order code T (row-at s x .1)) (rows s i (n - i)) i) → Walked i x j
-  left-walked x zero i j c z l e =
-      let q : j ≡ i = ap (λ (w : ℕ × Comparison). w .0) (e ∙ stop-end true (table-order code T (row-at s x .1)) s n i (omega arith)) in
+  pub left-walked : (x : ℕ) (m i j : ℕ) → n - i ≡ m → Left i x → j ≡ beaten-from (table-order code T (row-at s x .1)) (rows s i (n - i)) i → Walked i x j
+  left-walked x zero i j z l e =
+      let q : j ≡ i = e ∙ beaten-at-end (table-order code T (row-at s x .1)) s n i (omega arith) in
       (omega arith, λ h. left-end i x (omega arith) l, λ h. absurd (omega arith))
-  left-walked x (suc m) i j c z l e = go (left-walked x m (i + 1) j c (omega arith)) (stops? true (table-order code T (row-at s x .1) (row-at s i .1))) refl
+  left-walked x (suc m) i j z l e = go (left-walked x m (i + 1) j (omega arith)) (table-order code T (row-at s x .1) (row-at s i .1)) refl
     where
-      same : greater? (table-order code T (row-at s i .1) (row-at s x .1)) ≡ stops? true (table-order code T (row-at s x .1) (row-at s i .1))
-      same = turned-greater (table-order code T (row-at s x .1) (row-at s i .1)) (table-order code T (row-at s i .1) (row-at s x .1)) (keys-turn code (key T (row-at s x .1)) (key T (row-at s i .1)))
+      swapped : (c : Comparison) → table-order code T (row-at s x .1) (row-at s i .1) ≡ c → table-order code T (row-at s i .1) (row-at s x .1) ≡ turned c
+      swapped c q = keys-swap code (key T (row-at s x .1)) (key T (row-at s i .1)) ∙ ap turned q
 
-      go : (Left (i + 1) x → _≡_ {A = ℕ × Comparison} (j, c) (stop-from true (table-order code T (row-at s x .1)) (rows s (i + 1) (n - (i + 1))) (i + 1)) → Walked (i + 1) x j)
-          → (b : Bool) → stops? true (table-order code T (row-at s x .1) (row-at s i .1)) ≡ b → Walked i x j
-      go further true q =
-          let f : i ≡ j = sym (ap (λ (w : ℕ × Comparison). w .0) (e ∙ stop-here true (table-order code T (row-at s x .1)) s n i (omega arith) (sym q))) in
-          (omega arith, λ h. absurd (omega arith), λ h. subst (λ k. Left (k + 1) k) f (left-step i x i true (omega arith) (same ∙ q) refl l))
-      go further false q =
-          let w = further (left-step i x x false (omega arith) (same ∙ q) refl l) (e ∙ stop-past true (table-order code T (row-at s x .1)) s n i (omega arith) (sym q)) in
-          (omega (arith, w .0), w .1, w .2)
+      past : (Left (i + 1) x → j ≡ beaten-from (table-order code T (row-at s x .1)) (rows s (i + 1) (n - (i + 1))) (i + 1) → Walked (i + 1) x j) → greater? (table-order code T (row-at s i .1) (row-at s x .1)) ≡ false
+          → j ≡ beaten-from (table-order code T (row-at s x .1)) (rows s (i + 1) (n - (i + 1))) (i + 1) → Walked i x j
+      past further g d = let w = further (left-step i x x false (omega arith) g refl l) d in (omega (arith, w .0), w .1, w .2)
+
+      go : (Left (i + 1) x → j ≡ beaten-from (table-order code T (row-at s x .1)) (rows s (i + 1) (n - (i + 1))) (i + 1) → Walked (i + 1) x j) → (c : Comparison) → table-order code T (row-at s x .1) (row-at s i .1) ≡ c → Walked i x j
+      go further greater q = past further (ap greater? (swapped greater q)) (e ∙ beaten-at-row (table-order code T (row-at s x .1)) s n i greater (omega arith) (sym q))
+      go further equal q = past further (ap greater? (swapped equal q)) (e ∙ beaten-at-row (table-order code T (row-at s x .1)) s n i equal (omega arith) (sym q))
+      go further smaller q =
+          let d : i ≡ j = sym (e ∙ beaten-at-row (table-order code T (row-at s x .1)) s n i smaller (omega arith) (sym q)) in
+          (omega arith, λ h. absurd (omega arith), λ h. subst (λ k. Left (k + 1) k) d (left-step i x i true (omega arith) (ap greater? (swapped smaller q)) refl l))
 
 -- ## By code
 

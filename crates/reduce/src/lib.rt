@@ -185,8 +185,7 @@ pub fn greatest(value: &[u16], n: usize, code: u16, below: &[u16], images: usize
     let mut i: usize = 1;
     while i < n {
         let image = image_at(value, best, below, images);
-        let x = sums::walk(value, i, n, code, below, images, image, true);
-        let j = x.row;
+        let j = sums::next_greater(value, i, n, code, below, images, image);
         if n <= j {
             return best;
         }

@@ -2,10 +2,9 @@ use native.Mathlib.Omega.{arith}
 use mathlib.Core.Path.{refl, ap, _∙_}
 use Prim.Native.Nat.{_-_, _<_, _≤_}
 use Rattle.definitions.specs.Layout.{rows}
-use Rattle.orders.specs.Images.{table-of, key, compare-keys, comparison-of}
-use Rattle.sums.specs.Places.{stop-from}
+use Rattle.orders.specs.Images.{table-of, key, compare-keys}
+use Rattle.sums.specs.Places.{beaten-from}
 use Rattle.reduce.proofs.Picking.{Left, left-first, left-end, left-walked}
-use mathlib.Core.Bool.{true}
 use Rattle.reduce.proofs.greatest.Statement.{statement}
 use Rattle.reduce.proofs.greatest.Tie as tie
 
@@ -23,18 +22,18 @@ loop-holds c =
 image-at-requires : tie.Need-image-at-requires Inv-loop μ-loop
 image-at-requires c κs = (omega arith, omega arith, c .before .before .before .before .pre .3)
 
-walk-requires : tie.Need-walk-requires Inv-loop μ-loop
-walk-requires c κs = (omega arith, omega arith, c .before .before .before .before .before .pre .3)
+next-greater-requires : tie.Need-next-greater-requires Inv-loop μ-loop
+next-greater-requires c κs = (omega arith, omega arith, c .before .before .before .before .before .pre .3)
 
 returns : tie.Need-returns Inv-loop μ-loop
 returns c =
     let l = c .before .before .before .before .loop in
     let a = c .before .before .before .before .before .before .before .args in
     let T = table-of (a .images) (a .below .now) in
-    let x = c .before .walk .result in
+    let x = c .before .next-greater .result in
     let w =
-    left-walked (a .code) T (a .value .now) (a .n) (l .best) (a .n - l .i) (l .i) (x .row) (comparison-of (x .comparison)) refl (l .inv .2)
-    (c .before .walk .ensures ∙ ap (λ k. stop-from true (λ u. compare-keys (a .code) k (key T u)) (rows (a .value .now) (l .i) (a .n - l .i)) (l .i)) (c .before .before .image-at .ensures)) in
+    left-walked (a .code) T (a .value .now) (a .n) (l .best) (a .n - l .i) (l .i) x refl (l .inv .2)
+    (c .before .next-greater .ensures ∙ ap (λ k. beaten-from (λ u. compare-keys (a .code) k (key T u)) (rows (a .value .now) (l .i) (a .n - l .i)) (l .i)) (c .before .before .image-at .ensures)) in
     w .1 (c .if1 .taken)
 
 add-i : tie.Need-add-i Inv-loop μ-loop
@@ -45,10 +44,10 @@ loop-less c =
     let l = c .before .before .before .before .loop in
     let a = c .before .before .before .before .before .before .before .args in
     let T = table-of (a .images) (a .below .now) in
-    let x = c .before .walk .result in
+    let x = c .before .next-greater .result in
     let w =
-    left-walked (a .code) T (a .value .now) (a .n) (l .best) (a .n - l .i) (l .i) (x .row) (comparison-of (x .comparison)) refl (l .inv .2)
-    (c .before .walk .ensures ∙ ap (λ k. stop-from true (λ u. compare-keys (a .code) k (key T u)) (rows (a .value .now) (l .i) (a .n - l .i)) (l .i)) (c .before .before .image-at .ensures)) in
+    left-walked (a .code) T (a .value .now) (a .n) (l .best) (a .n - l .i) (l .i) x refl (l .inv .2)
+    (c .before .next-greater .ensures ∙ ap (λ k. beaten-from (λ u. compare-keys (a .code) k (key T u)) (rows (a .value .now) (l .i) (a .n - l .i)) (l .i)) (c .before .before .image-at .ensures)) in
     omega (arith, w .0)
 
 loop-again : tie.Need-loop-again Inv-loop μ-loop
@@ -56,10 +55,10 @@ loop-again c =
     let l = c .before .before .before .before .loop in
     let a = c .before .before .before .before .before .before .before .args in
     let T = table-of (a .images) (a .below .now) in
-    let x = c .before .walk .result in
+    let x = c .before .next-greater .result in
     let w =
-    left-walked (a .code) T (a .value .now) (a .n) (l .best) (a .n - l .i) (l .i) (x .row) (comparison-of (x .comparison)) refl (l .inv .2)
-    (c .before .walk .ensures ∙ ap (λ k. stop-from true (λ u. compare-keys (a .code) k (key T u)) (rows (a .value .now) (l .i) (a .n - l .i)) (l .i)) (c .before .before .image-at .ensures)) in
+    left-walked (a .code) T (a .value .now) (a .n) (l .best) (a .n - l .i) (l .i) x refl (l .inv .2)
+    (c .before .next-greater .ensures ∙ ap (λ k. beaten-from (λ u. compare-keys (a .code) k (key T u)) (rows (a .value .now) (l .i) (a .n - l .i)) (l .i)) (c .before .before .image-at .ensures)) in
     (omega arith, omega arith, w .2 (omega arith))
 
 returns-2 : tie.Need-returns-2 Inv-loop μ-loop
@@ -76,7 +75,7 @@ greatest-spec =
     μ-loop
     loop-holds
     image-at-requires
-    walk-requires
+    next-greater-requires
     returns
     add-i
     loop-less

@@ -1,0 +1,4 @@
+pub mod Exactly
+pub mod Exponents
+pub mod Sound
+pub mod Comparing
