@@ -56,7 +56,7 @@ function shape(text,    fields, count, want, i) {
 # which number of a line is out of range or out of sequence
 function range(text,    fields, before, i, count, better) {
     split(text, fields, ",")
-    if (number == 2) return "p is " fields[2] "; 32,749 is the largest prime that is taken"
+    if (number == 2) return "p is " fields[2] "; 65,521 is the largest prime that is taken"
     if (number == 3) return n < 1 || n > 8 ? "n is " n : code < 1 || code > 3 ? "the order code is " code : "s is " s
     if (number == 4) {
         if (fields[3] + 0 == 0) return "the coefficient is 0"

@@ -16,7 +16,7 @@ problemCode = R -> (
     K := coefficientRing R;
     if not (instance(K, QuotientRing) and ambient K === ZZ and isPrime char K) then
         error("the coefficients are " | toString describe K | "; ZZ/p is wanted for a prime p, as in ZZ/32003[x,y,z]");
-    if char K > 32749 then error("the characteristic is " | toString char K | "; the largest prime that is taken is 32749");
+    if char K > 65521 then error("the characteristic is " | toString char K | "; the largest prime that is taken is 65521");
     if isSkewCommutative R then error "variables of the ring do not commute: it is skew commutative";
     if isWeylAlgebra R then error "variables of the ring do not commute: it is a Weyl algebra";
     n := numgens R;

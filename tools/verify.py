@@ -30,7 +30,7 @@ def read(data):
         test(1, max(numbers) <= 65535 and len(numbers) == {b"R": 4, b"T": 3 + (place > 1 and n), b"E": 1}[line[:1]])
         if line[:1] == b"R":
             p, n, code, s = ring = numbers
-            test(2, 2 <= p <= 32767 and all(p % d for d in range(2, 182) if d < p))
+            test(2, 2 <= p and all(p % d for d in range(2, 256) if d < p))
             test(3, 1 <= n <= 8 and 1 <= code <= 3 and 1 <= s <= 16)
         elif line[:1] == b"T":
             element, c, i, *m = numbers

@@ -225,7 +225,7 @@ fn problems_from_terms() {
         Err(Refusal::BadTerm { line: 2 })
     );
     assert_eq!(
-        read(&Problem::new(32771, 9, Order::Lexicographic, 1)),
+        read(&Problem::new(65533, 9, Order::Lexicographic, 1)),
         Err(Refusal::BadPrime { line: 1 })
     );
     assert_eq!(

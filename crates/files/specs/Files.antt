@@ -38,7 +38,7 @@ file-of q f = first-line-of q ++ (elements-lines (q .n) 1 f ++ end-line f)
 
 -- ## What it says
 
--- "p a prime from 2 to 32,767", "n variables, 1 to 8", "The order code is 1 .. 2 .. 3", "s components, 1 to 16"
+-- "p a prime from 2 to" 65,535 (A4), "n variables, 1 to 8", "The order code is 1 .. 2 .. 3", "s components, 1 to 16"
 pub record Well-formed-parameters (lim : Limits) (q : Parameters) : Type 0 where
   pub prime : Prime (q .p)
   pub p-to : q .p ≤ lim .prime-bound
