@@ -67,7 +67,7 @@ enum {
 
     /* the file; the place is the line (an absent line has the next number) */
     TAGETESSASH_BAD_LINE = 1,       /* line shape or sequence wrong, line missing or after E; file too long (place 0) */
-    TAGETESSASH_BAD_PRIME = 2,      /* p not prime, or not 2 to 32,767 */
+    TAGETESSASH_BAD_PRIME = 2,      /* p not prime, or not 2 to 65,535 */
     TAGETESSASH_BAD_RING = 3,       /* n not 1 to 8, order not 1 to 3 or s not 1 to 16 */
     TAGETESSASH_BAD_TERM = 4,       /* coefficient 0 or p or more, component not 1 to s, exponent above 255 */
     TAGETESSASH_BAD_ELEMENT = 5,    /* element number out of sequence or above 64 */
@@ -190,7 +190,7 @@ static inline const char *tagetessash_meaning(uint16_t number)
     switch (number) {
     case TAGETESSASH_DONE: return "done";
     case TAGETESSASH_BAD_LINE: return "a line has the wrong shape or stands in the wrong place, or the file is too long";
-    case TAGETESSASH_BAD_PRIME: return "p is not a prime from 2 to 32,767";
+    case TAGETESSASH_BAD_PRIME: return "p is not a prime from 2 to 65,535";
     case TAGETESSASH_BAD_RING: return "the number of variables, the order code or the number of components is out of range";
     case TAGETESSASH_BAD_TERM: return "a coefficient, component or exponent is out of range";
     case TAGETESSASH_BAD_ELEMENT: return "an element number is out of sequence or above 64";

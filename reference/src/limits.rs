@@ -7,7 +7,7 @@
 /// has eight exponents, and levels run to 9.
 #[derive(Clone, Copy, Debug, PartialEq, Eq)]
 pub struct Limits {
-    /// "p a prime from 2 to 32,767"
+    /// "The upper end for p becomes 65,535" (request A4)
     pub prime_bound: u64,
     /// "n variables, 1 to 8"
     pub variables: u64,
@@ -56,10 +56,10 @@ pub const LIMIT_NAMES: [&str; 14] = [
 ];
 
 impl Limits {
-    /// The limits as document 01 states them.
+    /// The limits as document 01 and the requests that have landed state them.
     pub fn document_01() -> Limits {
         Limits {
-            prime_bound: 32_767,
+            prime_bound: 65_535,
             variables: 8,
             components: 16,
             elements: 64,

@@ -72,7 +72,6 @@ pub fn sound(state: &[u16]) -> bool {
     let (p, n, code, s) = (state[0], state[1], state[2], state[3]);
     let complete = usize::from(state[4]);
     if !(1..=10).contains(&complete)
-        || p > 32_767
         || !is_prime(p)
         || !(1..=8).contains(&n)
         || !(1..=3).contains(&code)

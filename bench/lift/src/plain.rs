@@ -624,7 +624,7 @@ fn read_problem(file: &[u8]) -> Result<Engine, Refused> {
     let (b'R', &[p, n, order, s]) = (letter, &fields[..]) else {
         return Err(1);
     };
-    if !(2..=32_767).contains(&p)
+    if p < 2
         || (2..p)
             .take_while(|d| u32::from(*d) * u32::from(*d) <= u32::from(p))
             .any(|d| p % d == 0)

@@ -108,7 +108,7 @@ fn field(bytes: &[u8]) -> Option<(u16, &[u8])> {
 
 fn parameters(v: &Numbers) -> Result<Parameters, u16> {
     let &[p, n, code, s, ..] = v;
-    if p > 32_767 || !is_prime(p) {
+    if !is_prime(p) {
         return Err(2);
     }
     if !(1..=8).contains(&n) || !(1..=3).contains(&code) || !(1..=16).contains(&s) {

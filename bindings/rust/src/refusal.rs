@@ -150,7 +150,7 @@ impl Refusal {
     pub fn meaning(&self) -> &'static str {
         match self.number() {
             1 => "a line has the wrong shape or stands in the wrong place, or the file is too long",
-            2 => "p is not a prime from 2 to 32,767",
+            2 => "p is not a prime from 2 to 65,535",
             3 => "the number of variables, the order code or the number of components is out of range",
             4 => "a coefficient, component or exponent is out of range",
             5 => "an element number is out of sequence or above 64",

@@ -13,7 +13,7 @@ use Rattle.definitions.proofs.Views.{seen, held, due}
 
 -- calls-1-1
 abbrev limits-1 : Limits
-limits-1 = record { prime-bound = 32767; variables = 8; components = 16; elements = 64; exponent = 255; t-lines = 2048; file = 65536; field = 65535; vectors = 128; level-terms = 2048; levels = 9; working = 512; vector = 512; tree = 4096; numbering = λ code. 1 }
+limits-1 = record { prime-bound = 65535; variables = 8; components = 16; elements = 64; exponent = 255; t-lines = 2048; file = 65536; field = 65535; vectors = 128; level-terms = 2048; levels = 9; working = 512; vector = 512; tree = 4096; numbering = λ code. 1 }
 
 abbrev list-1 : List Call
 list-1 = fetching true 1 1 ∷ reading true (text ("R,11,1,1,1" ∷ "T,1,3,1,1" ∷ "E,1" ∷ [])) ∷ lifting true 1 (by-hybrid 1) ∷ reading true ((text ("R,2,4,3,1" ∷ "T,1,1,1,0,1,2,0" ∷ [])) ++ bytes "T,1,1,1,1,0,0,") ∷ fetching true 1 1 ∷ fetching true 1 1 ∷ []
@@ -29,7 +29,7 @@ due-1 = refl
 
 -- calls-1-2
 abbrev limits-2 : Limits
-limits-2 = record { prime-bound = 32767; variables = 8; components = 16; elements = 64; exponent = 2; t-lines = 2048; file = 65536; field = 65535; vectors = 128; level-terms = 2048; levels = 9; working = 512; vector = 512; tree = 4096; numbering = λ code. 1 }
+limits-2 = record { prime-bound = 65535; variables = 8; components = 16; elements = 64; exponent = 2; t-lines = 2048; file = 65536; field = 65535; vectors = 128; level-terms = 2048; levels = 9; working = 512; vector = 512; tree = 4096; numbering = λ code. 1 }
 
 abbrev list-2 : List Call
 list-2 = reading true (text ("R,11,4,2,1" ∷ "T,1,8,1,0,1,0,0" ∷ "T,2,10,1,0,0,3,1" ∷ "T,3,7,1,0,2,1,0" ∷ "T,4,8,1,0,0,3,0" ∷ "T,5,7,1,0,2,1,1" ∷ "T,5,8,1,0,0,3,1" ∷ "E,6" ∷ [])) ∷ fetching true 1 1 ∷ lifting true 1 by-division ∷ []
@@ -45,7 +45,7 @@ due-2 = refl
 
 -- calls-1-3
 abbrev limits-3 : Limits
-limits-3 = record { prime-bound = 32767; variables = 8; components = 16; elements = 64; exponent = 255; t-lines = 2048; file = 65536; field = 65535; vectors = 128; level-terms = 1; levels = 9; working = 512; vector = 512; tree = 4096; numbering = λ code. 1 }
+limits-3 = record { prime-bound = 65535; variables = 8; components = 16; elements = 64; exponent = 255; t-lines = 2048; file = 65536; field = 65535; vectors = 128; level-terms = 1; levels = 9; working = 512; vector = 512; tree = 4096; numbering = λ code. 1 }
 
 abbrev list-3 : List Call
 list-3 = reading true (text ("R,2,4,2,1" ∷ "T,1,1,1,0,0,0,1" ∷ "T,2,1,1,1,0,0,0" ∷ "T,3,1,1,0,3,0,0" ∷ "E,3" ∷ [])) ∷ fetching true 1 1 ∷ lifting true 1 (by-hybrid 2) ∷ lifting true 2 by-division ∷ lifting true 3 (by-hybrid 1) ∷ []
@@ -61,7 +61,7 @@ due-3 = refl
 
 -- calls-1-4
 abbrev limits-4 : Limits
-limits-4 = record { prime-bound = 32767; variables = 8; components = 16; elements = 64; exponent = 255; t-lines = 2048; file = 65536; field = 65535; vectors = 128; level-terms = 2048; levels = 9; working = 512; vector = 512; tree = 4096; numbering = λ code. 1 }
+limits-4 = record { prime-bound = 65535; variables = 8; components = 16; elements = 64; exponent = 255; t-lines = 2048; file = 65536; field = 65535; vectors = 128; level-terms = 2048; levels = 9; working = 512; vector = 512; tree = 4096; numbering = λ code. 1 }
 
 abbrev list-4 : List Call
 list-4 = reading true (text ("R,101,3,2,1" ∷ "T,1,57,1,2,1,4" ∷ "T,1,52,1,2,2,0" ∷ "T,1,47,1,2,1,1" ∷ "T,2,78,1,1,1,3" ∷ "T,3,30,1,3,0,0" ∷ "T,4,12,1,0,3,0" ∷ "T,5,24,1,0,1,2" ∷ "T,6,100,1,0,0,3" ∷ "T,7,14,1,0,2,0" ∷ "T,7,1,1,0,1,1" ∷ "E,10" ∷ [])) ∷ reading true (text ("R,5,4,2,1" ∷ "T,1,4,1,1,0,0,0" ∷ "T,2,3,1,1,0,0,0" ∷ "E,2" ∷ [])) ∷ fetching true 11 1 ∷ fetching true 1 65535 ∷ fetching true 1 1 ∷ fetching true 1 1 ∷ fetching true 1 1 ∷ []
@@ -77,7 +77,7 @@ due-4 = refl
 
 -- calls-1-5
 abbrev limits-5 : Limits
-limits-5 = record { prime-bound = 32767; variables = 8; components = 16; elements = 64; exponent = 255; t-lines = 2048; file = 65536; field = 65535; vectors = 128; level-terms = 2048; levels = 9; working = 512; vector = 512; tree = 4096; numbering = λ code. 1 }
+limits-5 = record { prime-bound = 65535; variables = 8; components = 16; elements = 64; exponent = 255; t-lines = 2048; file = 65536; field = 65535; vectors = 128; level-terms = 2048; levels = 9; working = 512; vector = 512; tree = 4096; numbering = λ code. 1 }
 
 abbrev list-5 : List Call
 list-5 = reading true (text ("R,2,3,1,1" ∷ "T,1,1,1,1,0,0" ∷ "T,2,1,1,0,2,0" ∷ "T,3,1,1,0,0,3" ∷ "E,3" ∷ [])) ∷ fetching true 1 0 ∷ fetching true 1 1 ∷ fetching true 1 1 ∷ reading true (text ("R,5,1,3,1" ∷ "T,1,1,1,3" ∷ "T,1,1,1,2" ∷ "T,2,4,1,3" ∷ "T,3,2,1,1" ∷ "E,4" ∷ [])) ∷ lifting true 1 (by-hybrid 1) ∷ lifting true 11 (by-hybrid 3) ∷ []
@@ -93,7 +93,7 @@ due-5 = refl
 
 -- calls-1-6
 abbrev limits-6 : Limits
-limits-6 = record { prime-bound = 32767; variables = 8; components = 16; elements = 64; exponent = 255; t-lines = 2048; file = 65536; field = 65535; vectors = 128; level-terms = 2048; levels = 9; working = 512; vector = 512; tree = 4096; numbering = λ code. 1 }
+limits-6 = record { prime-bound = 65535; variables = 8; components = 16; elements = 64; exponent = 255; t-lines = 2048; file = 65536; field = 65535; vectors = 128; level-terms = 2048; levels = 9; working = 512; vector = 512; tree = 4096; numbering = λ code. 1 }
 
 abbrev list-6 : List Call
 list-6 = reading true (text ("R,32003,4,2,1" ∷ "T,1,28091,1,0,0,1,0" ∷ "T,1,26668,1,0,0,0,0" ∷ "E,2" ∷ [])) ∷ fetching true 1 1 ∷ fetching true 1 1 ∷ lifting true 1 (by-hybrid 1) ∷ fetching true 1 65535 ∷ []
@@ -109,7 +109,7 @@ due-6 = refl
 
 -- calls-1-7
 abbrev limits-7 : Limits
-limits-7 = record { prime-bound = 32767; variables = 8; components = 16; elements = 64; exponent = 255; t-lines = 2048; file = 65536; field = 65535; vectors = 128; level-terms = 0; levels = 9; working = 512; vector = 512; tree = 4096; numbering = λ code. 1 }
+limits-7 = record { prime-bound = 65535; variables = 8; components = 16; elements = 64; exponent = 255; t-lines = 2048; file = 65536; field = 65535; vectors = 128; level-terms = 0; levels = 9; working = 512; vector = 512; tree = 4096; numbering = λ code. 1 }
 
 abbrev list-7 : List Call
 list-7 = reading true (text ("R,2,2,1,3" ∷ "T,1,1,1,4,0" ∷ "T,2,1,2,2,2" ∷ "T,3,1,1,1,3" ∷ "T,4,1,1,0,4" ∷ "E,4" ∷ [])) ∷ lifting true 1 by-division ∷ fetching true 1 128 ∷ fetching true 1 2 ∷ lifting true 2 (by-tree 7) ∷ fetching true 1 1 ∷ fetching true 2 50 ∷ []
@@ -125,7 +125,7 @@ due-7 = refl
 
 -- calls-1-8
 abbrev limits-8 : Limits
-limits-8 = record { prime-bound = 32767; variables = 8; components = 16; elements = 64; exponent = 255; t-lines = 2048; file = 65536; field = 65535; vectors = 128; level-terms = 2048; levels = 9; working = 512; vector = 512; tree = 4096; numbering = λ code. 1 }
+limits-8 = record { prime-bound = 65535; variables = 8; components = 16; elements = 64; exponent = 255; t-lines = 2048; file = 65536; field = 65535; vectors = 128; level-terms = 2048; levels = 9; working = 512; vector = 512; tree = 4096; numbering = λ code. 1 }
 
 abbrev list-8 : List Call
 list-8 = reading true (text ("R,5,1,3,1" ∷ "T,1,1,1,0" ∷ "T,2,1,1,1" ∷ "T,2,1,1,0" ∷ "T,3,1,1,2" ∷ "E,4" ∷ [])) ∷ lifting true 1 (by-hybrid 3) ∷ lifting true 2 (by-tree 4) ∷ fetching true 1 1 ∷ reading true (text ("R,101,2,3,3" ∷ "T,1,11,1,0,3" ∷ "T,2,27,1,2,1" ∷ "T,3,1,1,2,2" ∷ "E,3" ∷ [])) ∷ []
@@ -141,7 +141,7 @@ due-8 = refl
 
 -- calls-1-9
 abbrev limits-9 : Limits
-limits-9 = record { prime-bound = 32767; variables = 8; components = 16; elements = 64; exponent = 255; t-lines = 2048; file = 65536; field = 65535; vectors = 128; level-terms = 2048; levels = 9; working = 512; vector = 512; tree = 4096; numbering = λ code. 1 }
+limits-9 = record { prime-bound = 65535; variables = 8; components = 16; elements = 64; exponent = 255; t-lines = 2048; file = 65536; field = 65535; vectors = 128; level-terms = 2048; levels = 9; working = 512; vector = 512; tree = 4096; numbering = λ code. 1 }
 
 abbrev list-9 : List Call
 list-9 = reading true (text ("R,3,4,3,1" ∷ "T,1,1,1,0,2,0,0" ∷ "T,1,2,1,0,1,1,0" ∷ "T,1,1,1,0,0,2,0" ∷ "T,1,2,1,0,1,0,1" ∷ "T,1,2,1,0,0,1,1" ∷ "T,1,1,1,0,0,0,2" ∷ "T,2,2,1,1,0,0,0" ∷ "T,2,2,1,0,0,1,0" ∷ "T,2,1,1,0,0,0,1" ∷ "E,9" ∷ [])) ∷ lifting true 1 (by-tree 5) ∷ lifting true 2 (by-hybrid 1) ∷ lifting true 3 by-division ∷ fetching true 2 1 ∷ []
@@ -157,7 +157,7 @@ due-9 = refl
 
 -- calls-1-10
 abbrev limits-10 : Limits
-limits-10 = record { prime-bound = 32767; variables = 8; components = 16; elements = 64; exponent = 255; t-lines = 2048; file = 65536; field = 65535; vectors = 128; level-terms = 2048; levels = 9; working = 512; vector = 512; tree = 4096; numbering = λ code. 1 }
+limits-10 = record { prime-bound = 65535; variables = 8; components = 16; elements = 64; exponent = 255; t-lines = 2048; file = 65536; field = 65535; vectors = 128; level-terms = 2048; levels = 9; working = 512; vector = 512; tree = 4096; numbering = λ code. 1 }
 
 abbrev list-10 : List Call
 list-10 = reading true (text ("R,32003,3,3,1" ∷ "T,1,32002,1,1,0,0" ∷ "T,1,1,1,0,1,0" ∷ "T,1,1,1,0,0,0" ∷ "T,2,1,1,1,0,0" ∷ "T,2,32002,1,0,1,0" ∷ "T,2,32002,1,0,0,0" ∷ "T,3,1,1,0,0,1" ∷ "T,3,32002,1,0,0,0" ∷ "E,8" ∷ [])) ∷ fetching true 1 1 ∷ lifting true 1 by-division ∷ lifting true 1 (by-hybrid 2) ∷ []
@@ -173,7 +173,7 @@ due-10 = refl
 
 -- calls-1-11
 abbrev limits-11 : Limits
-limits-11 = record { prime-bound = 32767; variables = 8; components = 16; elements = 64; exponent = 255; t-lines = 2048; file = 65536; field = 65535; vectors = 128; level-terms = 2048; levels = 9; working = 512; vector = 512; tree = 4096; numbering = λ code. 1 }
+limits-11 = record { prime-bound = 65535; variables = 8; components = 16; elements = 64; exponent = 255; t-lines = 2048; file = 65536; field = 65535; vectors = 128; level-terms = 2048; levels = 9; working = 512; vector = 512; tree = 4096; numbering = λ code. 1 }
 
 abbrev list-11 : List Call
 list-11 = reading true (text ("R,32749,5,1,1" ∷ "T,1,1,1,1,0,0,0,0" ∷ "T,1,1,1,0,0,1,0,0" ∷ "T,1,18973,1,0,0,0,0,1" ∷ "T,2,1,1,0,1,1,0,0" ∷ "T,2,1,1,0,1,0,0,1" ∷ "T,2,1,1,0,0,0,0,2" ∷ "T,3,5669,1,0,1,0,1,1" ∷ "T,4,32748,1,0,0,0,1,3" ∷ "E,8" ∷ [])) ∷ lifting true 1 (by-hybrid 2) ∷ lifting true 2 (by-tree 9) ∷ lifting true 3 (by-tree 12) ∷ []
@@ -189,7 +189,7 @@ due-11 = refl
 
 -- calls-1-12
 abbrev limits-12 : Limits
-limits-12 = record { prime-bound = 32767; variables = 8; components = 16; elements = 64; exponent = 255; t-lines = 2048; file = 65536; field = 65535; vectors = 128; level-terms = 2048; levels = 9; working = 512; vector = 2; tree = 4096; numbering = λ code. 1 }
+limits-12 = record { prime-bound = 65535; variables = 8; components = 16; elements = 64; exponent = 255; t-lines = 2048; file = 65536; field = 65535; vectors = 128; level-terms = 2048; levels = 9; working = 512; vector = 2; tree = 4096; numbering = λ code. 1 }
 
 abbrev list-12 : List Call
 list-12 = reading true (text ("R,11,4,3,1" ∷ "T,1,10,1,0,2,0,0" ∷ "T,2,10,1,0,0,1,0" ∷ "T,3,7,1,0,0,0,1" ∷ "T,4,5,1,0,2,0,0" ∷ "E,4" ∷ [])) ∷ fetching true 1 1 ∷ lifting true 1 (by-hybrid 3) ∷ fetching true 1 4 ∷ lifting true 2 (by-tree 1000) ∷ fetching true 2 1 ∷ []
@@ -221,7 +221,7 @@ due-13 = refl
 
 -- calls-1-14
 abbrev limits-14 : Limits
-limits-14 = record { prime-bound = 32767; variables = 8; components = 16; elements = 64; exponent = 255; t-lines = 2048; file = 65536; field = 65535; vectors = 128; level-terms = 2048; levels = 9; working = 512; vector = 512; tree = 4096; numbering = λ code. 1 }
+limits-14 = record { prime-bound = 65535; variables = 8; components = 16; elements = 64; exponent = 255; t-lines = 2048; file = 65536; field = 65535; vectors = 128; level-terms = 2048; levels = 9; working = 512; vector = 512; tree = 4096; numbering = λ code. 1 }
 
 abbrev list-14 : List Call
 list-14 = reading true (text ("R,5,3,3,1" ∷ "T,1,3,1,0,0,1" ∷ "T,2,4,1,1,0,0" ∷ "E,2" ∷ [])) ∷ lifting true 1 (by-tree 0) ∷ lifting true 2 (by-tree 1) ∷ lifting true 3 (by-hybrid 1) ∷ fetching true 1 1 ∷ fetching true 0 1 ∷ fetching true 3 1 ∷ []
@@ -237,7 +237,7 @@ due-14 = refl
 
 -- calls-1-15
 abbrev limits-15 : Limits
-limits-15 = record { prime-bound = 32767; variables = 8; components = 16; elements = 64; exponent = 255; t-lines = 2048; file = 65536; field = 65535; vectors = 128; level-terms = 2048; levels = 9; working = 512; vector = 512; tree = 4096; numbering = λ code. 1 }
+limits-15 = record { prime-bound = 65535; variables = 8; components = 16; elements = 64; exponent = 255; t-lines = 2048; file = 65536; field = 65535; vectors = 128; level-terms = 2048; levels = 9; working = 512; vector = 512; tree = 4096; numbering = λ code. 1 }
 
 abbrev list-15 : List Call
 list-15 = reading true (text ("R,32003,3,2,1" ∷ "T,1,26478,1,1,0,3" ∷ "T,2,32002,1,2,1,0" ∷ "T,2,5525,1,1,0,2" ∷ "T,2,21868,1,0,3,0" ∷ "T,3,1,1,0,1,1" ∷ "E,5" ∷ [])) ∷ reading true (82 ∷ 44 ∷ 51 ∷ 44 ∷ 53 ∷ 44 ∷ 49 ∷ 44 ∷ 49 ∷ 10 ∷ 84 ∷ 44 ∷ 49 ∷ 44 ∷ 49 ∷ 44 ∷ 49 ∷ 44 ∷ 48 ∷ 44 ∷ 48 ∷ 44 ∷ 48 ∷ 44 ∷ 48 ∷ 44 ∷ 48 ∷ 10 ∷ 84 ∷ 44 ∷ 50 ∷ 44 ∷ 50 ∷ 44 ∷ 49 ∷ 44 ∷ 49 ∷ 44 ∷ 48 ∷ 44 ∷ 49 ∷ 44 ∷ 48 ∷ 44 ∷ 48 ∷ 10 ∷ 84 ∷ 44 ∷ 50 ∷ 44 ∷ 50 ∷ 44 ∷ 185 ∷ 49 ∷ 44 ∷ 48 ∷ 44 ∷ 48 ∷ 44 ∷ 49 ∷ 44 ∷ 48 ∷ 44 ∷ 48 ∷ 10 ∷ 84 ∷ 44 ∷ 50 ∷ 44 ∷ 49 ∷ 44 ∷ 49 ∷ 44 ∷ 48 ∷ 44 ∷ 48 ∷ 44 ∷ 48 ∷ 44 ∷ 48 ∷ 44 ∷ 48 ∷ 10 ∷ 69 ∷ 44 ∷ 52 ∷ 10 ∷ []) ∷ reading true (text ("R,101,2,1,1" ∷ "T,1,1,1,0,0" ∷ "T,2,100,1,0,1" ∷ "T,2,100,1,0,0" ∷ "E,3" ∷ [])) ∷ fetching true 1 1 ∷ lifting true 0 (by-hybrid 65535) ∷ fetching true 1 1 ∷ lifting true 1 (by-hybrid 2) ∷ lifting true 2 (by-hybrid 2) ∷ []
@@ -253,7 +253,7 @@ due-15 = refl
 
 -- calls-1-16
 abbrev limits-16 : Limits
-limits-16 = record { prime-bound = 32767; variables = 8; components = 16; elements = 64; exponent = 4; t-lines = 2048; file = 65536; field = 65535; vectors = 128; level-terms = 2048; levels = 9; working = 512; vector = 512; tree = 4096; numbering = λ code. 1 }
+limits-16 = record { prime-bound = 65535; variables = 8; components = 16; elements = 64; exponent = 4; t-lines = 2048; file = 65536; field = 65535; vectors = 128; level-terms = 2048; levels = 9; working = 512; vector = 512; tree = 4096; numbering = λ code. 1 }
 
 abbrev list-16 : List Call
 list-16 = lifting true 1 (by-hybrid 3) ∷ reading true (text ("R,101,2,3,1" ∷ "T,1,80,1,1,1" ∷ "T,1,21,1,0,2" ∷ "T,2,1,1,3,0" ∷ "T,2,100,1,0,3" ∷ "T,3,100,1,4,1" ∷ "T,3,1,1,1,4" ∷ "T,4,1,1,4,0" ∷ "T,4,100,1,1,3" ∷ "E,8" ∷ [])) ∷ lifting true 1 (by-tree 4) ∷ lifting true 2 (by-hybrid 3) ∷ fetching true 1 3 ∷ lifting true 3 (by-tree 0) ∷ fetching true 2 0 ∷ []
@@ -269,7 +269,7 @@ due-16 = refl
 
 -- calls-1-17
 abbrev limits-17 : Limits
-limits-17 = record { prime-bound = 32767; variables = 8; components = 16; elements = 64; exponent = 255; t-lines = 2048; file = 65536; field = 65535; vectors = 128; level-terms = 2048; levels = 9; working = 512; vector = 512; tree = 4096; numbering = λ code. 1 }
+limits-17 = record { prime-bound = 65535; variables = 8; components = 16; elements = 64; exponent = 255; t-lines = 2048; file = 65536; field = 65535; vectors = 128; level-terms = 2048; levels = 9; working = 512; vector = 512; tree = 4096; numbering = λ code. 1 }
 
 abbrev list-17 : List Call
 list-17 = reading true (text ("R,251,5,2,1" ∷ "T,1,1,1,1,0,0,0,3" ∷ "T,1,250,1,0,0,1,0,0" ∷ "T,2,250,1,0,0,0,0,3" ∷ "T,2,250,1,0,0,1,0,1" ∷ "T,3,250,1,0,0,0,0,3" ∷ "T,4,250,1,0,0,1,0,0" ∷ "T,5,196,1,0,0,0,3,0" ∷ "E,7" ∷ [])) ∷ lifting true 1 (by-hybrid 1) ∷ fetching true 1 4 ∷ fetching true 0 0 ∷ lifting true 0 by-division ∷ fetching true 1 5 ∷ lifting true 2 by-division ∷ []
@@ -285,7 +285,7 @@ due-17 = refl
 
 -- calls-1-18
 abbrev limits-18 : Limits
-limits-18 = record { prime-bound = 32767; variables = 8; components = 16; elements = 64; exponent = 255; t-lines = 2048; file = 65536; field = 65535; vectors = 128; level-terms = 2048; levels = 9; working = 512; vector = 512; tree = 4096; numbering = λ code. 1 }
+limits-18 = record { prime-bound = 65535; variables = 8; components = 16; elements = 64; exponent = 255; t-lines = 2048; file = 65536; field = 65535; vectors = 128; level-terms = 2048; levels = 9; working = 512; vector = 512; tree = 4096; numbering = λ code. 1 }
 
 abbrev list-18 : List Call
 list-18 = reading true (text ("R,101,5,3,1" ∷ "T,1,100,1,0,1,1,1,0" ∷ "T,1,1,1,1,0,1,0,1" ∷ "E,2" ∷ [])) ∷ lifting true 1 (by-tree 9) ∷ lifting true 2 (by-hybrid 65535) ∷ lifting true 2 by-division ∷ fetching true 1 1 ∷ []
@@ -301,7 +301,7 @@ due-18 = refl
 
 -- calls-1-19
 abbrev limits-19 : Limits
-limits-19 = record { prime-bound = 32767; variables = 8; components = 16; elements = 64; exponent = 255; t-lines = 2048; file = 65536; field = 65535; vectors = 128; level-terms = 2048; levels = 9; working = 512; vector = 512; tree = 0; numbering = λ code. 1 }
+limits-19 = record { prime-bound = 65535; variables = 8; components = 16; elements = 64; exponent = 255; t-lines = 2048; file = 65536; field = 65535; vectors = 128; level-terms = 2048; levels = 9; working = 512; vector = 512; tree = 0; numbering = λ code. 1 }
 
 abbrev list-19 : List Call
 list-19 = lifting true 1 (by-tree 3) ∷ reading true (text ("R,5,5,2,1" ∷ "T,1,1,1,0,2,0,1,0" ∷ "T,2,4,1,1,1,0,1,0" ∷ "T,3,1,1,0,0,1,0,0" ∷ "E,3" ∷ [])) ∷ lifting true 1 by-division ∷ []
@@ -317,7 +317,7 @@ due-19 = refl
 
 -- calls-1-20
 abbrev limits-20 : Limits
-limits-20 = record { prime-bound = 32767; variables = 8; components = 16; elements = 64; exponent = 255; t-lines = 2048; file = 65536; field = 65535; vectors = 128; level-terms = 2048; levels = 9; working = 512; vector = 512; tree = 4096; numbering = λ code. 1 }
+limits-20 = record { prime-bound = 65535; variables = 8; components = 16; elements = 64; exponent = 255; t-lines = 2048; file = 65536; field = 65535; vectors = 128; level-terms = 2048; levels = 9; working = 512; vector = 512; tree = 4096; numbering = λ code. 1 }
 
 abbrev list-20 : List Call
 list-20 = reading true (text ("R,5,1,1,1" ∷ "T,1,2,1,3" ∷ "T,2,3,1,3" ∷ "E,2" ∷ [])) ∷ lifting true 1 by-division ∷ lifting true 11 (by-hybrid 2) ∷ lifting true 2 (by-tree 4) ∷ lifting true 3 (by-hybrid 3) ∷ fetching true 65535 1 ∷ fetching true 2 1 ∷ lifting true 3 by-division ∷ []

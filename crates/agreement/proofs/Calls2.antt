@@ -13,7 +13,7 @@ use Rattle.definitions.proofs.Views.{seen, held, due}
 
 -- calls-1-21
 abbrev limits-1 : Limits
-limits-1 = record { prime-bound = 32767; variables = 8; components = 16; elements = 64; exponent = 255; t-lines = 2048; file = 65536; field = 65535; vectors = 128; level-terms = 2048; levels = 9; working = 512; vector = 512; tree = 4096; numbering = λ code. 1 }
+limits-1 = record { prime-bound = 65535; variables = 8; components = 16; elements = 64; exponent = 255; t-lines = 2048; file = 65536; field = 65535; vectors = 128; level-terms = 2048; levels = 9; working = 512; vector = 512; tree = 4096; numbering = λ code. 1 }
 
 abbrev list-1 : List Call
 list-1 = reading true (text ("R,251,2,3,1" ∷ "T,1,1,1,0,4" ∷ "T,2,250,1,0,4" ∷ "E,2" ∷ [])) ∷ lifting true 1 by-division ∷ fetching true 1 1 ∷ lifting true 2 (by-tree 0) ∷ lifting true 3 (by-hybrid 3) ∷ lifting true 3 by-division ∷ fetching true 1 1 ∷ []
@@ -29,7 +29,7 @@ due-1 = refl
 
 -- calls-1-22
 abbrev limits-2 : Limits
-limits-2 = record { prime-bound = 32767; variables = 8; components = 16; elements = 64; exponent = 255; t-lines = 2048; file = 65536; field = 65535; vectors = 128; level-terms = 2048; levels = 9; working = 512; vector = 512; tree = 0; numbering = λ code. 1 }
+limits-2 = record { prime-bound = 65535; variables = 8; components = 16; elements = 64; exponent = 255; t-lines = 2048; file = 65536; field = 65535; vectors = 128; level-terms = 2048; levels = 9; working = 512; vector = 512; tree = 0; numbering = λ code. 1 }
 
 abbrev list-2 : List Call
 list-2 = reading true (text ("R,251,3,3,1" ∷ "T,1,250,1,2,0,0" ∷ "T,2,2,1,2,0,0" ∷ "T,2,78,1,1,1,0" ∷ "T,2,184,1,0,2,0" ∷ "T,3,249,1,1,1,0" ∷ "T,3,1,1,1,0,1" ∷ "T,4,250,1,0,2,0" ∷ "T,5,242,1,0,1,1" ∷ "T,6,1,1,0,0,2" ∷ "T,7,30,1,1,0,0" ∷ "T,7,166,1,0,1,0" ∷ "E,11" ∷ [])) ∷ lifting true 1 (by-hybrid 3) ∷ fetching true 2 129 ∷ lifting true 4 (by-tree 4) ∷ lifting true 2 (by-hybrid 3) ∷ lifting true 3 (by-tree 6) ∷ []
@@ -45,7 +45,7 @@ due-2 = refl
 
 -- calls-1-23
 abbrev limits-3 : Limits
-limits-3 = record { prime-bound = 32767; variables = 8; components = 16; elements = 64; exponent = 255; t-lines = 2048; file = 65536; field = 65535; vectors = 128; level-terms = 0; levels = 9; working = 512; vector = 512; tree = 1; numbering = λ code. 1 }
+limits-3 = record { prime-bound = 65535; variables = 8; components = 16; elements = 64; exponent = 255; t-lines = 2048; file = 65536; field = 65535; vectors = 128; level-terms = 0; levels = 9; working = 512; vector = 512; tree = 1; numbering = λ code. 1 }
 
 abbrev list-3 : List Call
 list-3 = reading true (text ("R,11,1,3,2" ∷ "T,1,8,2,4" ∷ "T,1,3,1,3" ∷ "T,2,8,2,6" ∷ "T,2,3,1,5" ∷ "T,3,8,2,5" ∷ "T,3,3,1,4" ∷ "T,4,8,2,3" ∷ "T,4,3,1,2" ∷ "E,8" ∷ [])) ∷ fetching true 1 1 ∷ lifting true 1 (by-tree 60) ∷ lifting true 1 (by-hybrid 1) ∷ lifting true 2 (by-hybrid 2) ∷ lifting true 3 (by-hybrid 3) ∷ []
@@ -61,7 +61,7 @@ due-3 = refl
 
 -- calls-1-24
 abbrev limits-4 : Limits
-limits-4 = record { prime-bound = 32767; variables = 8; components = 16; elements = 64; exponent = 255; t-lines = 2048; file = 65536; field = 65535; vectors = 128; level-terms = 2048; levels = 9; working = 512; vector = 512; tree = 4096; numbering = λ code. 1 }
+limits-4 = record { prime-bound = 65535; variables = 8; components = 16; elements = 64; exponent = 255; t-lines = 2048; file = 65536; field = 65535; vectors = 128; level-terms = 2048; levels = 9; working = 512; vector = 512; tree = 4096; numbering = λ code. 1 }
 
 abbrev list-4 : List Call
 list-4 = reading true (text ("R,2,4,1,1" ∷ "T,1,1,1,0,0,0,3" ∷ "T,2,1,1,0,0,2,0" ∷ "T,3,1,1,3,0,0,0" ∷ "E,3" ∷ [])) ∷ lifting true 1 (by-hybrid 2) ∷ fetching true 1 3 ∷ reading true (text ("R,7,5,3,1" ∷ "T,1,4,1,0,0,1,2,0" ∷ "E,4" ∷ "T,1,1,1,0,0,0,1,2" ∷ "T,2,4,1,0,1,0,0,0" ∷ "T,2,6,1,0,0,1,0,0" ∷ "E,4" ∷ [])) ∷ []
@@ -77,7 +77,7 @@ due-4 = refl
 
 -- calls-1-25
 abbrev limits-5 : Limits
-limits-5 = record { prime-bound = 32767; variables = 8; components = 16; elements = 64; exponent = 255; t-lines = 2048; file = 65536; field = 65535; vectors = 128; level-terms = 2048; levels = 9; working = 512; vector = 512; tree = 4096; numbering = λ code. 1 }
+limits-5 = record { prime-bound = 65535; variables = 8; components = 16; elements = 64; exponent = 255; t-lines = 2048; file = 65536; field = 65535; vectors = 128; level-terms = 2048; levels = 9; working = 512; vector = 512; tree = 4096; numbering = λ code. 1 }
 
 abbrev list-5 : List Call
 list-5 = lifting true 1 (by-hybrid 3) ∷ reading true (text ("R,7,2,1,1" ∷ "T,1,5,1,1,2" ∷ "T,1,4,1,0,3" ∷ "T,2,6,1,1,2" ∷ "T,3,3,1,1,1" ∷ "E,4" ∷ [])) ∷ reading true (text ("R,32003,5,3,1" ∷ "T,1,26166,1,0,0,3,0,0" ∷ "T,2,5143,1,0,0,0,0,3" ∷ "T,3,32002,1,0,1,0,0,1" ∷ "T,4,6043,1,3,0,0,0,0" ∷ "T,5,29720,1,3,0,1,1,0" ∷ "T,6,32002,1,0,0,0,3,0" ∷ "T,7,1,1,0,3,0,0,0" ∷ "E,7" ∷ [])) ∷ lifting true 1 (by-tree 6) ∷ []
@@ -93,7 +93,7 @@ due-5 = refl
 
 -- calls-1-26
 abbrev limits-6 : Limits
-limits-6 = record { prime-bound = 32767; variables = 8; components = 16; elements = 2; exponent = 255; t-lines = 2048; file = 65536; field = 65535; vectors = 128; level-terms = 3; levels = 9; working = 512; vector = 512; tree = 4096; numbering = λ code. 1 }
+limits-6 = record { prime-bound = 65535; variables = 8; components = 16; elements = 2; exponent = 255; t-lines = 2048; file = 65536; field = 65535; vectors = 128; level-terms = 3; levels = 9; working = 512; vector = 512; tree = 4096; numbering = λ code. 1 }
 
 abbrev list-6 : List Call
 list-6 = reading true (text ("R,101,1,3,1" ∷ "T,1,49,1,3" ∷ "T,1,52,1,1" ∷ "T,2,77,1,3" ∷ "T,2,24,1,1" ∷ "T,3,99,1,2" ∷ "T,3,2,1,0" ∷ "E,6" ∷ [])) ∷ lifting true 1 (by-tree 20) ∷ fetching true 1 1 ∷ lifting true 2 (by-hybrid 3) ∷ lifting true 3 (by-tree 3) ∷ []
@@ -109,7 +109,7 @@ due-6 = refl
 
 -- calls-1-27
 abbrev limits-7 : Limits
-limits-7 = record { prime-bound = 32767; variables = 8; components = 16; elements = 2; exponent = 255; t-lines = 2048; file = 65536; field = 65535; vectors = 128; level-terms = 2048; levels = 2; working = 512; vector = 512; tree = 4096; numbering = λ code. 1 }
+limits-7 = record { prime-bound = 65535; variables = 8; components = 16; elements = 2; exponent = 255; t-lines = 2048; file = 65536; field = 65535; vectors = 128; level-terms = 2048; levels = 2; working = 512; vector = 512; tree = 4096; numbering = λ code. 1 }
 
 abbrev list-7 : List Call
 list-7 = fetching true 1 1 ∷ reading true (text ("R,101,4,2,1" ∷ "T,1,60,1,0,0,0,1" ∷ "T,2,64,1,0,1,0,0" ∷ "T,2,1,1,0,0,0,1" ∷ "T,3,45,1,0,2,0,0" ∷ "T,3,74,1,0,1,0,1" ∷ "T,3,100,1,0,0,0,2" ∷ "E,6" ∷ [])) ∷ lifting true 1 (by-hybrid 2) ∷ lifting true 2 (by-hybrid 3) ∷ fetching true 1 3 ∷ []
@@ -125,7 +125,7 @@ due-7 = refl
 
 -- calls-1-28
 abbrev limits-8 : Limits
-limits-8 = record { prime-bound = 32767; variables = 8; components = 16; elements = 64; exponent = 255; t-lines = 2048; file = 65536; field = 65535; vectors = 128; level-terms = 0; levels = 9; working = 512; vector = 512; tree = 4096; numbering = λ code. 1 }
+limits-8 = record { prime-bound = 65535; variables = 8; components = 16; elements = 64; exponent = 255; t-lines = 2048; file = 65536; field = 65535; vectors = 128; level-terms = 0; levels = 9; working = 512; vector = 512; tree = 4096; numbering = λ code. 1 }
 
 abbrev list-8 : List Call
 list-8 = reading true (text ("R,2,3,1,3" ∷ "T,1,1,1,0,0,0" ∷ "T,2,1,2,0,1,3" ∷ "T,3,1,3,1,0,1" ∷ "T,4,1,3,3,0,0" ∷ "T,4,1,2,0,1,2" ∷ "E,5" ∷ [])) ∷ lifting true 1 (by-hybrid 2) ∷ []
@@ -141,7 +141,7 @@ due-8 = refl
 
 -- calls-1-29
 abbrev limits-9 : Limits
-limits-9 = record { prime-bound = 32767; variables = 8; components = 16; elements = 64; exponent = 255; t-lines = 2048; file = 65536; field = 65535; vectors = 128; level-terms = 2048; levels = 9; working = 512; vector = 512; tree = 4096; numbering = λ code. 1 }
+limits-9 = record { prime-bound = 65535; variables = 8; components = 16; elements = 64; exponent = 255; t-lines = 2048; file = 65536; field = 65535; vectors = 128; level-terms = 2048; levels = 9; working = 512; vector = 512; tree = 4096; numbering = λ code. 1 }
 
 abbrev list-9 : List Call
 list-9 = reading true (text ("R,2,5,1,3" ∷ "T,1,1,1,1,0,2,1,1" ∷ "T,1,1,1,0,1,1,3,0" ∷ "T,2,1,2,1,0,1,0,0" ∷ "T,2,1,1,0,0,1,1,0" ∷ "T,3,1,2,0,1,0,2,0" ∷ "T,3,1,1,0,0,1,1,1" ∷ "T,4,1,3,0,0,0,1,0" ∷ "E,7" ∷ [])) ∷ lifting true 1 (by-tree 0) ∷ lifting true 0 (by-hybrid 0) ∷ reading true (text ("R,2,2,2,1" ∷ "T,1,1,1,0,2" ∷ "T,2,1,1,1,0" ∷ "E,2" ∷ [])) ∷ lifting true 1 by-division ∷ []
@@ -157,7 +157,7 @@ due-9 = refl
 
 -- calls-1-30
 abbrev limits-10 : Limits
-limits-10 = record { prime-bound = 32767; variables = 8; components = 16; elements = 64; exponent = 0; t-lines = 2048; file = 65536; field = 65535; vectors = 128; level-terms = 2048; levels = 9; working = 512; vector = 512; tree = 4096; numbering = λ code. 1 }
+limits-10 = record { prime-bound = 65535; variables = 8; components = 16; elements = 64; exponent = 0; t-lines = 2048; file = 65536; field = 65535; vectors = 128; level-terms = 2048; levels = 9; working = 512; vector = 512; tree = 4096; numbering = λ code. 1 }
 
 abbrev list-10 : List Call
 list-10 = reading true (text ("R,7,4,2,3" ∷ "T,1,1,3,1,0,0,1" ∷ "T,1,4,3,0,0,0,0" ∷ "T,2,1,3,0,0,0,0" ∷ "E,3" ∷ [])) ∷ lifting true 1 (by-tree 9) ∷ lifting true 1 by-division ∷ fetching true 1 1 ∷ lifting true 2 (by-tree 9) ∷ lifting true 3 (by-hybrid 1) ∷ fetching true 3 1 ∷ []
@@ -173,7 +173,7 @@ due-10 = refl
 
 -- calls-1-31
 abbrev limits-11 : Limits
-limits-11 = record { prime-bound = 32767; variables = 8; components = 16; elements = 64; exponent = 255; t-lines = 2048; file = 65536; field = 65535; vectors = 128; level-terms = 0; levels = 9; working = 512; vector = 512; tree = 4096; numbering = λ code. 1 }
+limits-11 = record { prime-bound = 65535; variables = 8; components = 16; elements = 64; exponent = 255; t-lines = 2048; file = 65536; field = 65535; vectors = 128; level-terms = 0; levels = 9; working = 512; vector = 512; tree = 4096; numbering = λ code. 1 }
 
 abbrev list-11 : List Call
 list-11 = reading true (text ("R,11,4,3,1" ∷ "T,1,1,1,1,0,0,1" ∷ "T,1,2,1,0,0,0,1" ∷ "T,2,6,1,1,0,0,0" ∷ "T,2,1,1,0,0,0,0" ∷ "T,3,1,1,0,1,0,0" ∷ "T,4,10,1,0,0,1,0" ∷ "T,4,9,1,0,0,0,0" ∷ "E,7" ∷ [])) ∷ fetching true 10 1 ∷ []
@@ -189,7 +189,7 @@ due-11 = refl
 
 -- calls-1-32
 abbrev limits-12 : Limits
-limits-12 = record { prime-bound = 32767; variables = 8; components = 16; elements = 64; exponent = 1; t-lines = 2048; file = 65536; field = 65535; vectors = 128; level-terms = 2048; levels = 9; working = 512; vector = 512; tree = 4096; numbering = λ code. 1 }
+limits-12 = record { prime-bound = 65535; variables = 8; components = 16; elements = 64; exponent = 1; t-lines = 2048; file = 65536; field = 65535; vectors = 128; level-terms = 2048; levels = 9; working = 512; vector = 512; tree = 4096; numbering = λ code. 1 }
 
 abbrev list-12 : List Call
 list-12 = reading true (text ("R,2,5,1,1" ∷ "T,1,1,1,0,0,1,0,0" ∷ "T,1,1,1,0,0,0,0,0" ∷ "T,2,1,1,0,1,0,0,0" ∷ "T,2,1,1,0,0,0,0,1" ∷ "T,2,1,1,0,0,0,0,0" ∷ "E,5" ∷ [])) ∷ lifting true 1 by-division ∷ fetching true 1 1 ∷ reading true (text ("R,7,4,2,1" ∷ "T,1,6,1,1,0,1,0" ∷ "T,1,1,1,0,2,0,0" ∷ "T,2,1,1,1,0,0,1" ∷ "T,2,6,1,0,1,1,0" ∷ "T,3,1,1,0,1,0,1" ∷ "T,3,6,1,0,0,2,0" ∷ "E,6" ∷ [])) ∷ lifting true 1 (by-hybrid 1) ∷ lifting true 2 (by-hybrid 2) ∷ fetching true 2 1 ∷ lifting true 3 (by-hybrid 3) ∷ []
@@ -205,7 +205,7 @@ due-12 = refl
 
 -- calls-1-33
 abbrev limits-13 : Limits
-limits-13 = record { prime-bound = 32767; variables = 8; components = 16; elements = 64; exponent = 255; t-lines = 2048; file = 65536; field = 65535; vectors = 128; level-terms = 2048; levels = 9; working = 512; vector = 512; tree = 4096; numbering = λ code. 1 }
+limits-13 = record { prime-bound = 65535; variables = 8; components = 16; elements = 64; exponent = 255; t-lines = 2048; file = 65536; field = 65535; vectors = 128; level-terms = 2048; levels = 9; working = 512; vector = 512; tree = 4096; numbering = λ code. 1 }
 
 abbrev list-13 : List Call
 list-13 = reading true (text ("R,2,5,2,1" ∷ "T,1,1,1,0,0,0,0,2" ∷ "T,1,1,1,1,0,0,0,0" ∷ "T,1,1,1,0,0,0,0,0" ∷ "T,2,1,1,0,0,2,0,0" ∷ "T,3,1,1,0,1,0,0,0" ∷ "T,4,1,1,0,0,0,2,0" ∷ "E,6" ∷ [])) ∷ fetching true 1 1 ∷ fetching true 1 1 ∷ []
@@ -221,7 +221,7 @@ due-13 = refl
 
 -- calls-1-34
 abbrev limits-14 : Limits
-limits-14 = record { prime-bound = 32767; variables = 8; components = 16; elements = 64; exponent = 255; t-lines = 2048; file = 65536; field = 65535; vectors = 128; level-terms = 2048; levels = 9; working = 512; vector = 512; tree = 4096; numbering = λ code. 1 }
+limits-14 = record { prime-bound = 65535; variables = 8; components = 16; elements = 64; exponent = 255; t-lines = 2048; file = 65536; field = 65535; vectors = 128; level-terms = 2048; levels = 9; working = 512; vector = 512; tree = 4096; numbering = λ code. 1 }
 
 abbrev list-14 : List Call
 list-14 = reading true (text ("R,11,5,3,1" ∷ "T,1,1,1,0,0,2,0,0" ∷ "T,1,10,1,0,1,0,1,0" ∷ "T,2,1,1,0,1,1,0,0" ∷ "T,2,10,1,1,0,0,1,0" ∷ "T,3,1,1,0,0,0,2,0" ∷ "T,3,10,1,0,0,1,0,1" ∷ "T,4,6,1,0,1,0,1,0" ∷ "T,4,5,1,1,0,0,0,1" ∷ "T,5,10,1,0,0,1,1,0" ∷ "T,5,1,1,0,1,0,0,1" ∷ "T,6,1,1,0,2,0,0,0" ∷ "T,6,10,1,1,0,1,0,0" ∷ "E,12" ∷ [])) ∷ fetching true 1 1 ∷ fetching true 1 1 ∷ lifting true 1 (by-hybrid 2) ∷ fetching true 1 1 ∷ lifting true 2 (by-tree 4) ∷ lifting true 3 (by-hybrid 1) ∷ []
@@ -237,7 +237,7 @@ due-14 = refl
 
 -- calls-1-35
 abbrev limits-15 : Limits
-limits-15 = record { prime-bound = 32767; variables = 8; components = 16; elements = 64; exponent = 255; t-lines = 2048; file = 65536; field = 65535; vectors = 128; level-terms = 2048; levels = 9; working = 512; vector = 512; tree = 4096; numbering = λ code. 1 }
+limits-15 = record { prime-bound = 65535; variables = 8; components = 16; elements = 64; exponent = 255; t-lines = 2048; file = 65536; field = 65535; vectors = 128; level-terms = 2048; levels = 9; working = 512; vector = 512; tree = 4096; numbering = λ code. 1 }
 
 abbrev list-15 : List Call
 list-15 = fetching true 11 1 ∷ reading true (text ("R,7,2,2,1" ∷ "T,1,6,1,0,1" ∷ "T,1,5,1,0,0" ∷ "T,2,3,1,2,0" ∷ "T,2,1,1,0,0" ∷ "E,4" ∷ [])) ∷ fetching true 1 1 ∷ fetching true 1 1 ∷ []
@@ -253,7 +253,7 @@ due-15 = refl
 
 -- calls-1-36
 abbrev limits-16 : Limits
-limits-16 = record { prime-bound = 32767; variables = 8; components = 16; elements = 64; exponent = 255; t-lines = 2048; file = 65536; field = 65535; vectors = 128; level-terms = 2048; levels = 9; working = 512; vector = 512; tree = 4096; numbering = λ code. 1 }
+limits-16 = record { prime-bound = 65535; variables = 8; components = 16; elements = 64; exponent = 255; t-lines = 2048; file = 65536; field = 65535; vectors = 128; level-terms = 2048; levels = 9; working = 512; vector = 512; tree = 4096; numbering = λ code. 1 }
 
 abbrev list-16 : List Call
 list-16 = reading true (text ("R,3,5,1,1" ∷ "T,1r,1,1,0,0,0,0,0" ∷ "T,2,2,1,3,0,0,1,0" ∷ "T,3,1,1,0,0,0,0,0" ∷ "T,4,1,1,1,0,0,0,0" ∷ "T,5,2,1,0,0,1,2,0" ∷ "T,6,2,1,0,1,1,2,0" ∷ "E,6" ∷ [])) ∷ reading true (text ("R,101,3,2,3" ∷ "T,1,57,2,1,0,0" ∷ "T,1,7,3,0,1,0" ∷ "T,2,70,3,1,1,1" ∷ "T,3,48,2,2,0,1" ∷ "T,3,1,3,1,1,1" ∷ "E,5" ∷ [])) ∷ lifting true 1 (by-tree 7) ∷ fetching true 1 129 ∷ lifting true 2 (by-hybrid 1) ∷ lifting true 3 (by-tree 0) ∷ fetching true 2 1 ∷ lifting true 3 (by-hybrid 1) ∷ []
@@ -269,7 +269,7 @@ due-16 = refl
 
 -- calls-1-37
 abbrev limits-17 : Limits
-limits-17 = record { prime-bound = 32767; variables = 8; components = 16; elements = 64; exponent = 255; t-lines = 2048; file = 65536; field = 65535; vectors = 128; level-terms = 2048; levels = 9; working = 512; vector = 512; tree = 4096; numbering = λ code. 1 }
+limits-17 = record { prime-bound = 65535; variables = 8; components = 16; elements = 64; exponent = 255; t-lines = 2048; file = 65536; field = 65535; vectors = 128; level-terms = 2048; levels = 9; working = 512; vector = 512; tree = 4096; numbering = λ code. 1 }
 
 abbrev list-17 : List Call
 list-17 = reading true (text ("R,5,2,3,1" ∷ "T,1,1,1,1,0" ∷ "T,2,3,1,1,1" ∷ "T,3,4,1,2,0" ∷ "E,3" ∷ [])) ∷ fetching true 10 1 ∷ lifting true 1 (by-hybrid 3) ∷ lifting true 2 (by-tree 5) ∷ lifting true 3 (by-tree 1000) ∷ lifting true 3 (by-hybrid 2) ∷ lifting true 1 (by-hybrid 3) ∷ lifting true 2 (by-hybrid 3) ∷ []
@@ -285,7 +285,7 @@ due-17 = refl
 
 -- calls-1-38
 abbrev limits-18 : Limits
-limits-18 = record { prime-bound = 32767; variables = 8; components = 16; elements = 64; exponent = 255; t-lines = 2048; file = 65536; field = 65535; vectors = 128; level-terms = 2048; levels = 9; working = 512; vector = 5; tree = 4096; numbering = λ code. 1 }
+limits-18 = record { prime-bound = 65535; variables = 8; components = 16; elements = 64; exponent = 255; t-lines = 2048; file = 65536; field = 65535; vectors = 128; level-terms = 2048; levels = 9; working = 512; vector = 5; tree = 4096; numbering = λ code. 1 }
 
 abbrev list-18 : List Call
 list-18 = reading true (text ("R,101,5,1,3" ∷ "T,1,28,2,1,0,1,0,0" ∷ "T,1,73,2,0,2,0,0,0" ∷ "T,2,100,2,1,0,0,1,0" ∷ "T,2,1,2,0,1,1,0,0" ∷ "T,3,33,2,0,1,0,1,0" ∷ "T,3,68,2,0,0,2,0,0" ∷ "T,4,1,2,1,0,0,0,1" ∷ "T,4,100,2,0,1,0,1,0" ∷ "T,5,100,2,0,1,0,0,1" ∷ "T,5,1,2,0,0,1,1,0" ∷ "T,6,89,2,0,0,1,0,1" ∷ "T,6,12,2,0,0,0,2,0" ∷ "E,12" ∷ [])) ∷ lifting true 1 (by-hybrid 2) ∷ lifting true 2 (by-tree 0) ∷ lifting true 2 (by-hybrid 4) ∷ lifting true 3 (by-hybrid 3) ∷ lifting true 2 (by-tree 6) ∷ lifting true 3 (by-tree 20) ∷ []
@@ -301,7 +301,7 @@ due-18 = refl
 
 -- calls-1-39
 abbrev limits-19 : Limits
-limits-19 = record { prime-bound = 32767; variables = 8; components = 16; elements = 64; exponent = 255; t-lines = 2048; file = 65536; field = 65535; vectors = 128; level-terms = 2048; levels = 9; working = 512; vector = 512; tree = 1; numbering = λ code. 1 }
+limits-19 = record { prime-bound = 65535; variables = 8; components = 16; elements = 64; exponent = 255; t-lines = 2048; file = 65536; field = 65535; vectors = 128; level-terms = 2048; levels = 9; working = 512; vector = 512; tree = 1; numbering = λ code. 1 }
 
 abbrev list-19 : List Call
 list-19 = reading true (text ("R,3,5,1,1" ∷ "T,1,2,1,0,1,0,0,0" ∷ "T,2,1,1,1,0,0,0,0" ∷ "T,3,1,1,0,0,1,0,0" ∷ "T,4,2,1,0,0,0,1,0" ∷ "T,5,2,1,0,0,0,0,1" ∷ "E,5" ∷ [])) ∷ fetching true 1 0 ∷ fetching true 1 1 ∷ lifting true 1 (by-tree 3) ∷ lifting true 2 (by-tree 9) ∷ []
@@ -317,7 +317,7 @@ due-19 = refl
 
 -- calls-1-40
 abbrev limits-20 : Limits
-limits-20 = record { prime-bound = 32767; variables = 8; components = 16; elements = 64; exponent = 255; t-lines = 2048; file = 65536; field = 65535; vectors = 128; level-terms = 2048; levels = 1; working = 0; vector = 512; tree = 4096; numbering = λ code. 1 }
+limits-20 = record { prime-bound = 65535; variables = 8; components = 16; elements = 64; exponent = 255; t-lines = 2048; file = 65536; field = 65535; vectors = 128; level-terms = 2048; levels = 1; working = 0; vector = 512; tree = 4096; numbering = λ code. 1 }
 
 abbrev list-20 : List Call
 list-20 = reading true (text ("R,7,2,2,1" ∷ "T,1,3,1,0,1" ∷ "T,2,1,1,1,0" ∷ "E,2" ∷ [])) ∷ fetching true 1 1 ∷ lifting true 1 (by-hybrid 3) ∷ lifting true 2 by-division ∷ lifting true 1 (by-tree 1000) ∷ fetching true 1 2 ∷ lifting true 2 (by-hybrid 1) ∷ fetching true 1 1 ∷ []

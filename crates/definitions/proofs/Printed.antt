@@ -7,7 +7,6 @@ use Prim.Native.Nat.{_+_, _*_}
 use Prim.Native.String.{String}
 use lib.ListN.{replicate}
 use Rattle.definitions.specs.Limits.{Limits, document-01}
-use Rattle.definitions.specs.Field.{prime?}
 use Rattle.definitions.specs.Monomial.{Level}
 use Rattle.definitions.specs.Order.{greater, equal, compare-over}
 use Rattle.definitions.specs.Frame.{frame}
@@ -48,8 +47,9 @@ one-element = refl
 empty-file : prints [] ("X,1,1" ∷ [])
 empty-file = refl
 
--- the largest prime that request A4 will read
-prime-65521 : prime? 65_521 ≡ true
+-- A4: "65,521, refused until now, is read", with coefficients of 65,520
+prime-65521 : prints ("R,65521,2,1,1" ∷ "T,1,65520,1,1,0" ∷ "T,1,65520,1,0,1" ∷ "T,2,65520,1,0,1" ∷ "E,3" ∷ [])
+    ("S,1,1,1,2,1,0" ∷ "S,1,1,65520,1,0,1" ∷ "S,1,1,1,2,0,1" ∷ "Z,1,1" ∷ "Z,2,0" ∷ [])
 prime-65521 = refl
 
 -- ## Refusals from the input
@@ -105,7 +105,7 @@ number-65536 = refl
 -- 8 after 1 and before 5, 4, 6, with room for two T lines and for 99 bytes
 abbrev two-lines : Limits
 two-lines = record {
-  prime-bound = 32_767;
+  prime-bound = 65_535;
   variables = 8;
   components = 16;
   elements = 64;

@@ -1,9 +1,9 @@
 -- "Limits": each a named number, so that the rules on 13, 14 and 15 can be tried with small ones.
--- Request A10 has changed numbering; requests A4 and A11 change prime-bound and working.
+-- Requests A4 and A10 have changed prime-bound and numbering; request A11 changes working.
 use Prim.Native.Nat.{ℕ}
 
 pub record Limits : Type 0 where
-  -- "p a prime from 2 to 32,767"
+  -- "The upper end for p becomes 65,535" (A4)
   pub prime-bound : ℕ
   -- "n variables, 1 to 8"
   pub variables : ℕ
@@ -38,7 +38,7 @@ pub record Limits : Type 0 where
 -- document 01's, as the requests that have landed leave them
 abbrev pub document-01 : Limits
 document-01 = record {
-  prime-bound = 32_767;
+  prime-bound = 65_535;
   variables = 8;
   components = 16;
   elements = 64;

@@ -24,7 +24,7 @@ module _ (s : Words) (long : 206095 ≤ length s) (t : T (holds-state? document-
   height = holds-said s long t .1
 
   pub prime-above : 1 < getD s 0 0
-  prime-above = above-one (getD s 0 0) (and-right (leb (getD s 0 0) 32767) (prime? (getD s 0 0)) (holds-said s long t .2))
+  prime-above = above-one (getD s 0 0) (and-right (leb (getD s 0 0) 65_535) (prime? (getD s 0 0)) (holds-said s long t .2))
 
   pub complete-test : (k : ℕ) → k < getD s 4 0 → T (own-test? s k)
   complete-test k h = climbed s (getD s 4 0) (holds-said s long t .4) k h

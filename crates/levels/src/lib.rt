@@ -81,12 +81,10 @@ pub fn read_parameters(state: &[u16]) -> Parameters
     }
 }
 
+// Every word is within the bound, 65,535 (A4).
 fn prime_in_range(p: u16) -> bool
     ensures { λ r. ⌜ r ≡ prime-in-range? document-01 p ⌝ }
 {
-    if 32767 < p {
-        return false;
-    }
     field::is_prime(p)
 }
 

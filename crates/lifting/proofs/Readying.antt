@@ -58,7 +58,7 @@ module _ (s : Words) (j : ℕ) (b : Base s j) where
   sound-levels = lower (getD s 4 0) (b .has) (sound-says document-01 (decode document-01 s) (holds-sound s (b .holds)) .levels)
 
   pub prime-at : T (prime? (getD s 0 0))
-  prime-at = and-right (leb (getD s 0 0) 32767) (prime? (getD s 0 0)) (holds-said s (b .long) (b .holds) .2)
+  prime-at = and-right (leb (getD s 0 0) 65535) (prime? (getD s 0 0)) (holds-said s (b .long) (b .holds) .2)
 
   led-levels : All-led (levels-at document-01 s (suc j))
   led-levels = sound-led document-01 (parameters-at s) (levels-at document-01 s (suc j)) sound-levels

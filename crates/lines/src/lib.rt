@@ -54,12 +54,10 @@ fn in_range(least: u16, x: u16, most: u16) -> bool
     x <= most
 }
 
+// Every word is within the bound, 65,535 (A4).
 fn prime_in_range(p: u16) -> bool
     ensures { λ r. ⌜ r ≡ prime-in-range? document-01 p ⌝ }
 {
-    if 32767 < p {
-        return false;
-    }
     field::is_prime(p)
 }
 

@@ -14,6 +14,8 @@ use std::cmp::Ordering;
 
 /// The primes that problems use.
 pub const PRIMES: [u64; 9] = [2, 3, 5, 7, 11, 101, 251, 32_003, 32_749];
+/// Primes that request A4 lets in.
+pub const LARGE_PRIMES: [u64; 3] = [65_521, 65_519, 32_771];
 
 /// How large problems may be.
 #[derive(Clone, Copy, Debug)]
@@ -32,9 +34,19 @@ pub struct Size {
     pub degree: u64,
     /// terms of a generator
     pub terms: u64,
+    /// the primes to choose from
+    pub primes: &'static [u64],
 }
 
 impl Size {
+    /// Over the primes that request A4 lets in.
+    pub fn over_large_primes(self) -> Size {
+        Size {
+            primes: &LARGE_PRIMES,
+            ..self
+        }
+    }
+
     /// For files of at most 12 T lines.
     pub fn tiny() -> Size {
         Size {
@@ -45,6 +57,7 @@ impl Size {
             t_lines: 12,
             degree: 3,
             terms: 3,
+            primes: &PRIMES,
         }
     }
 
@@ -58,6 +71,7 @@ impl Size {
             t_lines: 23,
             degree: 3,
             terms: 4,
+            primes: &PRIMES,
         }
     }
 
@@ -71,6 +85,7 @@ impl Size {
             t_lines: 300,
             degree: 4,
             terms: 6,
+            primes: &PRIMES,
         }
     }
 }
@@ -154,7 +169,7 @@ struct Maker<'a> {
 
 impl<'a> Maker<'a> {
     fn new(random: &'a mut Random, size: &Size) -> Maker<'a> {
-        let p = *random.pick(&PRIMES);
+        let p = *random.pick(size.primes);
         let s = if random.chance(65) {
             1
         } else {

@@ -1,6 +1,7 @@
 //! The public calls against the unrelated implementation: lists of calls on lent buffers; number, place and every word after each call.
 //!
 //!     test-calls [CALLS [SEED]]                                  at least so many calls (1,000,000 without it)
+//!     test-calls primes [FILES [SEED]]                           so many files over 65,521, 65,519 and 32,771 (50,000), every level and vector of each
 //!     test-calls spoil number|place|state|work|cache|out         spoils one answer: the run must find it and exit with 1
 
 mod compare;
@@ -21,6 +22,7 @@ use reference::Limits;
 
 const CALLS: u64 = 1_000_000;
 const SEED: u64 = 20_250_401;
+const FILES: u64 = 50_000;
 /// Products that a call may take; one that takes more is left out.
 const BUDGET: u64 = 6_000;
 const LONG_BUDGET: u64 = 100_000;
@@ -322,6 +324,58 @@ impl Lists {
     }
 }
 
+/// Files over the primes of request A4: read, every level lifted by one of the ways, every vector fetched. Gives how many were read with a coefficient above 32,767.
+fn large_primes(lists: &mut Lists, files: u64) -> u64 {
+    let whole = Lent {
+        state: STATE,
+        work: TREE_WORK,
+        cache: CACHE,
+        out: OUT,
+    };
+    let mut large = 0;
+    for _ in 0..files {
+        let random = &mut lists.random;
+        let size = match random.below(20) {
+            0 => Size::medium(),
+            1..=6 => Size::small(),
+            _ => Size::tiny(),
+        }
+        .over_large_primes();
+        let problem = if random.chance(85) {
+            random_basis(random, &size)
+        } else {
+            random_set(random, &size)
+        };
+        let high = problem.elements.iter().flatten().any(|term| term.coefficient > 32_767);
+        let file = problem_file(&problem);
+        if lists.compare.call(&Call::Read(&file), &whole, LONG_BUDGET) != Some(0) {
+            continue;
+        }
+        large += u64::from(high);
+        for level in 1..=9 {
+            let random = &mut lists.random;
+            let (way, pick) = *random.pick(&[(0, 0), (1, 1), (1, 2), (1, 3), (2, 0)]);
+            let lent = Lent {
+                cache: ROW * *random.pick(&[0, 1, 3, 7, 20, 60, 1_000]),
+                ..whole
+            };
+            let call = Call::Lift { level, way, pick };
+            if lists.compare.call(&call, &lent, LONG_BUDGET) != Some(0) {
+                break;
+            }
+            let vectors = lists.vectors(level as u64) as usize;
+            for vector in 1..=vectors {
+                let call = Call::Fetch { level, vector };
+                lists.compare.call(&call, &whole, LONG_BUDGET);
+            }
+            if vectors == 0 {
+                break;
+            }
+        }
+    }
+    large
+}
+
 /// The tree as deep as its work area allows, and one deeper.
 fn deepest() {
     let whole = Lent {
@@ -375,7 +429,7 @@ fn raise(
 
 fn main() {
     let arguments: Vec<String> = std::env::args().skip(1).collect();
-    let (mut wanted, mut seed, mut spoil) = (CALLS, SEED, None);
+    let (mut wanted, mut seed, mut spoil, mut files) = (CALLS, SEED, None, 0);
     match arguments.iter().map(String::as_str).collect::<Vec<_>>()[..] {
         ["spoil", what] => {
             let what = match what {
@@ -389,6 +443,12 @@ fn main() {
             };
             spoil = Some((700, what));
         }
+        ["primes"] => files = FILES,
+        ["primes", count] => files = count.parse().expect("how many files"),
+        ["primes", count, from] => {
+            files = count.parse().expect("how many files");
+            seed = from.parse().expect("a seed");
+        }
         [] => {}
         [calls] => wanted = calls.parse().expect("how many calls"),
         [calls, from] => {
@@ -398,6 +458,14 @@ fn main() {
         _ => panic!("at most two arguments"),
     }
     let mut lists = Lists::new(seed, spoil);
+    if files > 0 {
+        let large = large_primes(&mut lists, files);
+        println!(
+            "calls: {files} files over 65,521, 65,519 and 32,771, {large} of them read with a coefficient above 32,767: {} calls agree in number, place and every word ({} left out; seed {seed})",
+            lists.compare.calls, lists.compare.left_out
+        );
+        return;
+    }
     if spoil.is_none() {
         lists.whole_examples();
     }

@@ -58,6 +58,13 @@ pub const FIELDS: [&str; 52] = [
     "32761",
     "32767",
     "32768",
+    "32771",
+    "63001",
+    "65518",
+    "65519",
+    "65520",
+    "65521",
+    "65533",
     "65535",
     "65536",
     "65537",
@@ -77,7 +84,7 @@ pub const FIELDS: [&str; 52] = [
     "1\r",
 ];
 
-const PRIMES: [u64; 8] = [2, 3, 5, 7, 101, 181, 32_003, 32_749];
+const PRIMES: [u64; 10] = [2, 3, 5, 7, 101, 181, 32_003, 32_749, 65_519, 65_521];
 
 /// A file that is read: elements whose terms descend strictly.
 pub fn random_problem(random: &mut Random) -> Problem {

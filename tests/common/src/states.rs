@@ -6,7 +6,7 @@ use reference::monomial::{Exponents, Level, Monomial, Parameters, Term, Vector};
 use reference::order::Modules;
 use reference::random::Random;
 
-const PRIMES: [u64; 8] = [2, 3, 5, 7, 101, 251, 32_719, 32_749];
+const PRIMES: [u64; 10] = [2, 3, 5, 7, 101, 251, 32_719, 32_749, 65_519, 65_521];
 
 /// How large a state may become.
 #[derive(Clone, Copy)]

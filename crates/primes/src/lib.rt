@@ -1,0 +1,3 @@
+// Request A4: files with p up to an old bound keep their meaning, their listing and the answers of calls under a larger one.
+// Knows: crates definitions, theory, ending and demands.
+// One law about limits that differ in the bound on p alone; no limit has a number in it.
