@@ -113,6 +113,25 @@ static void one_word_short(void)
     CHECK(all(tree, TAGETESSASH_TREE_WORK_WORDS, 0));
 }
 
+/* -x - y, -y modulo p: the vector x e_2 - y e_1 + y e_2 by every way; p - 1 does not fit fifteen bits */
+static void large_prime(unsigned p)
+{
+    static const unsigned ways[5][2] = {{TAGETESSASH_DIVISION, 0}, {TAGETESSASH_HYBRID, TAGETESSASH_GREATEST}, {TAGETESSASH_HYBRID, TAGETESSASH_NEWEST},
+        {TAGETESSASH_HYBRID, TAGETESSASH_OLDEST}, {TAGETESSASH_TREE, 0}};
+    char text[200];
+    size_t i;
+    sprintf(text, "R,%u,2,1,1\nT,1,%u,1,1,0\nT,1,%u,1,0,1\nT,2,%u,1,0,1\nE,3\n", p, p - 1, p - 1, p - 1);
+    for (i = 0; i < 5; i++) {
+        CHECK(read_text(text) == TAGETESSASH_DONE && tagetessash_prime(state) == p);
+        CHECK(tagetessash_row(tagetessash_rows(state, 0, 2), 0).coefficient == p - 1);
+        CHECK(tagetessash_lift(state, TAGETESSASH_STATE_WORDS, tree, TAGETESSASH_TREE_WORK_WORDS, NULL, 0, 1, (uint16_t)ways[i][0], (uint16_t)ways[i][1], &place)
+            == TAGETESSASH_DONE);
+        CHECK(fetch(1, 1) == TAGETESSASH_DONE && tagetessash_row_count(out, TAGETESSASH_OUT_WORDS) == 3);
+        CHECK(tagetessash_row(out, 0).coefficient == 1 && tagetessash_row(out, 1).coefficient == p - 1 && tagetessash_row(out, 2).coefficient == 1);
+        CHECK(tagetessash_row(out, 1).component == 1 && tagetessash_row(out, 1).exponents[1] == 1);
+    }
+}
+
 static void levels_and_accessors(void)
 {
     size_t level, v, i;
@@ -199,6 +218,8 @@ int main(void)
     without_a_basis();
     one_word_short();
     levels_and_accessors();
+    large_prime(65521);
+    large_prime(65519);
     value_after_9();
     the_sheet();
     free(state);

@@ -51,6 +51,30 @@ fn the_printed_vector_by_every_way() {
     }
 }
 
+/// −x − y, −y modulo primes of request A4
+#[test]
+fn large_primes_by_every_way() {
+    for p in [65_521_u16, 65_519] {
+        let c = p - 1;
+        let file = format!("R,{p},2,1,1\nT,1,{c},1,1,0\nT,1,{c},1,0,1\nT,2,{c},1,0,1\nE,3\n");
+        let mut engine = Engine::new();
+        for way in [
+            Way::Division,
+            Way::Hybrid(Pick::Greatest),
+            Way::Hybrid(Pick::Newest),
+            Way::Hybrid(Pick::Oldest),
+            Way::Tree,
+        ] {
+            engine.read(file.as_bytes()).expect("a Gröbner basis");
+            engine.lift(1, way).expect("no limit is met");
+            assert_eq!(
+                engine.fetch(1, 1),
+                Ok(vec![term(1, 2, 1, 0), term(c, 1, 0, 1), term(1, 2, 0, 1)])
+            );
+        }
+    }
+}
+
 #[test]
 fn refusals_in_words() {
     let mut engine = Engine::with_cache(0);
