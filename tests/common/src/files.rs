@@ -22,7 +22,7 @@ pub const WRITTEN: [&str; 10] = [
 ];
 
 /// What a field may be changed to: numbers about every limit, and what is no number.
-pub const FIELDS: [&str; 52] = [
+pub const FIELDS: [&str; 59] = [
     "0",
     "1",
     "2",
