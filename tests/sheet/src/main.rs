@@ -201,7 +201,7 @@ fn instances() -> Vec<(String, Vec<u8>, Vec<u8>)> {
         })
         .collect();
     files.sort();
-    assert_eq!(files.len(), 20, "an instance is missing");
+    assert_eq!(files.len(), 25, "an instance is missing");
     files
 }
 
