@@ -1,3 +1,4 @@
 pub mod Adding
 pub mod Picking
 pub mod Families
+pub mod Found

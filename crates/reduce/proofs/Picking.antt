@@ -1,7 +1,7 @@
 -- The places that the pick codes say.
 use mathlib.Core.Path.{_≡_, refl, sym, ap, _∙_, subst}
 use mathlib.Core.Bool.{Bool, true, false}
-use mathlib.Core.Option.{some}
+use mathlib.Core.Option.{some, Option·some-injective}
 use Prim.Native.Nat.{ℕ, zero, suc, _+_, _-_, _<_, _≤_}
 use native.Mathlib.Omega.{arith}
 use lib.Dec.{eqb}
@@ -13,10 +13,10 @@ use Rattle.definitions.specs.Run.{Best, better, greatest-from, greatest, newest
 use Rattle.definitions.specs.Layout.{Words, row-at, rows}
 use Rattle.definitions.proofs.Rows.{rows-first, length-rows}
 use Rattle.definitions.proofs.Comparisons.{turned}
-use Rattle.orders.specs.Images.{Table, key, table-order}
+use Rattle.orders.specs.Images.{Key, Table, key, compare-keys, table-order}
 use Rattle.orders.proofs.Answers.{keys-swap}
-use Rattle.sums.specs.Places.{beaten-from}
-use Rattle.sums.proofs.Walking.{beaten-at-row, beaten-at-end}
+use Rattle.sums.specs.Places.{renewed-from}
+use Rattle.sums.proofs.Walking.{renewed-at-row, renewed-at-end}
 use Rattle.reduce.proofs.Adding.{rows-none}
 
 better-is : (c : Comparison) (i : ℕ) (m : Monomial) (best : Best) → better c i m best ≡ choose (greater? c) (i, m) best
@@ -24,58 +24,75 @@ better-is greater i m best = refl
 better-is equal i m best = refl
 better-is smaller i m best = refl
 
-module _ (code : ℕ) (T : Table) (s : Words) (n : ℕ) where
-  -- what is left: the greatest of the best so far, at place x, and the terms from place i on
-  abbrev pub Left : ℕ → ℕ → Type 0
-  Left i x = greatest (table-order code T) (rows s 0 n) ≡ some (greatest-from (table-order code T) i (x, row-at s x .1) (rows s i (n - i)))
+module _ (code : ℕ) (T : Table) (s : Words) where
+  -- the term at place x is the greatest of the first i
+  abbrev pub Greatest-of-first : ℕ → ℕ → Type 0
+  Greatest-of-first i x = greatest (table-order code T) (rows s 0 i) ≡ some x
 
-  pub left-first : 0 < n → Left 1 0
-  left-first h =
-      let z : n ≡ suc (n - 1) = omega arith in
-      ap (λ m. greatest (table-order code T) (rows s 0 m)) z ∙ ap (greatest (table-order code T)) (rows-first s 0 (n - 1))
+  pub first-alone : Greatest-of-first 1 0
+  first-alone = ap (greatest (table-order code T)) (rows-first s 0 0) ∙ ap (λ v. some (greatest-from (table-order code T) 1 (0, row-at s 0 .1) v)) (rows-none s 1)
 
-  left-step : (i x y : ℕ) (b : Bool) → i < n → greater? (table-order code T (row-at s i .1) (row-at s x .1)) ≡ b → choose b i x ≡ y → Left i x → Left (i + 1) y
-  left-step i x y b h e f l =
-      let z : n - i ≡ suc (n - (i + 1)) = omega arith in
-      let w : suc i ≡ i + 1 = omega arith in
-      l ∙ ap some (
-      ap (λ m. greatest-from (table-order code T) i (x, row-at s x .1) (rows s i m)) z
-      ∙ ap (greatest-from (table-order code T) i (x, row-at s x .1)) (rows-first s i (n - (i + 1)))
-      ∙ ap (λ u. greatest-from (table-order code T) (suc i) u (rows s (suc i) (n - (i + 1)))) (better-is (table-order code T (row-at s i .1) (row-at s x .1)) i (row-at s i .1) (x, row-at s x .1) ∙ ap (λ c. choose c (i, row-at s i .1) (x, row-at s x .1)) e ∙ chosen b ∙ ap (λ j. (j, row-at s j .1)) f)
-      ∙ ap (λ j. greatest-from (table-order code T) j (y, row-at s y .1) (rows s j (n - (i + 1)))) w)
+  -- the better of the term at place j and the best so far
+  abbrev pub next : ℕ → ℕ → ℕ
+  next j x = choose (greater? (table-order code T (row-at s j .1) (row-at s x .1))) j x
+
+  chosen : (b : Bool) (j x : ℕ) → _≡_ {A = Best} (choose b (j, row-at s j .1) (x, row-at s x .1)) (choose b j x, row-at s (choose b j x) .1)
+  chosen true j x = refl
+  chosen false j x = refl
+
+  stepped : (j x m : ℕ) → greatest-from (table-order code T) j (x, row-at s x .1) (rows s j (suc m))
+      ≡ greatest-from (table-order code T) (suc j) (next j x, row-at s (next j x) .1) (rows s (suc j) m)
+  stepped j x m =
+      let c = table-order code T (row-at s j .1) (row-at s x .1) in
+      ap (greatest-from (table-order code T) j (x, row-at s x .1)) (rows-first s j m)
+      ∙ ap (λ u. greatest-from (table-order code T) (suc j) u (rows s (suc j) m)) (better-is c j (row-at s j .1) (x, row-at s x .1) ∙ chosen (greater? c) j x)
+
+  -- one term more
+  passed : (m j x y : ℕ) → greatest-from (table-order code T) j (x, row-at s x .1) (rows s j m) ≡ y
+      → greatest-from (table-order code T) j (x, row-at s x .1) (rows s j (suc m)) ≡ next (j + m) y
+  passed zero j x y e =
+      let z : j ≡ j + 0 = omega arith in
+      let q : x ≡ y = sym (ap (greatest-from (table-order code T) j (x, row-at s x .1)) (rows-none s j)) ∙ e in
+      stepped j x 0 ∙ ap (greatest-from (table-order code T) (suc j) (next j x, row-at s (next j x) .1)) (rows-none s (suc j)) ∙ (λ i. next (z i) (q i))
+  passed (suc m) j x y e =
+      let z : suc j + m ≡ j + suc m = omega arith in
+      stepped j x (suc m) ∙ passed m (suc j) (next j x) y (sym (stepped j x m) ∙ e) ∙ ap (λ k. next k y) z
+
+  pub one-more : (i x : ℕ) → 1 ≤ i → Greatest-of-first i x → Greatest-of-first (i + 1) (next i x)
+  one-more i x h g =
+      let z : i ≡ suc (i - 1) = omega arith in
+      let y : i + 1 ≡ suc (suc (i - 1)) = omega arith in
+      let w : 1 + (i - 1) ≡ i = omega arith in
+      let e : greatest-from (table-order code T) 1 (0, row-at s 0 .1) (rows s 1 (i - 1)) ≡ x =
+      Option·some-injective _ _ (sym (ap (λ m. greatest (table-order code T) (rows s 0 m)) z ∙ ap (greatest (table-order code T)) (rows-first s 0 (i - 1))) ∙ g) in
+      ap (λ m. greatest (table-order code T) (rows s 0 m)) y ∙ ap (greatest (table-order code T)) (rows-first s 0 (suc (i - 1)))
+      ∙ ap some (passed (i - 1) 1 0 x e ∙ ap (λ k. next k x) w)
+
+  -- a walk from the best so far, at place x: behind the last term it is the greatest of all; else the term at which the walk stops is the greatest so far, and the image is its own
+  abbrev Walked : ℕ → ℕ → ℕ → ℕ → Key → Type 0
+  Walked n i x j k = (i ≤ j) × (n ≤ j → Greatest-of-first n x) × (j < n → Greatest-of-first (j + 1) j × (k ≡ key T (row-at s j .1)))
+
+  pub walked : (n x m i j : ℕ) (k : Key) → n - i ≡ m → 1 ≤ i → i ≤ n → Greatest-of-first i x
+      → _≡_ {A = ℕ × Key} (j, k) (renewed-from (compare-keys code) (key T) (key T (row-at s x .1)) (rows s i (n - i)) i) → Walked n i x j k
+  walked n x zero i j k z h l g e =
+      let q : j ≡ i = ap (λ (w : ℕ × Key). w .0) (e ∙ renewed-at-end (compare-keys code) (key T) (key T (row-at s x .1)) s n i (omega arith)) in
+      let p : i ≡ n = omega arith in
+      (omega arith, λ t. subst (λ o. Greatest-of-first o x) p g, λ t. absurd (omega arith))
+  walked n x (suc m) i j k z h l g e = go (walked n x m (i + 1) j k (omega arith) (omega arith) (omega arith)) (table-order code T (row-at s x .1) (row-at s i .1)) refl
     where
-      chosen : (b : Bool) → _≡_ {A = Best} (choose b (i, row-at s i .1) (x, row-at s x .1)) (choose b i x, row-at s (choose b i x) .1)
-      chosen true = refl
-      chosen false = refl
+      at : (c : Comparison) → table-order code T (row-at s x .1) (row-at s i .1) ≡ c → Greatest-of-first (i + 1) (choose (greater? (turned c)) i x)
+      at c q = subst (λ d. Greatest-of-first (i + 1) (choose (greater? d) i x)) (keys-swap code (key T (row-at s x .1)) (key T (row-at s i .1)) ∙ ap turned q) (one-more i x h g)
 
-  pub left-end : (i x : ℕ) → n ≤ i → Left i x → some x ≡ greatest (table-order code T) (rows s 0 n)
-  left-end i x h l =
-      let z : n - i ≡ 0 = omega arith in
-      sym (l ∙ ap some (ap (λ m. greatest-from (table-order code T) i (x, row-at s x .1) (rows s i m)) z ∙ ap (greatest-from (table-order code T) i (x, row-at s x .1)) (rows-none s i)))
+      further : Walked n (i + 1) x j k → Walked n i x j k
+      further w = (omega (arith, w .0), w .1, w .2)
 
-  -- a walk from the best so far, at place x, to the next greater: behind the last term, or at the next best
-  abbrev Walked : ℕ → ℕ → ℕ → Type 0
-  Walked i x j = (i ≤ j) × (n ≤ j → some x ≡ greatest (table-order code T) (rows s 0 n)) × (j < n → Left (j + 1) j)
-
-  pub left-walked : (x : ℕ) (m i j : ℕ) → n - i ≡ m → Left i x → j ≡ beaten-from (table-order code T (row-at s x .1)) (rows s i (n - i)) i → Walked i x j
-  left-walked x zero i j z l e =
-      let q : j ≡ i = e ∙ beaten-at-end (table-order code T (row-at s x .1)) s n i (omega arith) in
-      (omega arith, λ h. left-end i x (omega arith) l, λ h. absurd (omega arith))
-  left-walked x (suc m) i j z l e = go (left-walked x m (i + 1) j (omega arith)) (table-order code T (row-at s x .1) (row-at s i .1)) refl
-    where
-      swapped : (c : Comparison) → table-order code T (row-at s x .1) (row-at s i .1) ≡ c → table-order code T (row-at s i .1) (row-at s x .1) ≡ turned c
-      swapped c q = keys-swap code (key T (row-at s x .1)) (key T (row-at s i .1)) ∙ ap turned q
-
-      past : (Left (i + 1) x → j ≡ beaten-from (table-order code T (row-at s x .1)) (rows s (i + 1) (n - (i + 1))) (i + 1) → Walked (i + 1) x j) → greater? (table-order code T (row-at s i .1) (row-at s x .1)) ≡ false
-          → j ≡ beaten-from (table-order code T (row-at s x .1)) (rows s (i + 1) (n - (i + 1))) (i + 1) → Walked i x j
-      past further g d = let w = further (left-step i x x false (omega arith) g refl l) d in (omega (arith, w .0), w .1, w .2)
-
-      go : (Left (i + 1) x → j ≡ beaten-from (table-order code T (row-at s x .1)) (rows s (i + 1) (n - (i + 1))) (i + 1) → Walked (i + 1) x j) → (c : Comparison) → table-order code T (row-at s x .1) (row-at s i .1) ≡ c → Walked i x j
-      go further greater q = past further (ap greater? (swapped greater q)) (e ∙ beaten-at-row (table-order code T (row-at s x .1)) s n i greater (omega arith) (sym q))
-      go further equal q = past further (ap greater? (swapped equal q)) (e ∙ beaten-at-row (table-order code T (row-at s x .1)) s n i equal (omega arith) (sym q))
-      go further smaller q =
-          let d : i ≡ j = sym (e ∙ beaten-at-row (table-order code T (row-at s x .1)) s n i smaller (omega arith) (sym q)) in
-          (omega arith, λ h. absurd (omega arith), λ h. subst (λ k. Left (k + 1) k) d (left-step i x i true (omega arith) (ap greater? (swapped smaller q)) refl l))
+      go : (Greatest-of-first (i + 1) x → _≡_ {A = ℕ × Key} (j, k) (renewed-from (compare-keys code) (key T) (key T (row-at s x .1)) (rows s (i + 1) (n - (i + 1))) (i + 1)) → Walked n (i + 1) x j k) → (c : Comparison) → table-order code T (row-at s x .1) (row-at s i .1) ≡ c → Walked n i x j k
+      go on greater q = further (on (at greater q) (e ∙ renewed-at-row (compare-keys code) (key T) (key T (row-at s x .1)) s n i greater (omega arith) (sym q)))
+      go on equal q = further (on (at equal q) (e ∙ renewed-at-row (compare-keys code) (key T) (key T (row-at s x .1)) s n i equal (omega arith) (sym q)))
+      go on smaller q =
+          let d : _≡_ {A = ℕ × Key} (j, k) (i, key T (row-at s i .1)) = e ∙ renewed-at-row (compare-keys code) (key T) (key T (row-at s x .1)) s n i smaller (omega arith) (sym q) in
+          let p : i ≡ j = sym (ap (λ (w : ℕ × Key). w .0) d) in
+          (omega arith, λ t. absurd (omega arith), λ t. (subst (λ o. Greatest-of-first (o + 1) o) p (at smaller q), ap (λ (w : ℕ × Key). w .1) d ∙ ap (λ o. key T (row-at s o .1)) p))
 
 -- ## By code
 

@@ -15,6 +15,7 @@ ghost use Rattle.reduce.specs.Grounds.{reduction-of, Tables, Family, fam
 use monomial::Monomial;
 use orders::Image;
 use reducers::Answer;
+use sums::Running;
 use sums::Stored;
 use terms::Term;
 
@@ -176,23 +177,24 @@ fn image_at(value: &[u16], i: usize, below: &[u16], images: usize) -> Image
     orders::image_of(below, images, m)
 }
 
-// The place of the greatest of n terms: walks from each best so far to the next.
+// The place of the greatest of n terms: from each best so far, its image beside it, a walk to the next.
 pub fn greatest(value: &[u16], n: usize, code: u16, below: &[u16], images: usize) -> usize
     requires { ⌜ (0 < n) × (n * 10 ≤ length (now value)) × (images * 10 ≤ length (now below)) × Tabled images (now below) ⌝ }
     ensures { λ r. ⌜ some r ≡ greatest-definition (table-order code (table-of images (now (below .entry)))) (rows (now (value .entry)) 0 n) ⌝ }
 {
-    let mut best: usize = 0;
+    let image = image_at(value, 0, below, images);
+    let mut best = Running { row: 0, image };
     let mut i: usize = 1;
     while i < n {
-        let image = image_at(value, best, below, images);
-        let j = sums::next_greater(value, i, n, code, below, images, image);
+        let x = sums::walk(value, i, n, code, below, images, best.image);
+        let j = x.row;
         if n <= j {
-            return best;
+            return best.row;
         }
-        best = j;
+        best = x;
         i = j + 1;
     }
-    best
+    best.row
 }
 
 // The place that the pick code says, of n terms.

@@ -1,0 +1,3 @@
+// Picking the greatest term with its image beside it: the search as a definition under specs/, and that it finds the greatest of the working value under proofs/.
+// Knows: crates definitions and comparing.
+// It knows nothing of the code: crate reduce puts the two together.
