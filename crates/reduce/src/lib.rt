@@ -191,7 +191,11 @@ pub fn greatest(value: &[u16], n: usize, code: u16, below: &[u16], images: usize
         if n <= j {
             return best.row;
         }
-        best = x;
+        let renewed = x.image;
+        best = Running {
+            row: j,
+            image: renewed,
+        };
         i = j + 1;
     }
     best.row

@@ -44,24 +44,26 @@ add-i c = omega arith
 
 loop-less : tie.Need-loop-less Inv-loop μ-loop
 loop-less c =
-    let l = c .before .before .before .loop in
-    let a = c .before .before .before .before .before .before .before .args in
+    let d = c .before in
+    let l = d .before .before .before .loop in
+    let a = d .before .before .before .before .before .before .before .args in
     let T = table-of (a .images) (a .below .now) in
-    let x = c .before .walk .result in
+    let x = d .before .walk .result in
     let w =
     walked (a .code) T (a .value .now) (a .n) (l .best .row) (a .n - l .i) (l .i) (x .row) (key-of (x .image)) refl (l .inv .0) (l .inv .1) (l .inv .4)
-    (c .before .walk .ensures ∙ ap (λ k. renewed-from (compare-keys (a .code)) (key T) k (rows (a .value .now) (l .i) (a .n - l .i)) (l .i)) (l .inv .3)) in
+    (d .before .walk .ensures ∙ ap (λ k. renewed-from (compare-keys (a .code)) (key T) k (rows (a .value .now) (l .i) (a .n - l .i)) (l .i)) (l .inv .3)) in
     omega (arith, w .0)
 
 loop-again : tie.Need-loop-again Inv-loop μ-loop
 loop-again c =
-    let l = c .before .before .before .loop in
-    let a = c .before .before .before .before .before .before .before .args in
+    let d = c .before in
+    let l = d .before .before .before .loop in
+    let a = d .before .before .before .before .before .before .before .args in
     let T = table-of (a .images) (a .below .now) in
-    let x = c .before .walk .result in
+    let x = d .before .walk .result in
     let w =
     walked (a .code) T (a .value .now) (a .n) (l .best .row) (a .n - l .i) (l .i) (x .row) (key-of (x .image)) refl (l .inv .0) (l .inv .1) (l .inv .4)
-    (c .before .walk .ensures ∙ ap (λ k. renewed-from (compare-keys (a .code)) (key T) k (rows (a .value .now) (l .i) (a .n - l .i)) (l .i)) (l .inv .3)) in
+    (d .before .walk .ensures ∙ ap (λ k. renewed-from (compare-keys (a .code)) (key T) k (rows (a .value .now) (l .i) (a .n - l .i)) (l .i)) (l .inv .3)) in
     let g = w .2 (omega arith) in
     (omega arith, omega arith, omega arith, g .1, g .0)
 
