@@ -25,12 +25,7 @@ prints file lines = sheet document-01 99 (text file) ≡ some (text lines)
 
 -- ## Instance 10
 
--- "p = 32,749 accepted, 32,761 = 181·181 refused 2"
-prime-32749 : prints ("R,32749,2,1,1" ∷ "T,1,1,1,1,0" ∷ "E,1" ∷ []) ("Z,1,0" ∷ [])
-prime-32749 = refl
-
-square-32761 : prints ("R,32761,2,1,1" ∷ "T,1,1,1,1,0" ∷ "E,1" ∷ []) ("X,2,1" ∷ [])
-square-32761 = refl
+-- (its sentences on 32,749 and 32,761 are closed theorems of crate primes)
 
 -- "exponent 255 read, 256 refused 4"
 exponent-255 : prints ("R,7,2,1,1" ∷ "T,1,1,1,255,0" ∷ "E,1" ∷ []) ("Z,1,0" ∷ [])
@@ -47,10 +42,9 @@ one-element = refl
 empty-file : prints [] ("X,1,1" ∷ [])
 empty-file = refl
 
--- A4: "65,521, refused until now, is read", with coefficients of 65,520
-prime-65521 : prints ("R,65521,2,1,1" ∷ "T,1,65520,1,1,0" ∷ "T,1,65520,1,0,1" ∷ "T,2,65520,1,0,1" ∷ "E,3" ∷ [])
-    ("S,1,1,1,2,1,0" ∷ "S,1,1,65520,1,0,1" ∷ "S,1,1,1,2,0,1" ∷ "Z,1,1" ∷ "Z,2,0" ∷ [])
-prime-65521 = refl
+-- A4: the first prime that was refused until now is read (65,521 in crate primes)
+prime-32771 : prints ("R,32771,2,1,1" ∷ "T,1,32770,1,1,0" ∷ "E,1" ∷ []) ("Z,1,0" ∷ [])
+prime-32771 = refl
 
 -- ## Refusals from the input
 

