@@ -1,35 +1,32 @@
--- The levels one after the other: what a lifting leaves, and the lines that follow.
+-- The lines of all levels: those of the levels that were reached, one after the other, and the refusal's.
 use mathlib.Core.Path.{_≡_, refl, sym, ap, _∙_, subst}
 use mathlib.Core.Bool.{Bool, true, false}
 use mathlib.Core.Option.{Option, none, some}
-use mathlib.Core.List.{[], _∷_, _++_, append-nil}
+use mathlib.Core.List.{List, [], _∷_, _++_, append-nil, append-assoc}
 use Prim.Native.Nat.{ℕ, zero, suc, _+_, _-_, _*_, _<_, _≤_}
-use native.Mathlib.Nat.{not-suc-le-zero, add-comm}
+use native.Mathlib.Nat.{not-suc-le-zero}
 use native.Mathlib.Omega.{arith}
+use borrow.Author.Tests.{ne-eqb}
 use lib.Dec.{T, leb, ltb, leb→le}
 use lib.ListN.{length, getD, drop}
 use lib.Seq.{getD-take, length-take-le}
-use Rattle.definitions.specs.Limits.{document-01}
-use Rattle.definitions.specs.Lists.{_and_, _then_, empty?, last, between}
-use Rattle.definitions.specs.Monomial.{Level}
-use Rattle.definitions.specs.Result.{Result, done, refused, finished?}
-use Rattle.definitions.specs.Lifting.{by-hybrid}
+use Rattle.definitions.specs.Limits.{Limits, document-01}
+use Rattle.definitions.specs.Lists.{_and_, _then_, choose, empty?, last}
+use Rattle.definitions.specs.Monomial.{Vector, Level}
+use Rattle.definitions.specs.Result.{Result, done, refused, unfinished, at-level, _>>=_}
+use Rattle.definitions.specs.Lifting.{by-hybrid, lift-level}
 use Rattle.definitions.specs.Problem.{Bytes}
-use Rattle.definitions.specs.State.{State, sound?, up-to}
-use Rattle.definitions.specs.Stage.{highest}
-use Rattle.definitions.specs.Calls.{settled, lift}
-use Rattle.definitions.specs.Layout.{Words, Lift, hybrid, lift-left, lift-call, encode, decode, level-at, levels-at, ends-at, holds-state?, words-sound?, all-words-sound?, ascending?, exponents-fit?, last-end}
-use Rattle.definitions.specs.Sheet.{printed, level-lines, if-more, level-then, levels-from}
-use Rattle.definitions.proofs.Tests.{true-is, and-left, and-right, between-shown}
-use Rattle.definitions.proofs.Numbers.{limit-number?}
-use Rattle.definitions.proofs.RoundTrip.{decode-encode, holds-encode, length-encode}
-use Rattle.definitions.proofs.Steady.{answered?, steady-from}
-use Rattle.definitions.proofs.Bound.{lift-steady, levels-from-steady}
-use Rattle.demands.proofs.Lifts.{Lifted-to, one-more, limit-met, still-lifting, lifted-to, with-level, height-up-to}
+use Rattle.definitions.specs.State.{State, up-to}
+use Rattle.definitions.specs.Layout.{Words, decode, level-at, levels-at, ends-at, holds-state?, words-sound?, all-words-sound?, ascending?, exponents-fit?, last-end}
+use Rattle.definitions.specs.Sheet.{printed, letter-X, x-lines, level-lines, if-more, level-then, levels-from}
+use Rattle.definitions.proofs.Tests.{and-left, and-right}
+use Rattle.definitions.proofs.Numbers as numbers
+use Rattle.definitions.proofs.Numbers.{limit-number?, Numbered, lift-level-number}
 use Rattle.levels.specs.Places.{count-at, ends-from}
-use Rattle.stages.proofs.Complete.{words-below, length-levels, holds-sound}
-use Rattle.engine_lift.proofs.Called.{after-tests}
+use Rattle.stages.proofs.Complete.{words-below, length-levels}
+use Rattle.all_levels.specs.Levels.{Levels, unless-last, then-levels, reached-from, reached}
 use Rattle.printing.specs.Lines.{Short}
+use Rattle.sheet.specs.Sheets.{lines-to, refusal-line}
 
 -- ## Ends within a level's room
 
@@ -50,120 +47,119 @@ short-level s long holds k h f j l =
     let v = ascends-each 2048 0 (ends-at document-01 s k) (and-left (ascending? 2048 0 (ends-at document-01 s k)) (small s k) u) j (omega (arith, length-take-le (count-at s k) (ends-from s k) f)) in
     subst (λ e. e ≤ 2048) (getD-take (count-at s k) (ends-from s k) j 0 l) v
 
--- ## What a lifting leaves
+-- ## The lines of all levels
 
-abbrev or-else : Lift → Option Lift → Lift
-or-else r none = r
-or-else r (some a) = a
+-- those of the levels above level 0
+abbrev lines-over : ℕ → List Level → Bytes
+lines-over n [] = []
+lines-over n (f ∷ []) = []
+lines-over n (f ∷ g ∷ fs) = lines-over n (g ∷ fs) ++ level-lines n (suc (length fs)) f
 
-module _ (s w z : Words) (k : ℕ) (long : 206095 ≤ length s) (wide : 5120 ≤ length w) (holds : T (holds-state? document-01 s)) (height : getD s 4 0 ≡ k) (low : 1 ≤ k) (high : k ≤ 9) where
-  abbrev X : State
-  X = decode document-01 s
+abbrev all-lines : Option Levels → Option Bytes
+all-lines none = none
+all-lines (some (number, place, X)) = some (lines-over (X .parameters .n) (X .levels) ++ refusal-line number place)
 
-  sound-is : T (sound? document-01 X)
-  sound-is = holds-sound s holds
+one-over : (n k : ℕ) (f : Level) (ls : List Level) → 1 ≤ k → length ls ≡ k → lines-over n (f ∷ ls) ≡ lines-over n ls ++ level-lines n k f
+one-over n k f [] h e = absurd (not-suc-le-zero {n = 0} (omega (arith, h, e)))
+one-over n k f (g ∷ fs) h e = ap (λ i. lines-over n (g ∷ fs) ++ level-lines n i f) e
 
-  abbrev left : Result State → Option Lift
-  left x = settled x then λ a. some (lift-left document-01 s w z a)
+behind : (o : Option Bytes) (a b : Bytes) → ((o then λ bytes. some (b ++ bytes)) then λ bytes. some (a ++ bytes)) ≡ (o then λ bytes. some ((a ++ b) ++ bytes))
+behind none a b = refl
+behind (some bytes) a b = ap some (sym (append-assoc a b bytes))
 
-  call-is : (n : ℕ) → left (lift document-01 n X k (by-hybrid 2)) ≡ lift-call document-01 n k (hybrid 2) s w z
-  call-is n = after-tests s w z k (hybrid 2) long wide holds (true-is (between 1 k 9) (between-shown 1 k 9 low high)) (omega (arith, height, low)) refl n
+x-line : (v k number place : ℕ) (value : Vector) → Numbered {A = Level} limit-number? (refused number place value) → x-lines v number k value ≡ refusal-line number k
+x-line v k number place value (numbers.refuses u) =
+    append-nil (printed letter-X (number ∷ k ∷ []))
+    ∙ sym (ap (λ b. choose b [] (printed letter-X (number ∷ k ∷ []))) (ne-eqb number 0 (λ z. subst (λ i. T (limit-number? i)) z u)))
+x-line v k number place value (numbers.stops u) = absurd u
 
-  -- the level is complete, and the state with it is in the words
-  pub record Next (n : ℕ) (t : Words) : Type 0 where
-    pub next : State
-    pub lifts : lift document-01 n X k (by-hybrid 2) ≡ done next
-    pub decoded : decode document-01 t ≡ next
-    pub still-long : 206095 ≤ length t
-    pub still-holds : T (holds-state? document-01 t)
-    pub still-height : getD t 4 0 ≡ suc k
-    pub variables : getD t 1 0 ≡ getD s 1 0
+-- one level more
+module _ (lim : Limits) (n left k : ℕ) (X : State) (h : 1 ≤ k) (e : length (X .levels) ≡ k) where
+  abbrev v : ℕ
+  v = X .parameters .n
 
-  tall : length (X .levels) ≡ k
-  tall = length-levels s (getD s 4 0) ∙ height
+  abbrev with-next : Level → State
+  with-next f = record { parameters = X .parameters; levels = f ∷ up-to X (k - 1) }
 
-  pub next-of : (n : ℕ) (r : Lift) → some r ≡ lift-call document-01 n k (hybrid 2) s w z → r .0 ≡ 0 → Next n (r .2)
-  next-of n r e z = go (lifted-to document-01 tt X sound-is k (by-hybrid 2) n) refl (e ∙ sym (call-is n))
-    where
-      go : {x : Result State} → Lifted-to document-01 X k x → lift document-01 n X k (by-hybrid 2) ≡ x → some r ≡ left x → Next n (r .2)
-      go (one-more g h) p q =
-          let Y : State = record { parameters = X .parameters; levels = g ∷ up-to X (k - 1) } in
-          let sound = with-level document-01 X sound-is k (between-shown 1 k 9 low high) (omega (arith, tall, low)) g (h .sound) in
-          let words : r .2 ≡ encode document-01 (length s) Y = ap (λ o. or-else r o .2) q in
-          let d : decode document-01 (r .2) ≡ Y = ap (decode document-01) words ∙ decode-encode document-01 (omega arith) (length s) Y sound in
-          let l = height-up-to document-01 X sound-is (k - 1) (omega (arith, tall, low)) in
-          record {
-            next = Y;
-            lifts = p;
-            decoded = d;
-            still-long = omega (arith, ap length words, length-encode document-01 (omega arith) (length s) Y sound long, long);
-            still-holds = subst (λ t. T (holds-state? document-01 t)) (sym words) (holds-encode document-01 (omega arith) (length s) Y sound);
-            still-height = sym (length-levels (r .2) (getD (r .2) 4 0)) ∙ ap (λ Z. length (Z .levels)) d ∙ ap suc (l ∙ (omega (arith, low)));
-            variables = ap (λ Z. Z .parameters .n) d;
-          }
-      go (limit-met {number} t) p q = absurd (subst (λ i. T (limit-number? i)) (sym (ap (λ o. or-else r o .0) q) ∙ z) t)
-      go still-lifting p q = absurd (subst (λ o. T (answered? o)) q tt)
+  none-above : length (X .levels) - suc (k - 1) ≡ 0
+  none-above = omega (arith, h, e)
 
-  pub refused-of : (n : ℕ) (r : Lift) → some r ≡ lift-call document-01 n k (hybrid 2) s w z → (r .0 ≡ 0 → ⊥) → lift document-01 n X k (by-hybrid 2) ≡ refused (r .0) (r .1) []
-  refused-of n r e z = go (lifted-to document-01 tt X sound-is k (by-hybrid 2) n) refl (e ∙ sym (call-is n))
-    where
-      go : {x : Result State} → Lifted-to document-01 X k x → lift document-01 n X k (by-hybrid 2) ≡ x → some r ≡ left x → lift document-01 n X k (by-hybrid 2) ≡ refused (r .0) (r .1) []
-      go (one-more g h) p q = absurd (z (ap (λ o. or-else r o .0) q))
-      go (limit-met {number} t) p q = p ∙ sym (λ i. refused (or-else r (q i) .0) (or-else r (q i) .1) [])
-      go still-lifting p q = absurd (subst (λ o. T (answered? o)) q tt)
+  same : up-to X (k - 1) ≡ X .levels
+  same = ap (λ i. drop i (X .levels)) none-above
 
-  -- ## The lines
+  stay : length (up-to X (k - 1)) ≡ k
+  stay = ap length same ∙ e
 
-  abbrev lines-from : ℕ → ℕ → Option Bytes
-  lines-from n lefts = levels-from document-01 n lefts k X
+  over : (f : Level) → lines-over v (f ∷ up-to X (k - 1)) ≡ lines-over v (X .levels) ++ level-lines v k f
+  over f = one-over v k f (up-to X (k - 1)) h stay ∙ ap (λ ls. lines-over v ls ++ level-lines v k f) same
 
-  one-left : 10 - k ≡ suc (9 - k)
-  one-left = omega (arith, high)
+  abbrev printed-then : Result State → Option Bytes
+  printed-then x = level-then v k (λ Y. levels-from lim n left (suc k) Y) x then λ bytes. some (lines-over v (X .levels) ++ bytes)
 
-  pub refused-lines : (n number place : ℕ) → lift document-01 n X k (by-hybrid 2) ≡ refused number place [] → some (printed 88 (number ∷ place ∷ [])) ≡ lines-from n (10 - k)
-  refused-lines n number place e =
-      ap some (sym (append-nil (printed 88 (number ∷ place ∷ []))))
-      ∙ sym (ap (level-then (X .parameters .n) k (λ Y. levels-from document-01 n (9 - k) (suc k) Y)) e)
-      ∙ sym (ap (lines-from n) one-left)
+  abbrev reached-then : Result State → Option Bytes
+  reached-then x = all-lines (then-levels X (λ Y. reached-from lim n left (suc k) Y) x)
 
-  -- the level that was lifted, as the words have it
-  top : (n : ℕ) (t : Words) (N : Next n t) → level-at document-01 t k ≡ highest (N .next .levels)
-  top n t N = sym (ap (λ h. highest (levels-at document-01 t h)) (N .still-height)) ∙ ap (λ Z. highest (Z .levels)) (N .decoded)
+  abbrev Next-is : Level → Type 0
+  Next-is f =
+      _≡_ {A = Option Bytes} (levels-from lim n left (suc k) (with-next f) then λ bytes. some (lines-over v (f ∷ up-to X (k - 1)) ++ bytes)) (all-lines (reached-from lim n left (suc k) (with-next f)))
 
-  abbrev after-level : ℕ → State → Bool → Option Bytes
-  after-level n Y b = if-more b (X .parameters .n) k (highest (Y .levels)) (λ u. levels-from document-01 n (9 - k) (suc k) Y)
+  more : (b : Bool) (f : Level) → Next-is f
+      → _≡_ {A = Option Bytes} (if-more b v k f (λ u. levels-from lim n left (suc k) (with-next f)) then λ bytes. some (lines-over v (X .levels) ++ bytes))
+      (all-lines (unless-last b (with-next f) (λ Y. reached-from lim n left (suc k) Y)))
+  more true f i = ap some (sym (over f) ∙ sym (append-nil (lines-over v (f ∷ up-to X (k - 1)))))
+  more false f i =
+      behind (levels-from lim n left (suc k) (with-next f)) (lines-over v (X .levels)) (level-lines v k f)
+      ∙ ap (λ l. levels-from lim n left (suc k) (with-next f) then λ bytes. some (l ++ bytes)) (sym (over f))
+      ∙ i
 
-  none-in : (f : Level) → length f ≡ 0 → empty? f ≡ true
-  none-in [] e = refl
-  none-in (v ∷ f) e = absurd (omega (arith, e))
+  next-listed : (x : Result Level) → Numbered limit-number? x → ((f : Level) → Next-is f)
+      → printed-then (at-level k x >>= λ f. done (with-next f)) ≡ reached-then (at-level k x >>= λ f. done (with-next f))
+  next-listed (done f) t i = more (empty? f) f (i f)
+  next-listed (refused number place value) t i = ap (λ l. some (lines-over v (X .levels) ++ l)) (x-line v k number place value t)
+  next-listed unfinished t i = refl
 
-  some-in : (f : Level) → 0 < length f → empty? f ≡ false
-  some-in [] e = absurd (not-suc-le-zero e)
-  some-in (v ∷ f) e = refl
+-- the levels printed one after the other are the lines of those that are reached, and the refusal's
+pub listed : (lim : Limits) (n left k : ℕ) (X : State) → 1 ≤ k → length (X .levels) ≡ k
+    → _≡_ {A = Option Bytes} (levels-from lim n left k X then λ bytes. some (lines-over (X .parameters .n) (X .levels) ++ bytes)) (all-lines (reached-from lim n left k X))
+listed lim n zero k X h e = refl
+listed lim n (suc left) k X h e =
+    next-listed lim n left k X h e (lift-level lim (X .parameters .p) (X .parameters .code) (up-to X (k - 1)) (by-hybrid 2) n) (lift-level-number lim (X .parameters .p) (X .parameters .code) (up-to X (k - 1)) (by-hybrid 2) n)
+    λ f. listed lim n left (suc k) (record { parameters = X .parameters; levels = f ∷ up-to X (k - 1) }) (omega arith) (ap suc (stay lim n left k X h e))
 
-  pub last-lines : (n : ℕ) (t : Words) (N : Next n t) → length (level-at document-01 t k) ≡ 0 → some (level-lines (getD t 1 0) k (level-at document-01 t k)) ≡ lines-from n (10 - k)
-  last-lines n t N e =
-      (λ i. some (level-lines (N .variables i) k (top n t N i)))
-      ∙ sym (ap (after-level n (N .next)) (none-in (highest (N .next .levels)) (sym (ap length (top n t N)) ∙ e)))
-      ∙ sym (ap (level-then (X .parameters .n) k (λ Y. levels-from document-01 n (9 - k) (suc k) Y)) (N .lifts))
-      ∙ sym (ap (lines-from n) one-left)
+-- ## In the words
 
-  pub more-lines : (n m : ℕ) (t : Words) (N : Next n t) → 0 < length (level-at document-01 t k) → (bytes : Bytes)
-      → some bytes ≡ levels-from document-01 m (10 - (k + 1)) (k + 1) (decode document-01 t)
-      → some (level-lines (getD t 1 0) k (level-at document-01 t k) ++ bytes) ≡ lines-from (n + m) (10 - k)
-  more-lines n m t N e bytes h =
-      let Y = N .next in
-      let a : 10 - (k + 1) ≡ 9 - k = omega arith in
-      let b : k + 1 ≡ suc k = omega arith in
-      let rest : some bytes ≡ levels-from document-01 m (9 - k) (suc k) Y = h ∙ (λ i. levels-from document-01 m (a i) (b i) (N .decoded i)) in
-      let more : some bytes ≡ levels-from document-01 (n + m) (9 - k) (suc k) Y =
-      rest
-      ∙ sym (steady-from answered? (λ i. levels-from document-01 i (9 - k) (suc k) Y) (levels-from-steady document-01 (9 - k) (suc k) Y) m n (subst (λ o. T (answered? o)) rest tt))
-      ∙ ap (λ i. levels-from document-01 i (9 - k) (suc k) Y) (add-comm m n) in
-      let lifts : lift document-01 (n + m) X k (by-hybrid 2) ≡ done Y =
-      steady-from finished? (λ i. lift document-01 i X k (by-hybrid 2)) (lift-steady document-01 X k (by-hybrid 2)) n m (subst (λ x. T (finished? x)) (sym (N .lifts)) tt) ∙ N .lifts in
-      (λ i. some (level-lines (N .variables i) k (top n t N i) ++ bytes))
-      ∙ ap (λ o. o then λ bs. some (level-lines (X .parameters .n) k (highest (Y .levels)) ++ bs)) more
-      ∙ sym (ap (after-level (n + m) Y) (some-in (highest (Y .levels)) (subst (λ f. 0 < length f) (top n t N) e)))
-      ∙ sym (ap (level-then (X .parameters .n) k (λ Z. levels-from document-01 (n + m) (9 - k) (suc k) Z)) lifts)
-      ∙ sym (ap (lines-from (n + m)) one-left)
+words-over : (s : Words) (j : ℕ) → lines-over (getD s 1 0) (levels-at document-01 s (suc j)) ≡ lines-to s j
+words-over s zero = refl
+words-over s (suc j) = λ i. words-over s j i ++ level-lines (getD s 1 0) (suc (length-levels s j i)) (level-at document-01 s (suc j))
+
+-- level k printed behind those below it
+pub next-lines : (s : Words) (k : ℕ) → 1 ≤ k → lines-to s (k - 1) ++ level-lines (getD s 1 0) k (level-at document-01 s k) ≡ lines-to s (k + 1 - 1)
+next-lines s k h =
+    let e : k ≡ suc (k - 1) = omega (arith, h) in
+    let f : suc (k - 1) ≡ k + 1 - 1 = omega (arith, h) in
+    ap (λ j. lines-to s (k - 1) ++ level-lines (getD s 1 0) j (level-at document-01 s j)) e ∙ ap (lines-to s) f
+
+as-it-is : (o : Option Bytes) → (o then λ bytes. some bytes) ≡ o
+as-it-is none = refl
+as-it-is (some bytes) = refl
+
+module _ (s t : Words) (n number place : ℕ) (one : getD s 4 0 ≡ 1) (tall : 0 < getD t 4 0)
+    (r : some (number, place, decode document-01 t) ≡ reached document-01 n (decode document-01 s)) where
+  pub lifted-lines : some (lines-to t (getD t 4 0 - 1) ++ refusal-line number place) ≡ levels-from document-01 n 9 1 (decode document-01 s)
+  lifted-lines =
+      let X = decode document-01 s in
+      let up : suc (getD t 4 0 - 1) ≡ getD t 4 0 = omega (arith, tall) in
+      let none-yet : lines-over (getD s 1 0) (levels-at document-01 s (getD s 4 0)) ≡ [] = ap (λ h. lines-over (getD s 1 0) (levels-at document-01 s h)) one in
+      ap (λ l. some (l ++ refusal-line number place)) (sym (words-over t (getD t 4 0 - 1)) ∙ ap (λ h. lines-over (getD t 1 0) (levels-at document-01 t h)) up)
+      ∙ ap all-lines r
+      ∙ sym (listed document-01 n 9 1 X (omega arith) (length-levels s (getD s 4 0) ∙ one))
+      ∙ ap (λ l. levels-from document-01 n 9 1 X then λ bytes. some (l ++ bytes)) none-yet
+      ∙ as-it-is (levels-from document-01 n 9 1 X)
+
+  pub whole-lines : number ≡ 0 → some (lines-to t (getD t 4 0 - 1)) ≡ levels-from document-01 n 9 1 (decode document-01 s)
+  whole-lines e =
+      ap some (sym (append-nil (lines-to t (getD t 4 0 - 1))) ∙ ap (λ m. lines-to t (getD t 4 0 - 1) ++ refusal-line m place) (sym e)) ∙ lifted-lines
+
+  pub refused-lines : (number ≡ 0 → ⊥) → some (lines-to t (getD t 4 0 - 1) ++ printed letter-X (number ∷ place ∷ [])) ≡ levels-from document-01 n 9 1 (decode document-01 s)
+  refused-lines m =
+      sym (ap (λ b. some (lines-to t (getD t 4 0 - 1) ++ choose b [] (printed letter-X (number ∷ place ∷ [])))) (ne-eqb number 0 m)) ∙ lifted-lines

@@ -24,11 +24,11 @@ use Rattle.files.proofs.Reader.{document-reader}
 use Rattle.terms.specs.Rows.{cleared}
 use Rattle.problem.specs.Reading.{read-as, words-read}
 use Rattle.lifting.specs.Stages.{accepted-over}
-use Rattle.engine.proofs.Settled.{decoded, accepted-is}
+use Rattle.all_levels.proofs.Basis.{decoded, accepted-is}
 use Rattle.printing.specs.Lines.{Printed}
 use Rattle.sheet.specs.Sheets.{accepted-sheet, Told, called}
 use Rattle.stages.proofs.Complete.{length-levels}
-use Rattle.engine_lift.proofs.Lifting.{emptied}
+use Rattle.all_levels.proofs.Lifting.{emptied}
 
 -- ## A basis
 

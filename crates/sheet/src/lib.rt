@@ -1,18 +1,16 @@
 // The sheet of a file, for every file.
-// Knows: crate definitions' Sheet, and the calls that it is made of.
-// It prints level by level into one buffer and keeps nothing else of them.
+// Knows: crate definitions' Sheet.
+// All levels are lifted in the state, then printed; the buffers are zeroed once, at the end.
 ghost use mathlib.Core.Path.{_≡_};
-ghost use Prim.Native.Nat.{ℕ, _+_, _-_, _*_, _≤_, _<_};
-ghost use lib.Dec.{T};
+ghost use Prim.Native.Nat.{ℕ, _+_, _-_, _≤_, _<_};
 ghost use lib.ListN.{length, getD};
 ghost use Rattle.definitions.specs.Limits.{document-01};
-ghost use Rattle.definitions.specs.Layout.{level-at, decode, holds-state?};
+ghost use Rattle.definitions.specs.Layout.{level-at, decode};
 ghost use Rattle.definitions.specs.Sheet.{level-lines, levels-from as levels-definition, sheet as sheet-definition};
 ghost use Rattle.terms.specs.Rows.{cleared};
 ghost use Rattle.lifting.specs.Stages.{Base};
 ghost use Rattle.printing.specs.Lines.{Printed};
-ghost use Rattle.sheet.specs.Sheets.{Prints, accepted-sheet, told, called};
-use engine_lift::Way;
+ghost use Rattle.sheet.specs.Sheets.{Prints, lines-to, accepted-sheet, told, called};
 use lift::Accepted;
 
 // 0 and how many bytes, or 16 and 0.
@@ -41,26 +39,33 @@ fn print_level(out: &mut [u8], at: usize, state: &[u16], k: usize) -> usize
     printing::level_lines(out, at, &state[start..], &state[ends..], count, n, l)
 }
 
-// "Levels 1 on, hybrid, pick code 2, until a count is 0 or level 9 is printed": from level k on.
-fn levels_from(out: &mut [u8], at: usize, state: &mut [u16], work: &mut [u16], k: usize) -> usize
-    requires { ⌜ (1 ≤ k) × (k ≤ 10) × (206095 ≤ length (now state)) × T (holds-state? document-01 (now state)) × (getD (now state) 4 0 ≡ k) × (5120 ≤ length (now work)) × (at + (10 - k) * 151581 + 29 ≤ length (now out)) ⌝ }
-    ensures { λ r. ⌜ Prints (λ n. levels-definition document-01 n (10 - k) k (decode document-01 (now (state .entry)))) (now (out .entry)) (now (out .exit)) at r × (r ≤ at + (10 - k) * 151581 + 29) ⌝ }
+// The levels of a state from level 1 on.
+fn print_levels(out: &mut [u8], state: &[u16]) -> usize
+    requires { ⌜ Base (now state) 0 × (1364229 ≤ length (now out)) ⌝ }
+    ensures { λ r. ⌜ Printed (now (out .entry)) (now (out .exit)) 0 r (lines-to (now (state .entry)) (getD (now (state .entry)) 4 0 - 1)) × (r ≤ 1364229) ⌝ }
 {
-    if k == 10 {
+    let height = levels::place(state[4]);
+    let mut at: usize = 0;
+    let mut k: usize = 1;
+    while k < height {
+        at = print_level(out, at, state, k);
+        k += 1;
+    }
+    at
+}
+
+// "Levels 1 on, hybrid, pick code 2, until a count is 0 or level 9 is printed"; "A refusal prints, after finished levels, `X,number,place`".
+fn print_lifted(out: &mut [u8], state: &mut [u16], work: &mut [u16]) -> usize
+    requires { ⌜ Base (now state) 0 × (getD (now state) 4 0 ≡ 1) × (5120 ≤ length (now work)) × (1400000 ≤ length (now out)) ⌝ }
+    ensures { λ r. ⌜ Prints (λ n. levels-definition document-01 n 9 1 (decode document-01 (now (state .entry)))) (now (out .entry)) (now (out .exit)) 0 r × (r ≤ 1400000) ⌝ }
+{
+    let e = all_levels::lift_levels(state, work);
+    let number = e.number;
+    let at = print_levels(out, state);
+    if number == 0 {
         return at;
     }
-    let mut none = [0u16; 1];
-    let r = engine_lift::lift(state, work, &mut none, k, Way::Hybrid(2));
-    let number = r.number;
-    if number == 0 {
-        let a = print_level(out, at, state, k);
-        let count = levels::count_of(state, k);
-        if count == 0 {
-            return a;
-        }
-        return levels_from(out, a, state, work, k + 1);
-    }
-    printing::pair_line(out, at, 88, number, r.place)
+    printing::pair_line(out, at, 88, number, e.place)
 }
 
 // A file that was read: accepted or refused.
@@ -69,7 +74,7 @@ fn accept(out: &mut [u8], state: &mut [u16], work: &mut [u16]) -> usize
     ensures { λ r. ⌜ Prints (λ n. accepted-sheet n (now (state .entry))) (now (out .entry)) (now (out .exit)) 0 r × (r ≤ 1400000) ⌝ }
 {
     match lifting::accept_level(work, state) {
-        Accepted::Yes => levels_from(out, 0, state, work, 1),
+        Accepted::Yes => print_lifted(out, state, work),
         Accepted::Refused(number, place) => printing::pair_line(out, 0, 88, number, place),
         Accepted::Stopped(place, m) => {
             let n = levels::place(state[1]);

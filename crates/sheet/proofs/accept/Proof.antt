@@ -10,7 +10,7 @@ use Rattle.lifting.specs.Stages.{accepted-with, Shown}
 use Rattle.sheet.proofs.Whole.{accepted-yes, accepted-refused, accepted-stopped}
 use Rattle.sheet.proofs.accept.Statement.{statement}
 use Rattle.sheet.proofs.accept.Tie as tie
-use Rattle.engine_lift.proofs.Lifting.{few-variables}
+use Rattle.all_levels.proofs.Lifting.{few-variables}
 
 accept-level-requires : tie.Need-accept-level-requires
 accept-level-requires c κs = search needs
@@ -18,15 +18,15 @@ accept-level-requires c κs = search needs
 enum-told : tie.Need-enum-told
 enum-told c = search needs
 
-levels-from-requires : tie.Need-levels-from-requires
-levels-from-requires c κs =
+print-lifted-requires : tie.Need-print-lifted-requires
+print-lifted-requires c κs =
     let a = c .before .before .before .before .before .before .before .before .before .before .before .before .before .args in
     let s = a .state .now in
     let P = c .before .before .before .before .before .before .before .before .before .before .before .before .before .pre in
     let x = c .before .before .before .before .before .before .before .accept-level in
     let n = x .ensures .0 in
     let v = x .ensures .1 in
-    (omega arith, omega arith, P .0 .long, P .0 .holds, P .1, omega (arith, P .2), omega (arith, P .3))
+    (P .0, P .1, omega (arith, P .2), omega (arith, P .3))
 
 enum-known-number : tie.Need-enum-known-number
 enum-known-number c = search needs
@@ -74,7 +74,7 @@ returns c =
     let x = c .before .before .before .before .before .before .before .before .before .before .before .before .before .before .accept-level in
     let n = x .ensures .0 in
     let v = x .ensures .1 in
-    let R = c .before .before .before .before .before .before .levels-from .ensures in
+    let R = c .before .before .before .before .before .before .print-lifted .ensures in
     let e = sym (ap (λ y. accepted-with y v) (c .before .before .before .before .before .before .before .before .before .before .enum-told .given .1)) ∙ x .ensures .2 in
     (record { bound = n + R .0 .bound; bytes = R .0 .bytes; gives = accepted-yes s n e (R .0 .bound) (R .0 .bytes) (R .0 .gives); printed = R .0 .printed }, omega (arith, R .1))
 
@@ -131,7 +131,7 @@ accept-spec =
     (tie.spec
     accept-level-requires
     enum-told
-    levels-from-requires
+    print-lifted-requires
     enum-known-number
     pair-line-requires
     enum-known-place

@@ -7,7 +7,7 @@ use lib.ListN.{length}
 use Rattle.definitions.specs.Sheet.{printed}
 use Rattle.problem.specs.Reading.{read-as, words-read}
 use Rattle.problem.proofs.Answering.{zero-is-read}
-use Rattle.engine.proofs.Settled.{based}
+use Rattle.all_levels.proofs.Basis.{based}
 use Rattle.sheet.proofs.Whole.{one-level, read-sheet, refused-sheet}
 use native.Mathlib.Nat.{not-suc-le-zero}
 use Rattle.sheet.proofs.print.Statement.{statement}

@@ -15,7 +15,7 @@ use Rattle.sheet.proofs.Levels.{short-level}
 use mathlib.Core.Path.{subst₃}
 use Rattle.sheet.proofs.print_level.Statement.{statement}
 use Rattle.sheet.proofs.print_level.Tie as tie
-use Rattle.engine_lift.proofs.Lifting.{few-variables}
+use Rattle.all_levels.proofs.Lifting.{few-variables}
 
 count-of-requires : tie.Need-count-of-requires
 count-of-requires c κs = search needs

@@ -5,10 +5,11 @@ use Prim.Native.Nat.{_-_}
 use lib.ListN.{getD}
 use borrow.Author.Tests.{le-leb, lt-leb}
 use lib.Dec.{leb}
-use Rattle.engine_lift.specs.Lifts.{way-of, own-pick?}
+use Rattle.ways.specs.Ways.{way-of}
+use Rattle.engine_lift.specs.Lifts.{own-pick?}
 use Rattle.definitions.specs.Lists.{choose, between}
-use Rattle.testing.proofs.lifts.complete.Statement.{statement}
-use Rattle.testing.proofs.lifts.complete.Tie as tie
+use Rattle.engine_lift.proofs.complete.Statement.{statement}
+use Rattle.engine_lift.proofs.complete.Tie as tie
 
 sound-requires : tie.Need-sound-requires
 sound-requires c κs = search needs

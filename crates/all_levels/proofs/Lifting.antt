@@ -1,4 +1,4 @@
--- What the theorems about lifting say of a level lifted over a state: sound, and refused by a limit alone.
+-- What the theorems about lifting say of a level lifted over a state: sound, refused by a limit alone, and so one that can be stored.
 use mathlib.Core.Path.{_≡_, refl, sym, ap, _∙_, subst}
 use mathlib.Core.List.{List, [], _∷_}
 use Prim.Native.Nat.{ℕ, zero, suc, _-_, _<_, _≤_}
@@ -8,14 +8,15 @@ use lib.Dec.{T}
 use lib.ListN.{length, getD, take, drop, replicate}
 use lib.Seq.{length-take-le, getD-take}
 use Rattle.definitions.specs.Limits.{document-01}
-use Rattle.definitions.specs.Lists.{_and_, every, between}
+use Rattle.definitions.specs.Lists.{_and_, choose, every, between}
 use Rattle.definitions.specs.Monomial.{Level}
-use Rattle.definitions.specs.Result.{Result, done, refused, unfinished, finished?, _>>=_}
+use Rattle.definitions.specs.Result.{Result, done, refused, unfinished, finished?, at-level, _>>=_}
 use Rattle.definitions.specs.Problem.{Parameters}
-use Rattle.definitions.specs.State.{empty, vector-sound?, levels-sound?}
+use Rattle.definitions.specs.State.{vector-sound?, levels-sound?}
 use Rattle.definitions.specs.Run.{by-code}
-use Rattle.definitions.specs.Lifting.{Lifting, by-division, by-hybrid, by-tree, limited-frame, lift-all, lift-level}
-use Rattle.definitions.specs.Layout.{Words, Lift, rows, encode, vectors-at, level-at, levels-at, holds-state?}
+use Rattle.definitions.specs.Lifting.{Lifting, by-division, by-hybrid, limited-frame, lift-all, lift-level}
+use Rattle.definitions.specs.Calls.{lift}
+use Rattle.definitions.specs.Layout.{Words, rows, encode, decode, vectors-at, level-at, levels-at, holds-state?}
 use Rattle.definitions.proofs.Tests.{and-left, and-right, between-high}
 use Rattle.definitions.proofs.Sound.{level-says, vector-says}
 use Rattle.definitions.proofs.Modular.{prime-says}
@@ -24,21 +25,19 @@ use Rattle.definitions.proofs.Numbers.{limit-number?, Numbered, lift-level-numb
 use Rattle.definitions.proofs.Rows.{length-rows}
 use Rattle.demands.proofs.Results.{Gives, gives, refuses, open-yet}
 use Rattle.demands.proofs.Over.{Lift-right, over}
+use Rattle.terms.specs.Rows.{cleared}
 use Rattle.tables.specs.Cuts.{start-of}
 use Rattle.levels.specs.Places.{parameters-at}
 use Rattle.levels.proofs.StateTests.{holds-said}
-use Rattle.terms.specs.Rows.{cleared}
-use Rattle.writing.proofs.Growth.{cleared-empties}
 use Rattle.runs.specs.declared.Strategy.{Strategy}
 use Rattle.lift.specs.Vectors.{lifted-vectors, Kept, lifts}
 use Rattle.lifting.specs.Stages.{Base, usual, stage-at, lift-over, leveled-of, Stored-as}
 use Rattle.lifting.specs.declared.Leveled.{Leveled}
 use Rattle.lifting.specs.declared.Leveled.the-variants.{Vectors, Refused, Stopped}
-use Rattle.tree_level.specs.Over.{tree-over}
 use Rattle.lifting.proofs.Readying.{sound-levels, prime-at}
 use Rattle.storing.specs.Stored.{Kept-apart, with-level}
-use Rattle.engine_lift.specs.Lifts.{Chosen, by-picks, by-leading, Settles, settled-lift, state-over}
-use Rattle.engine.proofs.Settled.{zeroed}
+use Rattle.stages.proofs.Complete.{up-to-is}
+use Rattle.all_levels.specs.Level.{Liftable, Chosen, by-picks, by-leading, way-by, Settles, state-over, stored, told, Lifted-by}
 
 pub few-variables : (s : Words) → 206095 ≤ length s → T (holds-state? document-01 s) → getD s 1 0 ≤ 8
 few-variables s long holds = between-high 1 (getD s 1 0) 8 (and-left (between 1 (getD s 1 0) 8) (between 1 (getD s 2 0) 3 and between 1 (getD s 3 0) 16) (holds-said s long holds .3))
@@ -67,19 +66,17 @@ module _ (s : Words) (j : ℕ) (b : Base s j) where
       go open-yet h = tt
 
   -- a run's strategy is one of the ways
-  run-right : (w : Strategy) → Chosen w → (n : ℕ) → Right (lift-over usual s j w n)
-  run-right w (by-picks d e) n =
-      subst Right
+  chosen-is : (w : Strategy) → Chosen w → (n : ℕ) → lift-over usual s j w n ≡ lift-level document-01 (q .p) (q .code) below (way-by w) n
+  chosen-is w (by-picks d e) n =
       (λ i.
       limited-frame document-01 (q .code) (level-at document-01 s j) >>= λ ms.
-      lift-all (stage-at usual s j) (lifts (stage-at usual s j) (record { drops = sym d i; pick = by-code (stage-at usual s j .below) (w .pick); stops = sym e i }) n) ([], 0) [] ms)
-      (right (by-hybrid (w .pick)) n)
-  run-right w (by-leading d p e) n =
-      subst Right
+      lift-all (stage-at usual s j) (lifts (stage-at usual s j) (record { drops = d i; pick = by-code (stage-at usual s j .below) (w .pick); stops = e i }) n) ([], 0) [] ms)
+      ∙ ap (λ t. lift-level document-01 (q .p) (q .code) below (choose t (by-hybrid (w .pick)) by-division) n) (sym d)
+  chosen-is w (by-leading d p e) n =
       (λ i.
       limited-frame document-01 (q .code) (level-at document-01 s j) >>= λ ms.
-      lift-all (stage-at usual s j) (lifts (stage-at usual s j) (record { drops = sym d i; pick = by-code (stage-at usual s j .below) (sym p i); stops = sym e i }) n) ([], 0) [] ms)
-      (right by-division n)
+      lift-all (stage-at usual s j) (lifts (stage-at usual s j) (record { drops = d i; pick = by-code (stage-at usual s j .below) (p i); stops = e i }) n) ([], 0) [] ms)
+      ∙ ap (λ t. lift-level document-01 (q .p) (q .code) below (choose t (by-hybrid (w .pick)) by-division) n) (sym d)
 
 -- ## None is empty
 
@@ -132,30 +129,52 @@ module _ (s : Words) (j : ℕ) (b : Base s j) (out : Words) (long : 20608 ≤ le
   over-finished (Refused number) v = tt
   over-finished (Stopped n) v = tt
 
-  pub run-settles : (w : Strategy) → Chosen w → (n : ℕ) (x : Leveled) (v : Words) → leveled-of x out v ≡ lift-over usual s j w n → Stored-as x out → Settles x out
-  run-settles w c n x v e k = settles x v (subst (Right s j b) (sym e) (run-right s j b w c n)) k
+  -- what a lifting left, any way
+  pub way-settles : (way : Lifting) (n : ℕ) (x : Leveled) (v : Words) → leveled-of x out v ≡ lift-level document-01 (getD s 0 0) (getD s 2 0) (levels-at document-01 s (suc j)) way n
+      → Stored-as x out → Settles x out
+  way-settles way n x v e k = settles x v (subst (Right s j b) (sym e) (right s j b way n)) k
 
-  pub tree-settles : (room : ℕ) (x : Leveled) → leveled-of x out [] ≡ tree-over usual s j room → Stored-as x out → Settles x out
-  tree-settles room x e k = settles x [] (subst (Right s j b) (sym e) (right s j b (by-tree room) 0)) k
+  pub run-way : (w : Strategy) → Chosen w → (n : ℕ) (x : Leveled) (v : Words) → leveled-of x out v ≡ lift-over usual s j w n
+      → leveled-of x out v ≡ lift-level document-01 (getD s 0 0) (getD s 2 0) (levels-at document-01 s (suc j)) (way-by w) n
+  run-way w c n x v e = e ∙ chosen-is s j b w c n
 
-  pub run-is : (w : Strategy) → Chosen w → (n : ℕ) (x : Leveled) (v : Words) → leveled-of x out v ≡ lift-over usual s j w n → Stored-as x out
-      → (leveled-of x out [] ≡ lift-over usual s j w n) × T (finished? (lift-over usual s j w n))
-  run-is w c n x v e k = (valueless x v (run-settles w c n x v e k) ∙ e, subst (λ r. T (finished? r)) e (over-finished x v))
+-- ## The state with it
 
-  pub tree-finished : (room : ℕ) (x : Leveled) → leveled-of x out [] ≡ tree-over usual s j room → T (finished? (tree-over usual s j room))
-  tree-finished room x e = subst (λ r. T (finished? r)) e (over-finished x [])
+module _ (s : Words) (k : ℕ) (h : Liftable s k) where
+  -- the levels below, as the state has them
+  pub lift-is : (way : Lifting) (n : ℕ)
+      → state-over s k (lift-level document-01 (getD s 0 0) (getD s 2 0) (levels-at document-01 s (suc (k - 1))) way n) ≡ lift document-01 n (decode document-01 s) k way
+  lift-is way n =
+      let e : k ≡ suc (k - 1) = omega (arith, h .low) in
+      ap (λ m. at-level k (lift-level document-01 (getD s 0 0) (getD s 2 0) (levels-at document-01 s (suc (k - 1))) way n) >>= λ f.
+      done (record { parameters = parameters-at s; levels = f ∷ levels-at document-01 s m })) e
+      ∙ ap (λ ls. at-level k (lift-level document-01 (getD s 0 0) (getD s 2 0) ls way n) >>= λ f. done (record { parameters = parameters-at s; levels = f ∷ ls })) (sym (up-to-is s (k - 1) (h .base .has)))
 
--- ## What is left
+  at-finished : (x : Result Level) → T (finished? x) → T (finished? (state-over s k x))
+  at-finished (done f) t = tt
+  at-finished (refused number place value) t = tt
+  at-finished unfinished t = t
+
+  -- stored: the contract of one level
+  pub lifted-by : (way : Lifting) (n : ℕ) (out : Words) → 20608 ≤ length out → (x : Leveled) (v : Words)
+      → leveled-of x out v ≡ lift-level document-01 (getD s 0 0) (getD s 2 0) (levels-at document-01 s (suc (k - 1))) way n → Stored-as x out
+      → (number : ℕ) (t : Words) → told number t ≡ stored s (state-over s k (leveled-of x out [])) → Lifted-by s k way number t
+  lifted-by way n out long x v e kept number t p =
+      let settled = way-settles s (k - 1) (h .base) out long way n x v e kept in
+      let f = valueless s (k - 1) (h .base) out long x v settled ∙ e in (
+        n,
+        p ∙ ap (λ y. stored s (state-over s k y)) f ∙ ap (stored s) (lift-is way n),
+        subst (λ y. T (finished? y)) (lift-is way n) (at-finished (lift-level document-01 (getD s 0 0) (getD s 2 0) (levels-at document-01 s (suc (k - 1))) way n) (subst (λ y. T (finished? y)) e (over-finished s (k - 1) (h .base) out long x v))),
+      )
+
+  pub stored-words : (x : Leveled) (count used : ℕ) (out t : Words) → x ≡ Vectors count used → t ≡ encode document-01 (length s) (with-level s k count out)
+      → told 0 t ≡ stored s (state-over s k (leveled-of x out []))
+  stored-words x count used out t e p = ap (told 0) p ∙ ap (λ y. stored s (state-over s k (leveled-of y out []))) (sym e)
+
+  pub refused-words : (x : Leveled) (number : ℕ) (out : Words) → x ≡ Refused number → told number s ≡ stored s (state-over s k (leveled-of x out []))
+  refused-words x number out e = ap (λ y. stored s (state-over s k (leveled-of y out []))) (sym e)
+
+-- ## What is zeroed
 
 pub emptied : (room : ℕ) (z : Words) → length z ≡ room → cleared z 0 ≡ replicate room 0
 emptied room z e = let d : length z - 0 ≡ room = omega (arith, e) in ap (λ a. replicate a 0) d
-
-module _ (s : Words) (long : 206095 ≤ length s) (k : ℕ) (area room : ℕ) where
-  pub lifted-words : (x : Leveled) (count used : ℕ) (out z y w : Words) → x ≡ Vectors count used → z ≡ encode document-01 (length s) (with-level s k count out) → length y ≡ area → length w ≡ room
-      → _≡_ {A = Lift} (0, 0, z, cleared y 0, cleared w 0) (settled-lift (length s) area room (state-over s k (leveled-of x out [])))
-  lifted-words x count used out z y w e p ly lw = (λ i. (0, 0, p i, zeroed area y ly i, emptied room w lw i)) ∙ ap (λ r. settled-lift (length s) area room (state-over s k (leveled-of r out []))) (sym e)
-
-  pub refused-words : (x : Leveled) (number : ℕ) (out y w : Words) → x ≡ Refused number → length y ≡ area → length w ≡ room
-      → _≡_ {A = Lift} (number, k, cleared s 0, cleared y 0, cleared w 0) (settled-lift (length s) area room (state-over s k (leveled-of x out [])))
-  refused-words x number out y w e ly lw =
-      (λ i. (number, k, cleared-empties s long i, zeroed area y ly i, emptied room w lw i)) ∙ ap (λ r. settled-lift (length s) area room (state-over s k (leveled-of r out []))) (sym e)
