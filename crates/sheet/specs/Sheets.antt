@@ -1,39 +1,14 @@
--- The sheet's bytes in a buffer, and what the call returns and leaves.
-use mathlib.Core.Path.{_≡_}
+-- What the call that prints a sheet returns and leaves.
 use mathlib.Core.Option.{Option, some}
-use mathlib.Core.List.{[], _∷_, _++_}
-use Prim.Native.Nat.{ℕ, zero, suc}
-use lib.Dec.{leb, eqb}
-use lib.ListN.{length, getD}
+use Prim.Native.Nat.{ℕ}
+use lib.Dec.{leb}
+use lib.ListN.{length}
 use Rattle.definitions.specs.Limits.{document-01}
 use Rattle.definitions.specs.Lists.{_and_, _then_, choose}
-use Rattle.definitions.specs.Result.{done, _>>=_}
 use Rattle.definitions.specs.Problem.{Bytes}
-use Rattle.definitions.specs.Layout.{Words, decode, level-at, padded, zeros}
-use Rattle.definitions.specs.Sheet.{printed, letter-X, level-lines, sheet-of, sheet}
-use Rattle.lifting.specs.Stages.{accepted-over}
-use Rattle.printing.specs.Lines.{Printed}
+use Rattle.definitions.specs.Layout.{Words, padded, zeros}
+use Rattle.definitions.specs.Sheet.{sheet}
 use Rattle.sheet.specs.declared.Answer.{Answer}
-
--- what a definition gives, within some bound, was printed
-pub record Prints (F : ℕ → Option Bytes) (before after : Bytes) (at r : ℕ) : Type 0 where
-  pub bound : ℕ
-  pub bytes : Bytes
-  pub gives : some bytes ≡ F bound
-  pub printed : Printed before after at r bytes
-
--- the lines of levels 1 to j of the state that the words hold
-abbrev pub lines-to : Words → ℕ → Bytes
-lines-to s zero = []
-lines-to s (suc j) = lines-to s j ++ level-lines (getD s 1 0) (suc j) (level-at document-01 s (suc j))
-
--- the X line of a refusal, none for number 0
-abbrev pub refusal-line : ℕ → ℕ → Bytes
-refusal-line number place = choose (eqb number 0) [] (printed letter-X (number ∷ place ∷ []))
-
--- the sheet of a state that was read, if it is accepted
-abbrev pub accepted-sheet : ℕ → Words → Option Bytes
-accepted-sheet n s = sheet-of document-01 n (getD s 1 0) (accepted-over s n >>= λ u. done (decode document-01 s))
 
 -- number, how many bytes; the words of the state and of the work area, the buffer's bytes
 abbrev pub Told : Type 0

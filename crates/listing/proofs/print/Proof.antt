@@ -8,10 +8,10 @@ use Rattle.definitions.specs.Sheet.{printed}
 use Rattle.problem.specs.Reading.{read-as, words-read}
 use Rattle.problem.proofs.Answering.{zero-is-read}
 use Rattle.all_levels.proofs.Basis.{based}
-use Rattle.sheet.proofs.Whole.{one-level, read-sheet, refused-sheet}
+use Rattle.listing.proofs.Whole.{one-level, read-sheet, refused-sheet}
 use native.Mathlib.Nat.{not-suc-le-zero}
-use Rattle.sheet.proofs.print.Statement.{statement}
-use Rattle.sheet.proofs.print.Tie as tie
+use Rattle.listing.proofs.print.Statement.{statement}
+use Rattle.listing.proofs.print.Tie as tie
 
 read-requires : tie.Need-read-requires
 read-requires c κs = search needs

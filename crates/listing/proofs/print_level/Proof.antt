@@ -11,10 +11,10 @@ use Rattle.lifting.proofs.Readying.{ends-part}
 use Rattle.levels.proofs.Sounding.{complete-cut}
 use Rattle.levels.proofs.Walking.{whole-part}
 use Rattle.levels.specs.Places.{count-at}
-use Rattle.sheet.proofs.Levels.{short-level}
+use Rattle.listing.proofs.Levels.{short-level}
 use mathlib.Core.Path.{subst₃}
-use Rattle.sheet.proofs.print_level.Statement.{statement}
-use Rattle.sheet.proofs.print_level.Tie as tie
+use Rattle.listing.proofs.print_level.Statement.{statement}
+use Rattle.listing.proofs.print_level.Tie as tie
 use Rattle.all_levels.proofs.Lifting.{few-variables}
 
 count-of-requires : tie.Need-count-of-requires

@@ -6,10 +6,10 @@ use lib.ListN.{length, getD}
 use Rattle.levels.proofs.Sounding as sounding
 use Rattle.printing.specs.Lines.{Printed}
 use Rattle.printing.proofs.Spelling.{nothing, after, spelled}
-use Rattle.sheet.specs.Sheets.{lines-to}
-use Rattle.sheet.proofs.Levels.{next-lines}
-use Rattle.sheet.proofs.print_levels.Statement.{statement}
-use Rattle.sheet.proofs.print_levels.Tie as tie
+use Rattle.listing.specs.Listed.{lines-to}
+use Rattle.listing.proofs.Levels.{next-lines}
+use Rattle.listing.proofs.print_levels.Statement.{statement}
+use Rattle.listing.proofs.print_levels.Tie as tie
 
 abbrev Inv-loop : tie.InvT-loop
 Inv-loop out₀ state height at₀ k₀ out at k =

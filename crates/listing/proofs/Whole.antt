@@ -1,34 +1,27 @@
 -- The sheet of a file from its parts: a file refused, a basis refused, a basis accepted.
 use mathlib.Core.Path.{_≡_, refl, sym, ap, _∙_, subst}
-use mathlib.Core.Bool.{Bool}
 use mathlib.Core.Option.{Option, some}
 use mathlib.Core.List.{[], _∷_, _++_, append-nil}
-use Prim.Native.Nat.{ℕ, _+_, _-_, _<_, _≤_}
+use Prim.Native.Nat.{ℕ, _+_, _≤_}
 use native.Mathlib.Nat.{add-comm}
-use native.Mathlib.Omega.{arith}
-use borrow.Author.Tests.{le-leb, lt-leb}
-use lib.Dec.{T, leb}
-use lib.ListN.{length, getD, replicate}
+use lib.Dec.{T}
+use lib.ListN.{length, getD}
 use Rattle.definitions.specs.Limits.{document-01}
-use Rattle.definitions.specs.Lists.{_and_, _then_, choose}
 use Rattle.definitions.specs.Monomial.{Vector, Level}
 use Rattle.definitions.specs.Result.{Result, done, refused, unfinished, finished?, _>>=_}
 use Rattle.definitions.specs.Problem.{Bytes, Parameters, problem}
 use Rattle.definitions.specs.Calls.{accepted}
-use Rattle.definitions.specs.Layout.{Words, padded, zeros, decode, level-at}
+use Rattle.definitions.specs.Layout.{Words, decode, level-at}
 use Rattle.definitions.specs.Sheet.{printed, w-lines, levels-from, variables-of, sheet-of, sheet}
 use Rattle.definitions.proofs.Steady.{answered?, steady-from}
 use Rattle.definitions.proofs.Bound.{accept-steady, levels-from-steady}
 use Rattle.files.specs.Answers.{Answered}
 use Rattle.files.proofs.Reader.{document-reader}
-use Rattle.terms.specs.Rows.{cleared}
 use Rattle.problem.specs.Reading.{read-as, words-read}
 use Rattle.lifting.specs.Stages.{accepted-over}
 use Rattle.all_levels.proofs.Basis.{decoded, accepted-is}
-use Rattle.printing.specs.Lines.{Printed}
-use Rattle.sheet.specs.Sheets.{accepted-sheet, Told, called}
+use Rattle.listing.specs.Listed.{accepted-sheet}
 use Rattle.stages.proofs.Complete.{length-levels}
-use Rattle.all_levels.proofs.Lifting.{emptied}
 
 -- ## A basis
 
@@ -77,40 +70,3 @@ module _ (size : ℕ) (file : Bytes) (number place : ℕ) (s : Words) (some-numb
           ∙ ap (λ v. some (printed 88 (m ∷ o ∷ []) ++ w-lines 0 v)) (sym (b .1))
           ∙ sym (ap (λ x. sheet-of document-01 0 (variables-of x) (x >>= accepted document-01 0)) p)
       go unfinished p b q = absurd (some-number (ap (λ t. t .0) q))
-
--- ## The call
-
-behind : (out after : Bytes) (r : ℕ) (bytes : Bytes) → Printed out after 0 r bytes → length after ≡ length out → cleared after r ≡ padded (length out) bytes
-behind out after r bytes p e =
-    let d : length after - r ≡ length out - length bytes = omega (arith, e, p .ends) in
-    (λ i. p .front i ++ replicate (d i) 0)
-
-module _ (file : Bytes) (state work : Words) (out : Bytes) where
-  abbrev by-tests : ℕ → Bool → Bool → Bool → Option Told
-  by-tests n a b c = choose (a and b and c) (sheet document-01 n file then λ bytes. some (0, length bytes, zeros state, zeros work, padded (length out) bytes)) (some (16, 0, state, work, out))
-
-  abbrev pub Called : ℕ → ℕ → Words → Words → Bytes → Type 0
-  Called number size s w o = (n : ℕ) × (_≡_ {A = Option Told} (some (number, size, s, w, o)) (called n file state work out))
-
-  pub short-state : length state < 206095 → Called 16 0 state work out
-  short-state h = (0, sym (ap (λ a. by-tests 0 a (leb 5120 (length work)) (leb 1400000 (length out))) (lt-leb 206095 (length state) h)))
-
-  module _ (long : 206095 ≤ length state) where
-    pub short-work : length work < 5120 → Called 16 0 state work out
-    short-work h = (0, sym (λ i. by-tests 0 (le-leb 206095 (length state) long i) (lt-leb 5120 (length work) h i) (leb 1400000 (length out))))
-
-    module _ (wide : 5120 ≤ length work) where
-      pub short-out : length out < 1400000 → Called 16 0 state work out
-      short-out h = (0, sym (λ i. by-tests 0 (le-leb 206095 (length state) long i) (le-leb 5120 (length work) wide i) (lt-leb 1400000 (length out) h i)))
-
-      pub whole-sheet : 1400000 ≤ length out → (n : ℕ) (bytes : Bytes) → some bytes ≡ sheet document-01 n file → (r : ℕ) (s w : Words) (o : Bytes) → Printed out o 0 r bytes
-          → length s ≡ length state → length w ≡ length work → length o ≡ length out → Called 0 r (cleared s 0) (cleared w 0) (cleared o r)
-      whole-sheet h n bytes e r s w o p ls lw lo = (
-        n,
-        (λ i. some (0, sum-none i, emptied (length state) s ls i, emptied (length work) w lw i, behind out o r bytes p lo i))
-            ∙ ap (λ x. x then λ bs. some (0, length bs, zeros state, zeros work, padded (length out) bs)) e
-            ∙ sym (λ i. by-tests n (le-leb 206095 (length state) long i) (le-leb 5120 (length work) wide i) (le-leb 1400000 (length out) h i)),
-      )
-        where
-          sum-none : r ≡ length bytes
-          sum-none = omega (arith, p .ends)

@@ -7,9 +7,9 @@ use lib.ListN.{getD}
 use Rattle.printing.proofs.Spelling.{after, spelled}
 use Rattle.definitions.specs.Sheet.{printed, w-lines}
 use Rattle.lifting.specs.Stages.{accepted-with, Shown}
-use Rattle.sheet.proofs.Whole.{accepted-yes, accepted-refused, accepted-stopped}
-use Rattle.sheet.proofs.accept.Statement.{statement}
-use Rattle.sheet.proofs.accept.Tie as tie
+use Rattle.listing.proofs.Whole.{accepted-yes, accepted-refused, accepted-stopped}
+use Rattle.listing.proofs.accept.Statement.{statement}
+use Rattle.listing.proofs.accept.Tie as tie
 use Rattle.all_levels.proofs.Lifting.{few-variables}
 
 accept-level-requires : tie.Need-accept-level-requires

@@ -26,7 +26,7 @@ use Rattle.levels.specs.Places.{count-at, ends-from}
 use Rattle.stages.proofs.Complete.{words-below, length-levels}
 use Rattle.all_levels.specs.Levels.{Levels, unless-last, then-levels, reached-from, reached}
 use Rattle.printing.specs.Lines.{Short}
-use Rattle.sheet.specs.Sheets.{lines-to, refusal-line}
+use Rattle.listing.specs.Listed.{lines-of, lines-to, all-lines-of, refusal-line}
 
 -- ## Ends within a level's room
 
@@ -133,11 +133,11 @@ words-over s zero = refl
 words-over s (suc j) = λ i. words-over s j i ++ level-lines (getD s 1 0) (suc (length-levels s j i)) (level-at document-01 s (suc j))
 
 -- level k printed behind those below it
-pub next-lines : (s : Words) (k : ℕ) → 1 ≤ k → lines-to s (k - 1) ++ level-lines (getD s 1 0) k (level-at document-01 s k) ≡ lines-to s (k + 1 - 1)
+pub next-lines : (s : Words) (k : ℕ) → 1 ≤ k → lines-to s (k - 1) ++ lines-of s k ≡ lines-to s (k + 1 - 1)
 next-lines s k h =
     let e : k ≡ suc (k - 1) = omega (arith, h) in
     let f : suc (k - 1) ≡ k + 1 - 1 = omega (arith, h) in
-    ap (λ j. lines-to s (k - 1) ++ level-lines (getD s 1 0) j (level-at document-01 s j)) e ∙ ap (lines-to s) f
+    ap (λ j. lines-to s (k - 1) ++ lines-of s j) e ∙ ap (lines-to s) f
 
 as-it-is : (o : Option Bytes) → (o then λ bytes. some bytes) ≡ o
 as-it-is none = refl
@@ -145,7 +145,7 @@ as-it-is (some bytes) = refl
 
 module _ (s t : Words) (n number place : ℕ) (one : getD s 4 0 ≡ 1) (tall : 0 < getD t 4 0)
     (r : some (number, place, decode document-01 t) ≡ reached document-01 n (decode document-01 s)) where
-  pub lifted-lines : some (lines-to t (getD t 4 0 - 1) ++ refusal-line number place) ≡ levels-from document-01 n 9 1 (decode document-01 s)
+  pub lifted-lines : some (all-lines-of t ++ refusal-line number place) ≡ levels-from document-01 n 9 1 (decode document-01 s)
   lifted-lines =
       let X = decode document-01 s in
       let up : suc (getD t 4 0 - 1) ≡ getD t 4 0 = omega (arith, tall) in
@@ -156,10 +156,10 @@ module _ (s t : Words) (n number place : ℕ) (one : getD s 4 0 ≡ 1) (tall : 0
       ∙ ap (λ l. levels-from document-01 n 9 1 X then λ bytes. some (l ++ bytes)) none-yet
       ∙ as-it-is (levels-from document-01 n 9 1 X)
 
-  pub whole-lines : number ≡ 0 → some (lines-to t (getD t 4 0 - 1)) ≡ levels-from document-01 n 9 1 (decode document-01 s)
+  pub whole-lines : number ≡ 0 → some (all-lines-of t) ≡ levels-from document-01 n 9 1 (decode document-01 s)
   whole-lines e =
-      ap some (sym (append-nil (lines-to t (getD t 4 0 - 1))) ∙ ap (λ m. lines-to t (getD t 4 0 - 1) ++ refusal-line m place) (sym e)) ∙ lifted-lines
+      ap some (sym (append-nil (all-lines-of t)) ∙ ap (λ m. all-lines-of t ++ refusal-line m place) (sym e)) ∙ lifted-lines
 
-  pub refused-lines : (number ≡ 0 → ⊥) → some (lines-to t (getD t 4 0 - 1) ++ printed letter-X (number ∷ place ∷ [])) ≡ levels-from document-01 n 9 1 (decode document-01 s)
+  pub refused-lines : (number ≡ 0 → ⊥) → some (all-lines-of t ++ printed letter-X (number ∷ place ∷ [])) ≡ levels-from document-01 n 9 1 (decode document-01 s)
   refused-lines m =
-      sym (ap (λ b. some (lines-to t (getD t 4 0 - 1) ++ choose b [] (printed letter-X (number ∷ place ∷ [])))) (ne-eqb number 0 m)) ∙ lifted-lines
+      sym (ap (λ b. some (all-lines-of t ++ choose b [] (printed letter-X (number ∷ place ∷ [])))) (ne-eqb number 0 m)) ∙ lifted-lines

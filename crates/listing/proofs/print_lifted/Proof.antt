@@ -3,13 +3,12 @@ use native.Mathlib.Omega.{arith}
 use native.Mathlib.Nat.{not-suc-le-zero}
 use mathlib.Core.List.{[], _∷_, _++_}
 use Prim.Native.Nat.{_-_}
-use lib.ListN.{getD}
 use Rattle.definitions.specs.Sheet.{printed}
 use Rattle.printing.proofs.Spelling.{after}
-use Rattle.sheet.specs.Sheets.{lines-to}
-use Rattle.sheet.proofs.Levels.{whole-lines, refused-lines}
-use Rattle.sheet.proofs.print_lifted.Statement.{statement}
-use Rattle.sheet.proofs.print_lifted.Tie as tie
+use Rattle.listing.specs.Listed.{all-lines-of}
+use Rattle.listing.proofs.Levels.{whole-lines, refused-lines}
+use Rattle.listing.proofs.print_lifted.Statement.{statement}
+use Rattle.listing.proofs.print_lifted.Tie as tie
 
 lift-levels-requires : tie.Need-lift-levels-requires
 lift-levels-requires c κs = let P = c .before .before .before .before .before .pre in (P .0, omega (arith, P .2))
@@ -38,7 +37,7 @@ returns c =
     let t = L .last .0 in
     let R = L .ensures .0 in
     let Q = d .print-levels .ensures in
-    (record { bound = R .0; bytes = lines-to t (getD t 4 0 - 1); gives = whole-lines s t (R .0) (L .result .number) (L .result .place) (P .1) (L .ensures .1 .has) (R .1) (omega arith); printed = Q .0 }, omega (arith, Q .1))
+    (record { bound = R .0; bytes = all-lines-of t; gives = whole-lines s t (R .0) (L .result .number) (L .result .place) (P .1) (L .ensures .1 .has) (R .1) (omega arith); printed = Q .0 }, omega (arith, Q .1))
 
 pair-line-requires : tie.Need-pair-line-requires
 pair-line-requires c κs =
@@ -66,7 +65,7 @@ returns-2 c =
     let R = L .ensures .0 in
     let Q = d .print-levels .ensures in
     let v = c .before .before .pair-line .ensures in
-    (record { bound = R .0; bytes = lines-to t (getD t 4 0 - 1) ++ printed 88 (L .result .number ∷ L .result .place ∷ []); gives = refused-lines s t (R .0) (L .result .number) (L .result .place) (P .1) (L .ensures .1 .has) (R .1) (λ z. not-suc-le-zero {n = 0} (omega (arith, z))); printed = after (Q .0) (v .0) }, omega (arith, Q .1, v .1))
+    (record { bound = R .0; bytes = all-lines-of t ++ printed 88 (L .result .number ∷ L .result .place ∷ []); gives = refused-lines s t (R .0) (L .result .number) (L .result .place) (P .1) (L .ensures .1 .has) (R .1) (λ z. not-suc-le-zero {n = 0} (omega (arith, z))); printed = after (Q .0) (v .0) }, omega (arith, Q .1, v .1))
 
 pub print-lifted-spec : {M : Type 1} → statement M
 print-lifted-spec =
