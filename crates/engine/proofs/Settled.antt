@@ -13,25 +13,19 @@ use Rattle.definitions.specs.Lists.{_and_, _then_, choose}
 use Rattle.definitions.specs.Monomial.{Vector, Level}
 use Rattle.definitions.specs.Result.{Result, done, refused, unfinished, finished?, _>>=_}
 use Rattle.definitions.specs.Problem.{Bytes, Parameters, problem}
-use Rattle.definitions.specs.State.{State, sound?, up-to}
-use Rattle.definitions.specs.Stage.{highest}
-use Rattle.definitions.specs.Lifting.{accept}
+use Rattle.definitions.specs.State.{State}
 use Rattle.definitions.specs.Calls.{refuse, settled, accepted, read}
-use Rattle.definitions.specs.Layout.{Words, Read, rows-of, padded, encode, decode, level-at, holds-state?, meant, read-left, read-call}
-use Rattle.definitions.proofs.Results.{if-done-says}
-use Rattle.definitions.proofs.Reading.{problem-sound, basis-state}
-use Rattle.definitions.proofs.RoundTrip.{decode-encode, holds-encode, length-encode}
+use Rattle.definitions.specs.Layout.{Words, Read, rows-of, padded, encode, decode, meant, read-left, read-call}
 use Rattle.definitions.proofs.Refusals.{encode-empty}
 use Rattle.files.specs.Answers.{Answered}
 use Rattle.files.proofs.Reader.{document-reader}
 use Rattle.terms.specs.Rows.{cleared}
 use Rattle.writing.proofs.Growth.{cleared-empties}
-use Rattle.levels.proofs.StateTests.{holds-said}
-use Rattle.stages.proofs.Complete.{highest-is}
 use Rattle.problem.specs.Reading.{read-as, words-read}
 use Rattle.lift.specs.declared.Accepted.{Accepted}
 use Rattle.lift.specs.declared.Accepted.the-variants.{Yes, Refused, Stopped}
-use Rattle.lifting.specs.Stages.{Base, accepted-over, accepted-with}
+use Rattle.lifting.specs.Stages.{accepted-over, accepted-with}
+use Rattle.all_levels.proofs.Basis.{length-is, accepted-is}
 use Rattle.engine.specs.Replies.{settled-words, accepted-words}
 
 -- ## Acceptance
@@ -65,40 +59,8 @@ module _ (s : Words) (long : 206095 ≤ length s) (whole : s ≡ encode document
 -- ## A file that was read
 
 module _ (size : ℕ) (big : 206095 ≤ size) (file : Bytes) (f : Parameters × Level) (e : problem document-01 file ≡ done f) (s : Words) (w : s ≡ words-read size f) where
-  abbrev X : State
-  X = basis-state f
-
-  sound-basis : T (sound? document-01 X)
-  sound-basis = if-done-says (λ g. T (sound? document-01 (basis-state g))) (problem document-01 file) (problem-sound document-01 (omega arith) file) f e
-
-  length-is : length s ≡ size
-  length-is = ap length w ∙ length-encode document-01 (omega arith) size X sound-basis big
-
-  pub decoded : decode document-01 s ≡ X
-  decoded = ap (decode document-01) w ∙ decode-encode document-01 (omega arith) size X sound-basis
-
-  held : T (holds-state? document-01 s)
-  held = subst (λ z. T (holds-state? document-01 z)) (sym w) (holds-encode document-01 (omega arith) size X sound-basis)
-
-  long-is : 206095 ≤ length s
-  long-is = omega (arith, length-is, big)
-
-  pub based : Base s 0
-  based = record { long = long-is; holds = held; has = holds-said s long-is held .0; low = omega arith }
-
-  pub whole-is : s ≡ encode document-01 (length s) (decode document-01 s)
-  whole-is = w ∙ sym (λ i. encode document-01 (length-is i) (decoded i))
-
-  level-is : level-at document-01 s 0 ≡ f .1
-  level-is = sym (highest-is s 0 (based .has)) ∙ ap (λ Y. highest (up-to Y 0)) decoded
-
-  pub accepted-is : (n : ℕ) → (accepted-over s n >>= λ u. done (decode document-01 s)) ≡ read document-01 n file
-  accepted-is n =
-      (λ i. accept document-01 (decoded i .parameters .p) (decoded i .parameters .code) (level-is i) n >>= λ u. done (decoded i))
-      ∙ sym (ap (λ x. x >>= accepted document-01 n) e)
-
   pub read-accepted : (area n : ℕ) (r : Read) → r ≡ accepted-words n s area → r ≡ settled-words size area (read document-01 n file)
-  read-accepted area n r h = h ∙ (λ i. settled-words (length-is i) area (accepted-is n i))
+  read-accepted area n r h = h ∙ (λ i. settled-words (length-is size big file f e s w i) area (accepted-is size big file f e s w n i))
 
   over-bind : (x : Result (Unit {0})) → T (finished? x) → T (finished? (x >>= λ u. done (decode document-01 s)))
   over-bind (done u) t = tt
@@ -106,7 +68,7 @@ module _ (size : ℕ) (big : 206095 ≤ size) (file : Bytes) (f : Parameters × 
   over-bind unfinished t = t
 
   pub read-over : (n : ℕ) → T (finished? (accepted-over s n)) → T (finished? (read document-01 n file))
-  read-over n t = subst (λ x. T (finished? x)) (accepted-is n) (over-bind (accepted-over s n) t)
+  read-over n t = subst (λ x. T (finished? x)) (accepted-is size big file f e s w n) (over-bind (accepted-over s n) t)
 
 -- ## A file that was refused
 

@@ -1,25 +1,45 @@
 -- Lifting, test by test.
-use mathlib.Core.Path.{_≡_, refl, sym, ap, _∙_}
+use mathlib.Core.Path.{_≡_, refl, sym, ap, _∙_, subst}
 use mathlib.Core.Bool.{Bool, true, false, not, _||_}
 use mathlib.Core.Option.{Option, some}
 use mathlib.Core.List.{_∷_}
 use Prim.Native.Nat.{ℕ, suc, _-_, _≤_, _<_}
 use native.Mathlib.Omega.{arith}
-use borrow.Author.Tests.{le-leb, lt-leb, lt-ltb, le-ltb}
-use lib.Dec.{T, leb}
+use native.Mathlib.Nat.{not-suc-le-zero}
+use borrow.Author.Tests.{le-leb, lt-leb, lt-ltb, le-ltb, leb-true, leb-false, ne-eqb}
+use lib.Dec.{T, leb, leb→le}
 use lib.ListN.{length, getD}
 use Rattle.definitions.specs.Limits.{document-01}
 use Rattle.definitions.specs.Lists.{_and_, _then_, choose, between}
-use Rattle.definitions.specs.Monomial.{Level}
-use Rattle.definitions.specs.Result.{Result, done, refused, unfinished, finished?, at-level, _>>=_}
-use Rattle.definitions.specs.State.{State, empty, sound?, has-level?}
-use Rattle.definitions.specs.Lifting.{lift-level}
+use Rattle.definitions.specs.Result.{Result, finished?}
+use Rattle.definitions.specs.State.{State, empty, sound?, has-level?, up-to}
 use Rattle.definitions.specs.Calls.{refuse, settled, pick-code?, lift}
-use Rattle.definitions.specs.Layout.{Words, Way, division, hybrid, tree, Lift, lifting-by, work-words, levels-at, decode, holds-state?, meant, lift-left, lift-call}
-use Rattle.definitions.proofs.Tests.{true-is}
-use Rattle.levels.specs.Places.{parameters-at}
-use Rattle.stages.proofs.Complete.{up-to-is, meant-is, length-levels, holds-sound}
-use Rattle.engine_lift.specs.Lifts.{own-pick?, settled-lift, state-over, lifted-over}
+use Rattle.definitions.specs.Layout.{Words, Way, division, hybrid, tree, Lift, lifting-by, work-words, levels-at, encode, decode, holds-state?, meant, lift-left, lift-call}
+use Rattle.definitions.proofs.Tests.{true-is, is-true, between-low, between-high}
+use Rattle.definitions.proofs.Numbers.{limit-number?}
+use Rattle.demands.proofs.Lifts.{Lifted-to, one-more, limit-met, still-lifting, lifted-to}
+use Rattle.terms.specs.Rows.{cleared}
+use Rattle.writing.proofs.Growth.{cleared-empties}
+use Rattle.stages.proofs.Complete.{meant-is, length-levels, holds-sound}
+use Rattle.lifting.specs.Stages.{Base}
+use Rattle.all_levels.specs.Level.{Liftable, stored, told, Lifted-by}
+use Rattle.all_levels.proofs.Lifting.{emptied}
+use Rattle.engine.proofs.Settled.{zeroed}
+use Rattle.engine_lift.specs.Lifts.{own-pick?, complete-number, left-by}
+
+-- ## What is settled
+
+module _ (number k : ℕ) (s w z : Words) where
+  pub kept-reply : number ≡ 0 → _≡_ {A = Lift} (0, 0, s, cleared w 0, cleared z 0) (left-by number k s w z)
+  kept-reply e = sym (ap (λ m. left-by m k s w z) e)
+
+  abbrev by-test : Bool → Lift
+  by-test b = choose b (0, 0, s, cleared w 0, cleared z 0) (number, k, cleared s 0, cleared w 0, cleared z 0)
+
+  pub emptied-reply : (number ≡ 0 → ⊥) → _≡_ {A = Lift} (number, k, cleared s 0, cleared w 0, cleared z 0) (left-by number k s w z)
+  emptied-reply m = sym (ap by-test (ne-eqb number 0 m))
+
+-- ## The call, test by test
 
 own-pick-is : (way : Way) (cache : Words) → pick-code? (lifting-by way cache) ≡ own-pick? way
 own-pick-is division cache = refl
@@ -96,29 +116,61 @@ module _ (s w z : Words) (k : ℕ) (way : Way) where
           pub after-tests : true ≡ own-pick? way → (n : ℕ) → (settled (lift document-01 n X k (lifting-by way z)) then λ a. some (lift-left document-01 s w z a)) ≡ lift-call document-01 n k way s w z
           after-tests e n = in-state n true true true inside has-it (own-pick-is way z ∙ sym e)
 
-          settled-then : (x : Result State) → T (finished? x)
-              → _≡_ {A = Option Lift} (some (settled-lift (length s) (length w) (length z) x)) (settled x then λ a. some (lift-left document-01 s w z a))
-          settled-then (done Y) t = refl
-          settled-then (refused number place value) t = refl
-          settled-then unfinished t = absurd t
+          -- the level lifted, stored and settled
+          pub left-is : true ≡ own-pick? way → (number : ℕ) (t w′ z′ : Words) → Lifted-by s k (lifting-by way z) number t → length w′ ≡ length w → length z′ ≡ length z
+              → Called (left-by number k t w′ z′)
+          left-is e number t w′ z′ (n, p, f) lw lz = (n, go (lifted-to document-01 tt X (holds-sound s holds) k (lifting-by way z) n) p f ∙ after-tests e n)
+            where
+              go : {x : Result State} → Lifted-to document-01 X k x → told number t ≡ stored s x → T (finished? x)
+                  → _≡_ {A = Option Lift} (some (left-by number k t w′ z′)) (settled x then λ a. some (lift-left document-01 s w z a))
+              go (one-more g r) q f =
+                  (λ i. some (left-by (q i .0) k (q i .1) w′ z′))
+                  ∙ (λ i. some (0, 0, encode document-01 (length s) (record { parameters = X .parameters; levels = g ∷ up-to X (k - 1) }), zeroed (length w) w′ lw i, emptied (length z) z′ lz i))
+              go (limit-met {number = m} u) q f =
+                  (λ i. some (left-by (q i .0) k (q i .1) w′ z′))
+                  ∙ ap (λ b. some (choose b (0, 0, s, cleared w′ 0, cleared z′ 0) (m, k, cleared s 0, cleared w′ 0, cleared z′ 0))) (ne-eqb m 0 (λ v. subst (λ i. T (limit-number? i)) v u))
+                  ∙ (λ i. some (m, k, cleared-empties s long i, zeroed (length w) w′ lw i, emptied (length z) z′ lz i))
+              go still-lifting q f = absurd f
 
-          over-finished : (x : Result Level) → T (finished? x) → T (finished? (state-over s k x))
-          over-finished (done f) t = tt
-          over-finished (refused number place value) t = tt
-          over-finished unfinished t = t
+-- ## The tests of 11 and 12
 
-          -- the levels below, as the state has them
-          lift-is : (n : ℕ) → 1 ≤ k → state-over s k (lifted-over s k way z n) ≡ lift document-01 n X k (lifting-by way z)
-          lift-is n h =
-              let e : k ≡ suc (k - 1) = omega arith in
-              ap (λ m. at-level k (lifted-over s k way z n) >>= λ f. done (record { parameters = parameters-at s; levels = f ∷ levels-at document-01 s m })) e
-              ∙ ap (λ ls. at-level k (lift-level document-01 (getD s 0 0) (getD s 2 0) ls (lifting-by way z) n) >>= λ f. done (record { parameters = parameters-at s; levels = f ∷ ls })) (sym (up-to-is s (k - 1) has))
+module _ (s : Words) (k : ℕ) (way : Way) (long : 206095 ≤ length s) where
+  pub record Passed : Type 0 where
+    pub liftable : Liftable s k
+    pub inside : between 1 k 9 ≡ true
+    pub own : true ≡ own-pick? way
 
-          pub lifted : 1 ≤ k → true ≡ own-pick? way → (n : ℕ) (r : Lift) → r ≡ settled-lift (length s) (length w) (length z) (state-over s k (lifted-over s k way z n))
-              → T (finished? (lifted-over s k way z n)) → Called r
-          lifted h e n r q t = (
-            n,
-            ap some q ∙ settled-then (state-over s k (lifted-over s k way z n)) (over-finished (lifted-over s k way z n) t)
-                ∙ ap (λ x. settled x then λ a. some (lift-left document-01 s w z a)) (lift-is n h)
-                ∙ after-tests e n,
-          )
+  four : (a b c d : Bool) → _≡_ {A = ℕ} (choose a (choose b (choose c (choose d 0 12) 11) 12) 11) 0 → T a × T b × T c × T d
+  four true true true true e = (tt, tt, tt, tt)
+  four true true true false e = absurd (not-suc-le-zero {n = 0} (omega (arith, e)))
+  four true true false d e = absurd (not-suc-le-zero {n = 0} (omega (arith, e)))
+  four true false c d e = absurd (not-suc-le-zero {n = 0} (omega (arith, e)))
+  four false b c d e = absurd (not-suc-le-zero {n = 0} (omega (arith, e)))
+
+  pub passed : complete-number s k way ≡ 0 → Passed
+  passed e =
+      let t = four (holds-state? document-01 s) (between 1 k 9) (leb k (getD s 4 0)) (own-pick? way) e in
+      let l = between-low 1 k 9 (t .1) in
+      let g = between-high 1 k 9 (t .1) in
+      let c = leb→le k (getD s 4 0) (t .2) in
+      record {
+        liftable = record { low = l; high = g; base = record { long = long; holds = t .0; has = omega (arith, c, l); low = omega (arith, g) } };
+        inside = true-is (between 1 k 9) (t .1);
+        own = sym (true-is (own-pick? way) (t .3));
+      }
+
+  module _ (w z : Words) (wide : work-words document-01 way ≤ length w) where
+    pub refused-early : (number : ℕ) → number ≡ complete-number s k way → (number ≡ 0 → ⊥) → Called s w z k way (number, 0, s, w, z)
+    refused-early number e m = go (holds-state? document-01 s) refl (between 1 k 9) refl (leb k (getD s 4 0)) refl (own-pick? way) refl e
+      where
+        at : (i : ℕ) → number ≡ i → Called s w z k way (i, 0, s, w, z) → Called s w z k way (number, 0, s, w, z)
+        at i q c = subst (λ j. Called s w z k way (j, 0, s, w, z)) (sym q) c
+
+        go : (a : Bool) → holds-state? document-01 s ≡ a → (b : Bool) → between 1 k 9 ≡ b → (c : Bool) → leb k (getD s 4 0) ≡ c → (d : Bool) → own-pick? way ≡ d
+            → number ≡ choose a (choose b (choose c (choose d 0 12) 11) 12) 11 → Called s w z k way (number, 0, s, w, z)
+        go false p b q c r d t u = at 11 u (no-state s w z k way long wide (sym p))
+        go true p false q c r d t u = at 12 u (no-such-level s w z k way long wide (is-true p) (sym q))
+        go true p true q false r d t u = at 11 u (not-complete s w z k way long wide (is-true p) (sym q) (omega (arith, leb-false k (getD s 4 0) r)))
+        go true p true q true r false t u =
+            at 12 u (no-such-pick s w z k way long wide (is-true p) q (omega (arith, leb-true k (getD s 4 0) r, between-low 1 k 9 (is-true q))) (sym t))
+        go true p true q true r true t u = absurd (m u)

@@ -1,3 +1,2 @@
-pub mod Lifting
 pub mod Called
 pub mod Coding

@@ -1,30 +1,17 @@
-// The call that lifts a level, by division, hybrid or the tree.
-// Knows: crate definitions' Layout and Calls.
+// The call that lifts a level, by division, hybrid or the tree: its tests, and what it leaves in the buffers.
+// Knows: crate definitions' Layout; crate ways lifts and stores the level.
 // A call asks for nothing: a buffer that is too short is 16, words that hold no state are 11.
 ghost use mathlib.Core.Path.{_≡_};
-ghost use mathlib.Core.List.{[]};
 ghost use mathlib.Core.Option.{some};
-ghost use Prim.Native.Nat.{ℕ, _-_, _/_, _≤_, _<_};
-ghost use lib.Dec.{T};
-ghost use lib.ListN.{length, getD};
+ghost use Prim.Native.Nat.{ℕ, _≤_};
+ghost use lib.ListN.{length};
 ghost use Rattle.definitions.specs.Limits.{document-01};
-ghost use Rattle.definitions.specs.Result.{finished?};
-ghost use Rattle.definitions.specs.Layout.{work-words, lift-call, holds-state?};
-ghost use Rattle.terms.specs.Rows.{cleared};
-ghost use Rattle.lifting.specs.Stages.{Base, usual, lift-over, leveled-of};
-ghost use Rattle.tree_level.specs.Over.{tree-over};
+ghost use Rattle.definitions.specs.Layout.{work-words, lift-call};
+ghost use Rattle.ways.specs.Ways.{way-of};
 ghost use Rattle.engine_lift.specs.Codes.{coded-way};
-ghost use Rattle.engine_lift.specs.Lifts.{Chosen, Settles, lift-reply, settled-lift, state-over, way-of, own-pick?, lifted-over};
+ghost use Rattle.engine_lift.specs.Lifts.{own-pick?, complete-number, lift-reply, left-by};
 use engine::Reply;
-use lifting::Leveled;
-use runs::Strategy;
-
-// "by one of three ways"; hybrid's with its pick code.
-pub enum Way {
-    Division,
-    Hybrid(u16),
-    Tree,
-}
+use ways::Way;
 
 // 0 division, 1 hybrid, 2 the tree. Any other code is hybrid with a pick code that there is not: 12.
 pub fn way_by(way: u16, pick: u16) -> Way
@@ -35,100 +22,6 @@ pub fn way_by(way: u16, pick: u16) -> Way
         1 => Way::Hybrid(pick),
         2 => Way::Tree,
         _ => Way::Hybrid(0),
-    }
-}
-
-// Everything zeroed: "the state is empty and each buffer lent for writing is zeroed".
-fn empty_all(state: &mut [u16], work: &mut [u16], cache: &mut [u16])
-    ensures { λ _. ⌜ (now (state .exit) ≡ cleared (now (state .entry)) 0) × (now (work .exit) ≡ cleared (now (work .entry)) 0) × (now (cache .exit) ≡ cleared (now (cache .entry)) 0) ⌝ }
-{
-    terms::clear(state, 0);
-    terms::clear(work, 0);
-    terms::clear(cache, 0);
-}
-
-// What lifting gave, in the buffers: a level is stored as level k, a refusal empties everything.
-fn settle(
-    state: &mut [u16],
-    work: &mut [u16],
-    cache: &mut [u16],
-    k: usize,
-    x: Leveled,
-    out: &[u16],
-) -> Reply
-    requires { ⌜ (1 ≤ k) × (k ≤ 9) × Base (now state) (k - 1) × Settles x (now out) ⌝ }
-    ensures { λ r. ⌜ lift-reply r (now (state .exit)) (now (work .exit)) (now (cache .exit)) ≡ settled-lift (length (now (state .entry))) (length (now (work .entry))) (length (now (cache .entry))) (state-over (now (state .entry)) k (leveled-of x (now (out .entry)) [])) ⌝ }
-{
-    match x {
-        Leveled::Vectors(n, _used) => {
-            storing::store_level(state, k, n, out);
-            terms::clear(work, 0);
-            terms::clear(cache, 0);
-            Reply {
-                number: 0,
-                place: 0,
-            }
-        }
-        Leveled::Refused(number) => {
-            empty_all(state, work, cache);
-            Reply { number, place: k }
-        }
-        // Lifting never stops at a value without a reducer: the proof shows that this is not reached.
-        Leveled::Stopped(_n) => {
-            empty_all(state, work, cache);
-            Reply {
-                number: 9,
-                place: k,
-            }
-        }
-    }
-}
-
-// Level k over the complete level k − 1, by division or hybrid.
-fn lift_runs(state: &mut [u16], work: &mut [u16], cache: &mut [u16], k: usize, w: Strategy) -> Reply
-    requires { ⌜ (1 ≤ k) × (k ≤ 9) × Base (now state) (k - 1) × (5120 ≤ length (now work)) × Chosen w ⌝ }
-    ensures { λ r. ⌜ ((n : ℕ) × (lift-reply r (now (state .exit)) (now (work .exit)) (now (cache .exit)) ≡ settled-lift (length (now (state .entry))) (length (now (work .entry))) (length (now (cache .entry))) (state-over (now (state .entry)) k (lift-over usual (now (state .entry)) (k - 1) w n))) × T (finished? (lift-over usual (now (state .entry)) (k - 1) w n))) ⌝ }
-{
-    let mut out = [0u16; 20608];
-    let b = lifting::usual();
-    let x = lifting::lift_level(&mut out, work, state, k - 1, w, b);
-    settle(state, work, cache, k, x, &out)
-}
-
-// .. by the tree.
-fn lift_tree(state: &mut [u16], work: &mut [u16], cache: &mut [u16], k: usize) -> Reply
-    requires { ⌜ (1 ≤ k) × (k ≤ 9) × Base (now state) (k - 1) × (40960 ≤ length (now work)) ⌝ }
-    ensures { λ r. ⌜ (lift-reply r (now (state .exit)) (now (work .exit)) (now (cache .exit)) ≡ settled-lift (length (now (state .entry))) (length (now (work .entry))) (length (now (cache .entry))) (state-over (now (state .entry)) k (tree-over usual (now (state .entry)) (k - 1) (length (now (cache .entry)) / 10)))) × T (finished? (tree-over usual (now (state .entry)) (k - 1) (length (now (cache .entry)) / 10))) ⌝ }
-{
-    let mut out = [0u16; 25728];
-    let b = lifting::usual();
-    let x = tree_level::lift_level(&mut out, cache, work, state, k - 1, b);
-    settle(state, work, cache, k, x, &out)
-}
-
-// Every test is passed.
-fn lift_by(state: &mut [u16], work: &mut [u16], cache: &mut [u16], k: usize, way: Way) -> Reply
-    requires { ⌜ (1 ≤ k) × (k ≤ 9) × Base (now state) (k - 1) × (work-words document-01 (way-of way) ≤ length (now work)) ⌝ }
-    ensures { λ r. ⌜ ((n : ℕ) × (lift-reply r (now (state .exit)) (now (work .exit)) (now (cache .exit)) ≡ settled-lift (length (now (state .entry))) (length (now (work .entry))) (length (now (cache .entry))) (state-over (now (state .entry)) k (lifted-over (now (state .entry)) k (way-of way) (now (cache .entry)) n))) × T (finished? (lifted-over (now (state .entry)) k (way-of way) (now (cache .entry)) n))) ⌝ }
-{
-    match way {
-        Way::Division => {
-            let w = Strategy {
-                drops: false,
-                pick: 1,
-                stops: false,
-            };
-            lift_runs(state, work, cache, k, w)
-        }
-        Way::Hybrid(pick) => {
-            let w = Strategy {
-                drops: true,
-                pick,
-                stops: false,
-            };
-            lift_runs(state, work, cache, k, w)
-        }
-        Way::Tree => lift_tree(state, work, cache, k),
     }
 }
 
@@ -158,45 +51,40 @@ pub fn own_pick(way: Way) -> bool
     }
 }
 
-// Level k − 1 is complete.
-fn lift_complete(
-    state: &mut [u16],
-    work: &mut [u16],
-    cache: &mut [u16],
-    k: usize,
-    way: Way,
-) -> Reply
-    requires { ⌜ (206095 ≤ length (now state)) × T (holds-state? document-01 (now state)) × (1 ≤ k) × (k ≤ 9) × (k - 1 < getD (now state) 4 0) × (work-words document-01 (way-of way) ≤ length (now work)) ⌝ }
-    ensures { λ r. ⌜ ((n : ℕ) × (some (lift-reply r (now (state .exit)) (now (work .exit)) (now (cache .exit))) ≡ lift-call document-01 n k (way-of way) (now (state .entry)) (now (work .entry)) (now (cache .entry)))) ⌝ }
+// 11, 12, or 0 where neither comes.
+pub fn complete(state: &[u16], k: usize, way: Way) -> u16
+    requires { ⌜ 206095 ≤ length (now state) ⌝ }
+    ensures { λ r. ⌜ r ≡ complete-number (now (state .entry)) k (way-of way) ⌝ }
 {
-    if own_pick(way) {
-        return lift_by(state, work, cache, k, way);
+    if levels::sound(state) {
+        if engine::level_number(k) {
+            let height = levels::place(state[4]);
+            if height < k {
+                return 11;
+            }
+            if own_pick(way) {
+                return 0;
+            }
+        }
+        return 12;
     }
-    Reply {
-        number: 12,
-        place: 0,
-    }
+    11
 }
 
-// The words hold a state.
-fn lift_sound(state: &mut [u16], work: &mut [u16], cache: &mut [u16], k: usize, way: Way) -> Reply
-    requires { ⌜ (206095 ≤ length (now state)) × T (holds-state? document-01 (now state)) × (work-words document-01 (way-of way) ≤ length (now work)) ⌝ }
-    ensures { λ r. ⌜ ((n : ℕ) × (some (lift-reply r (now (state .exit)) (now (work .exit)) (now (cache .exit))) ≡ lift-call document-01 n k (way-of way) (now (state .entry)) (now (work .entry)) (now (cache .entry)))) ⌝ }
+// "the state is empty and each buffer lent for writing is zeroed" after a refusal; else the state stays.
+fn settle(state: &mut [u16], work: &mut [u16], cache: &mut [u16], k: usize, number: u16) -> Reply
+    ensures { λ r. ⌜ lift-reply r (now (state .exit)) (now (work .exit)) (now (cache .exit)) ≡ left-by number k (now (state .entry)) (now (work .entry)) (now (cache .entry)) ⌝ }
 {
-    if engine::level_number(k) {
-        let height = levels::place(state[4]);
-        if height < k {
-            return Reply {
-                number: 11,
-                place: 0,
-            };
-        }
-        return lift_complete(state, work, cache, k, way);
+    terms::clear(work, 0);
+    terms::clear(cache, 0);
+    if number == 0 {
+        return Reply {
+            number: 0,
+            place: 0,
+        };
     }
-    Reply {
-        number: 12,
-        place: 0,
-    }
+    terms::clear(state, 0);
+    Reply { number, place: k }
 }
 
 // "form the frame of level k and lift all its terms, in number order, by one of three ways"
@@ -215,11 +103,13 @@ pub fn lift(state: &mut [u16], work: &mut [u16], cache: &mut [u16], k: usize, wa
             place: 0,
         };
     }
-    if levels::sound(state) {
-        return lift_sound(state, work, cache, k, way);
+    let refused = complete(state, k, way);
+    if refused == 0 {
+        let number = ways::lift_by(state, work, cache, k, way);
+        return settle(state, work, cache, k, number);
     }
     Reply {
-        number: 11,
+        number: refused,
         place: 0,
     }
 }

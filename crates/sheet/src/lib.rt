@@ -1,95 +1,15 @@
-// The sheet of a file, for every file.
-// Knows: crate definitions' Sheet, and the calls that it is made of.
-// It prints level by level into one buffer and keeps nothing else of them.
+// The sheet of a file, for every file: the call's tests, and zeros in all that is not the sheet.
+// Knows: crate definitions' Sheet; crate listing prints it.
+// The buffers are zeroed once, at the end.
 ghost use mathlib.Core.Path.{_≡_};
-ghost use Prim.Native.Nat.{ℕ, _+_, _-_, _*_, _≤_, _<_};
-ghost use lib.Dec.{T};
-ghost use lib.ListN.{length, getD};
-ghost use Rattle.definitions.specs.Limits.{document-01};
-ghost use Rattle.definitions.specs.Layout.{level-at, decode, holds-state?};
-ghost use Rattle.definitions.specs.Sheet.{level-lines, levels-from as levels-definition, sheet as sheet-definition};
+ghost use Prim.Native.Nat.{ℕ};
 ghost use Rattle.terms.specs.Rows.{cleared};
-ghost use Rattle.lifting.specs.Stages.{Base};
-ghost use Rattle.printing.specs.Lines.{Printed};
-ghost use Rattle.sheet.specs.Sheets.{Prints, accepted-sheet, told, called};
-use engine_lift::Way;
-use lift::Accepted;
+ghost use Rattle.sheet.specs.Sheets.{told, called};
 
 // 0 and how many bytes, or 16 and 0.
 pub struct Answer {
     pub number: u16,
     pub length: usize,
-}
-
-fn narrow(k: usize) -> u16
-    requires { ⌜ k < 65536 ⌝ }
-    ensures { λ r. ⌜ r ≡ k ⌝ }
-{
-    k as u16
-}
-
-// Level k of a state.
-fn print_level(out: &mut [u8], at: usize, state: &[u16], k: usize) -> usize
-    requires { ⌜ Base (now state) k × (at + 151581 ≤ length (now out)) ⌝ }
-    ensures { λ r. ⌜ Printed (now (out .entry)) (now (out .exit)) at r (level-lines (getD (now (state .entry)) 1 0) k (level-at document-01 (now (state .entry)) k)) × (r ≤ at + 151581) ⌝ }
-{
-    let count = levels::count_of(state, k);
-    let n = levels::place(state[1]);
-    let start = 1295 + k * 20480;
-    let ends = 6 + k * 129;
-    let l = narrow(k);
-    printing::level_lines(out, at, &state[start..], &state[ends..], count, n, l)
-}
-
-// "Levels 1 on, hybrid, pick code 2, until a count is 0 or level 9 is printed": from level k on.
-fn levels_from(out: &mut [u8], at: usize, state: &mut [u16], work: &mut [u16], k: usize) -> usize
-    requires { ⌜ (1 ≤ k) × (k ≤ 10) × (206095 ≤ length (now state)) × T (holds-state? document-01 (now state)) × (getD (now state) 4 0 ≡ k) × (5120 ≤ length (now work)) × (at + (10 - k) * 151581 + 29 ≤ length (now out)) ⌝ }
-    ensures { λ r. ⌜ Prints (λ n. levels-definition document-01 n (10 - k) k (decode document-01 (now (state .entry)))) (now (out .entry)) (now (out .exit)) at r × (r ≤ at + (10 - k) * 151581 + 29) ⌝ }
-{
-    if k == 10 {
-        return at;
-    }
-    let mut none = [0u16; 1];
-    let r = engine_lift::lift(state, work, &mut none, k, Way::Hybrid(2));
-    let number = r.number;
-    if number == 0 {
-        let a = print_level(out, at, state, k);
-        let count = levels::count_of(state, k);
-        if count == 0 {
-            return a;
-        }
-        return levels_from(out, a, state, work, k + 1);
-    }
-    printing::pair_line(out, at, 88, number, r.place)
-}
-
-// A file that was read: accepted or refused.
-fn accept(out: &mut [u8], state: &mut [u16], work: &mut [u16]) -> usize
-    requires { ⌜ Base (now state) 0 × (getD (now state) 4 0 ≡ 1) × (5120 ≤ length (now work)) × (1400000 ≤ length (now out)) ⌝ }
-    ensures { λ r. ⌜ Prints (λ n. accepted-sheet n (now (state .entry))) (now (out .entry)) (now (out .exit)) 0 r × (r ≤ 1400000) ⌝ }
-{
-    match lifting::accept_level(work, state) {
-        Accepted::Yes => levels_from(out, 0, state, work, 1),
-        Accepted::Refused(number, place) => printing::pair_line(out, 0, 88, number, place),
-        Accepted::Stopped(place, m) => {
-            let n = levels::place(state[1]);
-            let a = printing::pair_line(out, 0, 88, 9, place);
-            printing::w_lines(out, a, work, m, n)
-        }
-    }
-}
-
-// Buffers long enough.
-fn print(file: &[u8], state: &mut [u16], work: &mut [u16], out: &mut [u8]) -> usize
-    requires { ⌜ (206095 ≤ length (now state)) × (5120 ≤ length (now work)) × (1400000 ≤ length (now out)) ⌝ }
-    ensures { λ r. ⌜ Prints (λ n. sheet-definition document-01 n (now (file .entry))) (now (out .entry)) (now (out .exit)) 0 r × (r ≤ 1400000) ⌝ }
-{
-    let r = problem::read(file, state);
-    let number = r.number;
-    if number == 0 {
-        return accept(out, state, work);
-    }
-    printing::pair_line(out, 0, 88, number, r.place)
 }
 
 // Zeros from byte `from` on.
@@ -125,7 +45,7 @@ pub fn sheet(file: &[u8], state: &mut [u16], work: &mut [u16], out: &mut [u8]) -
             length: 0,
         };
     }
-    let n = print(file, state, work, out);
+    let n = listing::print(file, state, work, out);
     clear(out, n);
     terms::clear(state, 0);
     terms::clear(work, 0);

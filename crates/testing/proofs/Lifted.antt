@@ -9,20 +9,20 @@ use borrow.Author.Tests.{ne-eqb}
 use lib.Dec.{T, leb, eqb, leb→le}
 use lib.ListN.{length, getD}
 use Rattle.definitions.specs.Limits.{document-01}
-use Rattle.definitions.specs.Lists.{_and_, choose, between}
+use Rattle.definitions.specs.Lists.{_and_, choose}
 use Rattle.definitions.specs.Monomial.{Vector, Level}
 use Rattle.definitions.specs.Result.{Result, done, refused, refusal}
-use Rattle.definitions.specs.Layout.{Words, Way, lifting-by, work-words, rows, levels-at, holds-state?}
-use Rattle.definitions.proofs.Tests.{and-left, and-right, between-low, between-high}
+use Rattle.definitions.specs.Layout.{Words, Way, lifting-by, work-words, rows, levels-at}
+use Rattle.definitions.proofs.Tests.{and-left, and-right}
 use Rattle.definitions.proofs.Numbers as numbers
 use Rattle.definitions.proofs.Numbers.{limit-number?, Numbered, lift-level-number}
 use Rattle.lift.specs.Vectors.{lifted-vectors}
-use Rattle.lifting.specs.Stages.{Base, Within, limits-with, leveled-of, Stored-as}
+use Rattle.lifting.specs.Stages.{Within, limits-with, leveled-of, Stored-as}
 use Rattle.lifting.specs.declared.Bounds.{Bounds}
 use Rattle.lifting.specs.declared.Leveled.{Leveled}
 use Rattle.lifting.specs.declared.Leveled.the-variants.{Vectors, Refused, Stopped}
-use Rattle.engine_lift.specs.Lifts.{own-pick?}
-use Rattle.testing.specs.Lifts.{within?, fits?, complete-number, lifted-within, number-of, count-of, used-of, told, Counted, called}
+use Rattle.engine_lift.specs.Lifts.{complete-number}
+use Rattle.testing.specs.Lifts.{within?, fits?, lifted-within, number-of, count-of, used-of, told, Counted, called}
 
 -- ## Not 16
 
@@ -52,28 +52,6 @@ fits-says s work out way b t =
         room = leb→le (b .room) 2048 (and-right (leb (b .tree) 4096) (leb (b .room) 2048) t6);
       };
     }
-
--- ## Neither 11 nor 12
-
-four : (a b c d : Bool) → _≡_ {A = ℕ} (choose a (choose b (choose c (choose d 0 12) 11) 12) 11) 0 → T a × T b × T c × T d
-four true true true true e = (tt, tt, tt, tt)
-four true true true false e = absurd (not-suc-le-zero {n = 0} (omega (arith, e)))
-four true true false d e = absurd (not-suc-le-zero {n = 0} (omega (arith, e)))
-four true false c d e = absurd (not-suc-le-zero {n = 0} (omega (arith, e)))
-four false b c d e = absurd (not-suc-le-zero {n = 0} (omega (arith, e)))
-
-pub record Complete (s : Words) (k : ℕ) : Type 0 where
-  pub low : 1 ≤ k
-  pub high : k ≤ 9
-  pub base : Base s (k - 1)
-
-pub complete-says : (s : Words) (k : ℕ) (way : Way) → 206095 ≤ length s → complete-number s k way ≡ 0 → Complete s k
-complete-says s k way h e =
-    let t = four (holds-state? document-01 s) (between 1 k 9) (leb k (getD s 4 0)) (own-pick? way) e in
-    let l = between-low 1 k 9 (t .1) in
-    let g = between-high 1 k 9 (t .1) in
-    let c = leb→le k (getD s 4 0) (t .2) in
-    record { low = l; high = g; base = record { long = h; holds = t .0; has = omega (arith, c, l); low = omega (arith, g) } }
 
 -- ## The answer
 

@@ -6,17 +6,17 @@ use Prim.Native.Nat.{ℕ, suc, _-_}
 use lib.Dec.{leb, eqb}
 use lib.ListN.{length, getD}
 use Rattle.definitions.specs.Limits.{document-01}
-use Rattle.definitions.specs.Lists.{_and_, choose, between}
+use Rattle.definitions.specs.Lists.{_and_, choose}
 use Rattle.definitions.specs.Monomial.{Vector, Level}
 use Rattle.definitions.specs.Result.{Result, done, refused}
 use Rattle.definitions.specs.Lifting.{lift-level}
-use Rattle.definitions.specs.Layout.{Words, Way, lifting-by, work-words, levels-at, holds-state?}
+use Rattle.definitions.specs.Layout.{Words, Way, lifting-by, work-words, levels-at}
 use Rattle.lift.specs.Vectors.{lifted-vectors, Kept}
 use Rattle.lifting.specs.Stages.{limits-with}
 use Rattle.lifting.specs.declared.Bounds.{Bounds}
 use Rattle.lifting.specs.declared.Leveled.{Leveled}
 use Rattle.lifting.specs.declared.Leveled.the-variants.{Vectors, Refused, Stopped}
-use Rattle.engine_lift.specs.Lifts.{own-pick?}
+use Rattle.engine_lift.specs.Lifts.{complete-number}
 
 abbrev pub bounds-by : ℕ → ℕ → ℕ → ℕ → Bounds
 bounds-by working vector tree room = record { working = working; vector = vector; tree = tree; room = room }
@@ -27,11 +27,6 @@ within? b = leb (b .working) 512 and leb (b .vector) 512 and leb 1 (b .vector) a
 
 abbrev pub fits? : Words → Words → Words → Way → Bounds → Bool
 fits? s work out way b = leb 206_095 (length s) and leb (work-words document-01 way) (length work) and leb 25_728 (length out) and within? b
-
--- 11, 12, or 0 where neither comes
-abbrev pub complete-number : Words → ℕ → Way → ℕ
-complete-number s k way =
-    choose (holds-state? document-01 s) (choose (between 1 k 9) (choose (leb k (getD s 4 0)) (choose (own-pick? way) 0 12) 11) 12) 11
 
 -- level k over the levels below it in the state that the words hold
 abbrev pub lifted-within : Bounds → Words → ℕ → Way → Words → ℕ → Result Level

@@ -8,13 +8,13 @@ ghost use Rattle.definitions.specs.Limits.{document-01};
 ghost use Rattle.definitions.specs.Monomial.{Vector};
 ghost use Rattle.definitions.specs.Layout.{Words, work-words};
 ghost use Rattle.lifting.specs.Stages.{Base, Within, leveled-of, Stored-as};
-ghost use Rattle.engine_lift.specs.Lifts.{way-of};
+ghost use Rattle.ways.specs.Ways.{way-of};
 ghost use Rattle.engine_lift.specs.Codes.{coded-way};
-ghost use Rattle.testing.specs.Lifts.{within?, fits?, complete-number, lifted-within, number-of, count-of, used-of, told, Counted, bounds-by, called};
-use engine_lift::Way;
+ghost use Rattle.testing.specs.Lifts.{within?, fits?, lifted-within, number-of, count-of, used-of, told, Counted, bounds-by, called};
 use lifting::Bounds;
 use lifting::Leveled;
 use runs::Strategy;
+use ways::Way;
 
 // Limits that the buffers' lengths suffice for.
 fn within(b: Bounds) -> bool
@@ -85,26 +85,6 @@ fn fits(state: &[u16], work: &[u16], out: &[u16], way: Way, b: Bounds) -> bool
     within(b)
 }
 
-// 11, 12, or 0 where neither comes.
-fn complete(state: &[u16], k: usize, way: Way) -> u16
-    requires { ⌜ 206095 ≤ length (now state) ⌝ }
-    ensures { λ r. ⌜ r ≡ complete-number (now (state .entry)) k (way-of way) ⌝ }
-{
-    if levels::sound(state) {
-        if engine::level_number(k) {
-            let height = levels::place(state[4]);
-            if height < k {
-                return 11;
-            }
-            if engine_lift::own_pick(way) {
-                return 0;
-            }
-        }
-        return 12;
-    }
-    11
-}
-
 // How many vectors and rows, or a refusal's number.
 fn tell(x: Leveled, count: &mut usize, used: &mut usize) -> u16
     ensures { λ r. ⌜ (r ≡ number-of x) × (now (count .exit) ≡ count-of x) × (now (used .exit) ≡ used-of x) ⌝ }
@@ -157,7 +137,7 @@ pub extern "C" fn lifts_level(
     *count = 0;
     *used = 0;
     if fits(state, work, out, w, b) {
-        let number = complete(state, level, w);
+        let number = engine_lift::complete(state, level, w);
         if number == 0 {
             let x = lift_by(out, work, cache, state, level, w, b);
             return tell(x, count, used);

@@ -2,7 +2,8 @@ use borrow.Author.Needs.{needs}
 use native.Mathlib.Omega.{arith}
 use mathlib.Core.Path.{_≡_, refl, sym, ap, _∙_}
 use lib.ListN.{length}
-use Rattle.engine.proofs.Settled.{based, whole-is, read-accepted, read-over, file-refused}
+use Rattle.all_levels.proofs.Basis.{based, whole-is}
+use Rattle.engine.proofs.Settled.{read-accepted, read-over, file-refused}
 use Rattle.engine.specs.Replies.{read-reply}
 use Rattle.problem.proofs.Answering.{zero-is-read}
 use Rattle.problem.specs.Reading.{read-as, words-read}

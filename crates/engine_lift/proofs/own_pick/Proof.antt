@@ -2,7 +2,8 @@ use borrow.Author.Needs.{needs}
 use native.Mathlib.Omega.{arith}
 use mathlib.Core.Path.{sym, ap, _∙_}
 use Prim.Native.Nat.{_-_}
-use Rattle.engine_lift.specs.Lifts.{own-pick?, way-of}
+use Rattle.ways.specs.Ways.{way-of}
+use Rattle.engine_lift.specs.Lifts.{own-pick?}
 use borrow.Author.Tests.{le-leb}
 use lib.Dec.{leb}
 use Rattle.definitions.specs.Lists.{_and_}

@@ -2,7 +2,7 @@ use borrow.Author.Needs.{needs}
 use native.Mathlib.Omega.{arith}
 use mathlib.Core.Path.{_∙_}
 use Prim.Native.Nat.{_-_}
-use Rattle.sheet.proofs.Whole.{short-state, short-work, short-out, whole-sheet}
+use Rattle.sheet.proofs.Called.{short-state, short-work, short-out, whole-sheet}
 use mathlib.Core.Option.{some}
 use Rattle.sheet.proofs.sheet.Statement.{statement}
 use Rattle.sheet.proofs.sheet.Tie as tie

@@ -6,7 +6,7 @@ use lib.ListN.{length}
 use borrow.Author.Tests.{le-leb, lt-leb}
 use lib.Dec.{leb}
 use Rattle.testing.specs.Lifts.{within?}
-use Rattle.engine_lift.specs.Lifts.{way-of}
+use Rattle.ways.specs.Ways.{way-of}
 use Rattle.definitions.specs.Layout.{work-words}
 use Rattle.definitions.specs.Limits.{document-01}
 use Rattle.definitions.specs.Lists.{_and_}

@@ -6,7 +6,7 @@ use Prim.Native.Nat.{ℕ, _-_, _≤_}
 use lib.ListN.{length}
 use Rattle.testing.specs.Lifts.{lifted-within}
 use Rattle.lifting.specs.Stages.{leveled-of, Stored-as}
-use Rattle.engine_lift.specs.Lifts.{way-of}
+use Rattle.ways.specs.Ways.{way-of}
 use Rattle.definitions.specs.Layout.{Words, work-words}
 use Rattle.definitions.specs.Limits.{document-01}
 use Rattle.testing.proofs.lifts.lift_by.Statement.{statement}

@@ -4,9 +4,11 @@ use mathlib.Core.Path.{_≡_, sym, _∙_, subst}
 use Prim.Native.Nat.{_-_}
 use native.Mathlib.Nat.{not-suc-le-zero}
 use Rattle.definitions.proofs.Tests.{is-true}
-use Rattle.testing.specs.Lifts.{bounds-by, complete-number}
-use Rattle.engine_lift.specs.Lifts.{way-of}
-use Rattle.testing.proofs.Lifted.{fits-says, complete-says, Called, short, refused-early, lifted}
+use Rattle.testing.specs.Lifts.{bounds-by}
+use Rattle.engine_lift.specs.Lifts.{complete-number}
+use Rattle.ways.specs.Ways.{way-of}
+use Rattle.testing.proofs.Lifted.{fits-says, Called, short, refused-early, lifted}
+use Rattle.engine_lift.proofs.Called.{passed}
 use Rattle.testing.proofs.lifts.lifts_level.Statement.{statement}
 use Rattle.testing.proofs.lifts.lifts_level.Tie as tie
 
@@ -29,7 +31,7 @@ lift-by-requires c κs =
     let s = a .state .now in
     let f = fits-says s (a .work .now) (a .out .now) (way-of (c .before .before .before .before .before .before .before .before .before .way-by .result)) (bounds-by (a .working) (a .vector) (a .tree) (a .room)) (is-true (sym (c .before .before .before .before .before .before .fits2 .ensures) ∙ c .before .before .before .before .before .if1 .taken)) in
     let e : complete-number s (a .level) (way-of (c .before .before .before .before .before .before .before .before .before .way-by .result)) ≡ 0 = sym (c .before .before .before .before .complete .ensures) ∙ (omega arith) in
-    let c = complete-says s (a .level) (way-of (c .before .before .before .before .before .before .before .before .before .way-by .result)) (f .state) e in
+    let c = passed s (a .level) (way-of (c .before .before .before .before .before .before .before .before .before .way-by .result)) (f .state) e .liftable in
     (c .base, c .low, c .high, f .out, f .work, f .within)
 
 tell-requires : tie.Need-tell-requires

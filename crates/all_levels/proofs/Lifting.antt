@@ -1,0 +1,180 @@
+-- What the theorems about lifting say of a level lifted over a state: sound, refused by a limit alone, and so one that can be stored.
+use mathlib.Core.Path.{_≡_, refl, sym, ap, _∙_, subst}
+use mathlib.Core.List.{List, [], _∷_}
+use Prim.Native.Nat.{ℕ, zero, suc, _-_, _<_, _≤_}
+use native.Mathlib.Nat.{not-suc-le-zero}
+use native.Mathlib.Omega.{arith}
+use lib.Dec.{T}
+use lib.ListN.{length, getD, take, drop, replicate}
+use lib.Seq.{length-take-le, getD-take}
+use Rattle.definitions.specs.Limits.{document-01}
+use Rattle.definitions.specs.Lists.{_and_, choose, every, between}
+use Rattle.definitions.specs.Monomial.{Level}
+use Rattle.definitions.specs.Result.{Result, done, refused, unfinished, finished?, at-level, _>>=_}
+use Rattle.definitions.specs.Problem.{Parameters}
+use Rattle.definitions.specs.State.{vector-sound?, levels-sound?}
+use Rattle.definitions.specs.Run.{by-code}
+use Rattle.definitions.specs.Lifting.{Lifting, by-division, by-hybrid, limited-frame, lift-all, lift-level}
+use Rattle.definitions.specs.Calls.{lift}
+use Rattle.definitions.specs.Layout.{Words, rows, encode, decode, vectors-at, level-at, levels-at, holds-state?}
+use Rattle.definitions.proofs.Tests.{and-left, and-right, between-high}
+use Rattle.definitions.proofs.Sound.{level-says, vector-says}
+use Rattle.definitions.proofs.Modular.{prime-says}
+use Rattle.definitions.proofs.Numbers as numbers
+use Rattle.definitions.proofs.Numbers.{limit-number?, Numbered, lift-level-number}
+use Rattle.definitions.proofs.Rows.{length-rows}
+use Rattle.demands.proofs.Results.{Gives, gives, refuses, open-yet}
+use Rattle.demands.proofs.Over.{Lift-right, over}
+use Rattle.terms.specs.Rows.{cleared}
+use Rattle.tables.specs.Cuts.{start-of}
+use Rattle.levels.specs.Places.{parameters-at}
+use Rattle.levels.proofs.StateTests.{holds-said}
+use Rattle.runs.specs.declared.Strategy.{Strategy}
+use Rattle.lift.specs.Vectors.{lifted-vectors, Kept, lifts}
+use Rattle.lifting.specs.Stages.{Base, usual, stage-at, lift-over, leveled-of, Stored-as}
+use Rattle.lifting.specs.declared.Leveled.{Leveled}
+use Rattle.lifting.specs.declared.Leveled.the-variants.{Vectors, Refused, Stopped}
+use Rattle.lifting.proofs.Readying.{sound-levels, prime-at}
+use Rattle.storing.specs.Stored.{Kept-apart, with-level}
+use Rattle.stages.proofs.Complete.{up-to-is}
+use Rattle.all_levels.specs.Level.{Liftable, Chosen, by-picks, by-leading, way-by, Settles, state-over, stored, told, Lifted-by}
+
+pub few-variables : (s : Words) → 206095 ≤ length s → T (holds-state? document-01 s) → getD s 1 0 ≤ 8
+few-variables s long holds = between-high 1 (getD s 1 0) 8 (and-left (between 1 (getD s 1 0) 8) (between 1 (getD s 2 0) 3 and between 1 (getD s 3 0) 16) (holds-said s long holds .3))
+
+module _ (s : Words) (j : ℕ) (b : Base s j) where
+  abbrev below : List Level
+  below = levels-at document-01 s (suc j)
+
+  abbrev q : Parameters
+  q = parameters-at s
+
+  abbrev Right : Result Level → Type 0
+  Right (done f) = T (levels-sound? document-01 q (f ∷ below))
+  Right (refused number place value) = T (limit-number? number) × (value ≡ [])
+  Right unfinished = Unit {0}
+
+  right : (way : Lifting) (n : ℕ) → Right (lift-level document-01 (q .p) (q .code) below way n)
+  right way n =
+      go (over document-01 q (prime-says (q .p) (prime-at s j b)) (few-variables s (b .long) (b .holds)) (omega arith) below (sound-levels s j b) .lifts way n)
+      (lift-level-number document-01 (q .p) (q .code) below way n)
+    where
+      go : {x : Result Level} → Gives (Lift-right document-01 q below) x → Numbered limit-number? x → Right x
+      go (gives {a} r) h = r .sound
+      go (refuses u) (numbers.refuses t) = (t, refl)
+      go (refuses u) (numbers.stops t) = absurd t
+      go open-yet h = tt
+
+  -- a run's strategy is one of the ways
+  chosen-is : (w : Strategy) → Chosen w → (n : ℕ) → lift-over usual s j w n ≡ lift-level document-01 (q .p) (q .code) below (way-by w) n
+  chosen-is w (by-picks d e) n =
+      (λ i.
+      limited-frame document-01 (q .code) (level-at document-01 s j) >>= λ ms.
+      lift-all (stage-at usual s j) (lifts (stage-at usual s j) (record { drops = d i; pick = by-code (stage-at usual s j .below) (w .pick); stops = e i }) n) ([], 0) [] ms)
+      ∙ ap (λ t. lift-level document-01 (q .p) (q .code) below (choose t (by-hybrid (w .pick)) by-division) n) (sym d)
+  chosen-is w (by-leading d p e) n =
+      (λ i.
+      limited-frame document-01 (q .code) (level-at document-01 s j) >>= λ ms.
+      lift-all (stage-at usual s j) (lifts (stage-at usual s j) (record { drops = d i; pick = by-code (stage-at usual s j .below) (p i); stops = e i }) n) ([], 0) [] ms)
+      ∙ ap (λ t. lift-level document-01 (q .p) (q .code) below (choose t (by-hybrid (w .pick)) by-division) n) (sym d)
+
+-- ## None is empty
+
+abbrev before : ℕ → Words → ℕ → ℕ
+before a es zero = a
+before a es (suc i) = getD es i 0
+
+module _ (q : Parameters) (components : ℕ) (below : List Level) where
+  filled-from : (z : Words) (a : ℕ) (es : Words) → T (every (vector-sound? document-01 q components 512 below) (vectors-at z a es)) → (j : ℕ) → j < length es → before a es j < getD es j 0
+  filled-from z a [] t j h = absurd (not-suc-le-zero h)
+  filled-from z a (e ∷ es) t zero h =
+      let v = vector-says document-01 q components 512 below (rows z a (e - a)) (and-left (vector-sound? document-01 q components 512 below (rows z a (e - a))) (every (vector-sound? document-01 q components 512 below) (vectors-at z e es)) t) in
+      omega (arith, v .filled, length-rows z a (e - a))
+  filled-from z a (e ∷ es) t (suc zero) h =
+      filled-from z e es (and-right (vector-sound? document-01 q components 512 below (rows z a (e - a))) (every (vector-sound? document-01 q components 512 below) (vectors-at z e es)) t) zero (omega arith)
+  filled-from z a (e ∷ es) t (suc (suc j)) h =
+      filled-from z e es (and-right (vector-sound? document-01 q components 512 below (rows z a (e - a))) (every (vector-sound? document-01 q components 512 below) (vectors-at z e es)) t) (suc j) (omega arith)
+
+start-before : (out : Words) (n j : ℕ) → j < n → before 0 (take n out) j ≡ start-of out j
+start-before out n zero h = refl
+start-before out n (suc j) h = getD-take n out j 0 (omega arith)
+
+pub apart : (s : Words) (j : ℕ) (b : Base s j) (n used : ℕ) (out : Words) → 20608 ≤ length out → used ≤ 2048 → Kept n used out
+    → T (levels-sound? document-01 (parameters-at s) (lifted-vectors out n ∷ levels-at document-01 s (suc j))) → Kept-apart n out
+apart s j b n used out l u k t = record {
+  few = k .few;
+  long = omega (arith, l);
+  filled = λ i h.
+      let x = level-says document-01 (parameters-at s) (lifted-vectors out n) (level-at document-01 s j) (levels-at document-01 s j) t .vectors in
+      let y = filled-from (parameters-at s) (length (level-at document-01 s j)) (levels-at document-01 s (suc j)) (drop 128 out) 0 (take n out) x i (omega (arith, length-take-le n out (omega (arith, l, k .few)))) in
+      omega (arith, y, start-before out n i h, getD-take n out i 0 h);
+  room = λ i h. omega (arith, k .inside i h, u);
+}
+
+-- ## What can be stored
+
+module _ (s : Words) (j : ℕ) (b : Base s j) (out : Words) (long : 20608 ≤ length out) where
+  settles : (x : Leveled) (v : Words) → Right s j b (leveled-of x out v) → Stored-as x out → Settles x out
+  settles (Vectors n used) v r k = apart s j b n used out long (k .0) (k .1) r
+  settles (Refused number) v r k = tt
+  settles (Stopped n) v r k = absurd (r .0)
+
+  valueless : (x : Leveled) (v : Words) → Settles x out → leveled-of x out [] ≡ leveled-of x out v
+  valueless (Vectors n used) v h = refl
+  valueless (Refused number) v h = refl
+  valueless (Stopped n) v h = absurd h
+
+  over-finished : (x : Leveled) (v : Words) → T (finished? (leveled-of x out v))
+  over-finished (Vectors n used) v = tt
+  over-finished (Refused number) v = tt
+  over-finished (Stopped n) v = tt
+
+  -- what a lifting left, any way
+  pub way-settles : (way : Lifting) (n : ℕ) (x : Leveled) (v : Words) → leveled-of x out v ≡ lift-level document-01 (getD s 0 0) (getD s 2 0) (levels-at document-01 s (suc j)) way n
+      → Stored-as x out → Settles x out
+  way-settles way n x v e k = settles x v (subst (Right s j b) (sym e) (right s j b way n)) k
+
+  pub run-way : (w : Strategy) → Chosen w → (n : ℕ) (x : Leveled) (v : Words) → leveled-of x out v ≡ lift-over usual s j w n
+      → leveled-of x out v ≡ lift-level document-01 (getD s 0 0) (getD s 2 0) (levels-at document-01 s (suc j)) (way-by w) n
+  run-way w c n x v e = e ∙ chosen-is s j b w c n
+
+-- ## The state with it
+
+module _ (s : Words) (k : ℕ) (h : Liftable s k) where
+  -- the levels below, as the state has them
+  pub lift-is : (way : Lifting) (n : ℕ)
+      → state-over s k (lift-level document-01 (getD s 0 0) (getD s 2 0) (levels-at document-01 s (suc (k - 1))) way n) ≡ lift document-01 n (decode document-01 s) k way
+  lift-is way n =
+      let e : k ≡ suc (k - 1) = omega (arith, h .low) in
+      ap (λ m. at-level k (lift-level document-01 (getD s 0 0) (getD s 2 0) (levels-at document-01 s (suc (k - 1))) way n) >>= λ f.
+      done (record { parameters = parameters-at s; levels = f ∷ levels-at document-01 s m })) e
+      ∙ ap (λ ls. at-level k (lift-level document-01 (getD s 0 0) (getD s 2 0) ls way n) >>= λ f. done (record { parameters = parameters-at s; levels = f ∷ ls })) (sym (up-to-is s (k - 1) (h .base .has)))
+
+  at-finished : (x : Result Level) → T (finished? x) → T (finished? (state-over s k x))
+  at-finished (done f) t = tt
+  at-finished (refused number place value) t = tt
+  at-finished unfinished t = t
+
+  -- stored: the contract of one level
+  pub lifted-by : (way : Lifting) (n : ℕ) (out : Words) → 20608 ≤ length out → (x : Leveled) (v : Words)
+      → leveled-of x out v ≡ lift-level document-01 (getD s 0 0) (getD s 2 0) (levels-at document-01 s (suc (k - 1))) way n → Stored-as x out
+      → (number : ℕ) (t : Words) → told number t ≡ stored s (state-over s k (leveled-of x out [])) → Lifted-by s k way number t
+  lifted-by way n out long x v e kept number t p =
+      let settled = way-settles s (k - 1) (h .base) out long way n x v e kept in
+      let f = valueless s (k - 1) (h .base) out long x v settled ∙ e in (
+        n,
+        p ∙ ap (λ y. stored s (state-over s k y)) f ∙ ap (stored s) (lift-is way n),
+        subst (λ y. T (finished? y)) (lift-is way n) (at-finished (lift-level document-01 (getD s 0 0) (getD s 2 0) (levels-at document-01 s (suc (k - 1))) way n) (subst (λ y. T (finished? y)) e (over-finished s (k - 1) (h .base) out long x v))),
+      )
+
+  pub stored-words : (x : Leveled) (count used : ℕ) (out t : Words) → x ≡ Vectors count used → t ≡ encode document-01 (length s) (with-level s k count out)
+      → told 0 t ≡ stored s (state-over s k (leveled-of x out []))
+  stored-words x count used out t e p = ap (told 0) p ∙ ap (λ y. stored s (state-over s k (leveled-of y out []))) (sym e)
+
+  pub refused-words : (x : Leveled) (number : ℕ) (out : Words) → x ≡ Refused number → told number s ≡ stored s (state-over s k (leveled-of x out []))
+  refused-words x number out e = ap (λ y. stored s (state-over s k (leveled-of y out []))) (sym e)
+
+-- ## What is zeroed
+
+pub emptied : (room : ℕ) (z : Words) → length z ≡ room → cleared z 0 ≡ replicate room 0
+emptied room z e = let d : length z - 0 ≡ room = omega (arith, e) in ap (λ a. replicate a 0) d

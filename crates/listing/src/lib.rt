@@ -1,0 +1,90 @@
+// The sheet of a file printed into a buffer: reading, acceptance, all levels, then their lines.
+// Knows: crate definitions' Sheet.
+// All levels are lifted in the state, then printed; nothing is zeroed.
+ghost use mathlib.Core.Path.{_≡_};
+ghost use Prim.Native.Nat.{ℕ, _+_, _≤_, _<_};
+ghost use lib.ListN.{length, getD};
+ghost use Rattle.definitions.specs.Limits.{document-01};
+ghost use Rattle.definitions.specs.Sheet.{sheet as sheet-definition};
+ghost use Rattle.lifting.specs.Stages.{Base};
+ghost use Rattle.printing.specs.Lines.{Printed};
+ghost use Rattle.listing.specs.Listed.{Prints, lines-of, all-lines-of, levels-sheet, accepted-sheet};
+use lift::Accepted;
+
+fn narrow(k: usize) -> u16
+    requires { ⌜ k < 65536 ⌝ }
+    ensures { λ r. ⌜ r ≡ k ⌝ }
+{
+    k as u16
+}
+
+// Level k of a state.
+fn print_level(out: &mut [u8], at: usize, state: &[u16], k: usize) -> usize
+    requires { ⌜ Base (now state) k × (at + 151581 ≤ length (now out)) ⌝ }
+    ensures { λ r. ⌜ Printed (now (out .entry)) (now (out .exit)) at r (lines-of (now (state .entry)) k) × (r ≤ at + 151581) ⌝ }
+{
+    let count = levels::count_of(state, k);
+    let n = levels::place(state[1]);
+    let start = 1295 + k * 20480;
+    let ends = 6 + k * 129;
+    let l = narrow(k);
+    printing::level_lines(out, at, &state[start..], &state[ends..], count, n, l)
+}
+
+// The levels of a state from level 1 on.
+fn print_levels(out: &mut [u8], state: &[u16]) -> usize
+    requires { ⌜ Base (now state) 0 × (1364229 ≤ length (now out)) ⌝ }
+    ensures { λ r. ⌜ Printed (now (out .entry)) (now (out .exit)) 0 r (all-lines-of (now (state .entry))) × (r ≤ 1364229) ⌝ }
+{
+    let height = levels::place(state[4]);
+    let mut at: usize = 0;
+    let mut k: usize = 1;
+    while k < height {
+        at = print_level(out, at, state, k);
+        k += 1;
+    }
+    at
+}
+
+// "Levels 1 on, hybrid, pick code 2, until a count is 0 or level 9 is printed"; "A refusal prints, after finished levels, `X,number,place`".
+fn print_lifted(out: &mut [u8], state: &mut [u16], work: &mut [u16]) -> usize
+    requires { ⌜ Base (now state) 0 × (getD (now state) 4 0 ≡ 1) × (5120 ≤ length (now work)) × (1400000 ≤ length (now out)) ⌝ }
+    ensures { λ r. ⌜ Prints (λ n. levels-sheet n (now (state .entry))) (now (out .entry)) (now (out .exit)) 0 r × (r ≤ 1400000) ⌝ }
+{
+    let e = all_levels::lift_levels(state, work);
+    let number = e.number;
+    let at = print_levels(out, state);
+    if number == 0 {
+        return at;
+    }
+    printing::pair_line(out, at, 88, number, e.place)
+}
+
+// A file that was read: accepted or refused.
+fn accept(out: &mut [u8], state: &mut [u16], work: &mut [u16]) -> usize
+    requires { ⌜ Base (now state) 0 × (getD (now state) 4 0 ≡ 1) × (5120 ≤ length (now work)) × (1400000 ≤ length (now out)) ⌝ }
+    ensures { λ r. ⌜ Prints (λ n. accepted-sheet n (now (state .entry))) (now (out .entry)) (now (out .exit)) 0 r × (r ≤ 1400000) ⌝ }
+{
+    match lifting::accept_level(work, state) {
+        Accepted::Yes => print_lifted(out, state, work),
+        Accepted::Refused(number, place) => printing::pair_line(out, 0, 88, number, place),
+        Accepted::Stopped(place, m) => {
+            let n = levels::place(state[1]);
+            let a = printing::pair_line(out, 0, 88, 9, place);
+            printing::w_lines(out, a, work, m, n)
+        }
+    }
+}
+
+// The sheet of a file, in front of out.
+pub fn print(file: &[u8], state: &mut [u16], work: &mut [u16], out: &mut [u8]) -> usize
+    requires { ⌜ (206095 ≤ length (now state)) × (5120 ≤ length (now work)) × (1400000 ≤ length (now out)) ⌝ }
+    ensures { λ r. ⌜ Prints (λ n. sheet-definition document-01 n (now (file .entry))) (now (out .entry)) (now (out .exit)) 0 r × (r ≤ 1400000) ⌝ }
+{
+    let r = problem::read(file, state);
+    let number = r.number;
+    if number == 0 {
+        return accept(out, state, work);
+    }
+    printing::pair_line(out, 0, 88, number, r.place)
+}

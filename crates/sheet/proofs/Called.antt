@@ -1,0 +1,54 @@
+-- The call: 16, or the sheet with zeros after it and in the other buffers.
+use mathlib.Core.Path.{_≡_, sym, ap, _∙_}
+use mathlib.Core.Bool.{Bool}
+use mathlib.Core.Option.{Option, some}
+use mathlib.Core.List.{_++_}
+use Prim.Native.Nat.{ℕ, _-_, _<_, _≤_}
+use native.Mathlib.Omega.{arith}
+use borrow.Author.Tests.{le-leb, lt-leb}
+use lib.Dec.{leb}
+use lib.ListN.{length, replicate}
+use Rattle.definitions.specs.Limits.{document-01}
+use Rattle.definitions.specs.Lists.{_and_, _then_, choose}
+use Rattle.definitions.specs.Problem.{Bytes}
+use Rattle.definitions.specs.Layout.{Words, padded, zeros}
+use Rattle.definitions.specs.Sheet.{sheet}
+use Rattle.terms.specs.Rows.{cleared}
+use Rattle.all_levels.proofs.Lifting.{emptied}
+use Rattle.printing.specs.Lines.{Printed}
+use Rattle.sheet.specs.Sheets.{Told, called}
+
+behind : (out after : Bytes) (r : ℕ) (bytes : Bytes) → Printed out after 0 r bytes → length after ≡ length out → cleared after r ≡ padded (length out) bytes
+behind out after r bytes p e =
+    let d : length after - r ≡ length out - length bytes = omega (arith, e, p .ends) in
+    (λ i. p .front i ++ replicate (d i) 0)
+
+module _ (file : Bytes) (state work : Words) (out : Bytes) where
+  abbrev by-tests : ℕ → Bool → Bool → Bool → Option Told
+  by-tests n a b c = choose (a and b and c) (sheet document-01 n file then λ bytes. some (0, length bytes, zeros state, zeros work, padded (length out) bytes)) (some (16, 0, state, work, out))
+
+  abbrev pub Called : ℕ → ℕ → Words → Words → Bytes → Type 0
+  Called number size s w o = (n : ℕ) × (_≡_ {A = Option Told} (some (number, size, s, w, o)) (called n file state work out))
+
+  pub short-state : length state < 206095 → Called 16 0 state work out
+  short-state h = (0, sym (ap (λ a. by-tests 0 a (leb 5120 (length work)) (leb 1400000 (length out))) (lt-leb 206095 (length state) h)))
+
+  module _ (long : 206095 ≤ length state) where
+    pub short-work : length work < 5120 → Called 16 0 state work out
+    short-work h = (0, sym (λ i. by-tests 0 (le-leb 206095 (length state) long i) (lt-leb 5120 (length work) h i) (leb 1400000 (length out))))
+
+    module _ (wide : 5120 ≤ length work) where
+      pub short-out : length out < 1400000 → Called 16 0 state work out
+      short-out h = (0, sym (λ i. by-tests 0 (le-leb 206095 (length state) long i) (le-leb 5120 (length work) wide i) (lt-leb 1400000 (length out) h i)))
+
+      pub whole-sheet : 1400000 ≤ length out → (n : ℕ) (bytes : Bytes) → some bytes ≡ sheet document-01 n file → (r : ℕ) (s w : Words) (o : Bytes) → Printed out o 0 r bytes
+          → length s ≡ length state → length w ≡ length work → length o ≡ length out → Called 0 r (cleared s 0) (cleared w 0) (cleared o r)
+      whole-sheet h n bytes e r s w o p ls lw lo = (
+        n,
+        (λ i. some (0, sum-none i, emptied (length state) s ls i, emptied (length work) w lw i, behind out o r bytes p lo i))
+            ∙ ap (λ x. x then λ bs. some (0, length bs, zeros state, zeros work, padded (length out) bs)) e
+            ∙ sym (λ i. by-tests n (le-leb 206095 (length state) long i) (le-leb 5120 (length work) wide i) (le-leb 1400000 (length out) h i)),
+      )
+        where
+          sum-none : r ≡ length bytes
+          sum-none = omega (arith, p .ends)

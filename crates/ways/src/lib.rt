@@ -1,0 +1,54 @@
+// A level of a sound state lifted by any of the three ways, and stored.
+// Knows: crate definitions' Calls, through crates all_levels and tree_level.
+ghost use Prim.Native.Nat.{_/_, _≤_};
+ghost use lib.ListN.{length};
+ghost use Rattle.definitions.specs.Limits.{document-01};
+ghost use Rattle.definitions.specs.Lifting.{by-tree};
+ghost use Rattle.definitions.specs.Layout.{work-words, lifting-by};
+ghost use Rattle.all_levels.specs.Level.{Liftable, Lifted-by};
+ghost use Rattle.ways.specs.Ways.{way-of};
+use runs::Strategy;
+
+// "by one of three ways"; hybrid's with its pick code.
+pub enum Way {
+    Division,
+    Hybrid(u16),
+    Tree,
+}
+
+// Level k by the tree.
+fn lift_tree(state: &mut [u16], work: &mut [u16], cache: &mut [u16], k: usize) -> u16
+    requires { ⌜ Liftable (now state) k × (40960 ≤ length (now work)) ⌝ }
+    ensures { λ r. ⌜ Lifted-by (now (state .entry)) k (by-tree (length (now (cache .entry)) / 10)) r (now (state .exit)) ⌝ }
+{
+    let mut out = [0u16; 25728];
+    let b = lifting::usual();
+    let x = tree_level::lift_level(&mut out, cache, work, state, k - 1, b);
+    all_levels::store(state, k, x, &out)
+}
+
+// Level k.
+pub fn lift_by(state: &mut [u16], work: &mut [u16], cache: &mut [u16], k: usize, way: Way) -> u16
+    requires { ⌜ Liftable (now state) k × (work-words document-01 (way-of way) ≤ length (now work)) ⌝ }
+    ensures { λ r. ⌜ Lifted-by (now (state .entry)) k (lifting-by (way-of way) (now (cache .entry))) r (now (state .exit)) ⌝ }
+{
+    match way {
+        Way::Division => {
+            let w = Strategy {
+                drops: false,
+                pick: 1,
+                stops: false,
+            };
+            all_levels::lift_level(state, work, k, w)
+        }
+        Way::Hybrid(pick) => {
+            let w = Strategy {
+                drops: true,
+                pick,
+                stops: false,
+            };
+            all_levels::lift_level(state, work, k, w)
+        }
+        Way::Tree => lift_tree(state, work, cache, k),
+    }
+}
