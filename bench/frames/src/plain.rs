@@ -1,8 +1,8 @@
 //! The frame as one would write it in Rust: for each element the generators of the earlier ones, sorted, equal ones once, the minimal ones kept.
 
+use common::buffers::ROW;
 use std::cmp::Ordering;
 
-const ROW: usize = 10;
 type Exponents = [u16; 8];
 
 fn degree(e: &Exponents) -> u32 {

@@ -1,10 +1,7 @@
 //! The soundness test as one would write it in Rust: one pass over each level, images on level 0 made as it goes.
 
+use common::buffers::{count, rows, LEVEL_ROWS, ROW, TERMS, VECTORS};
 use std::cmp::Ordering;
-
-const ROW: usize = 10;
-const VECTORS: usize = 128;
-const ROWS: usize = 2_048;
 
 /// The image of a module monomial on level 0; the rank of its component's image decides ties, then its own component.
 #[derive(Clone, Copy, Default)]
@@ -83,21 +80,21 @@ pub fn sound(state: &[u16]) -> bool {
     let mut table = [Image::default(); VECTORS];
     let mut below = 0;
     for k in 0..complete {
-        let at = 5 + 129 * k;
+        let at = count(k);
         let count = usize::from(state[at]);
         let (in_range, most, components) = match k {
-            0 => ((1..=64).contains(&count), ROWS, s),
+            0 => ((1..=64).contains(&count), TERMS, s),
             _ => (count <= VECTORS, 512, below as u16),
         };
         if !in_range {
             return false;
         }
-        let rows = &state[1_295 + 20_480 * k..][..20_480];
+        let rows = &state[rows(k)..][..LEVEL_ROWS];
         let mut leads = [Image::default(); VECTORS];
         let mut start = 0;
         for (v, end) in state[at + 1..][..count].iter().enumerate() {
             let end = usize::from(*end);
-            if end <= start || end > ROWS || end - start > most {
+            if end <= start || end > TERMS || end - start > most {
                 return false;
             }
             let mut before: Option<Image> = None;

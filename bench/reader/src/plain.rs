@@ -1,11 +1,10 @@
 //! A plain Rust reader: the same tests in the same order, the same words, no allocation.
 
+use common::buffers::{count, rows, ROW, STATE};
 use std::cmp::Ordering;
 
-/// The words that a state needs.
-pub const STATE: usize = 206_095;
-const COUNT: usize = 5;
-const ROWS: usize = 1_295;
+const COUNT: usize = count(0);
+const ROWS: usize = rows(0);
 
 /// The numbers of a line, zeros behind them.
 type Numbers = [u16; 11];
@@ -50,7 +49,7 @@ fn read_lines(file: &[u8], state: &mut [u16]) -> Result<(), (u16, usize)> {
                     return Err((number, place));
                 }
                 elements = numbers[0];
-                state[ROWS + 10 * count..][..10].copy_from_slice(&numbers[1..]);
+                state[ROWS + ROW * count..][..ROW].copy_from_slice(&numbers[1..]);
                 state[COUNT + elements as usize] = count as u16 + 1;
                 state[COUNT] = elements;
                 before = numbers;

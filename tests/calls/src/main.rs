@@ -7,7 +7,7 @@
 mod compare;
 mod proved;
 
-use common::arguments::{asked, words, Asked};
+use common::arguments::{asked, words};
 use common::buffers::{self, OUT, ROW, STATE, WORK};
 use common::deep::{deep, on_small_stack, DEEPEST};
 use common::examples::examples;
@@ -380,32 +380,26 @@ fn raise(random: &mut Random, basis: &Basis, state: &mut [u16]) -> Vec<(usize, u
 fn main() {
     match words().split_first() {
         Some((first, rest)) if first == "primes" => {
-            primes(&asked::<()>(rest, "files", (FILES, SEED), &[]));
+            let (files, seed, _) = asked::<()>(rest, "files", (FILES, SEED), &[]);
+            primes(files, seed);
         }
-        _ => calls(&asked(&words(), "calls", (CALLS, SEED), &SPOILS)),
+        _ => {
+            let (wanted, seed, spoil) = asked(&words(), "calls", (CALLS, SEED), &SPOILS);
+            calls(wanted, seed, spoil);
+        }
     }
 }
 
-fn primes(asked: &Asked<()>) {
-    let Asked {
-        wanted: files,
-        seed,
-        ..
-    } = asked;
-    let mut lists = Lists::new(*seed, None);
-    let large = large_primes(&mut lists, *files);
+fn primes(files: u64, seed: u64) {
+    let mut lists = Lists::new(seed, None);
+    let large = large_primes(&mut lists, files);
     println!(
         "calls: {files} files over 65,521, 65,519 and 32,771, {large} of them read with a coefficient above 32,767: {} calls agree in number, place and every word ({} left out; seed {seed})",
         lists.compare.calls, lists.compare.left_out
     );
 }
 
-fn calls(asked: &Asked<Spoiled>) {
-    let Asked {
-        wanted,
-        seed,
-        spoil,
-    } = *asked;
+fn calls(wanted: u64, seed: u64, spoil: Option<Spoiled>) {
     let mut lists = Lists::new(seed, spoil.map(|what| (700, what)));
     if spoil.is_none() {
         lists.whole_examples();

@@ -203,7 +203,7 @@ fn descending(
         .iter()
         .map(|m| (modules.key(below.len(), m), *m))
         .collect();
-    keyed.sort_by(|a, b| b.0.cmp(&a.0));
+    keyed.sort_by_key(|(key, _)| std::cmp::Reverse(*key));
     keyed.dedup_by(|a, b| a.0 == b.0);
     keyed
         .into_iter()

@@ -3,7 +3,7 @@
 //!     test-frames [LISTS [SEED]]           at least so many lists of leading monomials (150,000 without it)
 //!     test-frames spoil number|count|row   spoils one answer: the run must find it and exit with 1
 
-use common::arguments::{asked, words, Asked};
+use common::arguments::{asked, words};
 use common::buffers::ROW;
 use common::examples::examples;
 use common::states::row_is;
@@ -218,11 +218,7 @@ fn short_slices() {
 }
 
 fn main() {
-    let Asked {
-        wanted,
-        seed,
-        spoil,
-    } = asked(&words(), "lists", (LISTS, SEED), &SPOILS);
+    let (wanted, seed, spoil) = asked(&words(), "lists", (LISTS, SEED), &SPOILS);
     let mut compare = Compare {
         frame: vec![0; ROW * ROWS],
         region: vec![0; ROW * 128],

@@ -3,7 +3,7 @@
 //!     test-levels [STATES [SEED]]   at least so many states (400,000 without it)
 //!     test-levels spoil             spoils one answer: the run must find it and exit with 1
 
-use common::arguments::{asked, words, Asked};
+use common::arguments::{asked, words};
 use common::buffers::{rows, STATE};
 use common::states::{alter, full_basis, long_basis, random_basis, write_basis, Size};
 use reference::buffers::read_state;
@@ -82,11 +82,7 @@ fn lifted(random: &mut Random, limits: &Limits) -> Option<Basis> {
 
 fn main() {
     // there is one way to spoil an answer, without a name
-    let Asked {
-        wanted,
-        seed,
-        spoil,
-    } = asked(&words(), "states", (STATES, SEED), &[("", ())]);
+    let (wanted, seed, spoil) = asked(&words(), "states", (STATES, SEED), &[("", ())]);
     let mut compare = Compare {
         limits: Limits::document_01(),
         states: 0,

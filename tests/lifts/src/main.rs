@@ -6,7 +6,7 @@
 
 mod compare;
 
-use common::arguments::{asked, words, Asked as Wanted};
+use common::arguments::{asked, words};
 use common::buffers::{work, STATE};
 use common::deep::{deep, on_small_stack, DEEPEST};
 use common::examples::examples;
@@ -396,11 +396,7 @@ fn deepest() {
 }
 
 fn main() {
-    let Wanted {
-        wanted,
-        seed,
-        spoil,
-    } = asked(&words(), "bases", (BASES, SEED), &SPOILS);
+    let (wanted, seed, spoil) = asked(&words(), "bases", (BASES, SEED), &SPOILS);
     let mut bases = Bases {
         compare: Compare::new(seed),
         random: Random::new(seed),

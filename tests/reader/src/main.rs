@@ -5,7 +5,7 @@
 
 mod compare;
 
-use common::arguments::{asked, words, Asked};
+use common::arguments::{asked, words};
 use common::buffers::{rows, STATE};
 use common::files::{
     changed_at, damage_some, fields_of, random_problem, with_each_field, with_field, FIELDS,
@@ -21,11 +21,7 @@ const FILES: u64 = 200_000;
 const SEED: u64 = 20_250_101;
 
 fn main() {
-    let Asked {
-        wanted,
-        seed,
-        spoil,
-    } = asked(&words(), "files", (FILES, SEED), &SPOILS);
+    let (wanted, seed, spoil) = asked(&words(), "files", (FILES, SEED), &SPOILS);
     let mut compare = Compare::new(seed);
     compare.spoil = spoil.map(|what| (700, what));
     let mut random = Random::new(seed);

@@ -8,7 +8,7 @@
 mod compare;
 mod program;
 
-use common::arguments::{asked, words, Asked};
+use common::arguments::{asked, words};
 use common::buffers::{SHEET as OUT, STATE, WORK};
 use common::examples::{examples, files_of};
 use common::files::{
@@ -35,11 +35,7 @@ const EXAMPLE_BUDGET: u64 = 10_000_000;
 const LONGEST: &str = "katsura4_lp";
 
 fn main() {
-    let Asked {
-        mut wanted,
-        seed,
-        spoil,
-    } = asked(&words(), "files", (FILES, SEED), &SPOILS);
+    let (mut wanted, seed, spoil) = asked(&words(), "files", (FILES, SEED), &SPOILS);
     if spoil.is_some() {
         wanted = 200;
     }
