@@ -1,34 +1,7 @@
 //! The frame as one would write it in Rust: for each element the generators of the earlier ones, sorted, equal ones once, the minimal ones kept.
 
-use std::cmp::Ordering;
-
-const ROW: usize = 10;
-type Exponents = [u16; 8];
-
-fn degree(e: &Exponents) -> u32 {
-    e.iter().map(|x| u32::from(*x)).sum()
-}
-
-fn compare(code: u16, a: &Exponents, b: &Exponents) -> Ordering {
-    match code {
-        1 => a.cmp(b),
-        2 => degree(a).cmp(&degree(b)).then_with(|| a.cmp(b)),
-        _ => degree(a)
-            .cmp(&degree(b))
-            .then_with(|| b.iter().rev().cmp(a.iter().rev())),
-    }
-}
-
-fn exponents(row: &[u16]) -> Exponents {
-    row[2..ROW].try_into().expect("eight words")
-}
-
-/// Without a branch for each exponent: they cost more than they save.
-fn divides(a: &Exponents, b: &Exponents) -> bool {
-    a.iter()
-        .zip(b)
-        .fold(true, |so_far, (x, y)| so_far & (x <= y))
-}
+use bench_common::plain::{compare, divides, exponents, Exponents};
+use common::buffers::ROW;
 
 /// How many frame terms there are now in the rows of `frame`; none where there are more than the limit.
 pub fn form(frame: &mut [u16], limit: usize, heads: &[u16], code: u16) -> Option<usize> {

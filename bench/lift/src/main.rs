@@ -1,20 +1,21 @@
 //! Reading with acceptance and all levels, by each way, on the files of examples/: the public calls beside plain Rust that does the same, and beside other
-//! systems where they are installed. Both go in turns in one process; a time is the median. One argument: how long each cell may take, in milliseconds; a second one:
-//! the name of one file.
+//! systems where they are installed. Both go in turns in one process; a time is the median. One argument: how long each cell may take, in milliseconds; a
+//! second one: the name of one file.
 
 mod others;
 mod plain;
-#[path = "../../../tests/calls/src/proved.rs"]
-mod proved;
 
+use bench_common::timing::{medians, medians_while};
+use common::buffers::{count, work, OUT, ROW, STATE, TREE_WORK, WORK};
 use common::examples::examples;
-use reference::buffers::{state_words, write_state, ROW};
+use reference::buffers::write_state;
 use reference::engine::State;
 use reference::lifting::Way as ReferenceWay;
 use reference::reader::{read_problem, Problem};
 use reference::Limits;
 use std::hint::black_box;
 use std::time::{Duration, Instant};
+use tagetessash::calls as proved;
 
 /// A way by its name, the public call's codes, the cache in terms, and plain Rust's form.
 struct Way {
@@ -82,18 +83,32 @@ struct Buffers {
     state: Vec<u16>,
     work: Vec<u16>,
     cache: Vec<u16>,
+    out: Vec<u16>,
+}
+
+/// Each call with buffers of the length that it needs; its number.
+impl Buffers {
+    fn read(&mut self, file: &[u8]) -> u16 {
+        proved::read(file, &mut self.state, &mut self.work[..WORK]).0
+    }
+
+    fn lift(&mut self, way: &Way, level: usize) -> u16 {
+        let work = &mut self.work[..work(way.code)];
+        let cache = &mut self.cache[..ROW * way.cache];
+        proved::lift(&mut self.state, work, cache, level, way.code, way.pick).0
+    }
+
+    fn fetch(&mut self, level: usize, vector: usize) -> u16 {
+        proved::fetch(&self.state, &mut self.out, level, vector).0
+    }
 }
 
 /// Reads and lifts until a level is empty, or level 9.
 fn proved_run(file: &[u8], way: &Way, buffers: &mut Buffers) {
-    let Buffers { state, work, cache } = buffers;
-    let work = &mut work[..if way.code == 2 { 40_960 } else { 5_120 }];
-    let cache = &mut cache[..ROW * way.cache];
-    assert_eq!(proved::read(file, state, &mut work[..5_120]).0, 0);
+    assert_eq!(buffers.read(file), 0);
     for level in 1..=9 {
-        let number = proved::lift(state, work, cache, level, way.code, way.pick).0;
-        assert_eq!(number, 0);
-        if state[5 + 129 * level] == 0 {
+        assert_eq!(buffers.lift(way, level), 0);
+        if buffers.state[count(level)] == 0 {
             break;
         }
     }
@@ -165,28 +180,19 @@ fn agree(file: &[u8], way: &Way, held: &State, buffers: &mut Buffers) {
     }
 }
 
-fn median(mut times: Vec<Duration>) -> f64 {
-    times.sort();
-    times[times.len() / 2].as_secs_f64() * 1e6
-}
-
-fn timed(mut run: impl FnMut()) -> Duration {
-    let start = Instant::now();
-    run();
-    start.elapsed()
-}
-
 /// Both in turns, at least 5 times and for this long.
-fn both(file: &[u8], way: &Way, buffers: &mut Buffers, cell: Duration) -> (f64, f64) {
-    let (mut ours, mut theirs) = (Vec::new(), Vec::new());
+fn both(file: &[u8], way: &Way, buffers: &mut Buffers, cell: Duration) -> [f64; 2] {
     let start = Instant::now();
-    while ours.len() < 5 || start.elapsed() < cell {
-        ours.push(timed(|| proved_run(black_box(file), way, buffers)));
-        theirs.push(timed(|| {
-            black_box(plain_run(black_box(file), way));
-        }));
-    }
-    (median(ours), median(theirs))
+    medians_while(
+        |done| done < 5 || start.elapsed() < cell,
+        buffers,
+        [
+            &mut |buffers| proved_run(black_box(file), way, buffers),
+            &mut |_| {
+                black_box(plain_run(black_box(file), way));
+            },
+        ],
+    )
 }
 
 fn homogeneous(problem: &Problem) -> bool {
@@ -209,51 +215,23 @@ fn cell(time: Option<f64>) -> String {
 
 /// What one call costs on the smallest problem.
 fn single_calls(file: &[u8], buffers: &mut Buffers) {
-    let turns = 2_000;
-    let Buffers { state, work, cache } = buffers;
-    let mut out = vec![0; 5_120];
-    let read = median(
-        (0..turns)
-            .map(|_| {
-                timed(|| {
-                    proved::read(black_box(file), state, &mut work[..5_120]);
-                })
-            })
-            .collect(),
-    );
-    println!("koszul3: reading {read:.1} µs");
+    let mut time = |call: &dyn Fn(&mut Buffers) -> u16| {
+        let [time] = medians(
+            2_000,
+            buffers,
+            [&mut |buffers| assert_eq!(call(buffers), 0)],
+        );
+        format!("{time:.1}")
+    };
+    let read = time(&|buffers| buffers.read(black_box(file)));
+    println!("koszul3: reading {read} µs");
     for way in &WAYS {
-        let work = &mut work[..if way.code == 2 { 40_960 } else { 5_120 }];
-        let cache = &mut cache[..ROW * way.cache];
-        let lifts: Vec<String> = (1..=3)
-            .map(|level| {
-                // lifting a complete level again drops the levels above it
-                let time = median(
-                    (0..turns)
-                        .map(|_| {
-                            timed(|| {
-                                let number =
-                                    proved::lift(state, work, cache, level, way.code, way.pick).0;
-                                assert_eq!(number, 0);
-                            })
-                        })
-                        .collect(),
-                );
-                format!("{time:.1}")
-            })
-            .collect();
+        // lifting a complete level again drops the levels above it
+        let lifts = [1, 2, 3].map(|level| time(&|buffers| buffers.lift(way, level)));
         println!("  {}: levels 1 to 3 {} µs", way.name, lifts.join(", "));
     }
-    let fetch = median(
-        (0..turns)
-            .map(|_| {
-                timed(|| {
-                    assert_eq!(proved::fetch(state, &mut out, 1, 2).0, 0);
-                })
-            })
-            .collect(),
-    );
-    println!("  fetching a vector {fetch:.1} µs");
+    let fetch = time(&|buffers| buffers.fetch(1, 2));
+    println!("  fetching a vector {fetch} µs");
 }
 
 fn main() {
@@ -264,9 +242,10 @@ fn main() {
     let only = std::env::args().nth(2);
     let limits = Limits::document_01();
     let mut buffers = Buffers {
-        state: vec![0; state_words(&limits)],
-        work: vec![0; 40_960],
+        state: vec![0; STATE],
+        work: vec![0; TREE_WORK],
         cache: vec![0; ROW * 4_096],
+        out: vec![0; OUT],
     };
     println!("Microseconds: public calls / plain Rust = ratio.");
     let names: Vec<&str> = WAYS.iter().map(|way| way.name).collect();
@@ -294,7 +273,7 @@ fn main() {
                 continue;
             };
             agree(&file, way, held, &mut buffers);
-            let (ours, theirs) = both(&file, way, &mut buffers, long);
+            let [ours, theirs] = both(&file, way, &mut buffers, long);
             if i == 1 {
                 by_hybrid = ours;
             }

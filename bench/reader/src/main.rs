@@ -3,18 +3,16 @@
 
 mod plain;
 
-use std::time::{Duration, Instant};
+use bench_common::rows::Numbers;
+use bench_common::timing::{medians, turns};
+use common::buffers::STATE;
+use std::hint::black_box;
 use testing::reader::read as proved;
 
 /// One element of 2,048 terms, descending in the order of the code, every line 32 bytes long but some shorter by a digit.
 fn largest_file(code: u16) -> Vec<u8> {
-    let mut seed = 1_u64;
-    let mut below = |bound: u64| {
-        seed = seed
-            .wrapping_mul(6_364_136_223_846_793_005)
-            .wrapping_add(1_442_695_040_888_963_407);
-        (seed >> 33) % bound
-    };
+    let mut numbers = Numbers(1);
+    let mut below = |bound| numbers.below(bound);
     let mut terms: Vec<[u64; 8]> = Vec::new();
     while terms.len() < 2_048 {
         let e: [u64; 8] = std::array::from_fn(|i| if i < 4 { 10 + below(90) } else { below(10) });
@@ -42,37 +40,30 @@ fn largest_file(code: u16) -> Vec<u8> {
     file.into_bytes()
 }
 
-fn median(mut times: Vec<Duration>) -> Duration {
-    times.sort();
-    times[times.len() / 2]
-}
-
 fn main() {
-    let turns: usize = std::env::args()
-        .nth(1)
-        .map_or(2_000, |n| n.parse().expect("a count of turns"));
-    let mut state = vec![0_u16; plain::STATE];
+    let turns = turns(2_000);
+    let mut state = vec![0_u16; STATE];
     for code in 1..=3 {
         let file = largest_file(code);
         assert_eq!(proved(&file, &mut state), (0, 0));
         let words = state.clone();
         assert_eq!(plain::read(&file, &mut state), (0, 0));
         assert!(state == words, "the words differ");
-        let (mut ours, mut theirs) = (Vec::new(), Vec::new());
-        for _ in 0..turns {
-            let start = Instant::now();
-            std::hint::black_box(proved(std::hint::black_box(&file), &mut state));
-            ours.push(start.elapsed());
-            let start = Instant::now();
-            std::hint::black_box(plain::read(std::hint::black_box(&file), &mut state));
-            theirs.push(start.elapsed());
-        }
-        let (ours, theirs) = (median(ours), median(theirs));
+        let [ours, theirs] = medians(
+            turns,
+            &mut state,
+            [
+                &mut |state| {
+                    black_box(proved(black_box(&file), state));
+                },
+                &mut |state| {
+                    black_box(plain::read(black_box(&file), state));
+                },
+            ],
+        );
         println!(
-            "order {code}: proved {:.1} us, plain {:.1} us, ratio {:.2}",
-            ours.as_secs_f64() * 1e6,
-            theirs.as_secs_f64() * 1e6,
-            ours.as_secs_f64() / theirs.as_secs_f64()
+            "order {code}: proved {ours:.1} us, plain {theirs:.1} us, ratio {:.2}",
+            ours / theirs
         );
     }
 }

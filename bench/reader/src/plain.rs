@@ -1,11 +1,11 @@
 //! A plain Rust reader: the same tests in the same order, the same words, no allocation.
 
+use bench_common::plain::{self, is_prime};
+use common::buffers::{count, rows, ROW, STATE};
 use std::cmp::Ordering;
 
-/// The words that a state needs.
-pub const STATE: usize = 206_095;
-const COUNT: usize = 5;
-const ROWS: usize = 1_295;
+const COUNT: usize = count(0);
+const ROWS: usize = rows(0);
 
 /// The numbers of a line, zeros behind them.
 type Numbers = [u16; 11];
@@ -50,7 +50,7 @@ fn read_lines(file: &[u8], state: &mut [u16]) -> Result<(), (u16, usize)> {
                     return Err((number, place));
                 }
                 elements = numbers[0];
-                state[ROWS + 10 * count..][..10].copy_from_slice(&numbers[1..]);
+                state[ROWS + ROW * count..][..ROW].copy_from_slice(&numbers[1..]);
                 state[COUNT + elements as usize] = count as u16 + 1;
                 state[COUNT] = elements;
                 before = numbers;
@@ -117,11 +117,6 @@ fn parameters(v: &Numbers) -> Result<Parameters, u16> {
     Ok(Parameters { p, n, code, s })
 }
 
-fn is_prime(p: u16) -> bool {
-    let p = u32::from(p);
-    p >= 2 && (2..).take_while(|d| d * d <= p).all(|d| p % d != 0)
-}
-
 fn refusal(
     q: &Parameters,
     count: usize,
@@ -150,14 +145,6 @@ fn refusal(
 }
 
 fn compare(code: u16, a: &Numbers, b: &Numbers) -> Ordering {
-    let (x, y) = (&a[3..], &b[3..]);
-    let degree = |e: &[u16]| e.iter().map(|e| u32::from(*e)).sum::<u32>();
-    let by_exponents = match code {
-        1 => x.cmp(y),
-        2 => degree(x).cmp(&degree(y)).then_with(|| x.cmp(y)),
-        _ => degree(x)
-            .cmp(&degree(y))
-            .then_with(|| y.iter().rev().cmp(x.iter().rev())),
-    };
-    by_exponents.then(a[2].cmp(&b[2]))
+    let ([_, _, c, x @ ..], [_, _, d, y @ ..]) = (a, b);
+    plain::compare(code, x, y).then(c.cmp(d))
 }

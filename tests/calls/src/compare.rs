@@ -1,16 +1,13 @@
 //! One call on two sets of buffers: number, place and every word of every buffer.
 
 use crate::proved;
+use common::buffers::{OUT, STATE, TREE_WORK, WORK};
+use common::report::shown;
 use reference::buffers::{fetch_call, lift_call_within, read_call_within};
 use reference::lifting::Way;
 use reference::random::Random;
 use reference::Limits;
 
-/// The lengths that calls need, in words.
-pub const STATE: usize = 206_095;
-pub const WORK: usize = 5_120;
-pub const TREE_WORK: usize = 40_960;
-pub const OUT: usize = 5_120;
 /// The longest cache.
 pub const CACHE: usize = 20_000;
 /// Words that a longer buffer may have.
@@ -45,6 +42,14 @@ pub struct Lent {
     pub out: usize,
 }
 
+/// As much as any call needs.
+pub const WHOLE: Lent = Lent {
+    state: STATE,
+    work: TREE_WORK,
+    cache: CACHE,
+    out: OUT,
+};
+
 /// A call with its arguments.
 #[derive(Clone, Copy, Debug)]
 pub enum Call<'a> {
@@ -63,6 +68,15 @@ pub enum Spoiled {
     Cache,
     Out,
 }
+
+pub const SPOILS: [(&str, Spoiled); 6] = [
+    ("number", Spoiled::Number),
+    ("place", Spoiled::Place),
+    ("state", Spoiled::State),
+    ("work", Spoiled::Work),
+    ("cache", Spoiled::Cache),
+    ("out", Spoiled::Out),
+];
 
 pub const KINDS: [&str; 6] = [
     "read",
@@ -211,7 +225,7 @@ impl Compare {
             self.calls
         );
         match call {
-            Call::Read(file) => println!("read {}", file[..file.len().min(2_000)].escape_ascii()),
+            Call::Read(file) => println!("read {}", shown(file, 2_000)),
             _ => println!("{call:?}"),
         }
         println!("state from {:?}", &self.theirs.state[..6]);

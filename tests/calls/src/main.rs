@@ -7,15 +7,20 @@
 mod compare;
 mod proved;
 
+use common::arguments::{asked, words};
+use common::buffers::{self, OUT, ROW, STATE, WORK};
 use common::deep::{deep, on_small_stack, DEEPEST};
 use common::examples::examples;
-use common::files::{long_tails, many_monomials};
-use common::states::{alter, random_basis as random_state, Size as StateSize};
-use compare::{Call, Compare, Lent, Spoiled, CACHE, KINDS, MORE, OUT, STATE, TREE_WORK, WORK};
-use reference::buffers::{read_state, write_state, Layout, ROW};
-use reference::engine::{Basis, State};
-use reference::generate::files::{damage, edited_file, limit_file};
-use reference::generate::problems::{problem_file, random_basis, random_set, Size};
+use common::files::{basis_or_set, damage_some, long_tails, many_monomials, random_size};
+use common::report::counts;
+use common::states::{
+    alter, basis_of, leading_variable, random_basis as random_state, write_basis, Size,
+};
+use compare::{Call, Compare, Lent, Spoiled, CACHE, KINDS, MORE, SPOILS, WHOLE};
+use reference::buffers::read_state;
+use reference::engine::Basis;
+use reference::generate::files::{edited_file, limit_file};
+use reference::generate::problems::problem_file;
 use reference::random::Random;
 use reference::reader::read_problem;
 use reference::Limits;
@@ -31,7 +36,6 @@ struct Lists {
     compare: Compare,
     random: Random,
     limits: Limits,
-    layout: Layout,
     files: Vec<Vec<u8>>,
     /// files at the limits and of the field, which take longer
     long_files: Vec<Vec<u8>>,
@@ -46,16 +50,8 @@ impl Lists {
         compare.spoil = spoil;
         let files = (0..if spoil.is_some() { 100 } else { 4_000 })
             .map(|_| {
-                let size = match random.below(20) {
-                    0 => Size::medium(),
-                    1..=6 => Size::small(),
-                    _ => Size::tiny(),
-                };
-                problem_file(&if random.chance(85) {
-                    random_basis(&mut random, &size)
-                } else {
-                    random_set(&mut random, &size)
-                })
+                let size = random_size(&mut random, 6);
+                problem_file(&basis_or_set(&mut random, &size))
             })
             .collect();
         let mut long_files: Vec<Vec<u8>> = (0..200).map(|_| limit_file(&mut random)).collect();
@@ -71,13 +67,10 @@ impl Lists {
                 .filter(|(name, _)| name != "katsura4_lp")
                 .map(|(_, file)| file),
         );
-        let limits = Limits::document_01();
-        let layout = Layout::new(&limits);
         Lists {
             compare,
             random,
-            limits,
-            layout,
+            limits: Limits::document_01(),
             files,
             long_files,
             lists: 0,
@@ -123,13 +116,10 @@ impl Lists {
             let file = self.random.pick(&self.long_files);
             match read_problem(&self.limits, file) {
                 Err(_) => return,
-                Ok(problem) => Basis {
-                    parameters: problem.parameters,
-                    levels: vec![problem.elements],
-                },
+                Ok(problem) => basis_of(problem),
             }
         } else {
-            let size = StateSize {
+            let size = Size {
                 levels: self.random.between(1, 4),
                 vectors: 4,
                 terms: 4,
@@ -137,10 +127,8 @@ impl Lists {
             };
             random_state(&mut self.random, &size)
         };
-        let held = State { basis: Some(basis) };
-        let limits = self.limits;
         self.compare
-            .both(|buffers| write_state(&limits, &held, &mut buffers.state));
+            .both(|buffers| write_basis(basis.clone(), &mut buffers.state));
     }
 
     /// Alters words of the state in both sets of buffers; gives what stood there.
@@ -148,10 +136,8 @@ impl Lists {
         let held = read_state(&self.limits, &self.compare.ours.state);
         let state = &mut self.compare.ours.state;
         let before = match held.basis {
-            Some(basis) if self.random.chance(40) => {
-                raise(&mut self.random, &self.layout, &basis, state)
-            }
-            Some(basis) => alter(&mut self.random, &self.layout, &basis, state),
+            Some(basis) if self.random.chance(40) => raise(&mut self.random, &basis, state),
+            Some(basis) => alter(&mut self.random, &basis, state),
             None => {
                 let at = self.random.below(STATE as u64) as usize;
                 let word = std::mem::replace(&mut state[at], self.random.bits() as u16);
@@ -170,7 +156,7 @@ impl Lists {
     }
 
     fn vectors(&self, level: u64) -> u64 {
-        u64::from(self.compare.ours.state[self.layout.count(level.min(9) as usize)])
+        u64::from(self.compare.ours.state[buffers::count(level.min(9) as usize)])
     }
 
     fn call(&mut self) -> Option<u64> {
@@ -242,9 +228,7 @@ impl Lists {
             _ => (false, self.random.pick(&self.files).clone()),
         };
         if self.random.chance(20) {
-            for _ in 0..self.random.between(1, 3) {
-                damage(&mut self.random, &mut file);
-            }
+            damage_some(&mut self.random, &mut file);
         }
         let lent = self.lent(WORK, 0);
         let budget = if long { LONG_BUDGET } else { BUDGET };
@@ -271,8 +255,7 @@ impl Lists {
             _ => ROW * *random.pick(&[0, 0, 1, 2, 3, 5, 7, 12, 20, 60]),
         };
         let cache = cache + random.below(ROW as u64) as usize;
-        let work = if way == 2 { TREE_WORK } else { WORK };
-        let lent = self.lent(work, cache);
+        let lent = self.lent(buffers::work(way), cache);
         let call = Call::Lift {
             level: level as usize,
             way,
@@ -295,28 +278,30 @@ impl Lists {
         self.compare.call(&call, &lent, BUDGET)
     }
 
+    /// Lifts a level and fetches its vectors; says whether there are any.
+    fn lift_and_fetch(&mut self, level: usize, way: u16, pick: u16, lent: &Lent) -> bool {
+        let call = Call::Lift { level, way, pick };
+        if self.compare.call(&call, lent, LONG_BUDGET) != Some(0) {
+            return false;
+        }
+        let vectors = self.vectors(level as u64) as usize;
+        for vector in 1..=vectors {
+            let call = Call::Fetch { level, vector };
+            self.compare.call(&call, &WHOLE, LONG_BUDGET);
+        }
+        vectors > 0
+    }
+
     /// The files of the field, and one too deep for the tree, level after level by each way, and every vector fetched.
     fn whole_examples(&mut self) {
-        let whole = Lent {
-            state: STATE,
-            work: TREE_WORK,
-            cache: CACHE,
-            out: OUT,
-        };
         let mut files: Vec<Vec<u8>> = examples().into_iter().map(|(_, file)| file).collect();
         files.push(problem_file(&deep(DEEPEST + 1)));
         for file in files {
             for (way, pick) in [(0, 0), (1, 1), (1, 2), (1, 3), (2, 0)] {
-                self.compare.call(&Call::Read(&file), &whole, LONG_BUDGET);
+                self.compare.call(&Call::Read(&file), &WHOLE, LONG_BUDGET);
                 for level in 1..=9 {
-                    let call = Call::Lift { level, way, pick };
-                    let lifted = self.compare.call(&call, &whole, LONG_BUDGET);
-                    if lifted != Some(0) || self.vectors(level as u64) == 0 {
+                    if !self.lift_and_fetch(level, way, pick, &WHOLE) {
                         break;
-                    }
-                    for vector in 1..=self.vectors(level as u64) as usize {
-                        let call = Call::Fetch { level, vector };
-                        self.compare.call(&call, &whole, LONG_BUDGET);
                     }
                 }
             }
@@ -324,31 +309,18 @@ impl Lists {
     }
 }
 
-/// Files over the primes of request A4: read, every level lifted by one of the ways, every vector fetched. Gives how many were read with a coefficient above 32,767.
+/// Files over the primes of request A4: read, every level lifted by one of the ways, every vector fetched. Gives how many were read with a coefficient above
+/// 32,767.
 fn large_primes(lists: &mut Lists, files: u64) -> u64 {
-    let whole = Lent {
-        state: STATE,
-        work: TREE_WORK,
-        cache: CACHE,
-        out: OUT,
-    };
     let mut large = 0;
     for _ in 0..files {
         let random = &mut lists.random;
-        let size = match random.below(20) {
-            0 => Size::medium(),
-            1..=6 => Size::small(),
-            _ => Size::tiny(),
-        }
-        .over_large_primes();
-        let problem = if random.chance(85) {
-            random_basis(random, &size)
-        } else {
-            random_set(random, &size)
-        };
-        let high = problem.elements.iter().flatten().any(|term| term.coefficient > 32_767);
+        let size = random_size(random, 6).over_large_primes();
+        let problem = basis_or_set(random, &size);
+        let mut terms = problem.elements.iter().flatten();
+        let high = terms.any(|term| term.coefficient > 32_767);
         let file = problem_file(&problem);
-        if lists.compare.call(&Call::Read(&file), &whole, LONG_BUDGET) != Some(0) {
+        if lists.compare.call(&Call::Read(&file), &WHOLE, LONG_BUDGET) != Some(0) {
             continue;
         }
         large += u64::from(high);
@@ -357,18 +329,9 @@ fn large_primes(lists: &mut Lists, files: u64) -> u64 {
             let (way, pick) = *random.pick(&[(0, 0), (1, 1), (1, 2), (1, 3), (2, 0)]);
             let lent = Lent {
                 cache: ROW * *random.pick(&[0, 1, 3, 7, 20, 60, 1_000]),
-                ..whole
+                ..WHOLE
             };
-            let call = Call::Lift { level, way, pick };
-            if lists.compare.call(&call, &lent, LONG_BUDGET) != Some(0) {
-                break;
-            }
-            let vectors = lists.vectors(level as u64) as usize;
-            for vector in 1..=vectors {
-                let call = Call::Fetch { level, vector };
-                lists.compare.call(&call, &whole, LONG_BUDGET);
-            }
-            if vectors == 0 {
+            if !lists.lift_and_fetch(level, way, pick, &lent) {
                 break;
             }
         }
@@ -379,10 +342,8 @@ fn large_primes(lists: &mut Lists, files: u64) -> u64 {
 /// The tree as deep as its work area allows, and one deeper.
 fn deepest() {
     let whole = Lent {
-        state: STATE,
-        work: TREE_WORK,
         cache: 200_000,
-        out: OUT,
+        ..WHOLE
     };
     let mut compare = Compare::new(1);
     compare.both(|buffers| buffers.cache.resize(whole.cache, 1));
@@ -400,21 +361,11 @@ fn deepest() {
 }
 
 /// The highest level times a power of a variable, so that products pass 255.
-fn raise(
-    random: &mut Random,
-    layout: &Layout,
-    basis: &Basis,
-    state: &mut [u16],
-) -> Vec<(usize, u16)> {
+fn raise(random: &mut Random, basis: &Basis, state: &mut [u16]) -> Vec<(usize, u16)> {
     let k = basis.levels.len() - 1;
     let used: usize = basis.levels[k].iter().map(Vec::len).sum();
-    // a variable that the leading monomials have, if there is one
-    let leads = || basis.levels[k].iter().map(|vector| vector[0].monomial);
-    let x = (0..8)
-        .filter(|x| leads().any(|leading| leading.exponents[*x] > 0))
-        .nth(random.below(basis.parameters.n.max(1)) as usize)
-        .unwrap_or(0);
-    let rows = (0..used).map(|row| layout.first_row(k) + ROW * row + 2 + x);
+    let x = leading_variable(random, &basis.levels[k], basis.parameters.n);
+    let rows = (0..used).map(|row| buffers::rows(k) + ROW * row + 2 + x);
     let most = rows.clone().map(|at| state[at]).max().unwrap_or(0);
     let by = 255_u16
         .saturating_sub(most)
@@ -428,44 +379,30 @@ fn raise(
 }
 
 fn main() {
-    let arguments: Vec<String> = std::env::args().skip(1).collect();
-    let (mut wanted, mut seed, mut spoil, mut files) = (CALLS, SEED, None, 0);
-    match arguments.iter().map(String::as_str).collect::<Vec<_>>()[..] {
-        ["spoil", what] => {
-            let what = match what {
-                "number" => Spoiled::Number,
-                "place" => Spoiled::Place,
-                "state" => Spoiled::State,
-                "work" => Spoiled::Work,
-                "cache" => Spoiled::Cache,
-                "out" => Spoiled::Out,
-                _ => panic!("spoil number, place, state, work, cache or out"),
-            };
-            spoil = Some((700, what));
+    match words().split_first() {
+        Some((first, rest)) if first == "primes" => {
+            let (files, seed, _) = asked::<()>(rest, "files", (FILES, SEED), &[]);
+            primes(files, seed);
         }
-        ["primes"] => files = FILES,
-        ["primes", count] => files = count.parse().expect("how many files"),
-        ["primes", count, from] => {
-            files = count.parse().expect("how many files");
-            seed = from.parse().expect("a seed");
+        _ => {
+            let (wanted, seed, spoil) = asked(&words(), "calls", (CALLS, SEED), &SPOILS);
+            calls(wanted, seed, spoil);
         }
-        [] => {}
-        [calls] => wanted = calls.parse().expect("how many calls"),
-        [calls, from] => {
-            wanted = calls.parse().expect("how many calls");
-            seed = from.parse().expect("a seed");
-        }
-        _ => panic!("at most two arguments"),
     }
-    let mut lists = Lists::new(seed, spoil);
-    if files > 0 {
-        let large = large_primes(&mut lists, files);
-        println!(
-            "calls: {files} files over 65,521, 65,519 and 32,771, {large} of them read with a coefficient above 32,767: {} calls agree in number, place and every word ({} left out; seed {seed})",
-            lists.compare.calls, lists.compare.left_out
-        );
-        return;
-    }
+}
+
+fn primes(files: u64, seed: u64) {
+    let mut lists = Lists::new(seed, None);
+    let large = large_primes(&mut lists, files);
+    println!(
+        "calls: {files} files over 65,521, 65,519 and 32,771, {large} of them read with a coefficient above 32,767: \
+         {} calls agree in number, place and every word ({} left out; seed {seed})",
+        lists.compare.calls, lists.compare.left_out
+    );
+}
+
+fn calls(wanted: u64, seed: u64, spoil: Option<Spoiled>) {
+    let mut lists = Lists::new(seed, spoil.map(|what| (700, what)));
     if spoil.is_none() {
         lists.whole_examples();
     }
@@ -475,17 +412,12 @@ fn main() {
     }
     let compare = &lists.compare;
     println!(
-        "calls: {} calls agree in number, place and every word ({systematic} on the files of the field, then {} lists, {} of them with altered states; {} calls left out; seed {seed})",
+        "calls: {} calls agree in number, place and every word \
+         ({systematic} on the files of the field, then {} lists, {} of them with altered states; {} calls left out; seed {seed})",
         compare.calls, lists.lists, lists.altered, compare.left_out
     );
     for (kind, met) in KINDS.iter().zip(&compare.met) {
-        let counts: Vec<String> = met
-            .iter()
-            .enumerate()
-            .filter(|(_, count)| **count > 0)
-            .map(|(number, count)| format!("{number}: {count}"))
-            .collect();
-        println!("  {kind}: {}", counts.join(", "));
+        println!("  {kind}: {}", counts(met).join(", "));
     }
     let stack = on_small_stack(deepest);
     println!("  the tree at depth {DEEPEST} agrees, {stack}");

@@ -1,6 +1,7 @@
 //! Problem files: some written out, some random; and every way to damage one at a byte.
 
-use reference::generate::problems::element_of;
+use reference::generate::files::damage;
+use reference::generate::problems::{element_of, random_basis, random_set, Size};
 use reference::monomial::{Level, Monomial, Parameters, Term, UNIT};
 use reference::order::Modules;
 use reference::random::Random;
@@ -85,6 +86,24 @@ pub const FIELDS: [&str; 59] = [
 ];
 
 const PRIMES: [u64; 10] = [2, 3, 5, 7, 101, 181, 32_003, 32_749, 65_519, 65_521];
+
+/// One in twenty is medium, so many are small, the others tiny.
+pub fn random_size(random: &mut Random, small: u64) -> Size {
+    match random.below(20) {
+        0 => Size::medium(),
+        n if n <= small => Size::small(),
+        _ => Size::tiny(),
+    }
+}
+
+/// Mostly a Gröbner basis, else a set that mostly is none.
+pub fn basis_or_set(random: &mut Random, size: &Size) -> Problem {
+    if random.chance(85) {
+        random_basis(random, size)
+    } else {
+        random_set(random, size)
+    }
+}
 
 /// A file that is read: elements whose terms descend strictly.
 pub fn random_problem(random: &mut Random) -> Problem {
@@ -219,6 +238,24 @@ pub fn with_field(file: &[u8], line: usize, field: usize, text: &str) -> Vec<u8>
             changed
         })
         .collect()
+}
+
+/// The file with each field changed in turn, to every so-manyth of FIELDS.
+pub fn with_each_field(file: &[u8], apart: usize, mut each: impl FnMut(&[u8])) {
+    for (line, fields) in fields_of(file).into_iter().enumerate() {
+        for field in 0..=fields {
+            for text in FIELDS.iter().skip((line + field) % apart).step_by(apart) {
+                each(&with_field(file, line, field, text));
+            }
+        }
+    }
+}
+
+/// Damages the file once to three times.
+pub fn damage_some(random: &mut Random, file: &mut Vec<u8>) {
+    for _ in 0..random.between(1, 3) {
+        damage(random, file);
+    }
 }
 
 /// How many fields each line has.

@@ -1,11 +1,17 @@
-//! Files and states that several of the tests and benches make.
+//! What several of the tests and benches use.
 //!
+//! - [`arguments`]: what a test is asked for on its command line.
+//! - [`buffers`]: lengths and places in the lent buffers, by name.
+//! - [`report`]: how a test tells what it met, and what differs.
 //! - [`files`]: problem files, and every way to damage one.
 //! - [`states`]: sound states, and every way to alter one.
 //! - [`examples`]: the files of `examples/`.
 //! - [`deep`]: bases over which the tree goes down as deep as its work area allows.
 
+pub mod arguments;
+pub mod buffers;
 pub mod deep;
 pub mod examples;
 pub mod files;
+pub mod report;
 pub mod states;

@@ -1,10 +1,13 @@
 //! Sound states: levels of any vectors that are in range and descend, lifted or not; and their words altered.
 
-use reference::buffers::{Layout, ROW};
-use reference::engine::Basis;
+use crate::buffers::{count, rows, ROW, VECTORS};
+use reference::buffers::write_state;
+use reference::engine::{Basis, State};
 use reference::monomial::{Exponents, Level, Monomial, Parameters, Term, Vector};
 use reference::order::Modules;
 use reference::random::Random;
+use reference::reader::Problem;
+use reference::Limits;
 
 const PRIMES: [u64; 10] = [2, 3, 5, 7, 101, 251, 32_719, 32_749, 65_519, 65_521];
 
@@ -16,6 +19,42 @@ pub struct Size {
     pub terms: u64,
     /// exponents below this bound are the rule, so that images and components tie often
     pub exponent: u64,
+}
+
+/// A problem's elements as level 0, without acceptance.
+pub fn basis_of(problem: Problem) -> Basis {
+    Basis {
+        parameters: problem.parameters,
+        levels: vec![problem.elements],
+    }
+}
+
+/// The words of a state that holds this basis.
+pub fn write_basis(basis: Basis, state: &mut [u16]) {
+    write_state(&Limits::document_01(), &State { basis: Some(basis) }, state);
+}
+
+/// Whether a row holds this term.
+pub fn row_is(row: &[u16], term: &Term) -> bool {
+    let Monomial {
+        component,
+        exponents,
+    } = term.monomial;
+    u64::from(row[0]) == term.coefficient
+        && u64::from(row[1]) == component
+        && row[2..]
+            .iter()
+            .zip(&exponents)
+            .all(|(a, b)| u64::from(*a) == *b)
+}
+
+/// A variable that the level's leading monomials have, if there is one.
+pub fn leading_variable(random: &mut Random, level: &[Vector], n: u64) -> usize {
+    let leads = || level.iter().map(|vector| vector[0].monomial);
+    (0..8)
+        .filter(|x| leads().any(|leading| leading.exponents[*x] > 0))
+        .nth(random.below(n.max(1)) as usize)
+        .unwrap_or(0)
 }
 
 pub fn random_basis(random: &mut Random, size: &Size) -> Basis {
@@ -164,7 +203,7 @@ fn descending(
         .iter()
         .map(|m| (modules.key(below.len(), m), *m))
         .collect();
-    keyed.sort_by(|a, b| b.0.cmp(&a.0));
+    keyed.sort_by_key(|(key, _)| std::cmp::Reverse(*key));
     keyed.dedup_by(|a, b| a.0 == b.0);
     keyed
         .into_iter()
@@ -176,19 +215,13 @@ fn descending(
 }
 
 /// Alters a word, or a whole row; gives what stood there.
-pub fn alter(
-    random: &mut Random,
-    layout: &Layout,
-    basis: &Basis,
-    state: &mut [u16],
-) -> Vec<(usize, u16)> {
+pub fn alter(random: &mut Random, basis: &Basis, state: &mut [u16]) -> Vec<(usize, u16)> {
     let k = random.below(basis.levels.len() as u64) as usize;
     let used: usize = basis.levels[k].iter().map(Vec::len).sum();
-    let row =
-        |random: &mut Random| layout.first_row(k) + ROW * random.below(used.max(1) as u64) as usize;
+    let row = |random: &mut Random| rows(k) + ROW * random.below(used.max(1) as u64) as usize;
     if random.chance(10) && used > 1 {
         // the row before again, or two neighbours exchanged: equal or ascending neighbours
-        let at = layout.first_row(k) + ROW * random.between(1, used as u64 - 1) as usize;
+        let at = rows(k) + ROW * random.between(1, used as u64 - 1) as usize;
         let exchanged = random.chance(50);
         let before: Vec<(usize, u16)> = (at - ROW..at + ROW).map(|i| (i, state[i])).collect();
         for i in 1..ROW {
@@ -202,8 +235,8 @@ pub fn alter(
     }
     let at = match random.below(100) {
         0..=9 => random.below(5) as usize,
-        10..=24 => layout.count(k) + random.below(129) as usize,
-        25..=34 => layout.first_end(k) + random.below(basis.levels[k].len().max(1) as u64) as usize,
+        10..=24 => count(k) + random.below(1 + VECTORS as u64) as usize,
+        25..=34 => count(k) + 1 + random.below(basis.levels[k].len().max(1) as u64) as usize,
         35..=89 => row(random) + random.below(ROW as u64) as usize,
         _ => random.below(state.len() as u64) as usize,
     };

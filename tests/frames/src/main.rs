@@ -3,7 +3,10 @@
 //!     test-frames [LISTS [SEED]]           at least so many lists of leading monomials (150,000 without it)
 //!     test-frames spoil number|count|row   spoils one answer: the run must find it and exit with 1
 
+use common::arguments::{asked, words};
+use common::buffers::ROW;
 use common::examples::examples;
+use common::states::row_is;
 use reference::engine::State;
 use reference::frame::frame;
 use reference::lifting::Way;
@@ -16,7 +19,6 @@ use testing::frames as proved;
 
 const LISTS: u64 = 150_000;
 const SEED: u64 = 20_250_204;
-const ROW: usize = 10;
 /// More than any list here has, so that a frame need not be cut.
 const ROWS: usize = 128 * 127 / 2;
 
@@ -25,6 +27,20 @@ enum Spoiled {
     Number,
     Count,
     Row,
+}
+
+const SPOILS: [(&str, Spoiled); 3] = [
+    ("number", Spoiled::Number),
+    ("count", Spoiled::Count),
+    ("row", Spoiled::Row),
+];
+
+/// The term of coefficient 1.
+fn monic(monomial: &Monomial) -> Term {
+    Term {
+        coefficient: 1,
+        monomial: *monomial,
+    }
 }
 
 struct Compare {
@@ -41,15 +57,7 @@ struct Compare {
 impl Compare {
     /// One list by one order code: without a limit that counts, at its own length, one below it, and one more limit.
     fn list(&mut self, random: &mut Random, list: &[Monomial], code: u64) {
-        let elements: Vec<Vector> = list
-            .iter()
-            .map(|monomial| {
-                vec![Term {
-                    coefficient: 1,
-                    monomial: *monomial,
-                }]
-            })
-            .collect();
+        let elements: Vec<Vector> = list.iter().map(|monomial| vec![monic(monomial)]).collect();
         let expected = frame(
             &elements,
             Order::from_code(code).expect("the order code is 1 to 3"),
@@ -104,18 +112,12 @@ impl Compare {
                     .frame
                     .chunks_exact(ROW)
                     .zip(expected)
-                    .all(|(row, monomial)| {
-                        row[0] == 1
-                            && u64::from(row[1]) == monomial.component
-                            && row[2..]
-                                .iter()
-                                .zip(&monomial.exponents)
-                                .all(|(a, b)| u64::from(*a) == *b)
-                    })
+                    .all(|(row, monomial)| row_is(row, &monic(monomial)))
         };
         if !agrees {
             println!(
-                "list {}, order code {code}, limit {limit}: the proved frame is {number} with {terms} terms, the unrelated implementation's has {}\nleading rows: {:?}",
+                "list {}, order code {code}, limit {limit}: the proved frame is {number} with {terms} terms, \
+                 the unrelated implementation's has {}\nleading rows: {:?}",
                 self.lists,
                 expected.len(),
                 self.heads
@@ -217,26 +219,7 @@ fn short_slices() {
 }
 
 fn main() {
-    let arguments: Vec<String> = std::env::args().skip(1).collect();
-    let (mut wanted, mut seed, mut spoil) = (LISTS, SEED, None);
-    match arguments.iter().map(String::as_str).collect::<Vec<_>>()[..] {
-        ["spoil", what] => {
-            let what = match what {
-                "number" => Spoiled::Number,
-                "count" => Spoiled::Count,
-                "row" => Spoiled::Row,
-                _ => panic!("spoil number, count or row"),
-            };
-            spoil = Some((16, what));
-        }
-        [] => {}
-        [lists] => wanted = lists.parse().expect("how many lists"),
-        [lists, from] => {
-            wanted = lists.parse().expect("how many lists");
-            seed = from.parse().expect("a seed");
-        }
-        _ => panic!("at most two arguments"),
-    }
+    let (wanted, seed, spoil) = asked(&words(), "lists", (LISTS, SEED), &SPOILS);
     let mut compare = Compare {
         frame: vec![0; ROW * ROWS],
         region: vec![0; ROW * 128],
@@ -245,7 +228,7 @@ fn main() {
         calls: 0,
         full: 0,
         terms: 0,
-        spoil,
+        spoil: spoil.map(|what| (16, what)),
     };
     let mut random = Random::new(seed);
     short_slices();

@@ -3,8 +3,10 @@
 //!     test-levels [STATES [SEED]]   at least so many states (400,000 without it)
 //!     test-levels spoil             spoils one answer: the run must find it and exit with 1
 
-use common::states::{alter, full_basis, long_basis, random_basis, Size};
-use reference::buffers::{read_state, state_words, write_state, Layout};
+use common::arguments::{asked, words};
+use common::buffers::{rows, STATE};
+use common::states::{alter, full_basis, long_basis, random_basis, write_basis, Size};
+use reference::buffers::read_state;
 use reference::engine::{sound, Basis, State};
 use reference::generate::problems::{
     problem_file, random_basis as random_problem, Size as ProblemSize,
@@ -19,7 +21,6 @@ const SEED: u64 = 20_250_202;
 
 struct Compare {
     limits: Limits,
-    layout: Layout,
     states: u64,
     sound: u64,
     spoiled: Option<u64>,
@@ -50,19 +51,13 @@ impl Compare {
 
     /// A sound state, and so many alterations of it.
     fn altered(&mut self, random: &mut Random, basis: &Basis, state: &mut [u16], alterations: u64) {
-        write_state(
-            &self.limits,
-            &State {
-                basis: Some(basis.clone()),
-            },
-            state,
-        );
+        write_basis(basis.clone(), state);
         assert!(
             self.words(state, "as made"),
             "the generator makes sound states"
         );
         for _ in 0..alterations {
-            let before = alter(random, &self.layout, basis, state);
+            let before = alter(random, basis, state);
             self.words(
                 state,
                 &format!("words {:?}", before.iter().map(|w| w.0).collect::<Vec<_>>()),
@@ -86,32 +81,19 @@ fn lifted(random: &mut Random, limits: &Limits) -> Option<Basis> {
 }
 
 fn main() {
-    let arguments: Vec<String> = std::env::args().skip(1).collect();
-    let (mut wanted, mut seed, mut spoiled) = (STATES, SEED, None);
-    match arguments.iter().map(String::as_str).collect::<Vec<_>>()[..] {
-        ["spoil"] => spoiled = Some(4_321),
-        [] => {}
-        [states] => wanted = states.parse().expect("how many states"),
-        [states, from] => {
-            wanted = states.parse().expect("how many states");
-            seed = from.parse().expect("a seed");
-        }
-        _ => panic!("at most two arguments"),
-    }
-    let limits = Limits::document_01();
-    let layout = Layout::new(&limits);
+    // there is one way to spoil an answer, without a name
+    let (wanted, seed, spoil) = asked(&words(), "states", (STATES, SEED), &[("", ())]);
     let mut compare = Compare {
-        limits,
-        layout,
+        limits: Limits::document_01(),
         states: 0,
         sound: 0,
-        spoiled,
+        spoiled: spoil.map(|()| 4_321),
     };
     let mut random = Random::new(seed);
-    let mut state = vec![0_u16; state_words(&compare.limits)];
+    let mut state = vec![0_u16; STATE];
 
     // buffers of other lengths: too short is 16, longer ones are read as they are
-    for words in [0, 1, 1_295, state.len() - 1] {
+    for words in [0, 1, rows(0), STATE - 1] {
         assert_eq!(proved::number(&state[..words]), 16);
     }
     // no state at all

@@ -1,17 +1,18 @@
 //! One level lifted by both: number, count and every word of the result.
 
-use reference::buffers::{state_words, work_words, write_state, ROW};
-use reference::engine::{Basis, State};
+use common::buffers::{self, more, ROW, STATE, TERMS, TREE_WORK, VECTORS};
+use common::states::{row_is, write_basis};
+use reference::engine::Basis;
 use reference::lifting::{lift_level, Stop, Usage, Way};
 use reference::monomial::Level;
 use reference::random::Random;
 use reference::Limits;
 use testing::lifts::{self as proved, Asked, Lent};
 
-/// Words that hold the ends, and all that a level can take.
-pub const ENDS: usize = 128;
-/// A level's rows, and room for one vector more.
-pub const OUT: usize = ENDS + ROW * (2_048 + 512);
+/// Words that hold the ends.
+const ENDS: usize = VECTORS;
+/// All that a level can take: the ends, its rows, and room for one vector more.
+pub const OUT: usize = ENDS + ROW * (TERMS + 512);
 /// Words that a longer slice may have.
 const MORE: usize = 24;
 
@@ -24,6 +25,14 @@ pub enum Spoiled {
     End,
     Row,
 }
+
+pub const SPOILS: [(&str, Spoiled); 5] = [
+    ("number", Spoiled::Number),
+    ("count", Spoiled::Count),
+    ("used", Spoiled::Used),
+    ("end", Spoiled::End),
+    ("row", Spoiled::Row),
+];
 
 /// What a call has as its result.
 pub enum Lifted {
@@ -59,11 +68,10 @@ pub const NUMBERS: [u64; 4] = [0, 13, 14, 15];
 
 impl Compare {
     pub fn new(seed: u64) -> Compare {
-        let limits = Limits::document_01();
         Compare {
-            state: vec![0; state_words(&limits) + MORE],
+            state: vec![0; STATE + MORE],
             out: vec![0; OUT + MORE],
-            work: vec![0x5555; work_words(&limits, Some(Way::Tree)) + MORE],
+            work: vec![0x5555; TREE_WORK + MORE],
             cache: Vec::new(),
             random: Random::new(seed),
             spoil: None,
@@ -79,10 +87,7 @@ impl Compare {
 
     /// Puts a state into the words that are lent from now on.
     pub fn hold(&mut self, basis: &Basis) {
-        let held = State {
-            basis: Some(basis.clone()),
-        };
-        write_state(&Limits::document_01(), &held, &mut self.state);
+        write_basis(basis.clone(), &mut self.state);
     }
 
     pub fn state_mut(&mut self) -> &mut [u16] {
@@ -115,13 +120,17 @@ impl Compare {
         if self.cache.len() < words {
             self.cache.resize(words, 0xaaaa);
         }
-        let (out, state) = (self.longer(OUT), self.longer(self.state.len() - MORE));
-        let work = self.longer(work_words(&Limits::document_01(), Some(way)));
-        let (code, pick) = match way {
+        let code = match way {
+            Way::Division => 0,
+            Way::Hybrid(_) => 1,
+            Way::Tree => 2,
+        };
+        let (out, state) = (self.longer(OUT), self.longer(STATE));
+        let work = self.longer(buffers::work(code));
+        let pick = match way {
+            Way::Hybrid(pick) => pick as u16,
             // the pick code counts for the hybrid way alone
-            Way::Division => (0, self.random.below(5) as u16),
-            Way::Hybrid(pick) => (1, pick as u16),
-            Way::Tree => (2, self.random.below(5) as u16),
+            _ => self.random.below(5) as u16,
         };
         let asked = Asked {
             level: k,
@@ -169,7 +178,8 @@ impl Compare {
             });
         if !agrees {
             println!(
-                "call {}, level {k}, {way:?}, cache of {cache_terms} terms, {asked:?}:\nproved lifting answers {answer:?}, the unrelated implementation {number}",
+                "call {}, level {k}, {way:?}, cache of {cache_terms} terms, {asked:?}:\n\
+                 proved lifting answers {answer:?}, the unrelated implementation {number}",
                 self.calls
             );
             println!("{basis:?}");
@@ -189,10 +199,7 @@ impl Compare {
 
     /// The length itself three times out of four, else a little more.
     fn longer(&mut self, length: usize) -> usize {
-        match self.random.below(4) {
-            0 => length + self.random.below(MORE as u64 + 1) as usize,
-            _ => length,
-        }
+        length + more(&mut self.random, MORE)
     }
 
     /// Whether `out` holds these vectors.
@@ -205,14 +212,7 @@ impl Compare {
                 && vector
                     .iter()
                     .zip(rows.by_ref().take(vector.len()))
-                    .all(|(term, row)| {
-                        u64::from(row[0]) == term.coefficient
-                            && u64::from(row[1]) == term.monomial.component
-                            && row[2..]
-                                .iter()
-                                .zip(&term.monomial.exponents)
-                                .all(|(a, b)| u64::from(*a) == *b)
-                    })
+                    .all(|(term, row)| row_is(row, term))
         })
     }
 

@@ -6,11 +6,13 @@
 
 mod compare;
 
+use common::arguments::{asked, words};
+use common::buffers::{work, STATE};
 use common::deep::{deep, on_small_stack, DEEPEST};
 use common::examples::examples;
 use common::files::many_monomials;
-use common::states::{random_basis as random_state, Size as StateSize};
-use compare::{Compare, Lifted, Spoiled, NUMBERS, OUT, WAYS};
+use common::states::{basis_of, leading_variable, random_basis as random_state, Size as StateSize};
+use compare::{Compare, Lifted, NUMBERS, OUT, SPOILS, WAYS};
 use reference::engine::Basis;
 use reference::generate::files::limit_file;
 use reference::generate::problems::{random_basis, Size};
@@ -41,6 +43,19 @@ fn ways(budget: u64) -> Vec<(Way, u64)> {
     ways
 }
 
+/// The limits that a lifting by this way can meet, its own first, each with what the run took.
+fn needs(way: Way, usage: &Usage) -> [(&'static str, u64); 3] {
+    let own = match way {
+        Way::Tree => ("tree", usage.tree),
+        _ => ("working", usage.working),
+    };
+    [
+        own,
+        ("vector", usage.vector),
+        ("level_terms", usage.level_terms),
+    ]
+}
+
 /// The least number of a limit: a vector has room for its frame term.
 fn least(limit: &str) -> u64 {
     u64::from(limit == "vector")
@@ -67,10 +82,7 @@ impl Bases {
     /// Level after level over a basis, by every way; with small limits, and with exponents so large that products pass 255.
     fn lift_all(&mut self, problem: Problem, most: usize, budget: u64) {
         self.bases += 1;
-        let mut basis = Basis {
-            parameters: problem.parameters,
-            levels: vec![problem.elements],
-        };
+        let mut basis = basis_of(problem);
         for k in 1..=most {
             let Some(level) = self.lift_level(&basis, k, budget) else {
                 break;
@@ -141,16 +153,8 @@ impl Bases {
     ) {
         let mut limits = self.limits;
         for _ in 0..self.random.between(1, 2) {
-            let own = match way {
-                Way::Tree => ("tree", usage.tree),
-                _ => ("working", usage.working),
-            };
-            let (name, need) = *self.random.pick(&[
-                own,
-                own,
-                ("vector", usage.vector),
-                ("level_terms", usage.level_terms),
-            ]);
+            let [own, vector, level] = needs(way, usage);
+            let (name, need) = *self.random.pick(&[own, own, vector, level]);
             let value = match self.random.below(6) {
                 0 => need,
                 1 | 2 => need.saturating_sub(1),
@@ -175,15 +179,7 @@ impl Bases {
         usage: &Usage,
         budget: u64,
     ) {
-        let own = match way {
-            Way::Tree => ("tree", usage.tree),
-            _ => ("working", usage.working),
-        };
-        for (name, need) in [
-            own,
-            ("vector", usage.vector),
-            ("level_terms", usage.level_terms),
-        ] {
+        for (name, need) in needs(way, usage) {
             let most = self.limits.get(name).expect("a limit of that name");
             for value in least(name)..=need.min(most).min(40) {
                 let mut limits = self.limits;
@@ -195,12 +191,7 @@ impl Bases {
 
     /// Level k − 1 times a power of a variable: the frame and the vectors stay, and products pass 255 here or there.
     fn large_exponents(&mut self, basis: &Basis, k: usize, budget: u64) {
-        // a variable that the leading monomials have, if there is one
-        let leads = || basis.levels[k - 1].iter().map(|vector| vector[0].monomial);
-        let x = (0..8)
-            .filter(|x| leads().any(|leading| leading.exponents[*x] > 0))
-            .nth(self.random.below(basis.parameters.n) as usize)
-            .unwrap_or(0);
+        let x = leading_variable(&mut self.random, &basis.levels[k - 1], basis.parameters.n);
         let mut raised = basis.clone();
         raised.levels.truncate(k);
         let terms = || basis.levels[k - 1].iter().flatten();
@@ -286,13 +277,8 @@ impl Bases {
 
 /// 16, 11 and 12, in this order.
 fn refusals(bases: &mut Bases) {
-    let limits = bases.limits;
     let problem = random_basis(&mut bases.random, &Size::small());
-    let basis = Basis {
-        parameters: problem.parameters,
-        levels: vec![problem.elements],
-    };
-    bases.compare.hold(&basis);
+    bases.compare.hold(&basis_of(problem));
     let full = Asked {
         level: 1,
         way: 0,
@@ -302,8 +288,7 @@ fn refusals(bases: &mut Bases) {
         tree: 4_096,
         room: 2_048,
     };
-    let state = reference::buffers::state_words(&limits);
-    let lengths = |way: u16| [OUT, if way == 2 { 40_960 } else { 5_120 }, 0, state];
+    let lengths = |way: u16| [OUT, work(way), 0, STATE];
     for way in 0..=2 {
         let wrong = Asked {
             way,
@@ -399,11 +384,7 @@ fn deepest() {
         (DEEPEST, &[20_000][..]),
         (DEEPEST + 1, &[0, 1, 7, 20_000][..]),
     ] {
-        let problem = deep(depth);
-        let basis = Basis {
-            parameters: problem.parameters,
-            levels: vec![problem.elements],
-        };
+        let basis = basis_of(deep(depth));
         compare.hold(&basis);
         for cache in caches {
             let (lifted, usage) = compare.level(&basis, 1, Way::Tree, *cache, &limits, 1_000_000);
@@ -415,28 +396,7 @@ fn deepest() {
 }
 
 fn main() {
-    let arguments: Vec<String> = std::env::args().skip(1).collect();
-    let (mut wanted, mut seed, mut spoil) = (BASES, SEED, None);
-    match arguments.iter().map(String::as_str).collect::<Vec<_>>()[..] {
-        ["spoil", what] => {
-            let what = match what {
-                "number" => Spoiled::Number,
-                "count" => Spoiled::Count,
-                "used" => Spoiled::Used,
-                "end" => Spoiled::End,
-                "row" => Spoiled::Row,
-                _ => panic!("spoil number, count, used, end or row"),
-            };
-            spoil = Some((16, what));
-        }
-        [] => {}
-        [bases] => wanted = bases.parse().expect("how many bases"),
-        [bases, from] => {
-            wanted = bases.parse().expect("how many bases");
-            seed = from.parse().expect("a seed");
-        }
-        _ => panic!("at most two arguments"),
-    }
+    let (wanted, seed, spoil) = asked(&words(), "bases", (BASES, SEED), &SPOILS);
     let mut bases = Bases {
         compare: Compare::new(seed),
         random: Random::new(seed),
@@ -445,7 +405,7 @@ fn main() {
         states: 0,
         deepest: 0,
     };
-    bases.compare.spoil = spoil;
+    bases.compare.spoil = spoil.map(|what| (16, what));
     refusals(&mut bases);
     while bases.bases < wanted {
         bases.next();
@@ -466,7 +426,8 @@ fn main() {
     }
     let compare = &bases.compare;
     println!(
-        "lifts: {} bases and {} other sound states, {} levels lifted by both agree ({made} of made bases, where {left_out} liftings were left out; {} terms; levels up to {}; seed {seed})",
+        "lifts: {} bases and {} other sound states, {} levels lifted by both agree \
+         ({made} of made bases, where {left_out} liftings were left out; {} terms; levels up to {}; seed {seed})",
         bases.bases, bases.states, compare.calls, compare.terms, bases.deepest
     );
     for (way, met) in WAYS.iter().zip(&compare.met) {
@@ -479,7 +440,10 @@ fn main() {
     }
     let [working, vector, tree] = compare.full;
     let [frame, terms] = compare.over;
-    println!("  14 by a small limit alone: working value {working}, vector {vector}, tree's area {tree}; 15 by frame terms {frame}, by a level's terms {terms}");
+    println!(
+        "  14 by a small limit alone: working value {working}, vector {vector}, tree's area {tree}; \
+         15 by frame terms {frame}, by a level's terms {terms}"
+    );
     let stack = on_small_stack(deepest);
     println!("  the tree at depth {DEEPEST} agrees, {stack}");
     if wanted < BASES / 10 {

@@ -1,7 +1,8 @@
 //! One file through both readers: number, place and every word of the state.
 
-use reference::buffers::{state_words, write_state};
-use reference::engine::{Basis, State};
+use common::buffers::{all_zero, more, STATE};
+use common::report::shown;
+use common::states::{basis_of, write_basis};
 use reference::random::Random;
 use reference::reader::read_problem;
 use reference::Limits;
@@ -14,6 +15,12 @@ pub enum Spoiled {
     Place,
     Word,
 }
+
+pub const SPOILS: [(&str, Spoiled); 3] = [
+    ("number", Spoiled::Number),
+    ("place", Spoiled::Place),
+    ("word", Spoiled::Word),
+];
 
 /// The buffers of both sides, and how many files met each number.
 pub struct Compare {
@@ -34,13 +41,11 @@ const MORE: usize = 64;
 
 impl Compare {
     pub fn new(seed: u64) -> Compare {
-        let limits = Limits::document_01();
-        let words = state_words(&limits) + MORE;
         Compare {
-            limits,
+            limits: Limits::document_01(),
             random: Random::new(seed),
-            state: vec![0xaaaa; words],
-            expected: vec![0; words],
+            state: vec![0xaaaa; STATE + MORE],
+            expected: vec![0; STATE + MORE],
             files: 0,
             met: [0; 17],
             spoil: None,
@@ -49,11 +54,7 @@ impl Compare {
 
     /// Reads the file both ways into a buffer of the state's length or a little more.
     pub fn file(&mut self, file: &[u8]) {
-        let more = match self.random.below(4) {
-            0 => self.random.below(MORE as u64 + 1) as usize,
-            _ => 0,
-        };
-        let words = state_words(&self.limits) + more;
+        let words = STATE + more(&mut self.random, MORE);
         // what stood in the buffer before must not matter
         for _ in 0..16 {
             let at = self.random.below(words as u64) as usize;
@@ -82,19 +83,13 @@ impl Compare {
         }
         match read {
             Ok(problem) => {
-                let held = State {
-                    basis: Some(Basis {
-                        parameters: problem.parameters,
-                        levels: vec![problem.elements],
-                    }),
-                };
-                write_state(&self.limits, &held, &mut self.expected[..words]);
+                write_basis(basis_of(problem), &mut self.expected[..words]);
                 if self.state[..words] != self.expected[..words] {
                     self.differ(file, "the state's words differ");
                 }
             }
             Err(_) => {
-                if self.state[..words].iter().fold(0, |all, word| all | word) != 0 {
+                if !all_zero(&self.state[..words]) {
                     self.differ(file, "a refused file left words behind");
                 }
             }
@@ -104,7 +99,7 @@ impl Compare {
 
     /// A buffer that is too short: 16, and no word changes.
     pub fn short_buffer(&mut self, file: &[u8], words: usize) {
-        assert!(words < state_words(&self.limits));
+        assert!(words < STATE);
         for word in &mut self.state[..words] {
             *word = self.random.bits() as u16;
         }
@@ -125,9 +120,8 @@ impl Compare {
     }
 
     fn differ(&self, file: &[u8], what: &str) -> ! {
-        let shown = &file[..file.len().min(2_000)];
         println!("file {} ({} bytes): {what}", self.files, file.len());
-        println!("{}", shown.escape_ascii());
+        println!("{}", shown(file, 2_000));
         std::process::exit(1);
     }
 }

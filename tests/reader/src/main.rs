@@ -5,8 +5,14 @@
 
 mod compare;
 
-use common::files::{changed_at, fields_of, random_problem, with_field, FIELDS, WRITTEN};
-use compare::{Compare, Spoiled};
+use common::arguments::{asked, words};
+use common::buffers::{rows, STATE};
+use common::files::{
+    changed_at, damage_some, fields_of, random_problem, with_each_field, with_field, FIELDS,
+    WRITTEN,
+};
+use common::report::counts;
+use compare::{Compare, SPOILS};
 use reference::generate::files::{damage, edited_file, exact_length_file, exact_t_lines_file};
 use reference::generate::problems::problem_file;
 use reference::random::Random;
@@ -15,29 +21,9 @@ const FILES: u64 = 200_000;
 const SEED: u64 = 20_250_101;
 
 fn main() {
-    let arguments: Vec<String> = std::env::args().skip(1).collect();
-    let mut spoil = None;
-    let (mut wanted, mut seed) = (FILES, SEED);
-    match arguments.iter().map(String::as_str).collect::<Vec<_>>()[..] {
-        ["spoil", what] => {
-            let what = match what {
-                "number" => Spoiled::Number,
-                "place" => Spoiled::Place,
-                "word" => Spoiled::Word,
-                _ => panic!("spoil number, place or word"),
-            };
-            spoil = Some((700, what));
-        }
-        [] => {}
-        [files] => wanted = files.parse().expect("how many files"),
-        [files, from] => {
-            wanted = files.parse().expect("how many files");
-            seed = from.parse().expect("a seed");
-        }
-        _ => panic!("at most two arguments"),
-    }
+    let (wanted, seed, spoil) = asked(&words(), "files", (FILES, SEED), &SPOILS);
     let mut compare = Compare::new(seed);
-    compare.spoil = spoil;
+    compare.spoil = spoil.map(|what| (700, what));
     let mut random = Random::new(seed);
 
     every_change(&mut compare);
@@ -59,10 +45,8 @@ fn main() {
         "reader: {} files agree in number, place and words ({systematic} systematic, seed {seed})",
         compare.files
     );
-    for (number, files) in compare.met.iter().enumerate() {
-        if *files > 0 {
-            println!("  {number}: {files}");
-        }
+    for count in counts(&compare.met) {
+        println!("  {count}");
     }
     // a run in which a refusal never comes tests too little
     for number in [0, 1, 2, 3, 4, 5, 6, 7, 8, 16] {
@@ -90,24 +74,18 @@ fn every_change(compare: &mut Compare) {
 /// Each field of each small file at, about and past every limit.
 fn every_field(compare: &mut Compare) {
     for file in WRITTEN.map(str::as_bytes) {
-        for (line, fields) in fields_of(file).into_iter().enumerate() {
-            for field in 0..=fields {
-                for text in FIELDS {
-                    compare.file(&with_field(file, line, field, text));
-                }
-            }
-        }
+        with_each_field(file, 1, |changed| compare.file(changed));
     }
 }
 
 /// 16 before all else, and no word changes.
 fn short_buffers(compare: &mut Compare) {
     for file in WRITTEN.map(str::as_bytes) {
-        for words in [0, 1, 5, 1_295, 206_093, 206_094] {
+        for words in [0, 1, 5, rows(0), STATE - 2, STATE - 1] {
             compare.short_buffer(file, words);
         }
     }
-    compare.short_buffer(&vec![b'0'; 65_537], 206_094);
+    compare.short_buffer(&vec![b'0'; 65_537], STATE - 1);
 }
 
 /// Files of about 65,536 bytes, of about 2,048 T lines, of about 64 elements; and these damaged.
@@ -197,11 +175,7 @@ fn random_file(compare: &mut Compare, random: &mut Random) {
                 file = with_field(&file, line, field, text);
             }
         }
-        _ => {
-            for _ in 0..random.between(1, 3) {
-                damage(random, &mut file);
-            }
-        }
+        _ => damage_some(random, &mut file),
     }
     compare.file(&file);
 }

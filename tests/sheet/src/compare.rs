@@ -1,5 +1,7 @@
 //! One file through the proved call and the unrelated implementation: number, length, the sheet's bytes, and what stands in the buffers afterwards.
 
+use common::buffers::{all_zero, more, SHEET as OUT, STATE, WORK};
+use common::report::shown;
 use reference::random::Random;
 use reference::sheet::sheet;
 use reference::Limits;
@@ -17,9 +19,16 @@ pub enum Spoiled {
     Program,
 }
 
-pub const STATE: usize = 206_095;
-pub const WORK: usize = 5_120;
-pub const OUT: usize = 1_400_000;
+pub const SPOILS: [(&str, Spoiled); 7] = [
+    ("number", Spoiled::Number),
+    ("length", Spoiled::Length),
+    ("byte", Spoiled::Byte),
+    ("behind", Spoiled::Behind),
+    ("state", Spoiled::State),
+    ("work", Spoiled::Work),
+    ("program", Spoiled::Program),
+];
+
 /// How much longer than it must be a buffer may be.
 const MORE: usize = 64;
 
@@ -70,10 +79,7 @@ impl Compare {
             self.left_out += 1;
             return;
         };
-        let more = match self.random.below(4) {
-            0 => self.random.below(MORE as u64 + 1) as usize,
-            _ => 0,
-        };
+        let more = more(&mut self.random, MORE);
         let lengths = (STATE + more, WORK + more, OUT + more);
         // what stood in the buffers before must not matter
         for _ in 0..16 {
@@ -113,11 +119,11 @@ impl Compare {
             )
         } else if out[..length] != expected[..] {
             "the sheets differ".to_string()
-        } else if out[length..].iter().fold(0, |all, byte| all | byte) != 0 {
+        } else if !all_zero(&out[length..]) {
             "bytes stand behind the sheet".to_string()
-        } else if state.iter().fold(0, |all, word| all | word) != 0 {
+        } else if !all_zero(state) {
             "words stand in the state".to_string()
-        } else if work.iter().fold(0, |all, word| all | word) != 0 {
+        } else if !all_zero(work) {
             "words stand in the work area".to_string()
         } else {
             self.count(&expected);
@@ -172,7 +178,7 @@ impl Compare {
     }
 
     pub fn differ(&self, file: &[u8], what: &str, ours: &[u8], expected: &[u8]) -> ! {
-        let shown = |bytes: &[u8]| bytes[..bytes.len().min(1_000)].escape_ascii().to_string();
+        let shown = |bytes| shown(bytes, 1_000);
         println!("file {} ({} bytes): {what}", self.files, file.len());
         println!("file: {}", shown(file));
         let at = ours

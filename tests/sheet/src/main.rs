@@ -8,16 +8,18 @@
 mod compare;
 mod program;
 
-use common::examples::examples;
+use common::arguments::{asked, words};
+use common::buffers::{SHEET as OUT, STATE, WORK};
+use common::examples::{examples, files_of};
 use common::files::{
-    changed_at, fields_of, long_tails, many_monomials, random_problem, with_field, FIELDS, WRITTEN,
+    changed_at, damage_some, long_tails, many_monomials, random_problem, random_size,
+    with_each_field, WRITTEN,
 };
-use compare::{Compare, Spoiled, OUT, STATE, WORK};
+use common::report::counts;
+use compare::{Compare, Spoiled, SPOILS};
 use program::By;
-use reference::generate::files::{
-    damage, edited_file, exact_length_file, exact_t_lines_file, limit_file,
-};
-use reference::generate::problems::{problem_file, random_basis, random_set, Size};
+use reference::generate::files::{edited_file, exact_length_file, exact_t_lines_file, limit_file};
+use reference::generate::problems::{problem_file, random_basis, random_set};
 use reference::random::Random;
 use std::path::Path;
 
@@ -33,33 +35,12 @@ const EXAMPLE_BUDGET: u64 = 10_000_000;
 const LONGEST: &str = "katsura4_lp";
 
 fn main() {
-    let arguments: Vec<String> = std::env::args().skip(1).collect();
-    let (mut wanted, mut seed, mut spoil) = (FILES, SEED, None);
-    match arguments.iter().map(String::as_str).collect::<Vec<_>>()[..] {
-        ["spoil", what] => {
-            let what = match what {
-                "number" => Spoiled::Number,
-                "length" => Spoiled::Length,
-                "byte" => Spoiled::Byte,
-                "behind" => Spoiled::Behind,
-                "state" => Spoiled::State,
-                "work" => Spoiled::Work,
-                "program" => Spoiled::Program,
-                _ => panic!("spoil number, length, byte, behind, state, work or program"),
-            };
-            spoil = Some((70, what));
-            wanted = 200;
-        }
-        [] => {}
-        [files] => wanted = files.parse().expect("how many files"),
-        [files, from] => {
-            wanted = files.parse().expect("how many files");
-            seed = from.parse().expect("a seed");
-        }
-        _ => panic!("at most two arguments"),
+    let (mut wanted, seed, spoil) = asked(&words(), "files", (FILES, SEED), &SPOILS);
+    if spoil.is_some() {
+        wanted = 200;
     }
     let mut compare = Compare::new(seed);
-    compare.spoil = spoil;
+    compare.spoil = spoil.map(|what| (70, what));
     let mut random = Random::new(seed);
     if spoil.is_none() {
         every_change(&mut compare);
@@ -78,17 +59,11 @@ fn main() {
     let programs = by_program(&compare, &mut random);
 
     println!(
-        "sheet: {} files agree byte for byte ({systematic} systematic, {} left out that take more products, seed {seed}); the longest sheet has {} bytes, the longest list {} levels",
+        "sheet: {} files agree byte for byte ({systematic} systematic, {} left out that take more products, seed {seed}); \
+         the longest sheet has {} bytes, the longest list {} levels",
         compare.files, compare.left_out, compare.longest, compare.levels
     );
-    let counts: Vec<String> = compare
-        .met
-        .iter()
-        .enumerate()
-        .filter(|(_, files)| **files > 0)
-        .map(|(number, files)| format!("{number}: {files}"))
-        .collect();
-    println!("  {}", counts.join(", "));
+    println!("  {}", counts(&compare.met).join(", "));
     println!(
         "  the program: {programs} runs agree byte for byte, on all files of examples/ among others"
     );
@@ -111,13 +86,7 @@ fn every_change(compare: &mut Compare) {
         for at in (0..file.len()).step_by(7) {
             changed_at(file, at, |changed| compare.file(changed, BUDGET));
         }
-        for (line, fields) in fields_of(file).into_iter().enumerate() {
-            for field in 0..=fields {
-                for text in FIELDS.iter().skip((line + field) % 5).step_by(5) {
-                    compare.file(&with_field(file, line, field, text), BUDGET);
-                }
-            }
-        }
+        with_each_field(file, 5, |changed| compare.file(changed, BUDGET));
     }
 }
 
@@ -167,11 +136,7 @@ fn nine_levels() -> Vec<u8> {
 }
 
 fn random_file(compare: &mut Compare, random: &mut Random) {
-    let size = match random.below(20) {
-        0 => Size::medium(),
-        1..=8 => Size::small(),
-        _ => Size::tiny(),
-    };
+    let size = random_size(random, 8);
     let mut file = match random.below(20) {
         0 | 1 => edited_file(random),
         2 | 3 => problem_file(&random_problem(random)),
@@ -179,28 +144,21 @@ fn random_file(compare: &mut Compare, random: &mut Random) {
         _ => problem_file(&random_basis(random, &size)),
     };
     if random.chance(25) {
-        for _ in 0..random.between(1, 3) {
-            damage(random, &mut file);
-        }
+        damage_some(random, &mut file);
     }
     compare.file(&file, BUDGET);
 }
 
-/// The instances of document 01 by name: the problem file, and the sheet that document 01 says.
-fn instances() -> Vec<(String, Vec<u8>, Vec<u8>)> {
+/// The instances of document 01, by name: the problem file, and the sheet that document 01 says.
+fn instances() -> Vec<(Vec<u8>, Vec<u8>)> {
     let folder = Path::new(env!("CARGO_MANIFEST_DIR")).join("instances");
-    let mut files: Vec<(String, Vec<u8>, Vec<u8>)> = std::fs::read_dir(folder)
-        .expect("instances/ is there")
-        .map(|entry| entry.expect("a file of instances/").path())
-        .filter(|path| path.extension().is_some_and(|e| e == "txt"))
-        .map(|path| {
-            let name = path.file_stem().expect("it has a name").to_string_lossy();
-            let file = std::fs::read(&path).expect("a file of instances/");
-            let sheet = std::fs::read(path.with_extension("sheet")).expect("its sheet");
-            (name.into_owned(), file, sheet)
+    let files: Vec<(Vec<u8>, Vec<u8>)> = files_of(&folder)
+        .into_iter()
+        .map(|(name, file)| {
+            let sheet = std::fs::read(folder.join(format!("{name}.sheet"))).expect("its sheet");
+            (file, sheet)
         })
         .collect();
-    files.sort();
     assert_eq!(files.len(), 25, "an instance is missing");
     files
 }
@@ -210,7 +168,7 @@ fn by_program(compare: &Compare, random: &mut Random) -> u64 {
     const ALL: &[By] = &[By::File, By::Pipe(1_000), By::Pipe(65_536)];
     let mut files: Vec<(Vec<u8>, Vec<u8>, &[By])> = instances()
         .into_iter()
-        .map(|(_, file, sheet)| (file, sheet, ALL))
+        .map(|(file, sheet)| (file, sheet, ALL))
         .collect();
     let mut further = vec![vec![b'0'; 65_537], vec![b'\n'; 70_000], vec![]];
     for length in [65_535, 65_536, 65_537, 70_000] {
