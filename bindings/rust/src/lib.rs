@@ -46,6 +46,14 @@ const TREE_WORK_WORDS: usize = 40_960;
 const OUT_WORDS: usize = 5_120;
 const ROW_WORDS: usize = 10;
 const SHEET_BYTES: usize = 1_400_000;
+/// The word of the state that holds how many vectors a level has; their ends stand behind it.
+const fn count_at(level: usize) -> usize {
+    5 + 129 * level
+}
+/// The first word of a level's rows.
+const fn rows_at(level: usize) -> usize {
+    count_at(HIGHEST_LEVEL + 1) + 2_048 * ROW_WORDS * level
+}
 /// `TAGETESSASH_TREE_STACK_BYTES` and room for the thread's own: more than a thread of Rust's has.
 const TREE_STACK: usize = 8 << 20;
 
@@ -268,16 +276,12 @@ impl Engine {
 
     /// The vectors of a level, in number order; of level 0 the file's elements. None of a level that is not complete.
     pub fn vectors(&self, level: usize) -> impl ExactSizeIterator<Item = Vector<'_>> {
-        let rows = match self.state.get(1295 + 20480 * level.min(HIGHEST_LEVEL)..) {
+        let rows = match self.state.get(rows_at(level.min(HIGHEST_LEVEL))..) {
             Some(rows) if level < self.complete() => rows,
             _ => &[],
         };
-        let end = move |vectors: usize| match vectors {
-            0 => 0,
-            _ => ROW_WORDS * usize::from(self.state[5 + 129 * level + vectors]),
-        };
         (0..self.count(level)).map(move |v| Vector {
-            rows: &rows[end(v)..end(v + 1)],
+            rows: &rows[ROW_WORDS * self.end(level, v)..ROW_WORDS * self.end(level, v + 1)],
         })
     }
 
@@ -289,7 +293,7 @@ impl Engine {
     /// How many vectors a level has, of level 0 how many elements; 0 for a level that is not complete.
     pub fn count(&self, level: usize) -> usize {
         if level < self.complete() {
-            usize::from(self.state[5 + 129 * level])
+            usize::from(self.state[count_at(level)])
         } else {
             0
         }
@@ -297,9 +301,14 @@ impl Engine {
 
     /// How many terms the vectors of a level have together.
     pub fn terms(&self, level: usize) -> usize {
-        match self.count(level) {
+        self.end(level, self.count(level))
+    }
+
+    /// How many terms the first so many vectors of a level have together.
+    fn end(&self, level: usize, vectors: usize) -> usize {
+        match vectors {
             0 => 0,
-            count => usize::from(self.state[5 + 129 * level + count]),
+            _ => usize::from(self.state[count_at(level) + vectors]),
         }
     }
 
