@@ -309,7 +309,8 @@ impl Lists {
     }
 }
 
-/// Files over the primes of request A4: read, every level lifted by one of the ways, every vector fetched. Gives how many were read with a coefficient above 32,767.
+/// Files over the primes of request A4: read, every level lifted by one of the ways, every vector fetched. Gives how many were read with a coefficient above
+/// 32,767.
 fn large_primes(lists: &mut Lists, files: u64) -> u64 {
     let mut large = 0;
     for _ in 0..files {
@@ -394,7 +395,8 @@ fn primes(files: u64, seed: u64) {
     let mut lists = Lists::new(seed, None);
     let large = large_primes(&mut lists, files);
     println!(
-        "calls: {files} files over 65,521, 65,519 and 32,771, {large} of them read with a coefficient above 32,767: {} calls agree in number, place and every word ({} left out; seed {seed})",
+        "calls: {files} files over 65,521, 65,519 and 32,771, {large} of them read with a coefficient above 32,767: \
+         {} calls agree in number, place and every word ({} left out; seed {seed})",
         lists.compare.calls, lists.compare.left_out
     );
 }
@@ -410,7 +412,8 @@ fn calls(wanted: u64, seed: u64, spoil: Option<Spoiled>) {
     }
     let compare = &lists.compare;
     println!(
-        "calls: {} calls agree in number, place and every word ({systematic} on the files of the field, then {} lists, {} of them with altered states; {} calls left out; seed {seed})",
+        "calls: {} calls agree in number, place and every word \
+         ({systematic} on the files of the field, then {} lists, {} of them with altered states; {} calls left out; seed {seed})",
         compare.calls, lists.lists, lists.altered, compare.left_out
     );
     for (kind, met) in KINDS.iter().zip(&compare.met) {

@@ -116,7 +116,8 @@ impl Compare {
         };
         if !agrees {
             println!(
-                "list {}, order code {code}, limit {limit}: the proved frame is {number} with {terms} terms, the unrelated implementation's has {}\nleading rows: {:?}",
+                "list {}, order code {code}, limit {limit}: the proved frame is {number} with {terms} terms, \
+                 the unrelated implementation's has {}\nleading rows: {:?}",
                 self.lists,
                 expected.len(),
                 self.heads

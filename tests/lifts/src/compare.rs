@@ -178,7 +178,8 @@ impl Compare {
             });
         if !agrees {
             println!(
-                "call {}, level {k}, {way:?}, cache of {cache_terms} terms, {asked:?}:\nproved lifting answers {answer:?}, the unrelated implementation {number}",
+                "call {}, level {k}, {way:?}, cache of {cache_terms} terms, {asked:?}:\n\
+                 proved lifting answers {answer:?}, the unrelated implementation {number}",
                 self.calls
             );
             println!("{basis:?}");

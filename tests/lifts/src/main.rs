@@ -426,7 +426,8 @@ fn main() {
     }
     let compare = &bases.compare;
     println!(
-        "lifts: {} bases and {} other sound states, {} levels lifted by both agree ({made} of made bases, where {left_out} liftings were left out; {} terms; levels up to {}; seed {seed})",
+        "lifts: {} bases and {} other sound states, {} levels lifted by both agree \
+         ({made} of made bases, where {left_out} liftings were left out; {} terms; levels up to {}; seed {seed})",
         bases.bases, bases.states, compare.calls, compare.terms, bases.deepest
     );
     for (way, met) in WAYS.iter().zip(&compare.met) {
@@ -439,7 +440,10 @@ fn main() {
     }
     let [working, vector, tree] = compare.full;
     let [frame, terms] = compare.over;
-    println!("  14 by a small limit alone: working value {working}, vector {vector}, tree's area {tree}; 15 by frame terms {frame}, by a level's terms {terms}");
+    println!(
+        "  14 by a small limit alone: working value {working}, vector {vector}, tree's area {tree}; \
+         15 by frame terms {frame}, by a level's terms {terms}"
+    );
     let stack = on_small_stack(deepest);
     println!("  the tree at depth {DEEPEST} agrees, {stack}");
     if wanted < BASES / 10 {

@@ -59,7 +59,8 @@ fn main() {
     let programs = by_program(&compare, &mut random);
 
     println!(
-        "sheet: {} files agree byte for byte ({systematic} systematic, {} left out that take more products, seed {seed}); the longest sheet has {} bytes, the longest list {} levels",
+        "sheet: {} files agree byte for byte ({systematic} systematic, {} left out that take more products, seed {seed}); \
+         the longest sheet has {} bytes, the longest list {} levels",
         compare.files, compare.left_out, compare.longest, compare.levels
     );
     println!("  {}", counts(&compare.met).join(", "));
