@@ -16,23 +16,18 @@ use Rattle.definitions.specs.Lifting.{by-hybrid}
 use Rattle.definitions.specs.State.{State, sound?, up-to}
 use Rattle.definitions.specs.Stage.{highest}
 use Rattle.definitions.specs.Calls.{lift}
-use Rattle.definitions.specs.Layout.{Words, encode, decode, level-at, levels-at, holds-state?}
-use Rattle.definitions.proofs.Tests.{between-shown}
+use Rattle.definitions.specs.Layout.{Words, decode, level-at, levels-at}
 use Rattle.definitions.proofs.Numbers as numbers
 use Rattle.definitions.proofs.Numbers.{limit-number?, Numbered, lift-number}
-use Rattle.definitions.proofs.RoundTrip.{decode-encode, holds-encode, length-encode}
 use Rattle.definitions.proofs.Steady.{steady-from}
 use Rattle.definitions.proofs.Bound.{lift-steady}
-use Rattle.demands.proofs.Lifts.{Lifted-to, one-more, limit-met, still-lifting, lifted-to, with-level, height-up-to}
+use Rattle.demands.proofs.Lifts.{Lifted-to, one-more, limit-met, still-lifting, lifted-to, height-up-to}
 use Rattle.stages.proofs.Complete.{length-levels, holds-sound}
 use Rattle.lifting.specs.Stages.{Base}
 use Rattle.all_levels.specs.Levels.{unless-empty, lifted-from, lifted, Levels, unless-last, then-levels, reached-from, reached}
-use Rattle.all_levels.specs.Level.{Liftable, stored, told, Lifted-by}
+use Rattle.all_levels.specs.Level.{Liftable, kept, told-of, Lifted-next}
 
 -- ## What a lifting leaves
-
-pub lowest : (s : Words) (j : ℕ) → Base s j → Base s 0
-lowest s j b = record { long = b .long; holds = b .holds; has = omega (arith, b .has); low = omega arith }
 
 module _ (s : Words) (k : ℕ) (h : Liftable s k) where
   abbrev X : State
@@ -52,42 +47,32 @@ module _ (s : Words) (k : ℕ) (h : Liftable s k) where
   tall : k - 1 < length (X .levels)
   tall = omega (arith, length-levels s (getD s 4 0), h .base .has)
 
-  pub next-of : (n number : ℕ) (t : Words) → told number t ≡ stored s (lift document-01 n X k (by-hybrid 2)) → T (finished? (lift document-01 n X k (by-hybrid 2)))
-      → number ≡ 0 → Next n t
-  next-of n number t e f z = go (lifted-to document-01 tt X sound-is k (by-hybrid 2) n) refl e f
+  pub next-of : (number : ℕ) (t : Words) (L : Lifted-next s k number t) → number ≡ 0 → Next (L .bound) t
+  next-of number t L z = go (lifted-to document-01 tt X sound-is k (by-hybrid 2) (L .bound)) refl (L .gives) (L .finishes)
     where
-      go : {x : Result State} → Lifted-to document-01 X k x → lift document-01 n X k (by-hybrid 2) ≡ x → told number t ≡ stored s x → T (finished? x) → Next n t
+      go : {x : Result State} → Lifted-to document-01 X k x → lift document-01 (L .bound) X k (by-hybrid 2) ≡ x → told-of number t ≡ kept X x → T (finished? x) → Next (L .bound) t
       go (one-more g r) p q f =
-          let Y : State = record { parameters = X .parameters; levels = g ∷ up-to X (k - 1) } in
-          let sound = with-level document-01 X sound-is k (between-shown 1 k 9 (h .low) (h .high)) tall g (r .sound) in
-          let words : t ≡ encode document-01 (length s) Y = ap (λ o. o .1) q in
-          let d : decode document-01 t ≡ Y = ap (decode document-01) words ∙ decode-encode document-01 (omega arith) (length s) Y sound in
+          let d : decode document-01 t ≡ record { parameters = X .parameters; levels = g ∷ up-to X (k - 1) } = ap (λ o. o .1) q in
           let l = height-up-to document-01 X sound-is (k - 1) tall in
           let tops : getD t 4 0 ≡ suc k = sym (length-levels t (getD t 4 0)) ∙ ap (λ Z. length (Z .levels)) d ∙ ap suc (l ∙ (omega (arith, h .low))) in
           record {
-            next = Y;
+            next = record { parameters = X .parameters; levels = g ∷ up-to X (k - 1) };
             lifts = p;
             decoded = d;
             height = tops;
-            base = record {
-              long = omega (arith, ap length words, length-encode document-01 (omega arith) (length s) Y sound (h .base .long), h .base .long);
-              holds = subst (λ u. T (holds-state? document-01 u)) (sym words) (holds-encode document-01 (omega arith) (length s) Y sound);
-              has = omega (arith, tops);
-              low = omega (arith, h .high);
-            };
+            base = record { long = L .base .long; holds = L .base .holds; has = omega (arith, tops); low = omega (arith, h .high) };
           }
-      go (limit-met {number = m} u) p q f = absurd (subst (λ i. T (limit-number? i)) (sym (ap (λ o. o .0) q) ∙ z) u)
+      go (limit-met u) p q f = absurd (subst (λ i. T (limit-number? i)) (sym (ap (λ o. o .0) q) ∙ z) u)
       go still-lifting p q f = absurd f
 
   pub record Stays (n number : ℕ) (t : Words) : Type 0 where
     pub refuses : lift document-01 n X k (by-hybrid 2) ≡ refused number k []
-    pub same : t ≡ s
+    pub same : decode document-01 t ≡ X
 
-  pub stays-of : (n number : ℕ) (t : Words) → told number t ≡ stored s (lift document-01 n X k (by-hybrid 2)) → T (finished? (lift document-01 n X k (by-hybrid 2)))
-      → (number ≡ 0 → ⊥) → Stays n number t
-  stays-of n number t e f z = go (lifted-to document-01 tt X sound-is k (by-hybrid 2) n) refl e f
+  pub stays-of : (number : ℕ) (t : Words) (L : Lifted-next s k number t) → (number ≡ 0 → ⊥) → Stays (L .bound) number t
+  stays-of number t L z = go (lifted-to document-01 tt X sound-is k (by-hybrid 2) (L .bound)) refl (L .gives) (L .finishes)
     where
-      go : {x : Result State} → Lifted-to document-01 X k x → lift document-01 n X k (by-hybrid 2) ≡ x → told number t ≡ stored s x → T (finished? x) → Stays n number t
+      go : {x : Result State} → Lifted-to document-01 X k x → lift document-01 (L .bound) X k (by-hybrid 2) ≡ x → told-of number t ≡ kept X x → T (finished? x) → Stays (L .bound) number t
       go (one-more g r) p q f = absurd (z (ap (λ o. o .0) q))
       go (limit-met u) p q f = record { refuses = p ∙ sym (ap (λ o. refused (o .0) k []) q); same = ap (λ o. o .1) q }
       go still-lifting p q f = absurd f
@@ -134,7 +119,7 @@ module _ (s₀ s : Words) (k : ℕ) (h : Liftable s k) (g : Going s₀ s k) wher
   pub going-refused : (n number : ℕ) (t : Words) → Stays s k h n number t → T (finished? (lift document-01 n S k (by-hybrid 2))) → Ended-as s₀ number k t
   going-refused n number t r f = (
     g .0 + (n + 0),
-    (λ i. some (number, k, decode document-01 (r .same i)))
+    (λ i. some (number, k, r .same i))
         ∙ sym (ap (on (g .0 + (n + 0))) (r .refuses))
         ∙ sym (here n 0 f),
   )

@@ -1,10 +1,11 @@
 -- What the theorems about lifting say of a level lifted over a state: sound, refused by a limit alone, and so one that can be stored.
 use mathlib.Core.Path.{_≡_, refl, sym, ap, _∙_, subst}
+use mathlib.Core.Bool.{Bool, true, false}
 use mathlib.Core.List.{List, [], _∷_}
 use Prim.Native.Nat.{ℕ, zero, suc, _-_, _<_, _≤_}
 use native.Mathlib.Nat.{not-suc-le-zero}
 use native.Mathlib.Omega.{arith}
-use lib.Dec.{T}
+use lib.Dec.{T, leb, le→leb}
 use lib.ListN.{length, getD, take, drop, replicate}
 use lib.Seq.{length-take-le, getD-take}
 use Rattle.definitions.specs.Limits.{document-01}
@@ -12,12 +13,12 @@ use Rattle.definitions.specs.Lists.{_and_, choose, every, between}
 use Rattle.definitions.specs.Monomial.{Level}
 use Rattle.definitions.specs.Result.{Result, done, refused, unfinished, finished?, at-level, _>>=_}
 use Rattle.definitions.specs.Problem.{Parameters}
-use Rattle.definitions.specs.State.{vector-sound?, levels-sound?}
+use Rattle.definitions.specs.State.{State, sound?, vector-sound?, levels-sound?}
 use Rattle.definitions.specs.Run.{by-code}
 use Rattle.definitions.specs.Lifting.{Lifting, by-division, by-hybrid, limited-frame, lift-all, lift-level}
 use Rattle.definitions.specs.Calls.{lift}
-use Rattle.definitions.specs.Layout.{Words, rows, encode, decode, vectors-at, level-at, levels-at, holds-state?}
-use Rattle.definitions.proofs.Tests.{and-left, and-right, between-high}
+use Rattle.definitions.specs.Layout.{Words, rows, encode, decode, vectors-at, level-at, levels-at, all-words-sound?, holds-state?}
+use Rattle.definitions.proofs.Tests.{and-left, and-right, and-both, between-high, between-shown}
 use Rattle.definitions.proofs.Sound.{level-says, vector-says}
 use Rattle.definitions.proofs.Modular.{prime-says}
 use Rattle.definitions.proofs.Numbers as numbers
@@ -25,6 +26,7 @@ use Rattle.definitions.proofs.Numbers.{limit-number?, Numbered, lift-level-numb
 use Rattle.definitions.proofs.Rows.{length-rows}
 use Rattle.demands.proofs.Results.{Gives, gives, refuses, open-yet}
 use Rattle.demands.proofs.Over.{Lift-right, over}
+use Rattle.demands.proofs.Lifts.{Lifted-to, one-more, limit-met, still-lifting, lifted-to, with-level as level-above}
 use Rattle.terms.specs.Rows.{cleared}
 use Rattle.tables.specs.Cuts.{start-of}
 use Rattle.levels.specs.Places.{parameters-at}
@@ -35,9 +37,9 @@ use Rattle.lifting.specs.Stages.{Base, usual, stage-at, lift-over, leveled-of, 
 use Rattle.lifting.specs.declared.Leveled.{Leveled}
 use Rattle.lifting.specs.declared.Leveled.the-variants.{Vectors, Refused, Stopped}
 use Rattle.lifting.proofs.Readying.{sound-levels, prime-at}
-use Rattle.storing.specs.Stored.{Kept-apart, with-level}
-use Rattle.stages.proofs.Complete.{up-to-is}
-use Rattle.all_levels.specs.Level.{Liftable, Chosen, by-picks, by-leading, way-by, Settles, state-over, stored, told, Lifted-by}
+use Rattle.storing.specs.Stored.{Kept-apart, with-level, Added}
+use Rattle.stages.proofs.Complete.{up-to-is, length-levels, holds-sound}
+use Rattle.all_levels.specs.Level.{Liftable, Chosen, by-picks, by-leading, way-by, Settles, state-over, stored, told, Lifted-by, kept, Kept-as, Lifted-next}
 
 pub few-variables : (s : Words) → 206095 ≤ length s → T (holds-state? document-01 s) → getD s 1 0 ≤ 8
 few-variables s long holds = between-high 1 (getD s 1 0) 8 (and-left (between 1 (getD s 1 0) 8) (between 1 (getD s 2 0) 3 and between 1 (getD s 3 0) 16) (holds-said s long holds .3))
@@ -77,6 +79,9 @@ module _ (s : Words) (j : ℕ) (b : Base s j) where
       limited-frame document-01 (q .code) (level-at document-01 s j) >>= λ ms.
       lift-all (stage-at usual s j) (lifts (stage-at usual s j) (record { drops = d i; pick = by-code (stage-at usual s j .below) (p i); stops = e i }) n) ([], 0) [] ms)
       ∙ ap (λ t. lift-level document-01 (q .p) (q .code) below (choose t (by-hybrid (w .pick)) by-division) n) (sym d)
+
+pub lowest : (s : Words) (j : ℕ) → Base s j → Base s 0
+lowest s j b = record { long = b .long; holds = b .holds; has = omega (arith, b .has); low = omega arith }
 
 -- ## None is empty
 
@@ -166,6 +171,76 @@ module _ (s : Words) (k : ℕ) (h : Liftable s k) where
         p ∙ ap (λ y. stored s (state-over s k y)) f ∙ ap (stored s) (lift-is way n),
         subst (λ y. T (finished? y)) (lift-is way n) (at-finished (lift-level document-01 (getD s 0 0) (getD s 2 0) (levels-at document-01 s (suc (k - 1))) way n) (subst (λ y. T (finished? y)) e (over-finished s (k - 1) (h .base) out long x v))),
       )
+
+  -- ## Kept without zeroing
+
+  abbrev here : State
+  here = decode document-01 s
+
+  abbrev or-here : Result State → State
+  or-here (done Y) = Y
+  or-here (refused number place value) = here
+  or-here unfinished = here
+
+  abbrev is-done : Result State → Bool
+  is-done (done Y) = true
+  is-done (refused number place value) = false
+  is-done unfinished = false
+
+  sound-next : (way : Lifting) (n : ℕ) (Y : State) → lift document-01 n here k way ≡ done Y → T (sound? document-01 Y)
+  sound-next way n Y e = go (lifted-to document-01 tt here (holds-sound s (h .base .holds)) k way n) e
+    where
+      go : {x : Result State} → Lifted-to document-01 here k x → x ≡ done Y → T (sound? document-01 Y)
+      go (one-more g r) p =
+          subst (λ Z. T (sound? document-01 Z)) (ap or-here p)
+          (level-above document-01 here (holds-sound s (h .base .holds)) k (between-shown 1 k 9 (h .low) (h .high)) (omega (arith, length-levels s (getD s 4 0), h .base .has)) g (r .sound))
+      go (limit-met u) p = absurd (subst (λ x. T (is-done x)) (sym p) tt)
+      go still-lifting p = absurd (subst (λ x. T (is-done x)) (sym p) tt)
+
+  added-base : (t : Words) (count : ℕ) (out : Words) → Added s t k count out → T (sound? document-01 (with-level s k count out)) → Base t 0
+  added-base t count out A sound =
+      let tall : getD t 4 0 ≤ 10 = omega (arith, A .height, h .high) in
+      record {
+        long = omega (arith, A .long, h .base .long);
+        holds =
+            and-both (leb (getD t 4 0) 10) (all-words-sound? document-01 t (getD t 4 0) and sound? document-01 (decode document-01 t)) (le→leb (getD t 4 0) 10 tall)
+            (and-both (all-words-sound? document-01 t (getD t 4 0)) (sound? document-01 (decode document-01 t)) (subst (λ i. T (all-words-sound? document-01 t i)) (sym (A .height)) (A .words)) (subst (λ Z. T (sound? document-01 Z)) (sym (A .state)) sound));
+        has = omega (arith, A .height);
+        low = omega arith;
+      }
+
+  next-of : (n : ℕ) (out : Words) (x : Leveled) (number : ℕ) (t : Words) → Kept-as s k x out number t
+      → leveled-of x out [] ≡ lift-level document-01 (getD s 0 0) (getD s 2 0) (levels-at document-01 s (suc (k - 1))) (by-hybrid 2) n → Lifted-next s k number t
+  next-of n out (Vectors count used) number t (z, A) e =
+      let p : lift document-01 n here k (by-hybrid 2) ≡ done (with-level s k count out) = sym (lift-is (by-hybrid 2) n) ∙ ap (state-over s k) (sym e) in
+      record {
+        bound = n;
+        gives = (λ i. (z i, A .state i)) ∙ ap (kept here) (sym p);
+        finishes = subst (λ y. T (finished? y)) (sym p) tt;
+        base = added-base t count out A (sound-next (by-hybrid 2) n (with-level s k count out) p);
+      }
+  next-of n out (Refused m) number t (z, same) e =
+      let p : lift document-01 n here k (by-hybrid 2) ≡ refused m k [] = sym (lift-is (by-hybrid 2) n) ∙ ap (state-over s k) (sym e) in
+      record {
+        bound = n;
+        gives = (λ i. (z i, decode document-01 (same i))) ∙ ap (kept here) (sym p);
+        finishes = subst (λ y. T (finished? y)) (sym p) tt;
+        base = subst (λ u. Base u 0) (sym same) (lowest s (k - 1) (h .base));
+      }
+  next-of n out (Stopped m) number t a e = absurd a
+
+  pub lifted-next : (n : ℕ) (out : Words) → 20608 ≤ length out → (x : Leveled) (v : Words)
+      → leveled-of x out v ≡ lift-level document-01 (getD s 0 0) (getD s 2 0) (levels-at document-01 s (suc (k - 1))) (by-hybrid 2) n → Stored-as x out
+      → (number : ℕ) (t : Words) → Kept-as s k x out number t → Lifted-next s k number t
+  lifted-next n out long x v e saved number t a =
+      let settled = way-settles s (k - 1) (h .base) out long (by-hybrid 2) n x v e saved in
+      next-of n out x number t a (valueless s (k - 1) (h .base) out long x v settled ∙ e)
+
+  pub kept-words : (x : Leveled) (count used : ℕ) (out t : Words) → x ≡ Vectors count used → Added s t k count out → Kept-as s k x out 0 t
+  kept-words x count used out t e A = subst (λ y. Kept-as s k y out 0 t) (sym e) (refl, A)
+
+  pub kept-none : (x : Leveled) (number : ℕ) (out : Words) → x ≡ Refused number → Kept-as s k x out number s
+  kept-none x number out e = subst (λ y. Kept-as s k y out number s) (sym e) (refl, refl)
 
   pub stored-words : (x : Leveled) (count used : ℕ) (out t : Words) → x ≡ Vectors count used → t ≡ encode document-01 (length s) (with-level s k count out)
       → told 0 t ≡ stored s (state-over s k (leveled-of x out []))

@@ -19,7 +19,7 @@ use Rattle.runs.specs.declared.Strategy.{Strategy}
 use Rattle.lifting.specs.Stages.{Base}
 use Rattle.lifting.specs.declared.Leveled.{Leveled}
 use Rattle.lifting.specs.declared.Leveled.the-variants.{Vectors, Refused, Stopped}
-use Rattle.storing.specs.Stored.{Kept-apart}
+use Rattle.storing.specs.Stored.{Kept-apart, Added}
 use Rattle.all_levels.specs.Levels.{reached}
 use Rattle.all_levels.specs.declared.Ended.{Ended}
 
@@ -60,6 +60,28 @@ told number t = (number, t)
 abbrev pub Lifted-by : Words → ℕ → Lifting → ℕ → Words → Type 0
 Lifted-by s k way number t =
     (n : ℕ) × (told number t ≡ stored s (lift document-01 n (decode document-01 s) k way)) × T (finished? (lift document-01 n (decode document-01 s) k way))
+
+-- the same of the state that the words hold: 0 and the new state, or a refusal's number and the state as it was
+abbrev pub kept : State → Result State → ℕ × State
+kept X (done Y) = (0, Y)
+kept X (refused number place value) = (number, X)
+kept X unfinished = (0, X)
+
+abbrev pub told-of : ℕ → Words → ℕ × State
+told-of number t = (number, decode document-01 t)
+
+-- what lifting gave, kept in the state; nothing is said of unused places
+abbrev pub Kept-as : Words → ℕ → Leveled → Words → ℕ → Words → Type 0
+Kept-as s k (Vectors n used) out number t = (number ≡ 0) × Added s t k n out
+Kept-as s k (Refused m) out number t = (number ≡ m) × (t ≡ s)
+Kept-as s k (Stopped n) out number t = ⊥
+
+-- level k of the state that the words hold, lifted as for the sheet; the words are sound again
+pub record Lifted-next (s : Words) (k number : ℕ) (t : Words) : Type 0 where
+  pub bound : ℕ
+  pub gives : told-of number t ≡ kept (decode document-01 s) (lift document-01 bound (decode document-01 s) k (by-hybrid 2))
+  pub finishes : T (finished? (lift document-01 bound (decode document-01 s) k (by-hybrid 2)))
+  pub base : Base t 0
 
 -- all levels as for the sheet, in the words that a sound state is left in
 abbrev pub Reached : Words → Ended → Words → Type 0

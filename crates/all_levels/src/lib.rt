@@ -5,9 +5,8 @@ ghost use mathlib.Core.Path.{_≡_};
 ghost use mathlib.Core.List.{[]};
 ghost use Prim.Native.Nat.{_≤_};
 ghost use lib.ListN.{length};
-ghost use Rattle.definitions.specs.Lifting.{by-hybrid};
 ghost use Rattle.lifting.specs.Stages.{Base, leveled-of};
-ghost use Rattle.all_levels.specs.Level.{Liftable, Chosen, way-by, Settles, state-over, stored, told, Lifted-by, Reached};
+ghost use Rattle.all_levels.specs.Level.{Liftable, Chosen, way-by, Settles, state-over, stored, told, Lifted-by, Kept-as, Lifted-next, Reached};
 use lifting::Leveled;
 use runs::Strategy;
 
@@ -44,17 +43,36 @@ pub fn lift_level(state: &mut [u16], work: &mut [u16], k: usize, w: Strategy) ->
     store(state, k, x, &out)
 }
 
+// The same without zeroing: unused places stay as they are.
+fn keep(state: &mut [u16], k: usize, x: Leveled, out: &[u16]) -> u16
+    requires { ⌜ Liftable (now state) k × Settles x (now out) ⌝ }
+    ensures { λ r. ⌜ Kept-as (now (state .entry)) k x (now (out .entry)) r (now (state .exit)) ⌝ }
+{
+    match x {
+        Leveled::Vectors(n, _used) => {
+            storing::add_level(state, k, n, out);
+            0
+        }
+        Leveled::Refused(number) => number,
+        // not reached, as above
+        Leveled::Stopped(_n) => 9,
+    }
+}
+
 // Level k by hybrid with pick code 2.
 pub fn lift_next(state: &mut [u16], work: &mut [u16], k: usize) -> u16
     requires { ⌜ Liftable (now state) k × (5120 ≤ length (now work)) ⌝ }
-    ensures { λ r. ⌜ Lifted-by (now (state .entry)) k (by-hybrid 2) r (now (state .exit)) ⌝ }
+    ensures { λ r. ⌜ Lifted-next (now (state .entry)) k r (now (state .exit)) ⌝ }
 {
+    let mut out = [0u16; 20608];
+    let b = lifting::usual();
     let w = Strategy {
         drops: true,
         pick: 2,
         stops: false,
     };
-    lift_level(state, work, k, w)
+    let x = lifting::lift_level(&mut out, work, state, k - 1, w, b);
+    keep(state, k, x, &out)
 }
 
 // "Levels 1 on, hybrid, pick code 2, until a count is 0 or level 9 is printed"; where one is refused, those below it stay.

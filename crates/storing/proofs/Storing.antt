@@ -3,19 +3,21 @@ use mathlib.Core.Path.{_≡_, sym, ap, _∙_, subst}
 use mathlib.Core.List.{[], _∷_, _++_}
 use Prim.Native.Nat.{ℕ, suc, _+_, _-_, _*_, _<_, _≤_}
 use native.Mathlib.Omega.{arith}
-use lib.ListN.{length, getD, drop}
+use lib.Dec.{T}
+use lib.ListN.{length, getD, drop, set, length-set}
 use lib.Seq.{getD-drop}
 use Rattle.definitions.specs.Limits.{document-01}
-use Rattle.definitions.specs.Layout.{Words, rows, encode}
+use Rattle.definitions.specs.Layout.{Words, rows, encode, decode, all-words-sound?}
 use Rattle.definitions.proofs.Rows.{rows-same}
 use Rattle.terms.proofs.Stored.{same-row}
 use Rattle.tables.specs.Cuts.{start-of}
 use Rattle.tables.proofs.Cutting.{cut-more}
 use Rattle.writing.specs.Growing.{appended, finished}
 use Rattle.writing.specs.Grown.{Grown}
+use Rattle.writing.proofs.Local.{new-height, new-words, new-state}
 use Rattle.writing.proofs.Growth.{grown-more, grown-finished}
 use Rattle.lift.specs.Vectors.{lifted-vectors}
-use Rattle.storing.specs.Stored.{Kept-apart, with-level}
+use Rattle.storing.specs.Stored.{Kept-apart, with-level, Appended, Added}
 
 -- rows from row used on, of a slice that begins there
 rows-there : (out : Words) (used n : ℕ) → rows (drop 128 out) used n ≡ rows (drop (128 + used * 10) out) 0 n
@@ -61,7 +63,26 @@ module _ (s out : Words) (k count : ℕ) (long : 206095 ≤ length s) (inside : 
       one : suc i ≡ i + 1
       one = omega arith
 
-  pub stored-whole : (z : Words) (i used : ℕ) → count ≤ i → Storing z i used → encode document-01 (length z) (finished z k count) ≡ encode document-01 (length s) (with-level s k count out)
-  stored-whole z i used h (m, u, g) =
-      let e : i ≡ count = omega arith in
-      λ j. encode document-01 (g .long j) ((ap (finished z k) (sym e) ∙ grown-finished s z k i used (lifted-vectors out i) g ∙ ap (λ n. with-level s k n out) e) j)
+  pub appended-all : (z : Words) (i used : ℕ) → count ≤ i → Storing z i used → Appended s z k count out
+  appended-all z i used h (m, u, g) = let e : i ≡ count = omega arith in (used, subst (λ n. Grown s z k n used (lifted-vectors out n)) e g)
+
+-- ## The level complete
+
+module _ (s z out : Words) (k count : ℕ) (A : Appended s z k count out) where
+  state-is : finished z k count ≡ with-level s k count out
+  state-is = grown-finished s z k count (A .0) (lifted-vectors out count) (A .1)
+
+  pub stored-whole : encode document-01 (length z) (finished z k count) ≡ encode document-01 (length s) (with-level s k count out)
+  stored-whole = λ j. encode document-01 (A .1 .long j) (state-is j)
+
+  pub added : 206095 ≤ length s → k < 10 → (t : Words) → t ≡ set (set z (5 + k * 129) count) 4 (k + 1) → Added s t k count out
+  added long inside t e =
+      let l : 206095 ≤ length z = omega (arith, long, A .1 .long) in
+      let n = length-set z (5 + k * 129) count in
+      let m = length-set (set z (5 + k * 129) count) 4 (k + 1) in
+      record {
+        long = ap length e ∙ m ∙ n ∙ A .1 .long;
+        height = ap (λ y. getD y 4 0) e ∙ new-height z k count l inside (A .1 .words-below) (A .1 .words);
+        words = subst (λ y. T (all-words-sound? document-01 y (k + 1))) (sym e) (new-words z k count l inside (A .1 .words-below) (A .1 .words));
+        state = ap (decode document-01) e ∙ new-state z k count l inside (A .1 .words-below) (A .1 .words) ∙ state-is;
+      }

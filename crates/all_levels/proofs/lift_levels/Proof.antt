@@ -8,7 +8,8 @@ use Rattle.definitions.specs.Layout.{level-at}
 use Rattle.stages.proofs.Complete.{complete-count}
 use Rattle.lifting.specs.Stages.{Base}
 use Rattle.all_levels.specs.Level.{Liftable}
-use Rattle.all_levels.proofs.Levels.{lowest, next-of, stays-of, Going, going-first, going-refused, going-last, going-on, going-nine}
+use Rattle.all_levels.proofs.Lifting.{lowest}
+use Rattle.all_levels.proofs.Levels.{next-of, stays-of, Going, going-first, going-refused, going-last, going-on, going-nine}
 use Rattle.all_levels.proofs.lift_levels.Statement.{statement}
 use Rattle.all_levels.proofs.lift_levels.Tie as tie
 
@@ -43,9 +44,10 @@ returns c =
     let I = l .inv in
     let H : Liftable (l .state) (l .k) = record { low = I .0; high = omega arith; base = I .2 } in
     let L = m .lift-next in
-    let n = L .ensures .0 in
-    let R = stays-of (l .state) (l .k) H n (L .result) (L .last .0) (L .ensures .1) (L .ensures .2) (λ z. not-suc-le-zero {n = 0} (omega (arith, z, c .if1 .taken))) in
-    (going-refused s₀ (l .state) (l .k) H (I .3) n (L .result) (L .last .0) R (L .ensures .2), subst (λ u. Base u 0) (sym (R .same)) (lowest (l .state) (l .k - 1) (I .2)))
+    let M = L .ensures in
+    let n = M .bound in
+    let R = stays-of (l .state) (l .k) H (L .result) (L .last .0) M (λ z. not-suc-le-zero {n = 0} (omega (arith, z, c .if1 .taken))) in
+    (going-refused s₀ (l .state) (l .k) H (I .3) n (L .result) (L .last .0) R (M .finishes), M .base)
 
 count-of-requires : tie.Need-count-of-requires Inv-loop μ-loop
 count-of-requires c κs =
@@ -56,8 +58,9 @@ count-of-requires c κs =
     let I = l .inv in
     let H : Liftable (l .state) (l .k) = record { low = I .0; high = omega arith; base = I .2 } in
     let L = m .lift-next in
-    let n = L .ensures .0 in
-    let N = next-of (l .state) (l .k) H n (L .result) (L .last .0) (L .ensures .1) (L .ensures .2) (omega arith) in
+    let M = L .ensures in
+    let n = M .bound in
+    let N = next-of (l .state) (l .k) H (L .result) (L .last .0) M (omega arith) in
     (N .base .long, N .base .low)
 
 same-length-3 : tie.Need-same-length-3 Inv-loop μ-loop
@@ -75,11 +78,12 @@ returns-2 c =
     let I = l .inv in
     let H : Liftable (l .state) (l .k) = record { low = I .0; high = omega arith; base = I .2 } in
     let L = m .lift-next in
-    let n = L .ensures .0 in
-    let N = next-of (l .state) (l .k) H n (L .result) (L .last .0) (L .ensures .1) (L .ensures .2) (omega arith) in
+    let M = L .ensures in
+    let n = M .bound in
+    let N = next-of (l .state) (l .k) H (L .result) (L .last .0) M (omega arith) in
     let counted = complete-count (L .last .0) (N .base .long) (N .base .holds) (l .k) (N .base .has) in
     let none : length (level-at document-01 (L .last .0) (l .k)) ≡ 0 = omega (arith, counted, c .before .count-of .ensures) in
-    (going-last s₀ (l .state) (l .k) H (I .3) n (L .last .0) N none, lowest (L .last .0) (l .k) (N .base))
+    (going-last s₀ (l .state) (l .k) H (I .3) n (L .last .0) N none, M .base)
 
 add-k : tie.Need-add-k Inv-loop μ-loop
 add-k c = omega arith
@@ -96,8 +100,9 @@ loop-again c =
     let I = l .inv in
     let H : Liftable (l .state) (l .k) = record { low = I .0; high = omega arith; base = I .2 } in
     let L = m .lift-next in
-    let n = L .ensures .0 in
-    let N = next-of (l .state) (l .k) H n (L .result) (L .last .0) (L .ensures .1) (L .ensures .2) (omega arith) in
+    let M = L .ensures in
+    let n = M .bound in
+    let N = next-of (l .state) (l .k) H (L .result) (L .last .0) M (omega arith) in
     let counted = complete-count (L .last .0) (N .base .long) (N .base .holds) (l .k) (N .base .has) in
     let more : 0 < length (level-at document-01 (L .last .0) (l .k)) = omega (arith, counted, c .before .count-of .ensures) in
     let e : l .k ≡ l .k + 1 - 1 = omega arith in
