@@ -2,9 +2,9 @@
 use mathlib.Core.Path.{_≡_}
 use mathlib.Core.Bool.{Bool, true}
 use mathlib.Core.List.{[], _∷_}
-use Prim.Native.Nat.{ℕ, zero, suc, _+_, _*_, _<_, _≤_}
+use Prim.Native.Nat.{ℕ, zero, suc, _+_, _-_, _*_, _<_, _≤_}
 use lib.Dec.{eqb}
-use lib.ListN.{length, getD, take}
+use lib.ListN.{length, getD, take, drop}
 use Rattle.definitions.specs.Limits.{Limits, document-01}
 use Rattle.definitions.specs.Monomial.{Vector, Level}
 use Rattle.definitions.specs.Result.{Result, done, refused, refusal}
@@ -38,22 +38,41 @@ limits-of g = record {
   numbering = document-01 .numbering;
 }
 
+-- ## The tables of a lifting in one slice: heads, spans, ends, images below, images above
+
+-- the words from place a on
+abbrev pub part : ℕ → Words → Words
+part a s = take (length s - a) (drop a s)
+
+abbrev pub spans-in : Words → Words
+spans-in tables = part 1280 tables
+
+abbrev pub ends-in : Words → Words
+ends-in tables = part 1538 tables
+
+abbrev pub below-in : Words → Words
+below-in tables = part 1666 tables
+
+abbrev pub above-in : Words → Words
+above-in tables = part 2946 tables
+
 -- the heads' rows
 abbrev pub reduction-of : Ground → Words → Reduction
-reduction-of g heads = record { limits = limits-of g; p = g .p; heads = rows heads 0 (g .r) }
+reduction-of g tables = record { limits = limits-of g; p = g .p; heads = rows tables 0 (g .r) }
 
 -- f_1 .. f_r
 abbrev pub family-of : Ground → Words → Words → Level
 family-of g level ends = vectors-at level 0 (take (g .r) ends)
 
 -- what the tables must be
-pub record Tables (g : Ground) (heads spans : Words) : Type 0 where
+pub record Tables (g : Ground) (tables : Words) : Type 0 where
   pub prime : 0 < g .p
   pub few : g .r < 65536
-  pub heads-fit : g .r * 10 ≤ length heads
-  pub spans-fit : g .components * 2 ≤ length spans
-  pub small : Small (g .r) heads
-  pub spanned : Spanned (g .components) (g .r) spans heads
+  pub long : 4226 ≤ length tables
+  pub heads-fit : g .r * 10 ≤ length tables
+  pub spans-fit : g .components * 2 ≤ length (spans-in tables)
+  pub small : Small (g .r) tables
+  pub spanned : Spanned (g .components) (g .r) (spans-in tables) tables
 
 -- ## Answers
 
