@@ -38,23 +38,38 @@ limits-of g = record {
   numbering = document-01 .numbering;
 }
 
--- ## The tables of a lifting in one slice: heads, spans, ends, images below, images above
+-- ## The tables of a lifting in one slice, one after the other: rows of 128 heads, their spans, the ends of the level's vectors, the images below and above
+
+abbrev pub spans-start : ℕ
+spans-start = 1280
+
+abbrev pub ends-start : ℕ
+ends-start = 1538
+
+abbrev pub below-start : ℕ
+below-start = 1666
+
+abbrev pub above-start : ℕ
+above-start = 2946
+
+abbrev pub tables-length : ℕ
+tables-length = 4226
 
 -- the words from place a on
 abbrev pub part : ℕ → Words → Words
 part a s = take (length s - a) (drop a s)
 
 abbrev pub spans-in : Words → Words
-spans-in tables = part 1280 tables
+spans-in tables = part spans-start tables
 
 abbrev pub ends-in : Words → Words
-ends-in tables = part 1538 tables
+ends-in tables = part ends-start tables
 
 abbrev pub below-in : Words → Words
-below-in tables = part 1666 tables
+below-in tables = part below-start tables
 
 abbrev pub above-in : Words → Words
-above-in tables = part 2946 tables
+above-in tables = part above-start tables
 
 -- the heads' rows
 abbrev pub reduction-of : Ground → Words → Reduction
@@ -68,7 +83,7 @@ family-of g level ends = vectors-at level 0 (take (g .r) ends)
 pub record Tables (g : Ground) (tables : Words) : Type 0 where
   pub prime : 0 < g .p
   pub few : g .r < 65536
-  pub long : 4226 ≤ length tables
+  pub long : tables-length ≤ length tables
   pub heads-fit : g .r * 10 ≤ length tables
   pub spans-fit : g .components * 2 ≤ length (spans-in tables)
   pub small : Small (g .r) tables

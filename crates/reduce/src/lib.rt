@@ -13,7 +13,7 @@ ghost use Rattle.definitions.specs.Layout.{row-at, rows};
 ghost use Rattle.orders.specs.Images.{key, key-of, table-of, table-order, Tabled};
 ghost use Rattle.reducers.specs.Search.{answer-of};
 ghost use Rattle.terms.specs.Rows.{term-of};
-ghost use Rattle.reduce.specs.Grounds.{reduction-of, ends-in, below-in, Tables, Family, family-of, first-row, added-of, Within};
+ghost use Rattle.reduce.specs.Grounds.{below-start, reduction-of, ends-in, below-in, Tables, Family, family-of, first-row, added-of, Within};
 use monomial::Monomial;
 use orders::Image;
 use reducers::Answer;
@@ -35,10 +35,14 @@ pub struct Ground {
     pub room: usize,
 }
 
-// Where the tables of a lifting stand in the one slice that has them: the heads first.
-const SPANS: usize = 1280;
-const ENDS: usize = 1538;
-const BELOW: usize = 1666;
+// Where the tables of a lifting stand in the one slice that has them: 128 heads first, then their spans, the ends of the level's vectors, the images below and above.
+pub const SPANS: usize = 1280;
+
+pub const ENDS: usize = 1538;
+
+pub const BELOW: usize = 1666;
+
+pub const ABOVE: usize = 2946;
 
 // The rows that a value has now, or a refusal's number.
 pub enum Added {
@@ -203,7 +207,7 @@ pub fn greatest(value: &[u16], n: usize, code: u16, below: &[u16], images: usize
 
 // The place that the pick code says, of n terms.
 pub fn pick(value: &[u16], n: usize, pick: u16, tables: &[u16], g: Ground) -> usize
-    requires { ⌜ (0 < n) × (n * 10 ≤ length (now value)) × (1666 ≤ length (now tables)) × (g .images * 10 ≤ length (below-in (now tables))) × Tabled (g .images) (below-in (now tables)) ⌝ }
+    requires { ⌜ (0 < n) × (n * 10 ≤ length (now value)) × (below-start ≤ length (now tables)) × (g .images * 10 ≤ length (below-in (now tables))) × Tabled (g .images) (below-in (now tables)) ⌝ }
     ensures { λ r. ⌜ some r ≡ by-code (table-order (g .code) (table-of (g .images) (below-in (now (tables .entry))))) pick (rows (now (value .entry)) 0 n) ⌝ }
 {
     match pick {

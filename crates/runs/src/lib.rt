@@ -22,10 +22,6 @@ use reduce::Ground;
 use reducers::Answer;
 use terms::Term;
 
-// Where the tables of images stand (crate reduce).
-const BELOW: usize = 1666;
-const ABOVE: usize = 2946;
-
 // How a run goes: whether products of lower order are dropped, the pick code, whether a term without a reducer ends it.
 pub struct Strategy {
     pub drops: bool,
@@ -73,17 +69,7 @@ fn reduced(
         },
     };
     match reduce::store_term(vector, v, g.vector, g.p, t) {
-        Added::Rows(k) => match reduce::add_multiple(
-            value,
-            n,
-            level,
-            tables,
-            j,
-            c,
-            q,
-            g,
-            drops,
-        ) {
+        Added::Rows(k) => match reduce::add_multiple(value, n, level, tables, j, c, q, g, drops) {
             Added::Rows(m) => Step::On(m, k),
             Added::Refused(x) => Step::Refused(x),
         },
@@ -126,19 +112,7 @@ fn one_step(
     };
     let q = found.quotient;
     let d = field::negative(c, g.p);
-    reduced(
-        value,
-        n,
-        vector,
-        v,
-        level,
-        tables,
-        g,
-        w.drops,
-        j,
-        d,
-        q,
-    )
+    reduced(value, n, vector, v, level, tables, g, w.drops, j, d, q)
 }
 
 // Steps to the end.
@@ -171,24 +145,26 @@ fn steps(
 }
 
 // A finished vector descending, in the value's place; a value without a reducer descending, in the vector's.
-fn sorted(
-    value: &mut [u16],
-    vector: &mut [u16],
-    x: Outcome,
-    tables: &[u16],
-    g: Ground,
-) -> Outcome
+fn sorted(value: &mut [u16], vector: &mut [u16], x: Outcome, tables: &[u16], g: Ground) -> Outcome
     requires { ⌜ Tables g (now tables) × Images (g .images) (below-in (now tables)) × Images (g .r) (above-in (now tables)) × Rooms g (now value) (now vector) × Ended g x ⌝ }
     ensures { λ y. ⌜ (outcome-of y (now (value .exit)) (now (vector .exit)) ≡ ended-of (order-of g (now (tables .entry))) (table-order (g .code) (table-of (g .r) (above-in (now (tables .entry))))) (g .p) x (now (value .entry)) (now (vector .entry))) × Ended g y ⌝ }
 {
     match x {
         Outcome::Finished(v) => {
-            let k = sums::sort(value, vector, v, g.code, &tables[ABOVE..], g.r, g.p);
+            let k = sums::sort(value, vector, v, g.code, &tables[reduce::ABOVE..], g.r, g.p);
             Outcome::Finished(k)
         }
         Outcome::Refused(number) => Outcome::Refused(number),
         Outcome::Stopped(n) => {
-            let k = sums::sort(vector, value, n, g.code, &tables[BELOW..], g.images, g.p);
+            let k = sums::sort(
+                vector,
+                value,
+                n,
+                g.code,
+                &tables[reduce::BELOW..],
+                g.images,
+                g.p,
+            );
             Outcome::Stopped(k)
         }
     }
