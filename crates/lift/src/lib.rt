@@ -10,7 +10,7 @@ ghost use Rattle.definitions.specs.Layout.{row-at};
 ghost use Rattle.definitions.specs.Lifting.{accepting-place, lift-all as lift-all-definition, accept-from};
 ghost use Rattle.ending.specs.Well.{Well};
 ghost use Rattle.orders.specs.Images.{table-of, table-order};
-ghost use Rattle.reduce.specs.Grounds.{Tables, Family};
+ghost use Rattle.reduce.specs.Grounds.{ends-in, below-in, above-in, Tables, Family};
 ghost use Rattle.runs.specs.Stages.{order-of, stage-of, strategy-of, Images, Rooms};
 ghost use Rattle.lift.specs.Vectors.{lifted-vectors, Kept, Framed, frame-terms, lifts, lifted-one, one-of, After, lifted-of, Whole, accepted-of, Left};
 use reduce::Ground;
@@ -57,32 +57,16 @@ fn lift_one(
     frame: &[u16],
     count: usize,
     level: &[u16],
-    ends: &[u16],
-    heads: &[u16],
-    spans: &[u16],
-    below: &[u16],
-    above: &[u16],
+    tables: &[u16],
     g: Ground,
     w: Strategy,
 ) -> One
-    requires { ⌜ Tables g (now heads) (now spans) × Family g (now level) (now ends) × Images (g .images) (now below) × Images (g .r) (now above) × Rooms g (now value) (now vector) × (1 ≤ g .vector) × Well (stage-of g (now level) (now ends) (now heads) (now below) (order-of g (now below))) × Framed g count (now frame) × (i < count) × (g .room * 10 + 128 ≤ length (now out)) × (g .room < 65536) × (used ≤ g .room) × Kept i used (now out) ⌝ }
-    ensures { λ x. ⌜ ((k : ℕ) × (one-of x i (now (out .exit)) (now (vector .exit)) ≡ lifted-one (stage-of g (now (level .entry)) (now (ends .entry)) (now (heads .entry)) (now (below .entry)) (table-order (g .code) (table-of (g .r) (now (above .entry))))) (strategy-of g (now (below .entry)) w) k (lifted-vectors (now (out .entry)) i, used) (row-at (now (frame .entry)) i .1))) × After g i x (now (out .exit)) ⌝ }
+    requires { ⌜ Tables g (now tables) × Family g (now level) (ends-in (now tables)) × Images (g .images) (below-in (now tables)) × Images (g .r) (above-in (now tables)) × Rooms g (now value) (now vector) × (1 ≤ g .vector) × Well (stage-of g (now level) (now tables) (order-of g (now tables))) × Framed g count (now frame) × (i < count) × (g .room * 10 + 128 ≤ length (now out)) × (g .room < 65536) × (used ≤ g .room) × Kept i used (now out) ⌝ }
+    ensures { λ x. ⌜ ((k : ℕ) × (one-of x i (now (out .exit)) (now (vector .exit)) ≡ lifted-one (stage-of g (now (level .entry)) (now (tables .entry)) (table-order (g .code) (table-of (g .r) (above-in (now (tables .entry)))))) (strategy-of g (now (tables .entry)) w) k (lifted-vectors (now (out .entry)) i, used) (row-at (now (frame .entry)) i .1))) × After g i x (now (out .exit)) ⌝ }
 {
     let t = terms::row(frame, i);
     let m = t.monomial;
-    match runs::run(
-        value,
-        vector,
-        level,
-        ends,
-        heads,
-        spans,
-        below,
-        above,
-        g,
-        w,
-        m,
-    ) {
+    match runs::run(value, vector, level, tables, g, w, m) {
         Outcome::Finished(v) => {
             if g.room - used < v {
                 return One::Refused(15);
@@ -103,16 +87,12 @@ pub fn lift_all(
     frame: &[u16],
     count: usize,
     level: &[u16],
-    ends: &[u16],
-    heads: &[u16],
-    spans: &[u16],
-    below: &[u16],
-    above: &[u16],
+    tables: &[u16],
     g: Ground,
     w: Strategy,
 ) -> Lifted
-    requires { ⌜ Tables g (now heads) (now spans) × Family g (now level) (now ends) × Images (g .images) (now below) × Images (g .r) (now above) × Rooms g (now value) (now vector) × (1 ≤ g .vector) × Well (stage-of g (now level) (now ends) (now heads) (now below) (order-of g (now below))) × Framed g count (now frame) × (g .room * 10 + 128 ≤ length (now out)) × (g .room < 65536) ⌝ }
-    ensures { λ x. ⌜ ((k : ℕ) × (lifted-of x count (now (out .exit)) (now (vector .exit)) ≡ lift-all-definition (stage-of g (now (level .entry)) (now (ends .entry)) (now (heads .entry)) (now (below .entry)) (table-order (g .code) (table-of (g .r) (now (above .entry))))) (lifts (stage-of g (now (level .entry)) (now (ends .entry)) (now (heads .entry)) (now (below .entry)) (table-order (g .code) (table-of (g .r) (now (above .entry))))) (strategy-of g (now (below .entry)) w) k) ([], 0) [] (frame-terms (now (frame .entry)) count))) × Whole g count x (now (out .exit)) ⌝ }
+    requires { ⌜ Tables g (now tables) × Family g (now level) (ends-in (now tables)) × Images (g .images) (below-in (now tables)) × Images (g .r) (above-in (now tables)) × Rooms g (now value) (now vector) × (1 ≤ g .vector) × Well (stage-of g (now level) (now tables) (order-of g (now tables))) × Framed g count (now frame) × (g .room * 10 + 128 ≤ length (now out)) × (g .room < 65536) ⌝ }
+    ensures { λ x. ⌜ ((k : ℕ) × (lifted-of x count (now (out .exit)) (now (vector .exit)) ≡ lift-all-definition (stage-of g (now (level .entry)) (now (tables .entry)) (table-order (g .code) (table-of (g .r) (above-in (now (tables .entry)))))) (lifts (stage-of g (now (level .entry)) (now (tables .entry)) (table-order (g .code) (table-of (g .r) (above-in (now (tables .entry)))))) (strategy-of g (now (tables .entry)) w) k) ([], 0) [] (frame-terms (now (frame .entry)) count))) × Whole g count x (now (out .exit)) ⌝ }
 {
     let mut used: usize = 0;
     let mut i: usize = 0;
@@ -126,11 +106,7 @@ pub fn lift_all(
             frame,
             count,
             level,
-            ends,
-            heads,
-            spans,
-            below,
-            above,
+            tables,
             g,
             w,
         ) {
@@ -162,15 +138,11 @@ pub fn accept_all(
     frame: &[u16],
     count: usize,
     level: &[u16],
-    ends: &[u16],
-    heads: &[u16],
-    spans: &[u16],
-    below: &[u16],
-    above: &[u16],
+    tables: &[u16],
     g: Ground,
 ) -> Accepted
-    requires { ⌜ Tables g (now heads) (now spans) × Family g (now level) (now ends) × Images (g .images) (now below) × Images (g .r) (now above) × Rooms g (now value) (now vector) × (1 ≤ g .vector) × Well (stage-of g (now level) (now ends) (now heads) (now below) (order-of g (now below))) × Framed g count (now frame) ⌝ }
-    ensures { λ x. ⌜ ((k : ℕ) × (accepted-of x (now (vector .exit)) ≡ accept-from (stage-of g (now (level .entry)) (now (ends .entry)) (now (heads .entry)) (now (below .entry)) (table-order (g .code) (table-of (g .r) (now (above .entry))))) k 1 (frame-terms (now (frame .entry)) count))) × Left g x ⌝ }
+    requires { ⌜ Tables g (now tables) × Family g (now level) (ends-in (now tables)) × Images (g .images) (below-in (now tables)) × Images (g .r) (above-in (now tables)) × Rooms g (now value) (now vector) × (1 ≤ g .vector) × Well (stage-of g (now level) (now tables) (order-of g (now tables))) × Framed g count (now frame) ⌝ }
+    ensures { λ x. ⌜ ((k : ℕ) × (accepted-of x (now (vector .exit)) ≡ accept-from (stage-of g (now (level .entry)) (now (tables .entry)) (table-order (g .code) (table-of (g .r) (above-in (now (tables .entry)))))) k 1 (frame-terms (now (frame .entry)) count))) × Left g x ⌝ }
 {
     let w = Strategy {
         drops: false,
@@ -181,19 +153,7 @@ pub fn accept_all(
     while i < count {
         let t = terms::row(frame, i);
         let m = t.monomial;
-        match runs::run(
-            value,
-            vector,
-            level,
-            ends,
-            heads,
-            spans,
-            below,
-            above,
-            g,
-            w,
-            m,
-        ) {
+        match runs::run(value, vector, level, tables, g, w, m) {
             Outcome::Finished(_v) => {}
             Outcome::Refused(x) => return Accepted::Refused(x, place_of(i + 1, x)),
             Outcome::Stopped(n) => return Accepted::Stopped(i + 1, n),

@@ -1,5 +1,5 @@
 -- What lifting asks for and what it gives, over the ground that the code made of a state's level.
-use mathlib.Core.Path.{_≡_, refl, sym, ap, _∙_, subst, subst₃}
+use mathlib.Core.Path.{_≡_, refl, sym, ap, _∙_, subst, subst₂}
 use mathlib.Core.Bool.{Bool, true, false}
 use mathlib.Core.List.{List, [], _∷_}
 use Prim.Native.Nat.{ℕ, suc, _-_, _≤_}
@@ -19,22 +19,21 @@ use Rattle.definitions.proofs.Rows.{length-rows, rows-spelled}
 use Rattle.ending.specs.Well.{Well}
 use Rattle.orders.specs.Images.{table-of, table-order}
 use Rattle.levels.specs.Places.{count-at, rows-from, ends-from}
-use Rattle.levels.specs.Tabled.{Ready}
 use Rattle.levels.proofs.VectorTests.{length-vectors}
 use Rattle.stages.specs.Prepared.{Led}
 use Rattle.writing.proofs.Copying.{eights-rows}
 use Rattle.frame.specs.Generators.{monomials-of}
 use Rattle.frame.proofs.Components.{frame-components}
-use Rattle.reduce.specs.Grounds.{Tables, Family}
+use Rattle.reduce.specs.Grounds.{ends-in, below-in, above-in, Tables, Family}
 use Rattle.reduce.specs.declared.Ground.{Ground}
 use Rattle.runs.specs.Stages.{Images, order-of, stage-of, strategy-of}
 use Rattle.runs.specs.declared.Strategy.{Strategy}
 use Rattle.lift.specs.Vectors.{Framed, lifts, accepted-of, Left}
 use Rattle.lift.specs.declared.Accepted.{Accepted}
 use Rattle.lift.specs.declared.Accepted.the-variants.{Yes, Refused as Accepted-refused, Stopped as Accepted-stopped}
-use Rattle.lifting.specs.Stages.{Base, usual, Within, ground-at, stage-at, strategy-at, Framed-by, accepted-with, value-in, Left-in}
+use Rattle.lifting.specs.Stages.{Base, usual, Within, ground-at, stage-at, strategy-at, Tables-at, Framed-by, accepted-with, value-in, Left-in}
 use Rattle.lifting.specs.declared.Bounds.{Bounds}
-use Rattle.lifting.proofs.Readying.{tables-at, family-at, images-below, images-above, below-is, stage-is, well-at}
+use Rattle.lifting.proofs.Readying.{tables-at, family-at, family-in, images-below, images-above, below-is, stage-is, well-at}
 
 -- ## Leading monomials
 
@@ -68,22 +67,20 @@ module _ (s : Words) (j : ℕ) (b : Base s j) where
 
   -- ## What lifting asks for
 
-  module _ (leads spans below above : Words) (l : Led s j leads spans) (rb : Ready s j below) (ra : Ready s (suc j) above)
-      (hl : 1280 ≤ length leads) (hs : 258 ≤ length spans) (hb : 1280 ≤ length below) (ha : 1280 ≤ length above)
-      (lim : Bounds) (g : Ground) (level ends : Words) (eg : g ≡ ground-at lim s j) (el : level ≡ rows-from s j) (ee : ends ≡ ends-from s j) where
-    abbrev Asked : ℕ → Words → Ground → Words → Words → Type 0
-    Asked count words g level ends =
-        Tables g leads spans × Family g level ends × Images (g .images) below × Images (g .r) above × Well (stage-of g level ends leads below (order-of g below)) ×
+  module _ (tables : Words) (t : Tables-at s j tables) (lim : Bounds) (g : Ground) (level : Words) (eg : g ≡ ground-at lim s j) (el : level ≡ rows-from s j) where
+    abbrev Asked : ℕ → Words → Ground → Words → Type 0
+    Asked count words g level =
+        Tables g tables × Family g level (ends-in tables) × Images (g .images) (below-in tables) × Images (g .r) (above-in tables) × Well (stage-of g level tables (order-of g tables)) ×
         Framed g count words × (g .working ≡ lim .working) × (g .vector ≡ lim .vector) × (g .room ≡ lim .room)
 
-    pub asked : (count : ℕ) (words : Words) → Framed-by s j count words → Asked count words g level ends
+    pub asked : (count : ℕ) (words : Words) → Framed-by s j count words → Asked count words g level
     asked count words f =
-        subst₃ (Asked count words) (sym eg) (sym el) (sym ee) (
-          tables-at s j b lim leads spans l hl hs,
-          family-at s j b lim,
-          images-below s j b below rb hb,
-          images-above s j b above ra ha,
-          well-at s j b lim leads spans below l rb,
+        subst₂ (Asked count words) (sym eg) (sym el) (
+          tables-at s j b lim tables t,
+          family-in s j b lim tables t,
+          images-below s j b tables t,
+          images-above s j b tables t,
+          well-at s j b lim tables t,
           framed-at lim count words f,
           refl,
           refl,
@@ -92,23 +89,21 @@ module _ (s : Words) (j : ℕ) (b : Base s j) where
 
     -- ## What it gives
 
-    stage-same : stage-of g level ends leads below (table-order (g .code) (table-of (g .r) above)) ≡ stage-at lim s j
-    stage-same =
-        (λ i. stage-of (eg i) (el i) (ee i) leads below (table-order (eg i .code) (table-of (eg i .r) above))) ∙ stage-is s j b lim leads spans below l rb above ra
+    pub stage-same : stage-of g level tables (table-order (g .code) (table-of (g .r) (above-in tables))) ≡ stage-at lim s j
+    stage-same = (λ i. stage-of (eg i) (el i) tables (table-order (eg i .code) (table-of (eg i .r) (above-in tables)))) ∙ stage-is s j b lim tables t
 
-    strategy-same : (w : Strategy) → strategy-of g below w ≡ strategy-at lim s j w
+    strategy-same : (w : Strategy) → strategy-of g tables w ≡ strategy-at lim s j w
     strategy-same w =
-        (λ i. strategy-of (eg i) below w)
-        ∙ (λ i. record { drops = w .drops; pick = by-code (below-is s j b lim below rb i) (w .pick); stops = w .stops })
+        (λ i. strategy-of (eg i) tables w) ∙ (λ i. record { drops = w .drops; pick = by-code (below-is s j b lim tables t i) (w .pick); stops = w .stops })
 
     pub lifted-same : (w : Strategy) (n : ℕ) (ms : List Monomial) (x : Result Level)
-        → x ≡ lift-all (stage-of g level ends leads below (table-order (g .code) (table-of (g .r) above)))
-        (lifts (stage-of g level ends leads below (table-order (g .code) (table-of (g .r) above))) (strategy-of g below w) n) ([], 0) [] ms
+        → x ≡ lift-all (stage-of g level tables (table-order (g .code) (table-of (g .r) (above-in tables))))
+        (lifts (stage-of g level tables (table-order (g .code) (table-of (g .r) (above-in tables)))) (strategy-of g tables w) n) ([], 0) [] ms
         → x ≡ lift-all (stage-at lim s j) (lifts (stage-at lim s j) (strategy-at lim s j w) n) ([], 0) [] ms
     lifted-same w n ms x e = e ∙ (λ i. lift-all (stage-same i) (lifts (stage-same i) (strategy-same w i) n) ([], 0) [] ms)
 
     pub accepted-same : (n : ℕ) (ms : List Monomial) (x : Result (Unit {0}))
-        → x ≡ accept-from (stage-of g level ends leads below (table-order (g .code) (table-of (g .r) above))) n 1 ms → x ≡ accept-from (stage-at lim s j) n 1 ms
+        → x ≡ accept-from (stage-of g level tables (table-order (g .code) (table-of (g .r) (above-in tables)))) n 1 ms → x ≡ accept-from (stage-at lim s j) n 1 ms
     accepted-same n ms x e = e ∙ (λ i. accept-from (stage-same i) n 1 ms)
 
 -- ## The frame first

@@ -1,2 +1,3 @@
 pub mod Readying
 pub mod Framing
+pub mod Joining

@@ -7,6 +7,7 @@ use native.Mathlib.Omega.{arith}
 use native.Mathlib.Decide.{ℕ-discrete}
 use lib.Dec.{T, leb}
 use lib.ListN.{length, getD, take, drop}
+use lib.Seq.{getD-take}
 use Rattle.definitions.specs.Limits.{document-01}
 use Rattle.definitions.specs.Lists.{_and_}
 use Rattle.definitions.specs.Field.{prime?}
@@ -14,7 +15,7 @@ use Rattle.definitions.specs.Monomial.{Monomial, Level}
 use Rattle.definitions.specs.Order.{Comparison, compare-over}
 use Rattle.definitions.specs.Reducer.{heads}
 use Rattle.definitions.specs.State.{levels-sound?}
-use Rattle.definitions.specs.Layout.{Words, level-at, levels-at, decode}
+use Rattle.definitions.specs.Layout.{Words, vectors-at, level-at, levels-at, decode}
 use Rattle.definitions.proofs.Tests.{and-right}
 use Rattle.definitions.proofs.Sound.{sound-says, level-says}
 use Rattle.ending.specs.Well.{Well}
@@ -22,16 +23,15 @@ use Rattle.ending.proofs.Soundness.{sound-well}
 use Rattle.orders.specs.Images.{table-of, table-order}
 use Rattle.orders.proofs.Induced.{All-led, one-level, table-order-is, sound-led}
 use Rattle.levels.specs.Places.{parameters-at, count-at, count-below, rows-from, ends-from}
-use Rattle.stages.specs.Prepared.{Led}
 use Rattle.stages.proofs.Preparing.{components-few}
 use Rattle.levels.specs.Tabled.{Ready}
 use Rattle.levels.proofs.Advancing.{ready-tabled}
-use Rattle.levels.proofs.Walking.{whole-part}
+use Rattle.levels.proofs.Walking.{whole-part, length-part}
 use Rattle.levels.proofs.Sounding.{prime-above, complete-cut}
 use Rattle.levels.proofs.StateTests.{holds-said}
-use Rattle.reduce.specs.Grounds.{Tables, Family}
+use Rattle.reduce.specs.Grounds.{ends-in, below-in, above-in, Tables, Family}
 use Rattle.runs.specs.Stages.{Images, order-of, stage-of}
-use Rattle.lifting.specs.Stages.{Base, limits-with, ground-at, stage-at}
+use Rattle.lifting.specs.Stages.{Base, limits-with, ground-at, stage-at, Tables-at}
 use Rattle.lifting.specs.declared.Bounds.{Bounds}
 use Rattle.stages.proofs.Complete.{holds-sound}
 
@@ -71,55 +71,62 @@ module _ (s : Words) (j : ℕ) (b : Base s j) where
   pub few-vectors : count-at s j ≤ 128
   few-vectors = complete-cut s (b .long) (b .holds) j (b .has) .0
 
-  pub images-below : (below : Words) → Ready s j below → 1280 ≤ length below → Images (count-below s j) below
-  images-below below r h = record { fits = omega (arith, r .few, h); tabled = ready-tabled s j below (omega (arith, b .low)) r }
+  module _ (tables : Words) (t : Tables-at s j tables) where
+    pub images-below : Images (count-below s j) (below-in tables)
+    images-below = record { fits = omega (arith, t .below .few, length-part 1666 tables, t .long); tabled = ready-tabled s j (below-in tables) (omega (arith, b .low)) (t .below) }
 
-  pub images-above : (above : Words) → Ready s (suc j) above → 1280 ≤ length above → Images (count-at s j) above
-  images-above above r h = record { fits = omega (arith, few-vectors, h); tabled = ready-tabled s (suc j) above (omega (arith, b .low)) r }
+    pub images-above : Images (count-at s j) (above-in tables)
+    images-above = record { fits = omega (arith, few-vectors, length-part 2946 tables, t .long); tabled = ready-tabled s (suc j) (above-in tables) (omega (arith, b .low)) (t .above) }
 
   pub above-is : (above : Words) → Ready s (suc j) above → table-order (getD s 2 0) (table-of (count-at s j) above) ≡ compare-over (getD s 2 0) (levels-at document-01 s (suc j))
   above-is above r =
       ap (table-order (getD s 2 0)) (r .made) ∙ (λ i m m′. table-order-is (getD s 2 0) (levels-at document-01 s (suc j)) led-levels m m′ i)
 
 module _ (s : Words) (j : ℕ) (b : Base s j) (lim : Bounds) where
-  pub tables-at : (leads spans : Words) → Led s j leads spans → 1280 ≤ length leads → 258 ≤ length spans → Tables (ground-at lim s j) leads spans
-  tables-at leads spans l h k = record {
-    prime = omega (arith, prime-above s (b .long) (b .holds));
-    few = omega (arith, few-vectors s j b);
-    heads-fit = omega (arith, few-vectors s j b, h);
-    spans-fit = omega (arith, components-few s (b .long) (b .holds) j (b .has), k);
-    small = l .small;
-    spanned = l .spanned;
-  }
-
   pub family-at : Family (ground-at lim s j) (rows-from s j) (ends-from s j)
   family-at = let c = complete-cut s (b .long) (b .holds) j (b .has) .1 in record { ends-fit = c .ends-fit; rows-fit = c .rows-fit }
 
-  -- ## The stage
+  module _ (tables : Words) (t : Tables-at s j tables) where
+    pub tables-at : Tables (ground-at lim s j) tables
+    tables-at = record {
+      prime = omega (arith, prime-above s (b .long) (b .holds));
+      few = omega (arith, few-vectors s j b);
+      long = t .long;
+      heads-fit = omega (arith, few-vectors s j b, t .long);
+      spans-fit = omega (arith, components-few s (b .long) (b .holds) j (b .has), length-part 1280 tables, t .long);
+      small = t .led .small;
+      spanned = t .led .spanned;
+    }
 
-  pub below-is : (below : Words) → Ready s j below → order-of (ground-at lim s j) below ≡ compare-over (getD s 2 0) (levels-at document-01 s j)
-  below-is below r =
-      ap (table-order (getD s 2 0)) (r .made)
-      ∙ (λ i m m′. table-order-is (getD s 2 0) (levels-at document-01 s j) (led-below s j b (levels-at document-01 s j) (level-at document-01 s j) (led-levels s j b)) m m′ i)
+    same-end : (i : ℕ) → i < count-at s j → getD (ends-in tables) i 0 ≡ getD (ends-from s j) i 0
+    same-end i h = sym (getD-take (count-at s j) (ends-in tables) i 0 h) ∙ ap (λ l. getD l i 0) (t .ends) ∙ getD-take (count-at s j) (ends-from s j) i 0 h
 
-  module _ (leads spans below : Words) (l : Led s j leads spans) (rb : Ready s j below) where
+    pub family-in : Family (ground-at lim s j) (rows-from s j) (ends-in tables)
+    family-in = record { ends-fit = omega (arith, few-vectors s j b, length-part 1538 tables, t .long); rows-fit = λ i h. omega (arith, same-end i h, family-at .rows-fit i h) }
+
+    -- ## The stage
+
+    pub below-is : order-of (ground-at lim s j) tables ≡ compare-over (getD s 2 0) (levels-at document-01 s j)
+    below-is =
+        ap (table-order (getD s 2 0)) (t .below .made)
+        ∙ (λ i m m′. table-order-is (getD s 2 0) (levels-at document-01 s j) (led-below s j b (levels-at document-01 s j) (level-at document-01 s j) (led-levels s j b)) m m′ i)
+
     stage-by : (order : Monomial → Monomial → Comparison) → order ≡ compare-over (getD s 2 0) (levels-at document-01 s (suc j))
-        → stage-of (ground-at lim s j) (rows-from s j) (ends-from s j) leads below order ≡ stage-at lim s j
+        → stage-of (ground-at lim s j) (rows-from s j) tables order ≡ stage-at lim s j
     stage-by order e = λ i. record {
-      reduction = record { limits = limits-with lim; p = getD s 0 0; heads = l .made i };
-      family = level-at document-01 s j;
-      below = below-is below rb i;
+      reduction = record { limits = limits-with lim; p = getD s 0 0; heads = t .led .made i };
+      family = vectors-at (rows-from s j) 0 (t .ends i);
+      below = below-is i;
       above = e i;
     }
 
-    pub stage-is : (above : Words) → Ready s (suc j) above
-        → stage-of (ground-at lim s j) (rows-from s j) (ends-from s j) leads below (table-order (getD s 2 0) (table-of (count-at s j) above)) ≡ stage-at lim s j
-    stage-is above ra = stage-by (table-order (getD s 2 0) (table-of (count-at s j) above)) (above-is s j b above ra)
+    pub stage-is : stage-of (ground-at lim s j) (rows-from s j) tables (table-order (getD s 2 0) (table-of (count-at s j) (above-in tables))) ≡ stage-at lim s j
+    stage-is = stage-by (table-order (getD s 2 0) (table-of (count-at s j) (above-in tables))) (above-is s j b (above-in tables) (t .above))
 
-    well-over : Well (stage-of (ground-at lim s j) (rows-from s j) (ends-from s j) leads below (compare-over (getD s 2 0) (levels-at document-01 s (suc j))))
+    well-over : Well (stage-of (ground-at lim s j) (rows-from s j) tables (compare-over (getD s 2 0) (levels-at document-01 s (suc j))))
     well-over =
         let w = sound-well document-01 (parameters-at s) (levels-at document-01 s (suc j)) (prime-at s j b) (omega arith) (sound-levels s j b) in
         subst Well (sym (stage-by (compare-over (getD s 2 0) (levels-at document-01 s (suc j))) refl)) (record { prime = w .prime; small = w .small; heads-are = w .heads-are; order = w .order; family = w .family })
 
-    pub well-at : Well (stage-of (ground-at lim s j) (rows-from s j) (ends-from s j) leads below (order-of (ground-at lim s j) below))
+    pub well-at : Well (stage-of (ground-at lim s j) (rows-from s j) tables (order-of (ground-at lim s j) tables))
     well-at = let w = well-over in record { prime = w .prime; small = w .small; heads-are = w .heads-are; order = w .order; family = w .family }

@@ -3,7 +3,8 @@ use mathlib.Core.Path.{_≡_}
 use mathlib.Core.List.{[]}
 use Prim.Native.Nat.{ℕ, suc, _+_, _*_, _<_, _≤_}
 use lib.Dec.{T}
-use lib.ListN.{length, getD}
+use lib.ListN.{length, getD, take}
+use lib.Seq.{paste}
 use Rattle.definitions.specs.Limits.{Limits, document-01}
 use Rattle.definitions.specs.Monomial.{Vector, Level, leading-monomials}
 use Rattle.definitions.specs.Result.{Result, done, refused, refusal, _>>=_}
@@ -13,8 +14,10 @@ use Rattle.definitions.specs.Run.{by-code}
 use Rattle.definitions.specs.Frame.{frame}
 use Rattle.definitions.specs.Lifting.{limited-frame, lift-all, accept}
 use Rattle.definitions.specs.Layout.{Words, rows, rows-of, padded, level-at, levels-at, holds-state?}
-use Rattle.levels.specs.Places.{count-at, count-below}
-use Rattle.stages.specs.Prepared.{components-at}
+use Rattle.levels.specs.Places.{count-at, count-below, ends-from}
+use Rattle.levels.specs.Tabled.{Ready}
+use Rattle.stages.specs.Prepared.{components-at, Led}
+use Rattle.reduce.specs.Grounds.{spans-start, ends-start, below-start, above-start, tables-length, spans-in, ends-in, below-in, above-in}
 use Rattle.reduce.specs.declared.Ground.{Ground}
 use Rattle.runs.specs.declared.Strategy.{Strategy}
 use Rattle.lift.specs.Vectors.{lifted-vectors, Kept, frame-terms, lifts, lifted-of, Whole}
@@ -83,6 +86,19 @@ stage-at b s j = stage-over (limits-with b) (getD s 0 0) (getD s 2 0) (levels-at
 
 abbrev pub strategy-at : Bounds → Words → ℕ → Strategy → definition.Strategy
 strategy-at b s j w = record { drops = w .drops; pick = by-code (stage-at b s j .below) (w .pick); stops = w .stops }
+
+-- ## The tables of a lifting, one after the other in one slice
+
+-- behind the heads
+abbrev pub joined : Words → Words → Words → Words → Words → Words
+joined heads spans ends below above = paste (paste (paste (paste heads spans-start spans 258) ends-start ends 128) below-start below 1280) above-start above 1280
+
+pub record Tables-at (s : Words) (j : ℕ) (tables : Words) : Type 0 where
+  pub long : tables-length ≤ length tables
+  pub led : Led s j tables (spans-in tables)
+  pub ends : take (count-at s j) (ends-in tables) ≡ take (count-at s j) (ends-from s j)
+  pub below : Ready s j (below-in tables)
+  pub above : Ready s (suc j) (above-in tables)
 
 -- the frame's rows, all of them
 pub record Framed-by (s : Words) (j count : ℕ) (words : Words) : Type 0 where

@@ -2,16 +2,15 @@
 // Knows: crate definitions' Lifting over a state's words, within limits that may be smaller than document 01's.
 // Tables and frame are arrays of these functions' own frames, made once a call.
 ghost use mathlib.Core.Path.{_≡_};
-ghost use Prim.Native.Nat.{ℕ, suc, _*_, _≤_};
+ghost use Prim.Native.Nat.{ℕ, _*_, _≤_};
 ghost use lib.ListN.{length};
 ghost use Rattle.definitions.specs.Monomial.{Vector};
 ghost use Rattle.definitions.specs.Lifting.{accept-from};
 ghost use Rattle.definitions.specs.Layout.{Words, rows, rows-of, padded};
 ghost use Rattle.levels.specs.Places.{count-below};
-ghost use Rattle.levels.specs.Tabled.{Ready};
-ghost use Rattle.stages.specs.Prepared.{Led};
 ghost use Rattle.lift.specs.Vectors.{frame-terms};
-ghost use Rattle.lifting.specs.Stages.{Base, usual, Within, ground-at, stage-at, Framed-by, lifted-over, lift-over, leveled-of, Stored-as, accepted-over, accepted-with, Shown, Left-in, value-in};
+ghost use Rattle.reduce.specs.Grounds.{tables-length};
+ghost use Rattle.lifting.specs.Stages.{Base, usual, Within, ground-at, joined, Tables-at, stage-at, Framed-by, lifted-over, lift-over, leveled-of, Stored-as, accepted-over, accepted-with, Shown, Left-in, value-in};
 use lift::Accepted;
 use lift::Lifted;
 use reduce::Ground;
@@ -76,6 +75,31 @@ pub fn ground_of(state: &[u16], j: usize, b: Bounds) -> Ground
     }
 }
 
+// Spans, ends and images behind the heads.
+fn join_tables(tables: &mut [u16], spans: &[u16], ends: &[u16], below: &[u16], above: &[u16])
+    requires { ⌜ (tables-length ≤ length (now tables)) × (258 ≤ length (now spans)) × (128 ≤ length (now ends)) × (1280 ≤ length (now below)) × (1280 ≤ length (now above)) ⌝ }
+    ensures { λ _. ⌜ now (tables .exit) ≡ joined (now (tables .entry)) (now (spans .entry)) (now (ends .entry)) (now (below .entry)) (now (above .entry)) ⌝ }
+{
+    terms::copy(tables, reduce::SPANS, spans, 258);
+    terms::copy(tables, reduce::ENDS, ends, 128);
+    terms::copy(tables, reduce::BELOW, below, 1280);
+    terms::copy(tables, reduce::ABOVE, above, 1280);
+}
+
+// The tables of a lifting over level j.
+pub fn make_tables(tables: &mut [u16], state: &[u16], j: usize)
+    requires { ⌜ Base (now state) j × (tables-length ≤ length (now tables)) ⌝ }
+    ensures { λ _. ⌜ Tables-at (now (state .entry)) j (now (tables .exit)) ⌝ }
+{
+    let mut spans = [0u16; 258];
+    let mut below = [0u16; 1280];
+    let mut above = [0u16; 1280];
+    stages::fill_leads(tables, &mut spans, state, j);
+    stages::fill_tables(&mut below, &mut above, state, j + 1);
+    let ends = 6 + j * 129;
+    join_tables(tables, &spans, &state[ends..], &below, &above);
+}
+
 // All frame terms over level j.
 fn lift_frame(
     out: &mut [u16],
@@ -84,20 +108,16 @@ fn lift_frame(
     j: usize,
     frame: &[u16],
     count: usize,
-    heads: &[u16],
-    spans: &[u16],
-    below: &[u16],
-    above: &[u16],
+    tables: &[u16],
     w: Strategy,
     b: Bounds,
 ) -> Lifted
-    requires { ⌜ Base (now state) j × Led (now state) j (now heads) (now spans) × Ready (now state) j (now below) × Ready (now state) (suc j) (now above) × (1280 ≤ length (now heads)) × (258 ≤ length (now spans)) × (1280 ≤ length (now below)) × (1280 ≤ length (now above)) × Framed-by (now state) j count (now frame) × (20608 ≤ length (now out)) × (5120 ≤ length (now work)) × Within b ⌝ }
+    requires { ⌜ Base (now state) j × Tables-at (now state) j (now tables) × Framed-by (now state) j count (now frame) × (20608 ≤ length (now out)) × (5120 ≤ length (now work)) × Within b ⌝ }
     ensures { λ x. ⌜ lifted-over b (now (state .entry)) j w count (now (frame .entry)) x (now (out .exit)) ⌝ }
 {
     let mut vector = [0u16; 5120];
     let g = ground_of(state, j, b);
     let start = 1295 + j * 20480;
-    let ends = 6 + j * 129;
     lift::lift_all(
         out,
         work,
@@ -105,11 +125,7 @@ fn lift_frame(
         frame,
         count,
         &state[start..],
-        &state[ends..],
-        heads,
-        spans,
-        below,
-        above,
+        tables,
         g,
         w,
     )
@@ -121,36 +137,20 @@ fn lift_with(
     work: &mut [u16],
     state: &[u16],
     j: usize,
-    heads: &[u16],
-    spans: &[u16],
-    below: &[u16],
-    above: &[u16],
+    tables: &[u16],
     w: Strategy,
     b: Bounds,
 ) -> Leveled
-    requires { ⌜ Base (now state) j × Led (now state) j (now heads) (now spans) × Ready (now state) j (now below) × Ready (now state) (suc j) (now above) × (1280 ≤ length (now heads)) × (258 ≤ length (now spans)) × (1280 ≤ length (now below)) × (1280 ≤ length (now above)) × (20608 ≤ length (now out)) × (5120 ≤ length (now work)) × Within b ⌝ }
+    requires { ⌜ Base (now state) j × Tables-at (now state) j (now tables) × (20608 ≤ length (now out)) × (5120 ≤ length (now work)) × Within b ⌝ }
     ensures { λ x. ⌜ ((n : ℕ) × (v : Words) × (leveled-of x (now (out .exit)) v ≡ lift-over b (now (state .entry)) j w n)) × Stored-as x (now (out .exit)) ⌝ }
 {
     let mut framed = [0u16; 1280];
     let mut gens = [0u16; 1280];
     let r = levels::count_of(state, j);
     // numbered by code 1, the lexicographic order, whatever the file's (A10)
-    match frame::form(&mut framed, 128, &mut gens, heads, r, 1) {
+    match frame::form(&mut framed, 128, &mut gens, tables, r, 1) {
         Stored::Full => Leveled::Refused(15),
-        Stored::Rows(n) => match lift_frame(
-            out,
-            work,
-            state,
-            j,
-            &framed,
-            n,
-            heads,
-            spans,
-            below,
-            above,
-            w,
-            b,
-        ) {
+        Stored::Rows(n) => match lift_frame(out, work, state, j, &framed, n, tables, w, b) {
             Lifted::Rows(used) => Leveled::Vectors(n, used),
             Lifted::Refused(x) => Leveled::Refused(x),
             Lifted::Stopped(x) => Leveled::Stopped(x),
@@ -170,13 +170,9 @@ pub fn lift_level(
     requires { ⌜ Base (now state) j × (20608 ≤ length (now out)) × (5120 ≤ length (now work)) × Within b ⌝ }
     ensures { λ x. ⌜ ((n : ℕ) × (v : Words) × (leveled-of x (now (out .exit)) v ≡ lift-over b (now (state .entry)) j w n)) × Stored-as x (now (out .exit)) ⌝ }
 {
-    let mut heads = [0u16; 1280];
-    let mut spans = [0u16; 258];
-    let mut below = [0u16; 1280];
-    let mut above = [0u16; 1280];
-    stages::fill_leads(&mut heads, &mut spans, state, j);
-    stages::fill_tables(&mut below, &mut above, state, j + 1);
-    lift_with(out, work, state, j, &heads, &spans, &below, &above, w, b)
+    let mut tables = [0u16; 4226];
+    make_tables(&mut tables, state, j);
+    lift_with(out, work, state, j, &tables, w, b)
 }
 
 // Rows of another slice in front, zeros after them.
@@ -209,51 +205,29 @@ fn accept_frame(
     state: &[u16],
     frame: &[u16],
     count: usize,
-    heads: &[u16],
-    spans: &[u16],
-    below: &[u16],
-    above: &[u16],
+    tables: &[u16],
 ) -> Accepted
-    requires { ⌜ Base (now state) 0 × Led (now state) 0 (now heads) (now spans) × Ready (now state) 0 (now below) × Ready (now state) 1 (now above) × (1280 ≤ length (now heads)) × (258 ≤ length (now spans)) × (1280 ≤ length (now below)) × (1280 ≤ length (now above)) × Framed-by (now state) 0 count (now frame) × (5120 ≤ length (now work)) ⌝ }
+    requires { ⌜ Base (now state) 0 × Tables-at (now state) 0 (now tables) × Framed-by (now state) 0 count (now frame) × (5120 ≤ length (now work)) ⌝ }
     ensures { λ x. ⌜ ((n : ℕ) × (v : Vector) × (accepted-with x v ≡ accept-from (stage-at usual (now (state .entry)) 0) n 1 (frame-terms (now (frame .entry)) count)) × Shown x v (now (work .exit))) ⌝ }
 {
     let mut vector = [0u16; 5120];
     let g = ground_of(state, 0, usual());
-    let x = lift::accept_all(
-        work,
-        &mut vector,
-        frame,
-        count,
-        &state[1295..],
-        &state[6..],
-        heads,
-        spans,
-        below,
-        above,
-        g,
-    );
+    let x = lift::accept_all(work, &mut vector, frame, count, &state[1295..], tables, g);
     settle(work, &vector, x)
 }
 
 // The frame over level 0, then the division of its terms.
-fn accept_with(
-    work: &mut [u16],
-    state: &[u16],
-    heads: &[u16],
-    spans: &[u16],
-    below: &[u16],
-    above: &[u16],
-) -> Accepted
-    requires { ⌜ Base (now state) 0 × Led (now state) 0 (now heads) (now spans) × Ready (now state) 0 (now below) × Ready (now state) 1 (now above) × (1280 ≤ length (now heads)) × (258 ≤ length (now spans)) × (1280 ≤ length (now below)) × (1280 ≤ length (now above)) × (5120 ≤ length (now work)) ⌝ }
+fn accept_with(work: &mut [u16], state: &[u16], tables: &[u16]) -> Accepted
+    requires { ⌜ Base (now state) 0 × Tables-at (now state) 0 (now tables) × (5120 ≤ length (now work)) ⌝ }
     ensures { λ x. ⌜ ((n : ℕ) × (v : Vector) × (accepted-with x v ≡ accepted-over (now (state .entry)) n) × Shown x v (now (work .exit))) ⌝ }
 {
     let mut framed = [0u16; 1280];
     let mut gens = [0u16; 1280];
     let r = levels::count_of(state, 0);
     // numbered by code 1, the lexicographic order, whatever the file's (A10)
-    match frame::form(&mut framed, 128, &mut gens, heads, r, 1) {
+    match frame::form(&mut framed, 128, &mut gens, tables, r, 1) {
         Stored::Full => Accepted::Refused(15, 0),
-        Stored::Rows(n) => accept_frame(work, state, &framed, n, heads, spans, below, above),
+        Stored::Rows(n) => accept_frame(work, state, &framed, n, tables),
     }
 }
 
@@ -262,11 +236,7 @@ pub fn accept_level(work: &mut [u16], state: &[u16]) -> Accepted
     requires { ⌜ Base (now state) 0 × (5120 ≤ length (now work)) ⌝ }
     ensures { λ x. ⌜ ((n : ℕ) × (v : Vector) × (accepted-with x v ≡ accepted-over (now (state .entry)) n) × Shown x v (now (work .exit))) ⌝ }
 {
-    let mut heads = [0u16; 1280];
-    let mut spans = [0u16; 258];
-    let mut below = [0u16; 1280];
-    let mut above = [0u16; 1280];
-    stages::fill_leads(&mut heads, &mut spans, state, 0);
-    stages::fill_tables(&mut below, &mut above, state, 1);
-    accept_with(work, state, &heads, &spans, &below, &above)
+    let mut tables = [0u16; 4226];
+    make_tables(&mut tables, state, 0);
+    accept_with(work, state, &tables)
 }

@@ -2,9 +2,9 @@
 use mathlib.Core.Path.{_≡_}
 use mathlib.Core.Bool.{Bool, true}
 use mathlib.Core.List.{[], _∷_}
-use Prim.Native.Nat.{ℕ, zero, suc, _+_, _*_, _<_, _≤_}
+use Prim.Native.Nat.{ℕ, zero, suc, _+_, _-_, _*_, _<_, _≤_}
 use lib.Dec.{eqb}
-use lib.ListN.{length, getD, take}
+use lib.ListN.{length, getD, take, drop}
 use Rattle.definitions.specs.Limits.{Limits, document-01}
 use Rattle.definitions.specs.Monomial.{Vector, Level}
 use Rattle.definitions.specs.Result.{Result, done, refused, refusal}
@@ -38,22 +38,56 @@ limits-of g = record {
   numbering = document-01 .numbering;
 }
 
+-- ## The tables of a lifting in one slice, one after the other: rows of 128 heads, their spans, the ends of the level's vectors, the images below and above
+
+abbrev pub spans-start : ℕ
+spans-start = 1280
+
+abbrev pub ends-start : ℕ
+ends-start = 1538
+
+abbrev pub below-start : ℕ
+below-start = 1666
+
+abbrev pub above-start : ℕ
+above-start = 2946
+
+abbrev pub tables-length : ℕ
+tables-length = 4226
+
+-- the words from place a on
+abbrev pub part : ℕ → Words → Words
+part a s = take (length s - a) (drop a s)
+
+abbrev pub spans-in : Words → Words
+spans-in tables = part spans-start tables
+
+abbrev pub ends-in : Words → Words
+ends-in tables = part ends-start tables
+
+abbrev pub below-in : Words → Words
+below-in tables = part below-start tables
+
+abbrev pub above-in : Words → Words
+above-in tables = part above-start tables
+
 -- the heads' rows
 abbrev pub reduction-of : Ground → Words → Reduction
-reduction-of g heads = record { limits = limits-of g; p = g .p; heads = rows heads 0 (g .r) }
+reduction-of g tables = record { limits = limits-of g; p = g .p; heads = rows tables 0 (g .r) }
 
 -- f_1 .. f_r
 abbrev pub family-of : Ground → Words → Words → Level
 family-of g level ends = vectors-at level 0 (take (g .r) ends)
 
 -- what the tables must be
-pub record Tables (g : Ground) (heads spans : Words) : Type 0 where
+pub record Tables (g : Ground) (tables : Words) : Type 0 where
   pub prime : 0 < g .p
   pub few : g .r < 65536
-  pub heads-fit : g .r * 10 ≤ length heads
-  pub spans-fit : g .components * 2 ≤ length spans
-  pub small : Small (g .r) heads
-  pub spanned : Spanned (g .components) (g .r) spans heads
+  pub long : tables-length ≤ length tables
+  pub heads-fit : g .r * 10 ≤ length tables
+  pub spans-fit : g .components * 2 ≤ length (spans-in tables)
+  pub small : Small (g .r) tables
+  pub spanned : Spanned (g .components) (g .r) (spans-in tables) tables
 
 -- ## Answers
 

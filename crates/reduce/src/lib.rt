@@ -7,14 +7,17 @@ ghost use Prim.Native.Nat.{_+_, _-_, _*_, _≤_, _<_};
 ghost use lib.ListN.{length};
 ghost use Rattle.definitions.specs.Monomial.{vector-of};
 ghost use Rattle.definitions.specs.Vectors.{store};
+ghost use Rattle.definitions.specs.Reducer.{answer};
 ghost use Rattle.definitions.specs.Run.{add-term, unless-dropped, dropped?, add-products, multiple, by-code, greatest as greatest-definition};
 ghost use Rattle.definitions.specs.Layout.{row-at, rows};
 ghost use Rattle.orders.specs.Images.{key, key-of, table-of, table-order, Tabled};
+ghost use Rattle.reducers.specs.Search.{answer-of};
 ghost use Rattle.terms.specs.Rows.{term-of};
-ghost use Rattle.reduce.specs.Grounds.{reduction-of, Tables, Family, family-of, first-row, added-of, Within};
+ghost use Rattle.reduce.specs.Grounds.{below-start, reduction-of, ends-in, below-in, Tables, Family, family-of, first-row, added-of, Within};
 use monomial::Monomial;
 use orders::Image;
 use reducers::Answer;
+use reducers::Found;
 use sums::Running;
 use sums::Stored;
 use terms::Term;
@@ -31,6 +34,15 @@ pub struct Ground {
     pub tree: usize,
     pub room: usize,
 }
+
+// Where the tables of a lifting stand in the one slice that has them: 128 heads first, then their spans, the ends of the level's vectors, the images below and above.
+pub const SPANS: usize = 1280;
+
+pub const ENDS: usize = 1538;
+
+pub const BELOW: usize = 1666;
+
+pub const ABOVE: usize = 2946;
 
 // The rows that a value has now, or a refusal's number.
 pub enum Added {
@@ -54,17 +66,16 @@ fn add_fitting(
     value: &mut [u16],
     n: usize,
     t: Term,
-    heads: &[u16],
-    spans: &[u16],
+    tables: &[u16],
     g: Ground,
     drops: bool,
 ) -> Added
-    requires { ⌜ Tables g (now heads) (now spans) × (n ≤ g .working) × (g .working * 10 ≤ length (now value)) ⌝ }
-    ensures { λ x. ⌜ (added-of x (now (value .exit)) ≡ unless-dropped (dropped? (reduction-of g (now (heads .entry))) drops (term-of t .1)) (reduction-of g (now (heads .entry))) (term-of t) (rows (now (value .entry)) 0 n)) × Within (g .working) x ⌝ }
+    requires { ⌜ Tables g (now tables) × (n ≤ g .working) × (g .working * 10 ≤ length (now value)) ⌝ }
+    ensures { λ x. ⌜ (added-of x (now (value .exit)) ≡ unless-dropped (dropped? (reduction-of g (now (tables .entry))) drops (term-of t .1)) (reduction-of g (now (tables .entry))) (term-of t) (rows (now (value .entry)) 0 n)) × Within (g .working) x ⌝ }
 {
     if drops {
         let m = t.monomial;
-        let found = reducers::search(heads, g.r, spans, g.components, m);
+        let found = reducers::search(tables, g.r, &tables[SPANS..], g.components, m);
         let Answer::Reducer(_j, _h) = found else {
             return Added::Rows(n);
         };
@@ -81,19 +92,18 @@ fn add_product(
     i: usize,
     c: u16,
     q: [u8; 8],
-    heads: &[u16],
-    spans: &[u16],
+    tables: &[u16],
     g: Ground,
     drops: bool,
 ) -> Added
-    requires { ⌜ Tables g (now heads) (now spans) × (n ≤ g .working) × (g .working * 10 ≤ length (now value)) × (i * 10 + 10 ≤ length (now level)) ⌝ }
-    ensures { λ x. ⌜ (added-of x (now (value .exit)) ≡ add-term (reduction-of g (now (heads .entry))) drops (multiple (g .p) c q (row-at (now (level .entry)) i)) (rows (now (value .entry)) 0 n)) × Within (g .working) x ⌝ }
+    requires { ⌜ Tables g (now tables) × (n ≤ g .working) × (g .working * 10 ≤ length (now value)) × (i * 10 + 10 ≤ length (now level)) ⌝ }
+    ensures { λ x. ⌜ (added-of x (now (value .exit)) ≡ add-term (reduction-of g (now (tables .entry))) drops (multiple (g .p) c q (row-at (now (level .entry)) i)) (rows (now (value .entry)) 0 n)) × Within (g .working) x ⌝ }
 {
     let x = reducers::multiplied(level, i, c, q, g.p);
     let fits = x.fits;
     let t = x.term;
     if fits {
-        return add_fitting(value, n, t, heads, spans, g, drops);
+        return add_fitting(value, n, t, tables, g, drops);
     }
     Added::Refused(13)
 }
@@ -107,18 +117,17 @@ pub fn add_all(
     to: usize,
     c: u16,
     q: [u8; 8],
-    heads: &[u16],
-    spans: &[u16],
+    tables: &[u16],
     g: Ground,
     drops: bool,
 ) -> Added
-    requires { ⌜ Tables g (now heads) (now spans) × (n ≤ g .working) × (g .working * 10 ≤ length (now value)) × (to * 10 ≤ length (now level)) ⌝ }
-    ensures { λ x. ⌜ (added-of x (now (value .exit)) ≡ add-products (reduction-of g (now (heads .entry))) drops c q (rows (now (level .entry)) from (to - from)) (rows (now (value .entry)) 0 n)) × Within (g .working) x ⌝ }
+    requires { ⌜ Tables g (now tables) × (n ≤ g .working) × (g .working * 10 ≤ length (now value)) × (to * 10 ≤ length (now level)) ⌝ }
+    ensures { λ x. ⌜ (added-of x (now (value .exit)) ≡ add-products (reduction-of g (now (tables .entry))) drops c q (rows (now (level .entry)) from (to - from)) (rows (now (value .entry)) 0 n)) × Within (g .working) x ⌝ }
 {
     let mut k = n;
     let mut i = from;
     while i < to {
-        match add_product(value, k, level, i, c, q, heads, spans, g, drops) {
+        match add_product(value, k, level, i, c, q, tables, g, drops) {
             Added::Rows(x) => {
                 k = x;
             }
@@ -151,21 +160,20 @@ pub fn add_multiple(
     value: &mut [u16],
     n: usize,
     level: &[u16],
-    ends: &[u16],
+    tables: &[u16],
     j: usize,
     c: u16,
     q: [u8; 8],
-    heads: &[u16],
-    spans: &[u16],
     g: Ground,
     drops: bool,
 ) -> Added
-    requires { ⌜ Tables g (now heads) (now spans) × Family g (now level) (now ends) × (n ≤ g .working) × (g .working * 10 ≤ length (now value)) × (1 ≤ j) × (j ≤ g .r) ⌝ }
-    ensures { λ x. ⌜ (added-of x (now (value .exit)) ≡ add-products (reduction-of g (now (heads .entry))) drops c q (vector-of (family-of g (now (level .entry)) (now (ends .entry))) j) (rows (now (value .entry)) 0 n)) × Within (g .working) x ⌝ }
+    requires { ⌜ Tables g (now tables) × Family g (now level) (ends-in (now tables)) × (n ≤ g .working) × (g .working * 10 ≤ length (now value)) × (1 ≤ j) × (j ≤ g .r) ⌝ }
+    ensures { λ x. ⌜ (added-of x (now (value .exit)) ≡ add-products (reduction-of g (now (tables .entry))) drops c q (vector-of (family-of g (now (level .entry)) (ends-in (now (tables .entry)))) j) (rows (now (value .entry)) 0 n)) × Within (g .working) x ⌝ }
 {
+    let ends = &tables[ENDS..];
     let from = first_of(ends, j);
     let to = place(ends[j - 1]);
-    add_all(value, n, level, from, to, c, q, heads, spans, g, drops)
+    add_all(value, n, level, from, to, c, q, tables, g, drops)
 }
 
 fn image_at(value: &[u16], i: usize, below: &[u16], images: usize) -> Image
@@ -202,13 +210,21 @@ pub fn greatest(value: &[u16], n: usize, code: u16, below: &[u16], images: usize
 }
 
 // The place that the pick code says, of n terms.
-pub fn pick(value: &[u16], n: usize, pick: u16, code: u16, below: &[u16], images: usize) -> usize
-    requires { ⌜ (0 < n) × (n * 10 ≤ length (now value)) × (images * 10 ≤ length (now below)) × Tabled images (now below) ⌝ }
-    ensures { λ r. ⌜ some r ≡ by-code (table-order code (table-of images (now (below .entry)))) pick (rows (now (value .entry)) 0 n) ⌝ }
+pub fn pick(value: &[u16], n: usize, pick: u16, tables: &[u16], g: Ground) -> usize
+    requires { ⌜ (0 < n) × (n * 10 ≤ length (now value)) × (below-start ≤ length (now tables)) × (g .images * 10 ≤ length (below-in (now tables))) × Tabled (g .images) (below-in (now tables)) ⌝ }
+    ensures { λ r. ⌜ some r ≡ by-code (table-order (g .code) (table-of (g .images) (below-in (now (tables .entry))))) pick (rows (now (value .entry)) 0 n) ⌝ }
 {
     match pick {
-        1 => greatest(value, n, code, below, images),
+        1 => greatest(value, n, g.code, &tables[BELOW..], g.images),
         2 => n - 1,
         _ => 0,
     }
+}
+
+// The reducer of a term.
+pub fn reducer_of(tables: &[u16], g: Ground, t: Term) -> Found
+    requires { ⌜ Tables g (now tables) ⌝ }
+    ensures { λ x. ⌜ answer-of x ≡ answer (g .p) (rows (now (tables .entry)) 0 (g .r)) (term-of t) ⌝ }
+{
+    reducers::reducer_of(tables, g.r, &tables[SPANS..], g.components, g.p, t)
 }

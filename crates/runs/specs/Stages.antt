@@ -12,7 +12,7 @@ use Rattle.definitions.specs.Run.{Run, by-code, add-products, on}
 use Rattle.definitions.specs.Layout.{Words, rows}
 use Rattle.orders.specs.Images.{table-of, table-order, Tabled}
 use Rattle.terms.specs.Rows.{closed}
-use Rattle.reduce.specs.Grounds.{reduction-of, family-of}
+use Rattle.reduce.specs.Grounds.{reduction-of, family-of, ends-in, below-in}
 use Rattle.reduce.specs.declared.Ground.{Ground}
 use Rattle.runs.specs.declared.Strategy.{Strategy}
 use Rattle.runs.specs.declared.Step.{Step}
@@ -22,13 +22,13 @@ use Rattle.runs.specs.declared.Outcome.the-variants.{Finished, Refused, 
 
 -- the order of the module where working values live
 abbrev pub order-of : Ground → Words → Monomial → Monomial → Comparison
-order-of g below = table-order (g .code) (table-of (g .images) below)
+order-of g tables = table-order (g .code) (table-of (g .images) (below-in tables))
 
-abbrev pub stage-of : Ground → Words → Words → Words → Words → (Monomial → Monomial → Comparison) → Stage
-stage-of g level ends heads below above = record { reduction = reduction-of g heads; family = family-of g level ends; below = order-of g below; above = above }
+abbrev pub stage-of : Ground → Words → Words → (Monomial → Monomial → Comparison) → Stage
+stage-of g level tables above = record { reduction = reduction-of g tables; family = family-of g level (ends-in tables); below = order-of g tables; above = above }
 
 abbrev pub strategy-of : Ground → Words → Strategy → definition.Strategy
-strategy-of g below w = record { drops = w .drops; pick = by-code (order-of g below) (w .pick); stops = w .stops }
+strategy-of g tables w = record { drops = w .drops; pick = by-code (order-of g tables) (w .pick); stops = w .stops }
 
 abbrev pub run-of : Words → ℕ → Words → ℕ → Run
 run-of value n vector v = record { value = rows value 0 n; vector = rows vector 0 v }

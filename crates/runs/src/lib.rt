@@ -14,7 +14,7 @@ ghost use Rattle.ending.specs.Good.{good?};
 ghost use Rattle.ending.specs.Well.{Well};
 ghost use Rattle.monomial.specs.Values.{monomial-of};
 ghost use Rattle.orders.specs.Images.{table-of, table-order};
-ghost use Rattle.reduce.specs.Grounds.{reduction-of, family-of, Tables, Family, added-of, Within};
+ghost use Rattle.reduce.specs.Grounds.{reduction-of, family-of, ends-in, below-in, above-in, Tables, Family, added-of, Within};
 ghost use Rattle.runs.specs.Stages.{order-of, stage-of, strategy-of, run-of, Images, Rooms, reduced-by, without-step, without-words, step-of, Room, ended-of, outcome-of, Ended};
 use monomial::Monomial;
 use reduce::Added;
@@ -50,17 +50,15 @@ fn reduced(
     vector: &mut [u16],
     v: usize,
     level: &[u16],
-    ends: &[u16],
-    heads: &[u16],
-    spans: &[u16],
+    tables: &[u16],
     g: Ground,
     drops: bool,
     j: usize,
     c: u16,
     q: [u8; 8],
 ) -> Step
-    requires { ⌜ Tables g (now heads) (now spans) × Family g (now level) (now ends) × Rooms g (now value) (now vector) × (n ≤ g .working) × (v ≤ g .vector) × (1 ≤ j) × (j ≤ g .r) ⌝ }
-    ensures { λ x. ⌜ ((order : definition.Monomial → definition.Monomial → Comparison) → step-of order (g .p) x (now (value .exit)) (now (vector .exit)) ≡ reduced-by (reduction-of g (now (heads .entry))) (family-of g (now (level .entry)) (now (ends .entry))) drops (run-of (now (value .entry)) n (now (vector .entry)) v) j c q) × Room g x ⌝ }
+    requires { ⌜ Tables g (now tables) × Family g (now level) (ends-in (now tables)) × Rooms g (now value) (now vector) × (n ≤ g .working) × (v ≤ g .vector) × (1 ≤ j) × (j ≤ g .r) ⌝ }
+    ensures { λ x. ⌜ ((order : definition.Monomial → definition.Monomial → Comparison) → step-of order (g .p) x (now (value .exit)) (now (vector .exit)) ≡ reduced-by (reduction-of g (now (tables .entry))) (family-of g (now (level .entry)) (ends-in (now (tables .entry)))) drops (run-of (now (value .entry)) n (now (vector .entry)) v) j c q) × Room g x ⌝ }
 {
     let component = j as u16;
     let t = Term {
@@ -71,19 +69,7 @@ fn reduced(
         },
     };
     match reduce::store_term(vector, v, g.vector, g.p, t) {
-        Added::Rows(k) => match reduce::add_multiple(
-            value,
-            n,
-            level,
-            ends,
-            j,
-            c,
-            q,
-            heads,
-            spans,
-            g,
-            drops,
-        ) {
+        Added::Rows(k) => match reduce::add_multiple(value, n, level, tables, j, c, q, g, drops) {
             Added::Rows(m) => Step::On(m, k),
             Added::Refused(x) => Step::Refused(x),
         },
@@ -110,40 +96,23 @@ fn one_step(
     vector: &mut [u16],
     v: usize,
     level: &[u16],
-    ends: &[u16],
-    heads: &[u16],
-    spans: &[u16],
-    below: &[u16],
+    tables: &[u16],
     g: Ground,
     w: Strategy,
 ) -> Step
-    requires { ⌜ Tables g (now heads) (now spans) × Family g (now level) (now ends) × Images (g .images) (now below) × Rooms g (now value) (now vector) × (0 < n) × (n ≤ g .working) × (v ≤ g .vector) ⌝ }
-    ensures { λ x. ⌜ ((above : definition.Monomial → definition.Monomial → Comparison) → step-of (order-of g (now (below .entry))) (g .p) x (now (value .exit)) (now (vector .exit)) ≡ step-definition (stage-of g (now (level .entry)) (now (ends .entry)) (now (heads .entry)) (now (below .entry)) above) (strategy-of g (now (below .entry)) w) (run-of (now (value .entry)) n (now (vector .entry)) v)) × Room g x ⌝ }
+    requires { ⌜ Tables g (now tables) × Family g (now level) (ends-in (now tables)) × Images (g .images) (below-in (now tables)) × Rooms g (now value) (now vector) × (0 < n) × (n ≤ g .working) × (v ≤ g .vector) ⌝ }
+    ensures { λ x. ⌜ ((above : definition.Monomial → definition.Monomial → Comparison) → step-of (order-of g (now (tables .entry))) (g .p) x (now (value .exit)) (now (vector .exit)) ≡ step-definition (stage-of g (now (level .entry)) (now (tables .entry)) above) (strategy-of g (now (tables .entry)) w) (run-of (now (value .entry)) n (now (vector .entry)) v)) × Room g x ⌝ }
 {
-    let i = reduce::pick(value, n, w.pick, g.code, below, g.images);
+    let i = reduce::pick(value, n, w.pick, tables, g);
     let t = terms::row(value, i);
-    let found = reducers::reducer_of(heads, g.r, spans, g.components, g.p, t);
+    let found = reduce::reducer_of(tables, g, t);
     let answer = found.answer;
     let Answer::Reducer(j, c) = answer else {
         return without_reducer(value, n, v, i, w.stops);
     };
     let q = found.quotient;
     let d = field::negative(c, g.p);
-    reduced(
-        value,
-        n,
-        vector,
-        v,
-        level,
-        ends,
-        heads,
-        spans,
-        g,
-        w.drops,
-        j,
-        d,
-        q,
-    )
+    reduced(value, n, vector, v, level, tables, g, w.drops, j, d, q)
 }
 
 // Steps to the end.
@@ -153,20 +122,17 @@ fn steps(
     vector: &mut [u16],
     first: usize,
     level: &[u16],
-    ends: &[u16],
-    heads: &[u16],
-    spans: &[u16],
-    below: &[u16],
+    tables: &[u16],
     g: Ground,
     w: Strategy,
 ) -> Outcome
-    requires { ⌜ Tables g (now heads) (now spans) × Family g (now level) (now ends) × Images (g .images) (now below) × Rooms g (now value) (now vector) × (start ≤ g .working) × (first ≤ g .vector) × Well (stage-of g (now level) (now ends) (now heads) (now below) (order-of g (now below))) × T (good? (rows (now value) 0 start)) ⌝ }
-    ensures { λ x. ⌜ ((above : definition.Monomial → definition.Monomial → Comparison) → (k : ℕ) × (ended-of (order-of g (now (below .entry))) above (g .p) x (now (value .exit)) (now (vector .exit)) ≡ runs (stage-of g (now (level .entry)) (now (ends .entry)) (now (heads .entry)) (now (below .entry)) above) (strategy-of g (now (below .entry)) w) k (run-of (now (value .entry)) start (now (vector .entry)) first))) × Ended g x ⌝ }
+    requires { ⌜ Tables g (now tables) × Family g (now level) (ends-in (now tables)) × Images (g .images) (below-in (now tables)) × Rooms g (now value) (now vector) × (start ≤ g .working) × (first ≤ g .vector) × Well (stage-of g (now level) (now tables) (order-of g (now tables))) × T (good? (rows (now value) 0 start)) ⌝ }
+    ensures { λ x. ⌜ ((above : definition.Monomial → definition.Monomial → Comparison) → (k : ℕ) × (ended-of (order-of g (now (tables .entry))) above (g .p) x (now (value .exit)) (now (vector .exit)) ≡ runs (stage-of g (now (level .entry)) (now (tables .entry)) above) (strategy-of g (now (tables .entry)) w) k (run-of (now (value .entry)) start (now (vector .entry)) first))) × Ended g x ⌝ }
 {
     let mut n = start;
     let mut v = first;
     while 0 < n {
-        match one_step(value, n, vector, v, level, ends, heads, spans, below, g, w) {
+        match one_step(value, n, vector, v, level, tables, g, w) {
             Step::On(x, y) => {
                 n = x;
                 v = y;
@@ -179,25 +145,26 @@ fn steps(
 }
 
 // A finished vector descending, in the value's place; a value without a reducer descending, in the vector's.
-fn sorted(
-    value: &mut [u16],
-    vector: &mut [u16],
-    x: Outcome,
-    below: &[u16],
-    above: &[u16],
-    g: Ground,
-) -> Outcome
-    requires { ⌜ (0 < g .p) × Images (g .images) (now below) × Images (g .r) (now above) × Rooms g (now value) (now vector) × Ended g x ⌝ }
-    ensures { λ y. ⌜ (outcome-of y (now (value .exit)) (now (vector .exit)) ≡ ended-of (order-of g (now (below .entry))) (table-order (g .code) (table-of (g .r) (now (above .entry)))) (g .p) x (now (value .entry)) (now (vector .entry))) × Ended g y ⌝ }
+fn sorted(value: &mut [u16], vector: &mut [u16], x: Outcome, tables: &[u16], g: Ground) -> Outcome
+    requires { ⌜ Tables g (now tables) × Images (g .images) (below-in (now tables)) × Images (g .r) (above-in (now tables)) × Rooms g (now value) (now vector) × Ended g x ⌝ }
+    ensures { λ y. ⌜ (outcome-of y (now (value .exit)) (now (vector .exit)) ≡ ended-of (order-of g (now (tables .entry))) (table-order (g .code) (table-of (g .r) (above-in (now (tables .entry))))) (g .p) x (now (value .entry)) (now (vector .entry))) × Ended g y ⌝ }
 {
     match x {
         Outcome::Finished(v) => {
-            let k = sums::sort(value, vector, v, g.code, above, g.r, g.p);
+            let k = sums::sort(value, vector, v, g.code, &tables[reduce::ABOVE..], g.r, g.p);
             Outcome::Finished(k)
         }
         Outcome::Refused(number) => Outcome::Refused(number),
         Outcome::Stopped(n) => {
-            let k = sums::sort(vector, value, n, g.code, below, g.images, g.p);
+            let k = sums::sort(
+                vector,
+                value,
+                n,
+                g.code,
+                &tables[reduce::BELOW..],
+                g.images,
+                g.p,
+            );
             Outcome::Stopped(k)
         }
     }
@@ -207,19 +174,17 @@ fn sorted(
 fn started(
     value: &mut [u16],
     level: &[u16],
-    ends: &[u16],
-    heads: &[u16],
-    spans: &[u16],
+    tables: &[u16],
     g: Ground,
     drops: bool,
     m: Monomial,
 ) -> Added
-    requires { ⌜ Tables g (now heads) (now spans) × Family g (now level) (now ends) × (g .working * 10 ≤ length (now value)) × (1 ≤ monomial-of m .1) × (monomial-of m .1 ≤ g .r) ⌝ }
-    ensures { λ x. ⌜ (added-of x (now (value .exit)) ≡ add-products (reduction-of g (now (heads .entry))) drops 1 (monomial-of m .0) (definition.vector-of (family-of g (now (level .entry)) (now (ends .entry))) (monomial-of m .1)) []) × Within (g .working) x ⌝ }
+    requires { ⌜ Tables g (now tables) × Family g (now level) (ends-in (now tables)) × (g .working * 10 ≤ length (now value)) × (1 ≤ monomial-of m .1) × (monomial-of m .1 ≤ g .r) ⌝ }
+    ensures { λ x. ⌜ (added-of x (now (value .exit)) ≡ add-products (reduction-of g (now (tables .entry))) drops 1 (monomial-of m .0) (definition.vector-of (family-of g (now (level .entry)) (ends-in (now (tables .entry)))) (monomial-of m .1)) []) × Within (g .working) x ⌝ }
 {
     let q = m.exponents;
     let i = m.component as usize;
-    reduce::add_multiple(value, 0, level, ends, i, 1, q, heads, spans, g, drops)
+    reduce::add_multiple(value, 0, level, tables, i, 1, q, g, drops)
 }
 
 // The run of the frame term m.
@@ -227,19 +192,15 @@ pub fn run(
     value: &mut [u16],
     vector: &mut [u16],
     level: &[u16],
-    ends: &[u16],
-    heads: &[u16],
-    spans: &[u16],
-    below: &[u16],
-    above: &[u16],
+    tables: &[u16],
     g: Ground,
     w: Strategy,
     m: Monomial,
 ) -> Outcome
-    requires { ⌜ Tables g (now heads) (now spans) × Family g (now level) (now ends) × Images (g .images) (now below) × Images (g .r) (now above) × Rooms g (now value) (now vector) × (1 ≤ g .vector) × Well (stage-of g (now level) (now ends) (now heads) (now below) (order-of g (now below))) × (1 ≤ monomial-of m .1) × (monomial-of m .1 ≤ g .r) ⌝ }
-    ensures { λ x. ⌜ ((k : ℕ) × (outcome-of x (now (value .exit)) (now (vector .exit)) ≡ run-definition (stage-of g (now (level .entry)) (now (ends .entry)) (now (heads .entry)) (now (below .entry)) (table-order (g .code) (table-of (g .r) (now (above .entry))))) (strategy-of g (now (below .entry)) w) k (monomial-of m))) × Ended g x ⌝ }
+    requires { ⌜ Tables g (now tables) × Family g (now level) (ends-in (now tables)) × Images (g .images) (below-in (now tables)) × Images (g .r) (above-in (now tables)) × Rooms g (now value) (now vector) × (1 ≤ g .vector) × Well (stage-of g (now level) (now tables) (order-of g (now tables))) × (1 ≤ monomial-of m .1) × (monomial-of m .1 ≤ g .r) ⌝ }
+    ensures { λ x. ⌜ ((k : ℕ) × (outcome-of x (now (value .exit)) (now (vector .exit)) ≡ run-definition (stage-of g (now (level .entry)) (now (tables .entry)) (table-order (g .code) (table-of (g .r) (above-in (now (tables .entry)))))) (strategy-of g (now (tables .entry)) w) k (monomial-of m))) × Ended g x ⌝ }
 {
-    let n = match started(value, level, ends, heads, spans, g, w.drops, m) {
+    let n = match started(value, level, tables, g, w.drops, m) {
         Added::Rows(n) => n,
         Added::Refused(x) => return Outcome::Refused(x),
     };
@@ -248,6 +209,6 @@ pub fn run(
         monomial: m,
     };
     terms::put(vector, 0, t);
-    let x = steps(value, n, vector, 1, level, ends, heads, spans, below, g, w);
-    sorted(value, vector, x, below, above, g)
+    let x = steps(value, n, vector, 1, level, tables, g, w);
+    sorted(value, vector, x, tables, g)
 }

@@ -57,9 +57,9 @@ apart-work top e = omega arith
 
 -- ## The slices keep their lengths
 
-pub lent-again : (g : Ground) (u v room : ℕ) (c c′ w w′ level ends heads spans above : Words) → Lent g u room c w level ends heads spans above → v ≤ room → length c′ ≡ length c → length w′ ≡ length w
-    → Lent g v room c′ w′ level ends heads spans above
-lent-again g u v room c c′ w w′ level ends heads spans above x k cl wl = record {
+pub lent-again : (g : Ground) (u v room : ℕ) (c c′ w w′ level tables : Words) → Lent g u room c w level tables → v ≤ room → length c′ ≡ length c → length w′ ≡ length w
+    → Lent g v room c′ w′ level tables
+lent-again g u v room c c′ w w′ level tables x k cl wl = record {
   used-fits = k;
   room-fits = omega (arith, x .room-fits);
   tree-fits = omega (arith, x .tree-fits);

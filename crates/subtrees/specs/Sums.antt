@@ -10,7 +10,7 @@ use Rattle.definitions.specs.Tree.{Lift-list, add-result, lift-list, lift-term}
 use Rattle.definitions.specs.Layout.{Words, rows}
 use Rattle.sums.specs.declared.Stored.{Stored}
 use Rattle.sums.specs.declared.Stored.the-variants.{Rows as Stored-rows, Full}
-use Rattle.reduce.specs.Grounds.{Tables, Family}
+use Rattle.reduce.specs.Grounds.{ends-in, above-in, Tables, Family}
 use Rattle.reduce.specs.declared.Ground.{Ground}
 use Rattle.runs.specs.Stages.{Images}
 use Rattle.cache.specs.Entries.{cache-of}
@@ -20,14 +20,14 @@ use Rattle.subtrees.specs.declared.Sum.{Sum}
 use Rattle.subtrees.specs.declared.Sum.the-variants.{Rows, Refused}
 
 -- the tables, the level below, the work area and the cache, of which so many rows are used
-pub record Lent (g : Ground) (used room : ℕ) (cache work level ends heads spans above : Words) : Type 0 where
+pub record Lent (g : Ground) (used room : ℕ) (cache work level tables-at : Words) : Type 0 where
   pub used-fits : used ≤ room
   pub room-fits : room * 10 ≤ length cache
   pub tree-fits : g .tree * 10 ≤ length work
   pub tree-small : g .tree < 65536
-  pub tables : Tables g heads spans
-  pub family : Family g level ends
-  pub images : Images (g .r) above
+  pub tables : Tables g tables-at
+  pub family : Family g level (ends-in tables-at)
+  pub images : Images (g .r) (above-in tables-at)
 
 -- a sum from row a of the work area on, and the cache
 abbrev pub sum-of : ℕ → Sum → Words → Words → Result definition.Sum

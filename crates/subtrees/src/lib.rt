@@ -6,11 +6,11 @@ ghost use Prim.Native.Nat.{_+_, _-_, _*_, _≤_, _<_};
 ghost use lib.Dec.{ltb};
 ghost use lib.ListN.{length, getD};
 ghost use Rattle.definitions.specs.Field.{minus};
-ghost use Rattle.definitions.specs.Layout.{Words, rows};
+ghost use Rattle.definitions.specs.Layout.{rows};
 ghost use Rattle.definitions.specs.Tree.{lift-term as term-definition, lift-list as list-definition, open-subtree as open-definition};
 ghost use Rattle.monomial.specs.Values.{monomial-of};
 ghost use Rattle.orders.specs.Images.{table-of, table-order};
-ghost use Rattle.reduce.specs.Grounds.{first-row};
+ghost use Rattle.reduce.specs.Grounds.{ends-start, first-row, ends-in, above-in, Tables};
 ghost use Rattle.runs.specs.Stages.{stage-of, Images};
 ghost use Rattle.cache.specs.Area.{Keeps};
 ghost use Rattle.cache.specs.Entries.{cache-of, subtree-of, Sized};
@@ -52,10 +52,11 @@ fn first_of(ends: &[u16], j: usize) -> usize
 }
 
 // The rows of f_j, all of them.
-pub fn rows_of(ends: &[u16], j: usize) -> Span
-    requires { ⌜ (1 ≤ j) × (j ≤ length (now ends)) ⌝ }
-    ensures { λ x. ⌜ (x .from ≡ first-row (now (ends .entry)) j) × (x .to ≡ getD (now (ends .entry)) (j - 1) 0) × (x .from < 65536) × (x .to < 65536) ⌝ }
+pub fn rows_of(tables: &[u16], j: usize) -> Span
+    requires { ⌜ (1 ≤ j) × (ends-start ≤ length (now tables)) × (j ≤ length (ends-in (now tables))) ⌝ }
+    ensures { λ x. ⌜ (x .from ≡ first-row (ends-in (now (tables .entry))) j) × (x .to ≡ getD (ends-in (now (tables .entry))) (j - 1) 0) × (x .from < 65536) × (x .to < 65536) ⌝ }
 {
+    let ends = &tables[reduce::ENDS..];
     let from = first_of(ends, j);
     let to = place(ends[j - 1]);
     Span { from, to }
@@ -90,12 +91,13 @@ fn add_subtree(
     n: usize,
     s: Subtree,
     c: u16,
-    above: &[u16],
+    tables: &[u16],
     g: Ground,
 ) -> Sum
-    requires { ⌜ (0 < g .p) × (a + n ≤ g .tree) × (g .tree * 10 ≤ length (now work)) × (room * 10 ≤ length (now cache)) × Sized (a + n) (g .tree) room s × Images (g .r) (now above) ⌝ }
-    ensures { λ z. ⌜ (sum-of a z (now (cache .entry)) (now (work .exit)) ≡ added-to (table-order (g .code) (table-of (g .r) (now (above .entry)))) (g .p) (g .tree) a c (rows (now (work .entry)) a n) (subtree-of (g .tree) s (now (cache .entry)) (now (work .entry)))) × Fits a (g .tree) room z × Keeps a (now (work .entry)) (now (work .exit)) ⌝ }
+    requires { ⌜ Tables g (now tables) × (a + n ≤ g .tree) × (g .tree * 10 ≤ length (now work)) × (room * 10 ≤ length (now cache)) × Sized (a + n) (g .tree) room s × Images (g .r) (above-in (now tables)) ⌝ }
+    ensures { λ z. ⌜ (sum-of a z (now (cache .entry)) (now (work .exit)) ≡ added-to (table-order (g .code) (table-of (g .r) (above-in (now (tables .entry))))) (g .p) (g .tree) a c (rows (now (work .entry)) a n) (subtree-of (g .tree) s (now (cache .entry)) (now (work .entry)))) × Fits a (g .tree) room z × Keeps a (now (work .entry)) (now (work .exit)) ⌝ }
 {
+    let above = &tables[reduce::ABOVE..];
     match s {
         Subtree::Cached(from, len, used) => {
             let x = cache::add_part(
@@ -148,22 +150,16 @@ pub fn lift_term(
     a: usize,
     m: Monomial,
     level: &[u16],
-    ends: &[u16],
-    heads: &[u16],
-    spans: &[u16],
-    above: &[u16],
+    tables: &[u16],
     g: Ground,
     left: usize,
 ) -> Subtree
-    requires { ⌜ Lent g used room (now cache) (now work) (now level) (now ends) (now heads) (now spans) (now above) × (a ≤ g .tree) ⌝ }
-    ensures { λ x. ⌜ ((below : Words) → subtree-of (g .tree) x (now (cache .exit)) (now (work .exit)) ≡ term-definition (stage-of g (now (level .entry)) (now (ends .entry)) (now (heads .entry)) below (table-order (g .code) (table-of (g .r) (now (above .entry))))) room left a (cache-of used (now (cache .entry))) (monomial-of m)) × Sized a (g .tree) room x × Keeps a (now (work .entry)) (now (work .exit)) ⌝ }
+    requires { ⌜ Lent g used room (now cache) (now work) (now level) (now tables) × (a ≤ g .tree) ⌝ }
+    ensures { λ x. ⌜ (subtree-of (g .tree) x (now (cache .exit)) (now (work .exit)) ≡ term-definition (stage-of g (now (level .entry)) (now (tables .entry)) (table-order (g .code) (table-of (g .r) (above-in (now (tables .entry)))))) room left a (cache-of used (now (cache .entry))) (monomial-of m)) × Sized a (g .tree) room x × Keeps a (now (work .entry)) (now (work .exit)) ⌝ }
 {
-    let f = reducers::reducer_of(
-        heads,
-        g.r,
-        spans,
-        g.components,
-        g.p,
+    let f = reduce::reducer_of(
+        tables,
+        g,
         Term {
             coefficient: 1,
             monomial: m,
@@ -187,10 +183,7 @@ pub fn lift_term(
             c,
             q,
             level,
-            ends,
-            heads,
-            spans,
-            above,
+            tables,
             g,
             left,
         );
@@ -210,15 +203,12 @@ fn open_subtree(
     c: u16,
     q: [u8; 8],
     level: &[u16],
-    ends: &[u16],
-    heads: &[u16],
-    spans: &[u16],
-    above: &[u16],
+    tables: &[u16],
     g: Ground,
     left: usize,
 ) -> Subtree
-    requires { ⌜ Lent g used room (now cache) (now work) (now level) (now ends) (now heads) (now spans) (now above) × (a ≤ g .tree) × (1 ≤ j) × (j ≤ g .r) ⌝ }
-    ensures { λ x. ⌜ ((below : Words) → subtree-of (g .tree) x (now (cache .exit)) (now (work .exit)) ≡ open-definition (ltb a (g .tree)) (stage-of g (now (level .entry)) (now (ends .entry)) (now (heads .entry)) below (table-order (g .code) (table-of (g .r) (now (above .entry))))) room (list-at (stage-of g (now (level .entry)) (now (ends .entry)) (now (heads .entry)) below (table-order (g .code) (table-of (g .r) (now (above .entry))))) room left) a (cache-of used (now (cache .entry))) (monomial-of m) j (minus (g .p) c) q) × Sized a (g .tree) room x × Keeps a (now (work .entry)) (now (work .exit)) ⌝ }
+    requires { ⌜ Lent g used room (now cache) (now work) (now level) (now tables) × (a ≤ g .tree) × (1 ≤ j) × (j ≤ g .r) ⌝ }
+    ensures { λ x. ⌜ (subtree-of (g .tree) x (now (cache .exit)) (now (work .exit)) ≡ open-definition (ltb a (g .tree)) (stage-of g (now (level .entry)) (now (tables .entry)) (table-order (g .code) (table-of (g .r) (above-in (now (tables .entry)))))) room (list-at (stage-of g (now (level .entry)) (now (tables .entry)) (table-order (g .code) (table-of (g .r) (above-in (now (tables .entry)))))) room left) a (cache-of used (now (cache .entry))) (monomial-of m) j (minus (g .p) c) q) × Sized a (g .tree) room x × Keeps a (now (work .entry)) (now (work .exit)) ⌝ }
 {
     if g.tree <= a {
         return Subtree::Refused(14);
@@ -239,7 +229,7 @@ fn open_subtree(
             },
         },
     );
-    let part = rows_of(ends, j);
+    let part = rows_of(tables, j);
     let from = part.from;
     let to = part.to;
     let s = lift_list(
@@ -254,10 +244,7 @@ fn open_subtree(
         from + 1,
         to,
         level,
-        ends,
-        heads,
-        spans,
-        above,
+        tables,
         g,
         left - 1,
     );
@@ -280,15 +267,12 @@ fn lift_list(
     from: usize,
     to: usize,
     level: &[u16],
-    ends: &[u16],
-    heads: &[u16],
-    spans: &[u16],
-    above: &[u16],
+    tables: &[u16],
     g: Ground,
     left: usize,
 ) -> Sum
-    requires { ⌜ Lent g used room (now cache) (now work) (now level) (now ends) (now heads) (now spans) (now above) × (a + n ≤ g .tree) × (to * 10 ≤ length (now level)) × (to < 65536) ⌝ }
-    ensures { λ z. ⌜ ((below : Words) → sum-of a z (now (cache .exit)) (now (work .exit)) ≡ list-definition (stage-of g (now (level .entry)) (now (ends .entry)) (now (heads .entry)) below (table-order (g .code) (table-of (g .r) (now (above .entry))))) (term-definition (stage-of g (now (level .entry)) (now (ends .entry)) (now (heads .entry)) below (table-order (g .code) (table-of (g .r) (now (above .entry))))) room left) a c q (rows (now (level .entry)) from (to - from)) (rows (now (work .entry)) a n, cache-of used (now (cache .entry)))) × Fits a (g .tree) room z × Keeps a (now (work .entry)) (now (work .exit)) ⌝ }
+    requires { ⌜ Lent g used room (now cache) (now work) (now level) (now tables) × (a + n ≤ g .tree) × (to * 10 ≤ length (now level)) × (to < 65536) ⌝ }
+    ensures { λ z. ⌜ (sum-of a z (now (cache .exit)) (now (work .exit)) ≡ list-definition (stage-of g (now (level .entry)) (now (tables .entry)) (table-order (g .code) (table-of (g .r) (above-in (now (tables .entry)))))) (term-definition (stage-of g (now (level .entry)) (now (tables .entry)) (table-order (g .code) (table-of (g .r) (above-in (now (tables .entry)))))) room left) a c q (rows (now (level .entry)) from (to - from)) (rows (now (work .entry)) a n, cache-of used (now (cache .entry)))) × Fits a (g .tree) room z × Keeps a (now (work .entry)) (now (work .exit)) ⌝ }
 {
     let mut k = n;
     let mut v = used;
@@ -299,22 +283,8 @@ fn lift_list(
         let t = x.term;
         if fits {
             let m = t.monomial;
-            let s = lift_term(
-                cache,
-                v,
-                room,
-                work,
-                a + k,
-                m,
-                level,
-                ends,
-                heads,
-                spans,
-                above,
-                g,
-                left,
-            );
-            let y = add_subtree(&cache[..], room, work, a, k, s, t.coefficient, above, g);
+            let s = lift_term(cache, v, room, work, a + k, m, level, tables, g, left);
+            let y = add_subtree(&cache[..], room, work, a, k, s, t.coefficient, tables, g);
             let Sum::Rows(w, u) = y else {
                 return y;
             };

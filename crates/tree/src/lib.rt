@@ -5,12 +5,12 @@ ghost use mathlib.Core.Path.{_≡_};
 ghost use mathlib.Core.List.{[]};
 ghost use Prim.Native.Nat.{_+_, _-_, _*_, _/_, _≤_, _<_};
 ghost use lib.ListN.{length};
-ghost use Rattle.definitions.specs.Layout.{Words, row-at, rows};
+ghost use Rattle.definitions.specs.Layout.{row-at, rows};
 ghost use Rattle.definitions.specs.Tree.{lift-term, lift-vector as vector-definition, tree as tree-definition};
 ghost use Rattle.definitions.specs.Lifting.{lift-all as lift-all-definition};
 ghost use Rattle.monomial.specs.Values.{monomial-of};
 ghost use Rattle.orders.specs.Images.{table-of, table-order};
-ghost use Rattle.reduce.specs.Grounds.{Tables, Family};
+ghost use Rattle.reduce.specs.Grounds.{ends-in, above-in, Tables, Family};
 ghost use Rattle.runs.specs.Stages.{stage-of, Images};
 ghost use Rattle.cache.specs.Entries.{cache-of, subtree-of, Sized};
 ghost use Rattle.subtrees.specs.Sums.{Lent, sum-of, Fits};
@@ -44,12 +44,13 @@ fn add_result<'a>(
     work: &'a [u16],
     s: Subtree,
     c: u16,
-    above: &[u16],
+    tables: &[u16],
     g: Ground,
 ) -> Sum
-    requires { ⌜ (0 < g .p) × (n ≤ g .vector) × (g .vector * 10 ≤ length (now vector)) × (g .tree * 10 ≤ length (now work)) × (room * 10 ≤ length (now cache)) × Sized 0 (g .tree) room s × Images (g .r) (now above) ⌝ }
-    ensures { λ z. ⌜ (sum-of 0 z (now (cache .entry)) (now (vector .exit)) ≡ added-vector (table-order (g .code) (table-of (g .r) (now (above .entry)))) (g .p) (g .vector) c (rows (now (vector .entry)) 0 n) (subtree-of (g .tree) s (now (cache .entry)) (now (work .entry)))) × Fits 0 (g .vector) room z ⌝ }
+    requires { ⌜ Tables g (now tables) × (n ≤ g .vector) × (g .vector * 10 ≤ length (now vector)) × (g .tree * 10 ≤ length (now work)) × (room * 10 ≤ length (now cache)) × Sized 0 (g .tree) room s × Images (g .r) (above-in (now tables)) ⌝ }
+    ensures { λ z. ⌜ (sum-of 0 z (now (cache .entry)) (now (vector .exit)) ≡ added-vector (table-order (g .code) (table-of (g .r) (above-in (now (tables .entry))))) (g .p) (g .vector) c (rows (now (vector .entry)) 0 n) (subtree-of (g .tree) s (now (cache .entry)) (now (work .entry)))) × Fits 0 (g .vector) room z ⌝ }
 {
+    let above = &tables[reduce::ABOVE..];
     match s {
         Subtree::Cached(from, len, used) => {
             let part = cache::held(cache, work, true, from, len);
@@ -77,14 +78,11 @@ fn lift_vector(
     from: usize,
     to: usize,
     level: &[u16],
-    ends: &[u16],
-    heads: &[u16],
-    spans: &[u16],
-    above: &[u16],
+    tables: &[u16],
     g: Ground,
 ) -> Sum
-    requires { ⌜ Lent g used room (now cache) (now work) (now level) (now ends) (now heads) (now spans) (now above) × (n ≤ g .vector) × (g .vector * 10 ≤ length (now vector)) × (to * 10 ≤ length (now level)) × (to < 65536) ⌝ }
-    ensures { λ z. ⌜ ((below : Words) → sum-of 0 z (now (cache .exit)) (now (vector .exit)) ≡ vector-definition (stage-of g (now (level .entry)) (now (ends .entry)) (now (heads .entry)) below (table-order (g .code) (table-of (g .r) (now (above .entry))))) (lift-term (stage-of g (now (level .entry)) (now (ends .entry)) (now (heads .entry)) below (table-order (g .code) (table-of (g .r) (now (above .entry))))) room (g .tree)) 1 q (rows (now (level .entry)) from (to - from)) (rows (now (vector .entry)) 0 n, cache-of used (now (cache .entry)))) × Fits 0 (g .vector) room z ⌝ }
+    requires { ⌜ Lent g used room (now cache) (now work) (now level) (now tables) × (n ≤ g .vector) × (g .vector * 10 ≤ length (now vector)) × (to * 10 ≤ length (now level)) × (to < 65536) ⌝ }
+    ensures { λ z. ⌜ (sum-of 0 z (now (cache .exit)) (now (vector .exit)) ≡ vector-definition (stage-of g (now (level .entry)) (now (tables .entry)) (table-order (g .code) (table-of (g .r) (above-in (now (tables .entry)))))) (lift-term (stage-of g (now (level .entry)) (now (tables .entry)) (table-order (g .code) (table-of (g .r) (above-in (now (tables .entry)))))) room (g .tree)) 1 q (rows (now (level .entry)) from (to - from)) (rows (now (vector .entry)) 0 n, cache-of used (now (cache .entry)))) × Fits 0 (g .vector) room z ⌝ }
 {
     let mut k = n;
     let mut v = used;
@@ -95,21 +93,7 @@ fn lift_vector(
         let t = x.term;
         if fits {
             let m = t.monomial;
-            let s = subtrees::lift_term(
-                cache,
-                v,
-                room,
-                work,
-                0,
-                m,
-                level,
-                ends,
-                heads,
-                spans,
-                above,
-                g,
-                g.tree,
-            );
+            let s = subtrees::lift_term(cache, v, room, work, 0, m, level, tables, g, g.tree);
             let y = add_result(
                 vector,
                 k,
@@ -118,7 +102,7 @@ fn lift_vector(
                 &work[..],
                 s,
                 t.coefficient,
-                above,
+                tables,
                 g,
             );
             let Sum::Rows(w, u) = y else {
@@ -143,14 +127,11 @@ fn lift_frame_term(
     work: &mut [u16],
     m: Monomial,
     level: &[u16],
-    ends: &[u16],
-    heads: &[u16],
-    spans: &[u16],
-    above: &[u16],
+    tables: &[u16],
     g: Ground,
 ) -> Sum
-    requires { ⌜ Lent g used room (now cache) (now work) (now level) (now ends) (now heads) (now spans) (now above) × (1 ≤ g .vector) × (g .vector * 10 ≤ length (now vector)) × (1 ≤ m .component) × (m .component ≤ g .r) ⌝ }
-    ensures { λ z. ⌜ ((below : Words) → sum-of 0 z (now (cache .exit)) (now (vector .exit)) ≡ tree-definition (stage-of g (now (level .entry)) (now (ends .entry)) (now (heads .entry)) below (table-order (g .code) (table-of (g .r) (now (above .entry))))) room (cache-of used (now (cache .entry))) (monomial-of m)) × Fits 0 (g .vector) room z ⌝ }
+    requires { ⌜ Lent g used room (now cache) (now work) (now level) (now tables) × (1 ≤ g .vector) × (g .vector * 10 ≤ length (now vector)) × (1 ≤ m .component) × (m .component ≤ g .r) ⌝ }
+    ensures { λ z. ⌜ (sum-of 0 z (now (cache .exit)) (now (vector .exit)) ≡ tree-definition (stage-of g (now (level .entry)) (now (tables .entry)) (table-order (g .code) (table-of (g .r) (above-in (now (tables .entry)))))) room (cache-of used (now (cache .entry))) (monomial-of m)) × Fits 0 (g .vector) room z ⌝ }
 {
     terms::put(
         vector,
@@ -161,7 +142,7 @@ fn lift_frame_term(
         },
     );
     let component = m.component;
-    let part = subtrees::rows_of(ends, place(component));
+    let part = subtrees::rows_of(tables, place(component));
     let from = part.from;
     let to = part.to;
     let q = m.exponents;
@@ -176,10 +157,7 @@ fn lift_frame_term(
         from,
         to,
         level,
-        ends,
-        heads,
-        spans,
-        above,
+        tables,
         g,
     )
 }
@@ -196,14 +174,11 @@ fn lift_one(
     frame: &[u16],
     count: usize,
     level: &[u16],
-    ends: &[u16],
-    heads: &[u16],
-    spans: &[u16],
-    above: &[u16],
+    tables: &[u16],
     g: Ground,
 ) -> One
-    requires { ⌜ Lent g u room (now cache) (now work) (now level) (now ends) (now heads) (now spans) (now above) × (1 ≤ g .vector) × Framed g count (now frame) × (i < count) × ((g .room + g .vector) * 10 + 128 ≤ length (now out)) × (g .room < 65536) × (used ≤ g .room) × Kept i used (now out) ⌝ }
-    ensures { λ x. ⌜ ((below : Words) → one-of x i (now (out .exit)) (now (cache .exit)) ≡ lifted-one (stage-of g (now (level .entry)) (now (ends .entry)) (now (heads .entry)) below (table-order (g .code) (table-of (g .r) (now (above .entry))))) room (lifted-vectors (now (out .entry)) i, used) (cache-of u (now (cache .entry))) (row-at (now (frame .entry)) i .1)) × After g i room x (now (out .exit)) ⌝ }
+    requires { ⌜ Lent g u room (now cache) (now work) (now level) (now tables) × (1 ≤ g .vector) × Framed g count (now frame) × (i < count) × ((g .room + g .vector) * 10 + 128 ≤ length (now out)) × (g .room < 65536) × (used ≤ g .room) × Kept i used (now out) ⌝ }
+    ensures { λ x. ⌜ (one-of x i (now (out .exit)) (now (cache .exit)) ≡ lifted-one (stage-of g (now (level .entry)) (now (tables .entry)) (table-order (g .code) (table-of (g .r) (above-in (now (tables .entry)))))) room (lifted-vectors (now (out .entry)) i, used) (cache-of u (now (cache .entry))) (row-at (now (frame .entry)) i .1)) × After g i room x (now (out .exit)) ⌝ }
 {
     let t = terms::row(frame, i);
     let m = t.monomial;
@@ -217,10 +192,7 @@ fn lift_one(
         work,
         m,
         level,
-        ends,
-        heads,
-        spans,
-        above,
+        tables,
         g,
     );
     match s {
@@ -243,14 +215,11 @@ pub fn lift_all(
     frame: &[u16],
     count: usize,
     level: &[u16],
-    ends: &[u16],
-    heads: &[u16],
-    spans: &[u16],
-    above: &[u16],
+    tables: &[u16],
     g: Ground,
 ) -> Lifted
-    requires { ⌜ Tables g (now heads) (now spans) × Family g (now level) (now ends) × Images (g .r) (now above) × Framed g count (now frame) × (g .tree * 10 ≤ length (now work)) × (g .tree < 65536) × (1 ≤ g .vector) × ((g .room + g .vector) * 10 + 128 ≤ length (now out)) × (g .room < 65536) ⌝ }
-    ensures { λ x. ⌜ ((below : Words) → lifted-of x count (now (out .exit)) [] ≡ lift-all-definition (stage-of g (now (level .entry)) (now (ends .entry)) (now (heads .entry)) below (table-order (g .code) (table-of (g .r) (now (above .entry))))) (tree-definition (stage-of g (now (level .entry)) (now (ends .entry)) (now (heads .entry)) below (table-order (g .code) (table-of (g .r) (now (above .entry))))) (length (now (cache .entry)) / 10)) ([], 0) [] (frame-terms (now (frame .entry)) count)) × Whole g count x (now (out .exit)) × Unstopped x ⌝ }
+    requires { ⌜ Tables g (now tables) × Family g (now level) (ends-in (now tables)) × Images (g .r) (above-in (now tables)) × Framed g count (now frame) × (g .tree * 10 ≤ length (now work)) × (g .tree < 65536) × (1 ≤ g .vector) × ((g .room + g .vector) * 10 + 128 ≤ length (now out)) × (g .room < 65536) ⌝ }
+    ensures { λ x. ⌜ (lifted-of x count (now (out .exit)) [] ≡ lift-all-definition (stage-of g (now (level .entry)) (now (tables .entry)) (table-order (g .code) (table-of (g .r) (above-in (now (tables .entry)))))) (tree-definition (stage-of g (now (level .entry)) (now (tables .entry)) (table-order (g .code) (table-of (g .r) (above-in (now (tables .entry)))))) (length (now (cache .entry)) / 10)) ([], 0) [] (frame-terms (now (frame .entry)) count)) × Whole g count x (now (out .exit)) × Unstopped x ⌝ }
 {
     let room = cache.len() / 10;
     let mut used: usize = 0;
@@ -268,10 +237,7 @@ pub fn lift_all(
             frame,
             count,
             level,
-            ends,
-            heads,
-            spans,
-            above,
+            tables,
             g,
         ) {
             One::Used(v, c) => {

@@ -3,12 +3,9 @@
 // Tables and frame are arrays of these functions' own frames, made once a call.
 ghost use mathlib.Core.Path.{_≡_};
 ghost use mathlib.Core.List.{[]};
-ghost use Prim.Native.Nat.{suc, _/_, _≤_};
+ghost use Prim.Native.Nat.{_/_, _≤_};
 ghost use lib.ListN.{length};
-ghost use Rattle.definitions.specs.Layout.{Words};
-ghost use Rattle.levels.specs.Tabled.{Ready};
-ghost use Rattle.stages.specs.Prepared.{Led};
-ghost use Rattle.lifting.specs.Stages.{Base, Within, Framed-by, leveled-of, Stored-as};
+ghost use Rattle.lifting.specs.Stages.{Base, Within, Tables-at, Framed-by, leveled-of, Stored-as};
 ghost use Rattle.tree_level.specs.Over.{framed-over, tree-over};
 use lift::Lifted;
 use lifting::Bounds;
@@ -24,30 +21,15 @@ fn lift_frame(
     j: usize,
     frame: &[u16],
     count: usize,
-    heads: &[u16],
-    spans: &[u16],
-    above: &[u16],
+    tables: &[u16],
     b: Bounds,
 ) -> Lifted
-    requires { ⌜ Base (now state) j × Led (now state) j (now heads) (now spans) × ((below : Words) × Ready (now state) j below) × Ready (now state) (suc j) (now above) × (1280 ≤ length (now heads)) × (258 ≤ length (now spans)) × (1280 ≤ length (now above)) × Framed-by (now state) j count (now frame) × (25728 ≤ length (now out)) × (40960 ≤ length (now work)) × Within b ⌝ }
+    requires { ⌜ Base (now state) j × Tables-at (now state) j (now tables) × Framed-by (now state) j count (now frame) × (25728 ≤ length (now out)) × (40960 ≤ length (now work)) × Within b ⌝ }
     ensures { λ x. ⌜ framed-over b (now (state .entry)) j (length (now (cache .entry)) / 10) count (now (frame .entry)) x (now (out .exit)) ⌝ }
 {
     let g = lifting::ground_of(state, j, b);
     let start = 1295 + j * 20480;
-    let ends = 6 + j * 129;
-    tree::lift_all(
-        out,
-        cache,
-        work,
-        frame,
-        count,
-        &state[start..],
-        &state[ends..],
-        heads,
-        spans,
-        above,
-        g,
-    )
+    tree::lift_all(out, cache, work, frame, count, &state[start..], tables, g)
 }
 
 // The frame over level j, then all its terms.
@@ -57,33 +39,19 @@ fn lift_with(
     work: &mut [u16],
     state: &[u16],
     j: usize,
-    heads: &[u16],
-    spans: &[u16],
-    above: &[u16],
+    tables: &[u16],
     b: Bounds,
 ) -> Leveled
-    requires { ⌜ Base (now state) j × Led (now state) j (now heads) (now spans) × ((below : Words) × Ready (now state) j below) × Ready (now state) (suc j) (now above) × (1280 ≤ length (now heads)) × (258 ≤ length (now spans)) × (1280 ≤ length (now above)) × (25728 ≤ length (now out)) × (40960 ≤ length (now work)) × Within b ⌝ }
+    requires { ⌜ Base (now state) j × Tables-at (now state) j (now tables) × (25728 ≤ length (now out)) × (40960 ≤ length (now work)) × Within b ⌝ }
     ensures { λ x. ⌜ (leveled-of x (now (out .exit)) [] ≡ tree-over b (now (state .entry)) j (length (now (cache .entry)) / 10)) × Stored-as x (now (out .exit)) ⌝ }
 {
     let mut framed = [0u16; 1280];
     let mut gens = [0u16; 1280];
     let r = levels::count_of(state, j);
     // numbered by code 1, the lexicographic order, whatever the file's (A10)
-    match frame::form(&mut framed, 128, &mut gens, heads, r, 1) {
+    match frame::form(&mut framed, 128, &mut gens, tables, r, 1) {
         Stored::Full => Leveled::Refused(15),
-        Stored::Rows(n) => match lift_frame(
-            out,
-            cache,
-            work,
-            state,
-            j,
-            &framed,
-            n,
-            heads,
-            spans,
-            above,
-            b,
-        ) {
+        Stored::Rows(n) => match lift_frame(out, cache, work, state, j, &framed, n, tables, b) {
             Lifted::Rows(used) => Leveled::Vectors(n, used),
             Lifted::Refused(x) => Leveled::Refused(x),
             Lifted::Stopped(x) => Leveled::Stopped(x),
@@ -103,11 +71,7 @@ pub fn lift_level(
     requires { ⌜ Base (now state) j × (25728 ≤ length (now out)) × (40960 ≤ length (now work)) × Within b ⌝ }
     ensures { λ x. ⌜ (leveled-of x (now (out .exit)) [] ≡ tree-over b (now (state .entry)) j (length (now (cache .entry)) / 10)) × Stored-as x (now (out .exit)) ⌝ }
 {
-    let mut heads = [0u16; 1280];
-    let mut spans = [0u16; 258];
-    let mut below = [0u16; 1280];
-    let mut above = [0u16; 1280];
-    stages::fill_leads(&mut heads, &mut spans, state, j);
-    stages::fill_tables(&mut below, &mut above, state, j + 1);
-    lift_with(out, cache, work, state, j, &heads, &spans, &above, b)
+    let mut tables = [0u16; 4226];
+    lifting::make_tables(&mut tables, state, j);
+    lift_with(out, cache, work, state, j, &tables, b)
 }

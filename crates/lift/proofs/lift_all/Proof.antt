@@ -8,6 +8,7 @@ use Rattle.lift.proofs.Keeping.{none-kept}
 use Rattle.lift.specs.Vectors.{lifted-vectors, Kept, one-of, After}
 use Rattle.runs.proofs.Stepping.{rooms-again}
 use Rattle.runs.specs.Stages.{stage-of, strategy-of}
+use Rattle.reduce.specs.Grounds.{above-in}
 use Rattle.orders.specs.Images.{table-of, table-order}
 use Rattle.definitions.specs.Layout.{rows}
 use Rattle.definitions.specs.Lifting.{Lifted}
@@ -16,21 +17,21 @@ use Rattle.lift.proofs.lift_all.Statement.{statement}
 use Rattle.lift.proofs.lift_all.Tie as tie
 
 abbrev Inv-loop : tie.InvT-loop
-Inv-loop out₀ value₀ vector₀ frame count level ends heads spans below above g w used₀ i₀ out value vector used i =
+Inv-loop out₀ value₀ vector₀ frame count level tables g w used₀ i₀ out value vector used i =
     (i ≤ count) × (used ≤ g .room) × (length out ≡ length out₀) × (length value ≡ length value₀) × (length vector ≡ length vector₀) × Kept i used out ×
-    Going (stage-of g level ends heads below (table-order (g .code) (table-of (g .r) above))) (strategy-of g below w) frame count (lifted-vectors out i, used) i
+    Going (stage-of g level tables (table-order (g .code) (table-of (g .r) (above-in tables)))) (strategy-of g tables w) frame count (lifted-vectors out i, used) i
 
 abbrev μ-loop : tie.MeasureT-loop
-μ-loop out₀ value₀ vector₀ frame count level ends heads spans below above g w used₀ i₀ out value vector used i = count - i
+μ-loop out₀ value₀ vector₀ frame count level tables g w used₀ i₀ out value vector used i = count - i
 
 loop-holds : tie.Need-loop-holds Inv-loop μ-loop
-loop-holds c = let a = c .before .before .before .before .before .before .before .before .before .before .args in (omega arith, omega arith, refl, refl, refl, none-kept (a .out .now), going-start (stage-of (a .g) (a .level .now) (a .ends .now) (a .heads .now) (a .below .now) (table-order (a .g .code) (table-of (a .g .r) (a .above .now)))) (strategy-of (a .g) (a .below .now) (a .w)) (a .frame .now) (a .count))
+loop-holds c = let a = c .before .before .before .before .before .before .args in (omega arith, omega arith, refl, refl, refl, none-kept (a .out .now), going-start (stage-of (a .g) (a .level .now) (a .tables .now) (table-order (a .g .code) (table-of (a .g .r) (above-in (a .tables .now))))) (strategy-of (a .g) (a .tables .now) (a .w)) (a .frame .now) (a .count))
 
 lift-one-requires : tie.Need-lift-one-requires Inv-loop μ-loop
 lift-one-requires c κs =
-    let P = c .before .before .before .before .before .before .before .before .before .before .before .before .before .before .before .pre in
+    let P = c .before .before .before .before .before .before .before .before .before .before .before .pre in
     let l = c .before .before .before .before .loop in
-    (P .0, P .1, P .2, P .3, rooms-again (c .before .before .before .before .before .before .before .before .before .before .before .before .before .before .before .args .g) (c .before .before .before .before .before .before .before .before .before .before .before .before .before .before .before .args .value .now) (c .before .before .before .before .before .before .before .before .before .before .before .before .before .before .before .args .vector .now) (l .value) (l .vector) (l .inv .3) (l .inv .4) (P .4), P .5, P .6, P .7, omega arith, omega (arith, P .8, l .inv .2), P .9, l .inv .1, l .inv .5)
+    (P .0, P .1, P .2, P .3, rooms-again (c .before .before .before .before .before .before .before .before .before .before .before .args .g) (c .before .before .before .before .before .before .before .before .before .before .before .args .value .now) (c .before .before .before .before .before .before .before .before .before .before .before .args .vector .now) (l .value) (l .vector) (l .inv .3) (l .inv .4) (P .4), P .5, P .6, P .7, omega arith, omega (arith, P .8, l .inv .2), P .9, l .inv .1, l .inv .5)
 
 enum-known-u : tie.Need-enum-known-u Inv-loop μ-loop
 enum-known-u c = omega arith
@@ -49,11 +50,11 @@ same-length-3 c = omega (arith, c .before .before .before .before .before .befor
 
 returns : tie.Need-returns Inv-loop μ-loop
 returns c =
-    let a = c .before .before .before .before .before .before .before .before .before .before .before .before .before .before .before .before .before .before .before .before .before .before .before .before .before .args in
+    let a = c .before .before .before .before .before .before .before .before .before .before .before .before .before .before .before .before .before .before .before .before .before .args in
     let g = a .g in
     let l = c .before .before .before .before .before .before .before .before .before .before .before .before .before .before .loop in
-    let S = stage-of g (a .level .now) (a .ends .now) (a .heads .now) (a .below .now) (table-order (g .code) (table-of (g .r) (a .above .now))) in
-    let W = strategy-of g (a .below .now) (a .w) in
+    let S = stage-of g (a .level .now) (a .tables .now) (table-order (g .code) (table-of (g .r) (above-in (a .tables .now)))) in
+    let W = strategy-of g (a .tables .now) (a .w) in
     let o = c .before .before .before .before .before .before .before .before .before .lift-one in
     let k = o .ensures .0 .0 in
     let before : Lifted = (lifted-vectors (l .out) (l .i), l .used) in
@@ -73,11 +74,11 @@ same-length-6 c = omega (arith, c .before .before .before .before .before .befor
 
 returns-2 : tie.Need-returns-2 Inv-loop μ-loop
 returns-2 c =
-    let a = c .before .before .before .before .before .before .before .before .before .before .before .before .before .before .before .before .before .before .before .before .before .before .before .before .before .args in
+    let a = c .before .before .before .before .before .before .before .before .before .before .before .before .before .before .before .before .before .before .before .before .before .args in
     let g = a .g in
     let l = c .before .before .before .before .before .before .before .before .before .before .before .before .before .before .loop in
-    let S = stage-of g (a .level .now) (a .ends .now) (a .heads .now) (a .below .now) (table-order (g .code) (table-of (g .r) (a .above .now))) in
-    let W = strategy-of g (a .below .now) (a .w) in
+    let S = stage-of g (a .level .now) (a .tables .now) (table-order (g .code) (table-of (g .r) (above-in (a .tables .now)))) in
+    let W = strategy-of g (a .tables .now) (a .w) in
     let o = c .before .before .before .before .before .before .before .before .before .lift-one in
     let k = o .ensures .0 .0 in
     let before : Lifted = (lifted-vectors (l .out) (l .i), l .used) in (
@@ -86,18 +87,18 @@ returns-2 c =
     )
 
 add-i : tie.Need-add-i Inv-loop μ-loop
-add-i c = omega (arith, c .before .before .before .before .before .before .before .before .before .before .before .before .before .before .before .before .before .before .before .before .before .before .before .before .before .pre .7 .few)
+add-i c = omega (arith, c .before .before .before .before .before .before .before .before .before .before .before .before .before .before .before .before .before .before .before .before .before .pre .7 .few)
 
 loop-less : tie.Need-loop-less Inv-loop μ-loop
 loop-less c = omega arith
 
 loop-again : tie.Need-loop-again Inv-loop μ-loop
 loop-again c =
-    let a = c .before .before .before .before .before .before .before .before .before .before .before .before .before .before .before .before .before .before .before .before .before .before .before .before .before .args in
+    let a = c .before .before .before .before .before .before .before .before .before .before .before .before .before .before .before .before .before .before .before .before .before .args in
     let g = a .g in
     let l = c .before .before .before .before .before .before .before .before .before .before .before .before .before .before .loop in
-    let S = stage-of g (a .level .now) (a .ends .now) (a .heads .now) (a .below .now) (table-order (g .code) (table-of (g .r) (a .above .now))) in
-    let W = strategy-of g (a .below .now) (a .w) in
+    let S = stage-of g (a .level .now) (a .tables .now) (table-order (g .code) (table-of (g .r) (above-in (a .tables .now)))) in
+    let W = strategy-of g (a .tables .now) (a .w) in
     let o = c .before .before .before .before .before .before .before .before .before .lift-one in
     let k = o .ensures .0 .0 in
     let before : Lifted = (lifted-vectors (l .out) (l .i), l .used) in
@@ -124,11 +125,11 @@ same-length-9 c = omega (arith, c .before .loop .inv .4)
 
 returns-3 : tie.Need-returns-3 Inv-loop μ-loop
 returns-3 c =
-    let a = c .before .before .before .before .before .before .before .before .before .before .before .before .args in
+    let a = c .before .before .before .before .before .before .before .before .args in
     let g = a .g in
     let l = c .before .loop in
-    let S = stage-of g (a .level .now) (a .ends .now) (a .heads .now) (a .below .now) (table-order (g .code) (table-of (g .r) (a .above .now))) in
-    let W = strategy-of g (a .below .now) (a .w) in
+    let S = stage-of g (a .level .now) (a .tables .now) (table-order (g .code) (table-of (g .r) (above-in (a .tables .now)))) in
+    let W = strategy-of g (a .tables .now) (a .w) in
     let whole : l .i ≡ a .count = omega (arith, l .inv .0) in
     let z = going-end S W (a .frame .now) (a .count) (lifted-vectors (l .out) (l .i), l .used) (l .i) (l .inv .6) (omega arith) in
     ((z .0, ap (λ n. done (lifted-vectors (l .out) n)) (sym whole) ∙ z .1), (l .inv .1, subst (λ n. Kept n (l .used) (l .out)) whole (l .inv .5)))

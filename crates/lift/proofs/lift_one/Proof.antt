@@ -7,6 +7,7 @@ use lib.ListN.{length}
 use Rattle.lift.proofs.Keeping.{vectors-grown, kept-grown, with-room, without-room, frame-component}
 use Rattle.lift.specs.Vectors.{lifted-vectors, Kept}
 use Rattle.runs.specs.Stages.{stage-of, strategy-of, outcome-of, Ended}
+use Rattle.reduce.specs.Grounds.{above-in}
 use Rattle.orders.specs.Images.{table-of, table-order}
 use Rattle.terms.specs.Rows.{term-of}
 use Rattle.definitions.proofs.Rows.{length-rows}
@@ -19,19 +20,19 @@ use Rattle.lift.proofs.lift_one.Statement.{statement}
 use Rattle.lift.proofs.lift_one.Tie as tie
 
 row-requires : tie.Need-row-requires
-row-requires c κs = omega (arith, c .before .before .before .before .before .before .before .before .before .before .pre .7 .fits, c .before .before .before .before .before .before .before .before .before .before .pre .8)
+row-requires c κs = omega (arith, c .before .before .before .before .before .before .pre .7 .fits, c .before .before .before .before .before .before .pre .8)
 
 run-requires : tie.Need-run-requires
 run-requires c κs =
-    let P = c .before .before .before .before .before .before .before .before .before .before .before .before .before .before .pre in
-    let f = frame-component (c .before .before .before .before .before .before .before .before .before .before .before .before .before .before .args .g) (c .before .before .before .before .before .before .before .before .before .before .before .before .before .before .args .count) (c .before .before .before .before .before .before .before .before .before .before .before .before .before .before .args .frame .now) (c .before .before .before .before .before .before .before .before .before .before .before .before .before .before .args .i) (term-of (c .before .before .before .row .result)) (P .7) (P .8) (c .before .before .before .row .ensures) in
+    let P = c .before .before .before .before .before .before .before .before .before .before .pre in
+    let f = frame-component (c .before .before .before .before .before .before .before .before .before .before .args .g) (c .before .before .before .before .before .before .before .before .before .before .args .count) (c .before .before .before .before .before .before .before .before .before .before .args .frame .now) (c .before .before .before .before .before .before .before .before .before .before .args .i) (term-of (c .before .before .before .row .result)) (P .7) (P .8) (c .before .before .before .row .ensures) in
     (P .0, P .1, P .2, P .3, P .4, P .5, P .6, f .0, f .1)
 
 enum-known-v : tie.Need-enum-known-v
 enum-known-v c = search needs
 
 sub-if1 : tie.Need-sub-if1
-sub-if1 c = omega (arith, c .before .before .before .before .before .before .before .before .before .before .before .before .before .before .before .before .before .before .before .before .before .before .before .pre .11)
+sub-if1 c = omega (arith, c .before .before .before .before .before .before .before .before .before .before .before .before .before .before .before .before .before .before .before .pre .11)
 
 same-length : tie.Need-same-length
 same-length c = search needs
@@ -41,10 +42,10 @@ same-length-2 c = search needs
 
 returns : tie.Need-returns
 returns c =
-    let a = c .before .before .before .before .before .before .before .before .before .before .before .before .before .before .before .before .before .before .before .before .before .before .before .before .args in
+    let a = c .before .before .before .before .before .before .before .before .before .before .before .before .before .before .before .before .before .before .before .before .args in
     let g = a .g in
-    let S = stage-of g (a .level .now) (a .ends .now) (a .heads .now) (a .below .now) (table-order (g .code) (table-of (g .r) (a .above .now))) in
-    let W = strategy-of g (a .below .now) (a .w) in
+    let S = stage-of g (a .level .now) (a .tables .now) (table-order (g .code) (table-of (g .r) (above-in (a .tables .now)))) in
+    let W = strategy-of g (a .tables .now) (a .w) in
     let l : Lifted = (lifted-vectors (a .out .now) (a .i), a .used) in
     let r = c .before .before .before .before .before .before .before .before .before .run in
     let t : term-of (c .before .before .before .before .before .before .before .before .before .before .before .before .before .row .result) ≡ row-at (a .frame .now) (a .i) = c .before .before .before .before .before .before .before .before .before .before .before .before .before .row .ensures in
@@ -53,17 +54,17 @@ returns c =
     let v = c .before .before .before .v .given .0 .0 in (
       (
         came .0,
-        without-room S l (rows (r .last .0) 0 v) v (length-rows (r .last .0) 0 v) (omega (arith, c .before .before .before .before .before .before .before .before .before .before .before .before .before .before .before .before .before .before .before .before .before .before .before .before .pre .11))
+        without-room S l (rows (r .last .0) 0 v) v (length-rows (r .last .0) 0 v) (omega (arith, c .before .before .before .before .before .before .before .before .before .before .before .before .before .before .before .before .before .before .before .before .pre .11))
             ∙ ap (λ x. x >>= λ w. with-vector S l (w, [])) (sym (ap (λ y. outcome-of y (r .last .0) (r .last .1 .0)) (c .before .before .before .v .given .1)) ∙ came .1),
       ),
       tt,
     )
 
 append-requires : tie.Need-append-requires
-append-requires c κs = (omega (arith, c .before .before .before .before .before .before .before .before .before .before .before .before .before .before .before .before .before .before .before .before .before .before .before .before .before .before .pre .7 .few, c .before .before .before .before .before .before .before .before .before .before .before .before .before .before .before .before .before .before .before .before .before .before .before .before .before .before .pre .8), omega (arith, c .before .before .before .before .before .before .before .before .before .before .before .before .before .before .before .before .before .before .before .before .before .before .before .before .before .before .pre .10, c .before .before .before .before .before .before .before .before .before .before .before .before .before .before .before .before .before .before .before .before .before .before .before .before .before .before .pre .11), omega (arith, c .before .before .before .before .before .before .before .before .before .before .before .before .before .before .before .before .before .before .before .before .before .before .before .before .before .before .pre .9, c .before .before .before .before .before .before .before .before .before .before .before .before .before .before .before .before .before .before .before .before .before .before .before .before .before .before .pre .11), omega (arith, subst (Ended (c .before .before .before .before .before .before .before .before .before .before .before .before .before .before .before .before .before .before .before .before .before .before .before .before .before .before .args .g)) (c .before .before .before .before .before .v .given .1) (c .before .before .before .before .before .before .before .before .before .before .before .run .ensures .1), c .before .before .before .before .before .before .before .before .before .before .before .before .before .before .before .before .before .before .before .before .before .before .before .before .before .before .pre .4 .sorted-fits))
+append-requires c κs = (omega (arith, c .before .before .before .before .before .before .before .before .before .before .before .before .before .before .before .before .before .before .before .before .before .before .pre .7 .few, c .before .before .before .before .before .before .before .before .before .before .before .before .before .before .before .before .before .before .before .before .before .before .pre .8), omega (arith, c .before .before .before .before .before .before .before .before .before .before .before .before .before .before .before .before .before .before .before .before .before .before .pre .10, c .before .before .before .before .before .before .before .before .before .before .before .before .before .before .before .before .before .before .before .before .before .before .pre .11), omega (arith, c .before .before .before .before .before .before .before .before .before .before .before .before .before .before .before .before .before .before .before .before .before .before .pre .9, c .before .before .before .before .before .before .before .before .before .before .before .before .before .before .before .before .before .before .before .before .before .before .pre .11), omega (arith, subst (Ended (c .before .before .before .before .before .before .before .before .before .before .before .before .before .before .before .before .before .before .before .before .before .before .args .g)) (c .before .before .before .before .before .v .given .1) (c .before .before .before .before .before .before .before .before .before .before .before .run .ensures .1), c .before .before .before .before .before .before .before .before .before .before .before .before .before .before .before .before .before .before .before .before .before .before .pre .4 .sorted-fits))
 
-add-t27 : tie.Need-add-t27
-add-t27 c = omega (arith, c .before .before .before .before .before .before .before .before .before .before .before .before .before .before .before .before .before .before .before .before .before .before .before .before .before .before .before .before .before .pre .10, c .before .before .before .before .before .before .before .before .before .before .before .before .before .before .before .before .before .before .before .before .before .before .before .before .before .before .before .before .before .pre .11)
+add-t23 : tie.Need-add-t23
+add-t23 c = omega (arith, c .before .before .before .before .before .before .before .before .before .before .before .before .before .before .before .before .before .before .before .before .before .before .before .before .before .pre .10, c .before .before .before .before .before .before .before .before .before .before .before .before .before .before .before .before .before .before .before .before .before .before .before .before .before .pre .11)
 
 enum-known-x : tie.Need-enum-known-x
 enum-known-x c = search needs
@@ -82,17 +83,17 @@ same-length-5 c = search needs
 
 returns-2 : tie.Need-returns-2
 returns-2 c =
-    let a = c .before .before .before .before .before .before .before .before .before .before .before .before .before .before .before .before .before .before .before .before .before .before .before .before .before .before .before .before .before .args in
+    let a = c .before .before .before .before .before .before .before .before .before .before .before .before .before .before .before .before .before .before .before .before .before .before .before .before .before .args in
     let g = a .g in
-    let S = stage-of g (a .level .now) (a .ends .now) (a .heads .now) (a .below .now) (table-order (g .code) (table-of (g .r) (a .above .now))) in
-    let W = strategy-of g (a .below .now) (a .w) in
+    let S = stage-of g (a .level .now) (a .tables .now) (table-order (g .code) (table-of (g .r) (above-in (a .tables .now)))) in
+    let W = strategy-of g (a .tables .now) (a .w) in
     let l : Lifted = (lifted-vectors (a .out .now) (a .i), a .used) in
     let r = c .before .before .before .before .before .before .before .before .before .before .before .before .before .before .run in
     let t : term-of (c .before .before .before .before .before .before .before .before .before .before .before .before .before .before .before .before .before .before .row .result) ≡ row-at (a .frame .now) (a .i) = c .before .before .before .before .before .before .before .before .before .before .before .before .before .before .before .before .before .before .row .ensures in
     let came : (k : ℕ) × (outcome-of (r .result) (r .last .0) (r .last .1 .0) ≡ run S W k (row-at (a .frame .now) (a .i) .1)) =
     (r .ensures .0 .0, r .ensures .0 .1 ∙ ap (λ x. run S W (r .ensures .0 .0) (x .1)) t) in
     let v = c .before .before .before .before .before .before .before .before .v .given .0 .0 in
-    let P = c .before .before .before .before .before .before .before .before .before .before .before .before .before .before .before .before .before .before .before .before .before .before .before .before .before .before .before .before .before .pre in
+    let P = c .before .before .before .before .before .before .before .before .before .before .before .before .before .before .before .before .before .before .before .before .before .before .before .before .before .pre in
     let room : a .used + v ≤ g .room = omega (arith, P .11) in
     let has : v * 10 ≤ length (r .last .0) = omega (arith, subst (Ended g) (c .before .before .before .before .before .before .before .before .v .given .1) (r .ensures .1), P .4 .sorted-fits) in
     let o = c .before .before .append in (
@@ -114,10 +115,10 @@ same-length-7 c = search needs
 
 returns-3 : tie.Need-returns-3
 returns-3 c =
-    let a = c .before .before .before .before .before .before .before .before .before .before .before .before .before .before .before .before .before .before .before .before .before .before .args in
+    let a = c .before .before .before .before .before .before .before .before .before .before .before .before .before .before .before .before .before .before .args in
     let g = a .g in
-    let S = stage-of g (a .level .now) (a .ends .now) (a .heads .now) (a .below .now) (table-order (g .code) (table-of (g .r) (a .above .now))) in
-    let W = strategy-of g (a .below .now) (a .w) in
+    let S = stage-of g (a .level .now) (a .tables .now) (table-order (g .code) (table-of (g .r) (above-in (a .tables .now)))) in
+    let W = strategy-of g (a .tables .now) (a .w) in
     let l : Lifted = (lifted-vectors (a .out .now) (a .i), a .used) in
     let r = c .before .before .before .before .before .before .before .run in
     let t : term-of (c .before .before .before .before .before .before .before .before .before .before .before .row .result) ≡ row-at (a .frame .now) (a .i) = c .before .before .before .before .before .before .before .before .before .before .before .row .ensures in
@@ -135,10 +136,10 @@ same-length-9 c = search needs
 
 returns-4 : tie.Need-returns-4
 returns-4 c =
-    let a = c .before .before .before .before .before .before .before .before .before .before .before .before .before .before .before .before .before .before .before .before .before .before .args in
+    let a = c .before .before .before .before .before .before .before .before .before .before .before .before .before .before .before .before .before .before .args in
     let g = a .g in
-    let S = stage-of g (a .level .now) (a .ends .now) (a .heads .now) (a .below .now) (table-order (g .code) (table-of (g .r) (a .above .now))) in
-    let W = strategy-of g (a .below .now) (a .w) in
+    let S = stage-of g (a .level .now) (a .tables .now) (table-order (g .code) (table-of (g .r) (above-in (a .tables .now)))) in
+    let W = strategy-of g (a .tables .now) (a .w) in
     let l : Lifted = (lifted-vectors (a .out .now) (a .i), a .used) in
     let r = c .before .before .before .before .before .before .before .run in
     let t : term-of (c .before .before .before .before .before .before .before .before .before .before .before .row .result) ≡ row-at (a .frame .now) (a .i) = c .before .before .before .before .before .before .before .before .before .before .before .row .ensures in
@@ -160,7 +161,7 @@ lift-one-spec =
     same-length-2
     returns
     append-requires
-    add-t27
+    add-t23
     enum-known-x
     enum-known-n
     same-length-3

@@ -29,25 +29,16 @@ part-accept-all-start c = search needs
 part-accept-all-end : tie.Need-part-accept-all-end
 part-accept-all-end c = search needs
 
-sub-accept-all-2 : tie.Need-sub-accept-all-2
-sub-accept-all-2 c = search needs
-
-part-accept-all-start-2 : tie.Need-part-accept-all-start-2
-part-accept-all-start-2 c = search needs
-
-part-accept-all-end-2 : tie.Need-part-accept-all-end-2
-part-accept-all-end-2 c = search needs
-
 accept-all-requires : tie.Need-accept-all-requires
 accept-all-requires c κs =
-    let a = c .before .before .before .before .before .before .before .before .before .before .before .before .before .args in
+    let a = c .before .before .before .before .before .before .before .before .before .args in
     let s = a .state .now in
-    let P = c .before .before .before .before .before .before .before .before .before .before .before .before .before .pre in
-    let ask = asked s 0 (P .0) (a .heads .now) (a .spans .now) (a .below .now) (a .above .now) (P .1) (P .2) (P .3) (P .4) (P .5) (P .6) (P .7) usual (c .before .before .before .before .ground-of .result)
-    (take (length s - 1295) (drop 1295 s)) (take (length s - 6) (drop 6 s)) (c .before .before .before .before .ground-of .ensures ∙ ap (λ b. ground-at b s 0) (c .before .before .before .before .before .usual .ensures)) (whole-part 1295 s) (whole-part 6 s) (a .count) (a .frame .now) (P .8) in
+    let P = c .before .before .before .before .before .before .before .before .before .pre in
+    let ask = asked s 0 (P .0) (a .tables .now) (P .1) usual (c .before .before .before .ground-of .result)
+    (take (length s - 1295) (drop 1295 s)) (c .before .before .before .ground-of .ensures ∙ ap (λ b. ground-at b s 0) (c .before .before .before .before .usual .ensures)) (whole-part 1295 s) (a .count) (a .frame .now) (P .2) in
     let w = ask .6 in
     let v = ask .7 in
-    (ask .0, ask .1, ask .2, ask .3, record { value-fits = omega (arith, w, P .9); vector-fits = omega (arith, v); sorted-fits = omega (arith, v, P .9); left-fits = omega (arith, w) }, omega (arith, v), ask .4, ask .5)
+    (ask .0, ask .1, ask .2, ask .3, record { value-fits = omega (arith, w, P .3); vector-fits = omega (arith, v); sorted-fits = omega (arith, v, P .3); left-fits = omega (arith, w) }, omega (arith, v), ask .4, ask .5)
 
 slice-aggregate-settle : tie.Need-slice-aggregate-settle
 slice-aggregate-settle c = search needs
@@ -55,20 +46,20 @@ slice-aggregate-settle c = search needs
 settle-requires : tie.Need-settle-requires
 settle-requires c κs =
     let x = c .before .before .before .before .before .accept-all in
-    left-room (c .before .before .before .before .before .before .before .before .before .before .ground-of .result) (x .result) (x .last .1 .0) (x .last .0) (ap (λ g. g .working) (c .before .before .before .before .before .before .before .before .before .before .ground-of .ensures) ∙ ap (λ b. b .working) (c .before .before .before .before .before .before .before .before .before .before .before .usual .ensures)) (x .ensures .1) (omega arith) (omega (arith, c .before .before .before .before .before .before .before .before .before .before .before .before .before .before .before .before .before .before .before .pre .9))
+    left-room (c .before .before .before .before .before .before .before .before .before .ground-of .result) (x .result) (x .last .1 .0) (x .last .0) (ap (λ g. g .working) (c .before .before .before .before .before .before .before .before .before .ground-of .ensures) ∙ ap (λ b. b .working) (c .before .before .before .before .before .before .before .before .before .before .usual .ensures)) (x .ensures .1) (omega arith) (omega (arith, c .before .before .before .before .before .before .before .before .before .before .before .before .before .before .before .pre .3))
 
 same-length : tie.Need-same-length
 same-length c = search needs
 
 returns : tie.Need-returns
 returns c =
-    let a = c .before .before .before .before .before .before .before .before .before .before .before .before .before .before .before .before .before .before .before .before .before .before .args in
+    let a = c .before .before .before .before .before .before .before .before .before .before .before .before .before .before .before .before .before .before .args in
     let s = a .state .now in
-    let P = c .before .before .before .before .before .before .before .before .before .before .before .before .before .before .before .before .before .before .before .before .before .before .pre in
+    let P = c .before .before .before .before .before .before .before .before .before .before .before .before .before .before .before .before .before .before .pre in
     let x = c .before .before .before .before .before .before .before .before .accept-all in
     let y = c .before .before .settle in
-    let told = accepted-same s 0 (P .0) (a .heads .now) (a .spans .now) (a .below .now) (a .above .now) (P .1) (P .2) (P .3) (P .4) (P .5) (P .6) (P .7) usual (c .before .before .before .before .before .before .before .before .before .before .before .before .before .ground-of .result)
-    (take (length s - 1295) (drop 1295 s)) (take (length s - 6) (drop 6 s)) (c .before .before .before .before .before .before .before .before .before .before .before .before .before .ground-of .ensures ∙ ap (λ b. ground-at b s 0) (c .before .before .before .before .before .before .before .before .before .before .before .before .before .before .usual .ensures)) (whole-part 1295 s) (whole-part 6 s)
+    let told = accepted-same s 0 (P .0) (a .tables .now) (P .1) usual (c .before .before .before .before .before .before .before .before .before .before .before .before .ground-of .result)
+    (take (length s - 1295) (drop 1295 s)) (c .before .before .before .before .before .before .before .before .before .before .before .before .ground-of .ensures ∙ ap (λ b. ground-at b s 0) (c .before .before .before .before .before .before .before .before .before .before .before .before .before .usual .ensures)) (whole-part 1295 s)
     (x .ensures .0 .0) (frame-terms (a .frame .now) (a .count)) (accepted-of (x .result) (x .last .1 .0)) (x .ensures .0 .1) in
     (x .ensures .0 .0, value-in (x .result) (x .last .1 .0), ap (λ z. accepted-with z (value-in (x .result) (x .last .1 .0))) (y .ensures .0) ∙ answer-same (x .result) (x .last .1 .0) ∙ told, y .ensures .1)
 
@@ -82,9 +73,6 @@ accept-frame-spec =
     sub-accept-all
     part-accept-all-start
     part-accept-all-end
-    sub-accept-all-2
-    part-accept-all-start-2
-    part-accept-all-end-2
     accept-all-requires
     slice-aggregate-settle
     settle-requires

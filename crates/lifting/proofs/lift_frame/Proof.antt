@@ -6,7 +6,6 @@ use lib.ListN.{length, take, drop}
 use Rattle.lifting.proofs.Framing.{asked, lifted-same}
 use Rattle.lift.specs.Vectors.{frame-terms, lifted-of, Whole}
 use Rattle.levels.proofs.Walking.{whole-part}
-use Rattle.lifting.proofs.Readying.{ends-part}
 use Rattle.lifting.proofs.lift_frame.Statement.{statement}
 use Rattle.lifting.proofs.lift_frame.Tie as tie
 
@@ -18,12 +17,6 @@ mul-start c = search needs
 
 add-start : tie.Need-add-start
 add-start c = search needs
-
-mul-ends : tie.Need-mul-ends
-mul-ends c = search needs
-
-add-ends : tie.Need-add-ends
-add-ends c = search needs
 
 slice-aggregate-lift-all : tie.Need-slice-aggregate-lift-all
 slice-aggregate-lift-all c = search needs
@@ -40,31 +33,19 @@ part-lift-all-start c = search needs
 part-lift-all-end : tie.Need-part-lift-all-end
 part-lift-all-end c = search needs
 
-mul-lift-all-2 : tie.Need-mul-lift-all-2
-mul-lift-all-2 c = search needs
-
-sub-lift-all-2 : tie.Need-sub-lift-all-2
-sub-lift-all-2 c = search needs
-
-part-lift-all-start-2 : tie.Need-part-lift-all-start-2
-part-lift-all-start-2 c = search needs
-
-part-lift-all-end-2 : tie.Need-part-lift-all-end-2
-part-lift-all-end-2 c = search needs
-
 lift-all-requires : tie.Need-lift-all-requires
 lift-all-requires c κs =
-    let a = c .before .before .before .before .before .before .before .before .before .before .before .before .before .before .args in
+    let a = c .before .before .before .before .before .before .before .before .before .before .args in
     let s = a .state .now in
-    let P = c .before .before .before .before .before .before .before .before .before .before .before .before .before .before .pre in
-    let ask = asked s (a .j) (P .0) (a .heads .now) (a .spans .now) (a .below .now) (a .above .now) (P .1) (P .2) (P .3) (P .4) (P .5) (P .6) (P .7) (a .b) (c .before .before .before .before .before .ground-of .result)
-    (take (length s - (1295 + a .j * 20480)) (drop (1295 + a .j * 20480) s)) (take (length s - (6 + a .j * 129)) (drop (6 + a .j * 129) s))
-    (c .before .before .before .before .before .ground-of .ensures) (whole-part (1295 + a .j * 20480) s) (ends-part s (a .j)) (a .count) (a .frame .now) (P .8) in
+    let P = c .before .before .before .before .before .before .before .before .before .before .pre in
+    let ask = asked s (a .j) (P .0) (a .tables .now) (P .1) (a .b) (c .before .before .before .before .ground-of .result)
+    (take (length s - (1295 + a .j * 20480)) (drop (1295 + a .j * 20480) s))
+    (c .before .before .before .before .ground-of .ensures) (whole-part (1295 + a .j * 20480) s) (a .count) (a .frame .now) (P .2) in
     let w = ask .6 in
     let v = ask .7 in
     let r = ask .8 in
-    let i = P .11 in
-    (ask .0, ask .1, ask .2, ask .3, record { value-fits = omega (arith, w, i .working, P .10); vector-fits = omega (arith, v, i .vector); sorted-fits = omega (arith, v, i .vector, P .10); left-fits = omega (arith, w, i .working) }, omega (arith, v, i .vector), ask .4, ask .5, omega (arith, r, i .room, P .9), omega (arith, r, i .room))
+    let i = P .5 in
+    (ask .0, ask .1, ask .2, ask .3, record { value-fits = omega (arith, w, i .working, P .4); vector-fits = omega (arith, v, i .vector); sorted-fits = omega (arith, v, i .vector, P .4); left-fits = omega (arith, w, i .working) }, omega (arith, v, i .vector), ask .4, ask .5, omega (arith, r, i .room, P .3), omega (arith, r, i .room))
 
 same-length : tie.Need-same-length
 same-length c = search needs
@@ -74,18 +55,18 @@ same-length-2 c = search needs
 
 returns : tie.Need-returns
 returns c =
-    let a = c .before .before .before .before .before .before .before .before .before .before .before .before .before .before .before .before .before .before .before .before .args in
+    let a = c .before .before .before .before .before .before .before .before .before .before .before .before .before .before .before .before .args in
     let s = a .state .now in
-    let P = c .before .before .before .before .before .before .before .before .before .before .before .before .before .before .before .before .before .before .before .before .pre in
+    let P = c .before .before .before .before .before .before .before .before .before .before .before .before .before .before .before .before .pre in
     let L = c .before .before .before .before .before .lift-all in (
       (
         L .ensures .0 .0,
         L .last .1 .1 .0,
-        lifted-same s (a .j) (P .0) (a .heads .now) (a .spans .now) (a .below .now) (a .above .now) (P .1) (P .2) (P .3) (P .4) (P .5) (P .6) (P .7) (a .b) (c .before .before .before .before .before .before .before .before .before .before .before .ground-of .result)
-            (take (length s - (1295 + a .j * 20480)) (drop (1295 + a .j * 20480) s)) (take (length s - (6 + a .j * 129)) (drop (6 + a .j * 129) s))
-            (c .before .before .before .before .before .before .before .before .before .before .before .ground-of .ensures) (whole-part (1295 + a .j * 20480) s) (ends-part s (a .j)) (a .w) (L .ensures .0 .0) (frame-terms (a .frame .now) (a .count)) (lifted-of (L .result) (a .count) (L .last .0) (L .last .1 .1 .0)) (L .ensures .0 .1),
+        lifted-same s (a .j) (P .0) (a .tables .now) (P .1) (a .b) (c .before .before .before .before .before .before .before .before .before .before .ground-of .result)
+            (take (length s - (1295 + a .j * 20480)) (drop (1295 + a .j * 20480) s))
+            (c .before .before .before .before .before .before .before .before .before .before .ground-of .ensures) (whole-part (1295 + a .j * 20480) s) (a .w) (L .ensures .0 .0) (frame-terms (a .frame .now) (a .count)) (lifted-of (L .result) (a .count) (L .last .0) (L .last .1 .1 .0)) (L .ensures .0 .1),
       ),
-      subst (λ g. Whole g (a .count) (L .result) (L .last .0)) (c .before .before .before .before .before .before .before .before .before .before .before .ground-of .ensures) (L .ensures .1),
+      subst (λ g. Whole g (a .count) (L .result) (L .last .0)) (c .before .before .before .before .before .before .before .before .before .before .ground-of .ensures) (L .ensures .1),
     )
 
 pub lift-frame-spec : {M : Type 1} → statement M
@@ -95,17 +76,11 @@ lift-frame-spec =
     ground-of-requires
     mul-start
     add-start
-    mul-ends
-    add-ends
     slice-aggregate-lift-all
     mul-lift-all
     sub-lift-all
     part-lift-all-start
     part-lift-all-end
-    mul-lift-all-2
-    sub-lift-all-2
-    part-lift-all-start-2
-    part-lift-all-end-2
     lift-all-requires
     same-length
     same-length-2

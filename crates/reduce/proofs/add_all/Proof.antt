@@ -10,16 +10,16 @@ use Rattle.reduce.proofs.add_all.Statement.{statement}
 use Rattle.reduce.proofs.add_all.Tie as tie
 
 abbrev Inv-loop : tie.InvT-loop
-Inv-loop value₀ n level from to c q heads spans g drops k₀ i₀ value k i = (from ≤ i) × (k ≤ g .working) × (length value ≡ length value₀) × (add-products (reduction-of g heads) drops c q (rows level from (to - from)) (rows value₀ 0 n) ≡ add-products (reduction-of g heads) drops c q (rows level i (to - i)) (rows value 0 k))
+Inv-loop value₀ n level from to c q tables g drops k₀ i₀ value k i = (from ≤ i) × (k ≤ g .working) × (length value ≡ length value₀) × (add-products (reduction-of g tables) drops c q (rows level from (to - from)) (rows value₀ 0 n) ≡ add-products (reduction-of g tables) drops c q (rows level i (to - i)) (rows value 0 k))
 
 abbrev μ-loop : tie.MeasureT-loop
-μ-loop value₀ n level from to c q heads spans g drops k₀ i₀ value k i = to - i
+μ-loop value₀ n level from to c q tables g drops k₀ i₀ value k i = to - i
 
 loop-holds : tie.Need-loop-holds Inv-loop μ-loop
 loop-holds c = (omega arith, omega arith, refl, refl)
 
 add-product-requires : tie.Need-add-product-requires Inv-loop μ-loop
-add-product-requires c κs = (c .before .before .before .before .before .before .before .pre .0, omega arith, omega arith, omega arith)
+add-product-requires c κs = (c .before .before .before .before .before .before .pre .0, omega arith, omega arith, omega arith)
 
 enum-known-x : tie.Need-enum-known-x Inv-loop μ-loop
 enum-known-x c = omega arith
@@ -32,9 +32,9 @@ same-length c = omega arith
 
 returns : tie.Need-returns Inv-loop μ-loop
 returns c =
-    let a = c .before .before .before .before .before .before .before .before .before .before .before .before .before .args in
+    let a = c .before .before .before .before .before .before .before .before .before .before .before .before .args in
     let l = c .before .before .before .before .before .before .before .before .loop in
-    let R = reduction-of (a .g) (a .heads .now) in
+    let R = reduction-of (a .g) (a .tables .now) in
     (sym (l .inv .3 ∙ adding-stops R (a .drops) (a .c) (a .q) (a .level .now) (l .i) (a .to) (rows (l .value) 0 (l .k)) (c .before .x2 .given .0 .0) (c .before .before .before .before .before .add-product .result) (c .before .before .before .before .before .add-product .last .0) (omega arith) (c .before .before .before .before .before .add-product .ensures .0) (c .before .x2 .given .1)), tt)
 
 add-i : tie.Need-add-i Inv-loop μ-loop
@@ -45,9 +45,9 @@ loop-less c = omega arith
 
 loop-again : tie.Need-loop-again Inv-loop μ-loop
 loop-again c =
-    let a = c .before .before .before .before .before .before .before .before .before .before .before .before .before .args in
+    let a = c .before .before .before .before .before .before .before .before .before .before .before .before .args in
     let l = c .before .before .before .before .before .before .before .before .loop in
-    let R = reduction-of (a .g) (a .heads .now) in
+    let R = reduction-of (a .g) (a .tables .now) in
     let k = c .before .x .given .0 .0 in (
       omega arith,
       within-rows (a .g .working) (c .before .before .before .before .before .add-product .result) k (c .before .before .before .before .before .add-product .ensures .1) (c .before .x .given .1),
@@ -60,9 +60,9 @@ same-length-2 c = omega arith
 
 returns-2 : tie.Need-returns-2 Inv-loop μ-loop
 returns-2 c =
-    let a = c .before .before .before .before .before .before .args in
+    let a = c .before .before .before .before .before .args in
     let l = c .before .loop in
-    let R = reduction-of (a .g) (a .heads .now) in
+    let R = reduction-of (a .g) (a .tables .now) in
     (sym (l .inv .3 ∙ adding-ends R (a .drops) (a .c) (a .q) (a .level .now) (l .i) (a .to) (rows (l .value) 0 (l .k)) (omega arith)), omega arith)
 
 pub add-all-spec : {M : Type 1} → statement M

@@ -12,18 +12,18 @@ use Rattle.reduce.proofs.add_product.Statement.{statement}
 use Rattle.reduce.proofs.add_product.Tie as tie
 
 multiplied-requires : tie.Need-multiplied-requires
-multiplied-requires c κs = (c .before .before .before .before .pre .0 .prime, omega arith)
+multiplied-requires c κs = (c .before .before .before .pre .0 .prime, omega arith)
 
 add-fitting-requires : tie.Need-add-fitting-requires
-add-fitting-requires c κs = (c .before .before .before .before .before .before .before .before .pre .0, omega arith, omega arith)
+add-fitting-requires c κs = (c .before .before .before .before .before .before .before .pre .0, omega arith, omega arith)
 
 same-length : tie.Need-same-length
 same-length c = search needs
 
 returns : tie.Need-returns
 returns c =
-    let a = c .before .before .before .before .before .before .before .before .before .before .before .args in
-    let R = reduction-of (a .g) (a .heads .now) in
+    let a = c .before .before .before .before .before .before .before .before .before .before .args in
+    let R = reduction-of (a .g) (a .tables .now) in
     let x = c .before .before .before .before .before .before .multiplied .result in
     let t = multiple (a .g .p) (a .c) (a .q) (row-at (a .level .now) (a .i)) in
     let v = rows (a .value .now) 0 (a .n) in
@@ -33,8 +33,8 @@ returns c =
 
 returns-2 : tie.Need-returns-2
 returns-2 c =
-    let a = c .before .before .before .before .before .before .before .args in
-    let R = reduction-of (a .g) (a .heads .now) in
+    let a = c .before .before .before .before .before .before .args in
+    let R = reduction-of (a .g) (a .tables .now) in
     let x = c .before .before .multiplied .result in
     let t = multiple (a .g .p) (a .c) (a .q) (row-at (a .level .now) (a .i)) in
     let v = rows (a .value .now) 0 (a .n) in

@@ -4,22 +4,22 @@ use mathlib.Core.Path.{sym, ap, _∙_}
 use Rattle.definitions.specs.Layout.{rows}
 use Rattle.runs.specs.Stages.{run-of}
 use Rattle.reduce.proofs.Adding.{within-rows}
-use Rattle.reduce.specs.Grounds.{reduction-of, family-of, added-of}
+use Rattle.reduce.specs.Grounds.{reduction-of, family-of, ends-in, added-of}
 use Rattle.runs.proofs.Stepping.{record-refused, products-refused, both-added}
 use Rattle.runs.proofs.reduced.Statement.{statement}
 use Rattle.runs.proofs.reduced.Tie as tie
 
 cast-component : tie.Need-cast-component
-cast-component c = omega (arith, c .before .before .before .before .before .before .pre .0 .few)
+cast-component c = omega (arith, c .before .before .before .before .pre .0 .few)
 
 store-term-requires : tie.Need-store-term-requires
-store-term-requires c κs = (c .before .before .before .before .before .before .before .pre .0 .prime, omega arith, c .before .before .before .before .before .before .before .pre .2 .vector-fits)
+store-term-requires c κs = (c .before .before .before .before .before .pre .0 .prime, omega arith, c .before .before .before .before .before .pre .2 .vector-fits)
 
 enum-known-k : tie.Need-enum-known-k
 enum-known-k c = search needs
 
 add-multiple-requires : tie.Need-add-multiple-requires
-add-multiple-requires c κs = (c .before .before .before .before .before .before .before .before .before .before .before .before .before .before .pre .0, c .before .before .before .before .before .before .before .before .before .before .before .before .before .before .pre .1, omega arith, c .before .before .before .before .before .before .before .before .before .before .before .before .before .before .pre .2 .value-fits, omega arith, omega arith)
+add-multiple-requires c κs = (c .before .before .before .before .before .before .before .before .before .before .before .before .pre .0, c .before .before .before .before .before .before .before .before .before .before .before .before .pre .1, omega arith, c .before .before .before .before .before .before .before .before .before .before .before .before .pre .2 .value-fits, omega arith, omega arith)
 
 enum-known-m : tie.Need-enum-known-m
 enum-known-m c = search needs
@@ -38,10 +38,10 @@ same-length-2 c = search needs
 
 returns : tie.Need-returns
 returns c =
-    let a = c .before .before .before .before .before .before .before .before .before .before .before .before .before .before .before .before .before .before .before .before .args in
+    let a = c .before .before .before .before .before .before .before .before .before .before .before .before .before .before .before .before .before .before .args in
     let g = a .g in
-    let R = reduction-of g (a .heads .now) in
-    let f = family-of g (a .level .now) (a .ends .now) in
+    let R = reduction-of g (a .tables .now) in
+    let f = family-of g (a .level .now) (ends-in (a .tables .now)) in
     let r = run-of (a .value .now) (a .n) (a .vector .now) (a .v) in
     let k = c .before .before .before .before .before .before .before .before .k .given .0 .0 in
     let m = c .before .m .given .0 .0 in
@@ -61,10 +61,10 @@ same-length-4 c = search needs
 
 returns-2 : tie.Need-returns-2
 returns-2 c =
-    let a = c .before .before .before .before .before .before .before .before .before .before .before .before .before .before .before .before .before .before .before .before .args in
+    let a = c .before .before .before .before .before .before .before .before .before .before .before .before .before .before .before .before .before .before .args in
     let g = a .g in
-    let R = reduction-of g (a .heads .now) in
-    let f = family-of g (a .level .now) (a .ends .now) in
+    let R = reduction-of g (a .tables .now) in
+    let f = family-of g (a .level .now) (ends-in (a .tables .now)) in
     let r = run-of (a .value .now) (a .n) (a .vector .now) (a .v) in
     let k = c .before .before .before .before .before .before .before .before .k .given .0 .0 in
     let s = c .before .before .before .before .before .before .before .before .before .before .before .before .store-term in
@@ -80,10 +80,10 @@ same-length-5 c = search needs
 
 returns-3 : tie.Need-returns-3
 returns-3 c =
-    let a = c .before .before .before .before .before .before .before .before .before .before .before .before .before .args in
+    let a = c .before .before .before .before .before .before .before .before .before .before .before .args in
     let g = a .g in
-    let R = reduction-of g (a .heads .now) in
-    let f = family-of g (a .level .now) (a .ends .now) in
+    let R = reduction-of g (a .tables .now) in
+    let f = family-of g (a .level .now) (ends-in (a .tables .now)) in
     let r = run-of (a .value .now) (a .n) (a .vector .now) (a .v) in
     let s = c .before .before .before .before .before .store-term in (
       λ order. record-refused R f (a .drops) r (a .j) (a .c) (a .q) (c .before .x2 .given .0 .0) (sym (ap (λ y. added-of y (s .last .0)) (c .before .x2 .given .1)) ∙ s .ensures .0),

@@ -6,7 +6,7 @@ use Rattle.runs.proofs.Stepping.{rooms-again}
 use Rattle.runs.proofs.Reaching.{start-refused, started-good, from-start}
 use Rattle.runs.specs.Stages.{order-of, stage-of, strategy-of, outcome-of}
 use Rattle.reduce.proofs.Adding.{within-rows, rows-none}
-use Rattle.reduce.specs.Grounds.{added-of}
+use Rattle.reduce.specs.Grounds.{above-in, added-of}
 use Rattle.terms.proofs.Stored.{rows-appended}
 use Rattle.orders.specs.Images.{table-of, table-order}
 use Rattle.monomial.specs.Values.{monomial-of}
@@ -15,7 +15,7 @@ use Rattle.runs.proofs.run.Statement.{statement}
 use Rattle.runs.proofs.run.Tie as tie
 
 started-requires : tie.Need-started-requires
-started-requires c κs = (c .before .before .before .before .before .before .before .before .before .pre .0, c .before .before .before .before .before .before .before .before .before .pre .1, c .before .before .before .before .before .before .before .before .before .pre .4 .value-fits, c .before .before .before .before .before .before .before .before .before .pre .7, c .before .before .before .before .before .before .before .before .before .pre .8)
+started-requires c κs = (c .before .before .before .before .before .pre .0, c .before .before .before .before .before .pre .1, c .before .before .before .before .before .pre .4 .value-fits, c .before .before .before .before .before .pre .7, c .before .before .before .before .before .pre .8)
 
 enum-known-n : tie.Need-enum-known-n
 enum-known-n c = search needs
@@ -28,22 +28,22 @@ same-length c = search needs
 
 returns : tie.Need-returns
 returns c =
-    let a = c .before .before .before .before .before .before .before .before .before .before .before .before .before .before .before .args in
+    let a = c .before .before .before .before .before .before .before .before .before .before .before .args in
     let g = a .g in
-    let above = table-order (g .code) (table-of (g .r) (a .above .now)) in
-    let W = strategy-of g (a .below .now) (a .w) in
+    let above = table-order (g .code) (table-of (g .r) (above-in (a .tables .now))) in
+    let W = strategy-of g (a .tables .now) (a .w) in
     let s = c .before .before .before .before .before .started in
-    (start-refused (stage-of g (a .level .now) (a .ends .now) (a .heads .now) (a .below .now) above) W (monomial-of (a .m)) (c .before .x .given .0 .0) (sym (ap (λ y. added-of y (s .last .0)) (c .before .x .given .1)) ∙ s .ensures .0), tt)
+    (start-refused (stage-of g (a .level .now) (a .tables .now) above) W (monomial-of (a .m)) (c .before .x .given .0 .0) (sym (ap (λ y. added-of y (s .last .0)) (c .before .x .given .1)) ∙ s .ensures .0), tt)
 
 put-requires : tie.Need-put-requires
-put-requires c κs = omega (arith, c .before .before .before .before .before .before .before .before .before .before .before .before .before .before .before .before .pre .4 .vector-fits, c .before .before .before .before .before .before .before .before .before .before .before .before .before .before .before .before .pre .5)
+put-requires c κs = omega (arith, c .before .before .before .before .before .before .before .before .before .before .before .before .pre .4 .vector-fits, c .before .before .before .before .before .before .before .before .before .before .before .before .pre .5)
 
 steps-requires : tie.Need-steps-requires
 steps-requires c κs =
-    let a = c .before .before .before .before .before .before .before .before .before .before .before .before .before .before .before .before .before .before .before .before .before .args in
+    let a = c .before .before .before .before .before .before .before .before .before .before .before .before .before .before .before .before .before .args in
     let g = a .g in
-    let P = c .before .before .before .before .before .before .before .before .before .before .before .before .before .before .before .before .before .before .before .before .before .pre in
-    let W = strategy-of g (a .below .now) (a .w) in
+    let P = c .before .before .before .before .before .before .before .before .before .before .before .before .before .before .before .before .before .pre in
+    let W = strategy-of g (a .tables .now) (a .w) in
     let s = c .before .before .before .before .before .before .before .before .before .before .before .started in
     let n = c .before .before .before .before .before .before .before .n .given .0 .0 in (
       P .0,
@@ -53,14 +53,14 @@ steps-requires c κs =
       within-rows (g .working) (s .result) n (s .ensures .1) (c .before .before .before .before .before .before .before .n .given .1),
       P .5,
       P .6,
-      started-good (stage-of g (a .level .now) (a .ends .now) (a .heads .now) (a .below .now) (order-of g (a .below .now))) W (monomial-of (a .m)) (P .6) (c .before .before .before .before .put .ensures .1 .eight) (rows (s .last .0) 0 n) (sym (ap (λ y. added-of y (s .last .0)) (c .before .before .before .before .before .before .before .n .given .1)) ∙ s .ensures .0),
+      started-good (stage-of g (a .level .now) (a .tables .now) (order-of g (a .tables .now))) W (monomial-of (a .m)) (P .6) (c .before .before .before .before .put .ensures .1 .eight) (rows (s .last .0) 0 n) (sym (ap (λ y. added-of y (s .last .0)) (c .before .before .before .before .before .before .before .n .given .1)) ∙ s .ensures .0),
     )
 
 sorted-requires : tie.Need-sorted-requires
 sorted-requires c κs =
-    let a = c .before .before .before .before .before .before .before .before .before .before .before .before .before .before .before .before .before .before .before .before .before .before .before .before .before .before .before .before .args in
-    let P = c .before .before .before .before .before .before .before .before .before .before .before .before .before .before .before .before .before .before .before .before .before .before .before .before .before .before .before .before .pre in
-    (P .0 .prime, P .2, P .3, rooms-again (a .g) (a .value .now) (a .vector .now) (c .before .before .before .before .before .before .steps .last .0) (c .before .before .before .before .before .before .steps .last .1 .1 .0) (omega arith) (omega arith) (P .4), c .before .before .before .before .before .before .steps .ensures .1)
+    let a = c .before .before .before .before .before .before .before .before .before .before .before .before .before .before .before .before .before .before .before .before .before .before .before .before .args in
+    let P = c .before .before .before .before .before .before .before .before .before .before .before .before .before .before .before .before .before .before .before .before .before .before .before .before .pre in
+    (P .0, P .2, P .3, rooms-again (a .g) (a .value .now) (a .vector .now) (c .before .before .before .before .before .before .steps .last .0) (c .before .before .before .before .before .before .steps .last .1 .1 .0) (omega arith) (omega arith) (P .4), c .before .before .before .before .before .before .steps .ensures .1)
 
 same-length-2 : tie.Need-same-length-2
 same-length-2 c = search needs
@@ -70,18 +70,18 @@ same-length-3 c = search needs
 
 returns-2 : tie.Need-returns-2
 returns-2 c =
-    let a = c .before .before .before .before .before .before .before .before .before .before .before .before .before .before .before .before .before .before .before .before .before .before .before .before .before .before .before .before .before .before .before .before .before .args in
+    let a = c .before .before .before .before .before .before .before .before .before .before .before .before .before .before .before .before .before .before .before .before .before .before .before .before .before .before .before .before .before .args in
     let g = a .g in
-    let above = table-order (g .code) (table-of (g .r) (a .above .now)) in
-    let W = strategy-of g (a .below .now) (a .w) in
+    let above = table-order (g .code) (table-of (g .r) (above-in (a .tables .now))) in
+    let W = strategy-of g (a .tables .now) (a .w) in
     let m = monomial-of (a .m) in
     let s = c .before .before .before .before .before .before .before .before .before .before .before .before .before .before .before .before .before .before .before .before .before .before .before .started in
     let n = c .before .before .before .before .before .before .before .before .before .before .before .before .before .before .before .before .before .before .before .n .given .0 .0 in
     let t = c .before .before .before .before .before .before .before .before .before .before .before .steps .ensures .0 above in
     let p = c .before .before .before .before .before .before .before .before .before .before .before .before .before .before .before .before .put in
     let one : rows (p .last .0) 0 1 ≡ (1, m) ∷ [] =
-    ap (λ z. rows z 0 1) (p .ensures .0) ∙ rows-appended (a .vector .now) 0 (1, m) (omega (arith, c .before .before .before .before .before .before .before .before .before .before .before .before .before .before .before .before .before .before .before .before .before .before .before .before .before .before .before .before .before .before .before .before .before .pre .4 .vector-fits, c .before .before .before .before .before .before .before .before .before .before .before .before .before .before .before .before .before .before .before .before .before .before .before .before .before .before .before .before .before .before .before .before .before .pre .5)) (p .ensures .1) ∙ ap (λ v. v ++ (1, m) ∷ []) (rows-none (a .vector .now) 0) in (
-      from-start (stage-of g (a .level .now) (a .ends .now) (a .heads .now) (a .below .now) above) W m (rows (s .last .0) 0 n) (rows (p .last .0) 0 1) (outcome-of (c .before .before .before .before .sorted .result) (c .before .before .before .before .sorted .last .0) (c .before .before .before .before .sorted .last .1 .0))
+    ap (λ z. rows z 0 1) (p .ensures .0) ∙ rows-appended (a .vector .now) 0 (1, m) (omega (arith, c .before .before .before .before .before .before .before .before .before .before .before .before .before .before .before .before .before .before .before .before .before .before .before .before .before .before .before .before .before .pre .4 .vector-fits, c .before .before .before .before .before .before .before .before .before .before .before .before .before .before .before .before .before .before .before .before .before .before .before .before .before .before .before .before .before .pre .5)) (p .ensures .1) ∙ ap (λ v. v ++ (1, m) ∷ []) (rows-none (a .vector .now) 0) in (
+      from-start (stage-of g (a .level .now) (a .tables .now) above) W m (rows (s .last .0) 0 n) (rows (p .last .0) 0 1) (outcome-of (c .before .before .before .before .sorted .result) (c .before .before .before .before .sorted .last .0) (c .before .before .before .before .sorted .last .1 .0))
           (sym (ap (λ y. added-of y (s .last .0)) (c .before .before .before .before .before .before .before .before .before .before .before .before .before .before .before .before .before .before .before .n .given .1)) ∙ s .ensures .0) one (t .0, c .before .before .before .before .sorted .ensures .0 ∙ t .1),
       c .before .before .before .before .sorted .ensures .1,
     )

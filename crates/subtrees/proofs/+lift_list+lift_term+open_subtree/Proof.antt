@@ -8,7 +8,7 @@ use Rattle.definitions.specs.Field.{minus}
 use Rattle.definitions.specs.Monomial.{Term, Vector, fits?}
 use Rattle.definitions.specs.Result.{done, _>>=_}
 use Rattle.definitions.specs.Run.{multiple}
-use Rattle.definitions.specs.Layout.{Words, row-at, rows}
+use Rattle.definitions.specs.Layout.{row-at, rows}
 use Rattle.definitions.specs.Stage.{Stage}
 use Rattle.definitions.specs.Tree.{Lift-term, finish, lift-term as term-definition, lift-list as list-definition}
 use Rattle.definitions.proofs.Rows.{length-rows}
@@ -16,6 +16,7 @@ use Rattle.monomial.specs.Values.{monomial-of}
 use Rattle.orders.specs.Images.{table-of, table-order}
 use Rattle.terms.specs.Rows.{term-of}
 use Rattle.reducers.specs.Search.{answered}
+use Rattle.reduce.specs.Grounds.{ends-in, above-in}
 use Rattle.reduce.proofs.Adding.{fits-as, formed-as}
 use Rattle.runs.specs.Stages.{stage-of}
 use Rattle.runs.proofs.Stepping.{reducer-number}
@@ -40,7 +41,7 @@ use Rattle.cache.proofs.keep.Reads as keep-reads
 use Rattle.cache.proofs.look_up.Reads as look-up-reads
 use Rattle.field.proofs.negative.Reads as negative-reads
 use Rattle.reducers.proofs.multiplied.Reads as multiplied-reads
-use Rattle.reducers.proofs.reducer_of.Reads as reducer-of-reads
+use Rattle.reduce.proofs.reducer_of.Reads as reducer-of-reads
 use Rattle.subtrees.proofs.add_subtree.Reads as add-subtree-reads
 use Rattle.subtrees.proofs.passed.Reads as passed-reads
 use Rattle.subtrees.proofs.rows_of.Reads as rows-of-reads
@@ -48,48 +49,48 @@ use Rattle.terms.proofs.put.Reads as put-reads
 use Rattle.subtrees.proofs.+lift_list+lift_term+open_subtree.{statement}
 use Rattle.subtrees.proofs.+lift_list+lift_term+open_subtree.Tie.{close}
 
-abbrev μ-lift-list : Measures 7 lift-list-kinds.ps ℕ
-μ-lift-list κs a = a .1 .1 .1 .1 .1 .1 .1 .1 .1 .1 .1 .1 .1 .1 .1 .1 .0 * 3 + 2
+abbrev μ-lift-list : Measures 4 lift-list-kinds.ps ℕ
+μ-lift-list κs a = a .1 .1 .1 .1 .1 .1 .1 .1 .1 .1 .1 .1 .1 .0 * 3 + 2
 
-abbrev μ-lift-term : Measures 7 lift-term-kinds.ps ℕ
-μ-lift-term κs a = a .1 .1 .1 .1 .1 .1 .1 .1 .1 .1 .1 .1 .0 * 3 + 1
+abbrev μ-lift-term : Measures 4 lift-term-kinds.ps ℕ
+μ-lift-term κs a = a .1 .1 .1 .1 .1 .1 .1 .1 .1 .0 * 3 + 1
 
-abbrev μ-open-subtree : Measures 7 open-subtree-kinds.ps ℕ
-μ-open-subtree κs a = a .1 .1 .1 .1 .1 .1 .1 .1 .1 .1 .1 .1 .1 .1 .1 .0 * 3
+abbrev μ-open-subtree : Measures 4 open-subtree-kinds.ps ℕ
+μ-open-subtree κs a = a .1 .1 .1 .1 .1 .1 .1 .1 .1 .1 .1 .1 .0 * 3
 
-abbrev lift-list-at : ℕ → In 7 lift-list-kinds.ps
-lift-list-at t = and 7 lift-list-kinds.ps (is 7 lift-list-kinds.ps μ-lift-list t) lift-list.Pre
+abbrev lift-list-at : ℕ → In 4 lift-list-kinds.ps
+lift-list-at t = and 4 lift-list-kinds.ps (is 4 lift-list-kinds.ps μ-lift-list t) lift-list.Pre
 
-abbrev lift-list-below : ℕ → In 7 lift-list-kinds.ps
+abbrev lift-list-below : ℕ → In 4 lift-list-kinds.ps
 lift-list-below t =
-    and 7 lift-list-kinds.ps (falls 7 lift-list-kinds.ps _<_ μ-lift-list t) lift-list.Pre
+    and 4 lift-list-kinds.ps (falls 4 lift-list-kinds.ps _<_ μ-lift-list t) lift-list.Pre
 
-abbrev lift-term-at : ℕ → In 7 lift-term-kinds.ps
-lift-term-at t = and 7 lift-term-kinds.ps (is 7 lift-term-kinds.ps μ-lift-term t) lift-term.Pre
+abbrev lift-term-at : ℕ → In 4 lift-term-kinds.ps
+lift-term-at t = and 4 lift-term-kinds.ps (is 4 lift-term-kinds.ps μ-lift-term t) lift-term.Pre
 
-abbrev lift-term-below : ℕ → In 7 lift-term-kinds.ps
+abbrev lift-term-below : ℕ → In 4 lift-term-kinds.ps
 lift-term-below t =
-    and 7 lift-term-kinds.ps (falls 7 lift-term-kinds.ps _<_ μ-lift-term t) lift-term.Pre
+    and 4 lift-term-kinds.ps (falls 4 lift-term-kinds.ps _<_ μ-lift-term t) lift-term.Pre
 
-abbrev open-subtree-at : ℕ → In 7 open-subtree-kinds.ps
+abbrev open-subtree-at : ℕ → In 4 open-subtree-kinds.ps
 open-subtree-at t =
-    and 7 open-subtree-kinds.ps (is 7 open-subtree-kinds.ps μ-open-subtree t) open-subtree.Pre
+    and 4 open-subtree-kinds.ps (is 4 open-subtree-kinds.ps μ-open-subtree t) open-subtree.Pre
 
-abbrev open-subtree-below : ℕ → In 7 open-subtree-kinds.ps
+abbrev open-subtree-below : ℕ → In 4 open-subtree-kinds.ps
 open-subtree-below t =
     and
-    7
+    4
     open-subtree-kinds.ps
-    (falls 7 open-subtree-kinds.ps _<_ μ-open-subtree t)
+    (falls 4 open-subtree-kinds.ps _<_ μ-open-subtree t)
     open-subtree.Pre
 
 abbrev lift-list-Inv-loop : lift-list-lts.InvT-loop
-lift-list-Inv-loop cache₀ used room work₀ a n c q from to level ends heads spans above g left k₀ v₀ i₀ cache work k v i =
+lift-list-Inv-loop cache₀ used room work₀ a n c q from to level tables g left k₀ v₀ i₀ cache work k v i =
     (a + k ≤ g .tree) × (v ≤ room) × (length cache ≡ length cache₀) × (length work ≡ length work₀) × Keeps a work₀ work ×
-    ((below : Words) → list-definition (stage-of g level ends heads below (table-order (g .code) (table-of (g .r) above))) (term-definition (stage-of g level ends heads below (table-order (g .code) (table-of (g .r) above))) room left) a c q (rows level from (to - from)) (rows work₀ a n, cache-of used cache₀) ≡ listing-from (stage-of g level ends heads below (table-order (g .code) (table-of (g .r) above))) (term-definition (stage-of g level ends heads below (table-order (g .code) (table-of (g .r) above))) room left) a c q level to i (rows work a k, cache-of v cache))
+    (list-definition (stage-of g level tables (table-order (g .code) (table-of (g .r) (above-in tables)))) (term-definition (stage-of g level tables (table-order (g .code) (table-of (g .r) (above-in tables)))) room left) a c q (rows level from (to - from)) (rows work₀ a n, cache-of used cache₀) ≡ listing-from (stage-of g level tables (table-order (g .code) (table-of (g .r) (above-in tables)))) (term-definition (stage-of g level tables (table-order (g .code) (table-of (g .r) (above-in tables)))) room left) a c q level to i (rows work a k, cache-of v cache))
 
 abbrev lift-list-μ-loop : lift-list-lts.MeasureT-loop
-lift-list-μ-loop cache₀ used room work₀ a n c q from to level ends heads spans above g left k₀ v₀ i₀ cache work k v i =
+lift-list-μ-loop cache₀ used room work₀ a n c q from to level tables g left k₀ v₀ i₀ cache work k v i =
     to - i
 
 lift-list-loop-holds : (t : ℕ) → lift-list-lts.Need-loop-holds (
@@ -100,7 +101,7 @@ lift-list-loop-holds : (t : ℕ) → lift-list-lts.Need-loop-holds (
   add-subtree-reads.Asked,
   add-subtree-reads.Learnt,
 ) (lift-list-at t) lift-list.Post lift-list-Inv-loop lift-list-μ-loop
-lift-list-loop-holds t c = let P = c .before .before .before .before .before .before .before .pre .1 in (omega (arith, P .1), P .0 .used-fits, refl, refl, (λ k h. refl), λ below. refl)
+lift-list-loop-holds t c = let P = c .before .before .before .before .pre .1 in (omega (arith, P .1), P .0 .used-fits, refl, refl, (λ k h. refl), refl)
 
 lift-list-multiplied-requires : (t : ℕ) → lift-list-lts.Need-multiplied-requires (
   multiplied-reads.Asked,
@@ -110,7 +111,7 @@ lift-list-multiplied-requires : (t : ℕ) → lift-list-lts.Need-multiplied-requ
   add-subtree-reads.Asked,
   add-subtree-reads.Learnt,
 ) (lift-list-at t) lift-list.Post lift-list-Inv-loop lift-list-μ-loop
-lift-list-multiplied-requires t c κs = let P = c .before .before .before .before .before .before .before .before .before .pre .1 in (P .0 .tables .prime, omega (arith, c .loop-test .taken, P .2))
+lift-list-multiplied-requires t c κs = let P = c .before .before .before .before .before .before .pre .1 in (P .0 .tables .prime, omega (arith, c .loop-test .taken, P .2))
 
 lift-list-add-lift-term : (t : ℕ) → lift-list-lts.Need-add-lift-term (
   multiplied-reads.Asked,
@@ -131,10 +132,10 @@ lift-list-lift-term-requires : (t : ℕ) → lift-list-lts.Need-lift-term-requir
   add-subtree-reads.Learnt,
 ) (lift-list-at t) lift-list.Post lift-list-Inv-loop lift-list-μ-loop
 lift-list-lift-term-requires t c κs =
-    let a = c .before .before .before .before .before .before .before .before .before .before .before .before .before .before .before .args in
-    let P = c .before .before .before .before .before .before .before .before .before .before .before .before .before .before .before .pre .1 in
+    let a = c .before .before .before .before .before .before .before .before .before .before .before .before .args in
+    let P = c .before .before .before .before .before .before .before .before .before .before .before .before .pre .1 in
     let l = c .before .before .before .before .before .before .before .loop in
-    (omega (arith, c .before .before .before .before .before .before .before .before .before .before .before .before .before .before .before .pre .0), (lent-again (a .g) (a .used) (l .v) (a .room) (a .cache .now) (l .cache) (a .work .now) (l .work) (a .level .now) (a .ends .now) (a .heads .now) (a .spans .now) (a .above .now) (P .0) (l .inv .1) (l .inv .2) (l .inv .3), l .inv .0))
+    (omega (arith, c .before .before .before .before .before .before .before .before .before .before .before .before .pre .0), (lent-again (a .g) (a .used) (l .v) (a .room) (a .cache .now) (l .cache) (a .work .now) (l .work) (a .level .now) (a .tables .now) (P .0) (l .inv .1) (l .inv .2) (l .inv .3), l .inv .0))
 
 lift-list-add-subtree-requires : (t : ℕ) → lift-list-lts.Need-add-subtree-requires (
   multiplied-reads.Asked,
@@ -145,10 +146,10 @@ lift-list-add-subtree-requires : (t : ℕ) → lift-list-lts.Need-add-subtree-re
   add-subtree-reads.Learnt,
 ) (lift-list-at t) lift-list.Post lift-list-Inv-loop lift-list-μ-loop
 lift-list-add-subtree-requires t c κs =
-    let P = c .before .before .before .before .before .before .before .before .before .before .before .before .before .before .before .before .before .before .before .before .before .before .pre .1 in
+    let P = c .before .before .before .before .before .before .before .before .before .before .before .before .before .before .before .before .before .before .before .pre .1 in
     let l = c .before .before .before .before .before .before .before .before .before .before .before .before .before .before .loop in
     let lt = c .before .before .before .before .before .before .lift-term in
-    (P .0 .tables .prime, l .inv .0, omega (arith, P .0 .tree-fits, l .inv .3, lt .kept .1 .1 .1 .0), omega (arith, P .0 .room-fits, l .inv .2, lt .kept .0), lt .ensures .1, P .0 .images)
+    (P .0 .tables, l .inv .0, omega (arith, P .0 .tree-fits, l .inv .3, lt .kept .1 .1 .1 .0), omega (arith, P .0 .room-fits, l .inv .2, lt .kept .0), lt .ensures .1, P .0 .images)
 
 lift-list-enum-known-y : (t : ℕ) → lift-list-lts.Need-enum-known-y (
   multiplied-reads.Asked,
@@ -199,12 +200,12 @@ lift-list-returns : (t : ℕ) → lift-list-lts.Need-returns (
   add-subtree-reads.Learnt,
 ) (lift-list-at t) lift-list.Post lift-list-Inv-loop lift-list-μ-loop
 lift-list-returns t c =
-    let a = c .before .before .before .before .before .before .before .before .before .before .before .before .before .before .before .before .before .before .before .before .before .before .before .before .before .before .before .args in
-    let P = c .before .before .before .before .before .before .before .before .before .before .before .before .before .before .before .before .before .before .before .before .before .before .before .before .before .before .before .pre .1 in
+    let a = c .before .before .before .before .before .before .before .before .before .before .before .before .before .before .before .before .before .before .before .before .before .before .before .before .args in
+    let P = c .before .before .before .before .before .before .before .before .before .before .before .before .before .before .before .before .before .before .before .before .before .before .before .before .pre .1 in
     let g = a .g in
-    let S : Words → Stage = λ below. stage-of g (a .level .now) (a .ends .now) (a .heads .now) below (table-order (g .code) (table-of (g .r) (a .above .now))) in
+    let S : Stage = stage-of g (a .level .now) (a .tables .now) (table-order (g .code) (table-of (g .r) (above-in (a .tables .now)))) in
     let l = c .before .before .before .before .before .before .before .before .before .before .before .before .before .before .before .before .before .before .before .loop in
-    let T : Words → Lift-term = λ below. term-definition (S below) (a .room) (a .left) in
+    let T : Lift-term = term-definition S (a .room) (a .left) in
     let x = c .before .before .before .before .before .before .before .before .before .before .before .before .before .before .before .before .before .multiplied in
     let t = term-of (x .result .term) in
     let p = multiple (g .p) (a .c) (a .q) (row-at (a .level .now) (l .i)) in
@@ -213,7 +214,7 @@ lift-list-returns t c =
     let lt = c .before .before .before .before .before .before .before .before .before .before .before .lift-term in
     let ad = c .before .before .before .before .add-subtree in
     let product : t ≡ p = formed-as (x .result .fits) (fits? 255 (p .1 .0)) t p (x .ensures) (c .before .before .before .before .before .before .before .before .before .before .before .before .before .before .before .if1 .taken) in
-    ((λ below. sym (l .inv .5 below ∙ listing-stops (S below) (T below) (a .a) (a .c) (a .q) (a .level .now) (a .to) (l .i) (l .k) (l .work) (lt .last .1 .1 .1 .0) (ad .last .1 .1 .0) (lt .last .0) (cache-of (l .v) (l .cache)) t (lt .result) (ad .result) inside fits product (lt .ensures .2) (lt .ensures .0 below) (ad .ensures .0) (c .enum-told .given .0 .0) (c .enum-told .given .1))), ad .ensures .1, (λ k h. ad .ensures .2 k h ∙ lt .ensures .2 k (omega (arith, h)) ∙ l .inv .4 k h))
+    ((sym (l .inv .5 ∙ listing-stops S T (a .a) (a .c) (a .q) (a .level .now) (a .to) (l .i) (l .k) (l .work) (lt .last .1 .1 .1 .0) (ad .last .1 .1 .0) (lt .last .0) (cache-of (l .v) (l .cache)) t (lt .result) (ad .result) inside fits product (lt .ensures .2) (lt .ensures .0) (ad .ensures .0) (c .enum-told .given .0 .0) (c .enum-told .given .1))), ad .ensures .1, (λ k h. ad .ensures .2 k h ∙ lt .ensures .2 k (omega (arith, h)) ∙ l .inv .4 k h))
 
 lift-list-add-i : (t : ℕ) → lift-list-lts.Need-add-i (
   multiplied-reads.Asked,
@@ -223,7 +224,7 @@ lift-list-add-i : (t : ℕ) → lift-list-lts.Need-add-i (
   add-subtree-reads.Asked,
   add-subtree-reads.Learnt,
 ) (lift-list-at t) lift-list.Post lift-list-Inv-loop lift-list-μ-loop
-lift-list-add-i t c = omega (arith, c .before .before .before .before .before .before .before .before .before .before .before .before .before .before .before .before .before .before .before .loop-test .taken, c .before .before .before .before .before .before .before .before .before .before .before .before .before .before .before .before .before .before .before .before .before .before .before .before .before .before .before .before .pre .1 .3)
+lift-list-add-i t c = omega (arith, c .before .before .before .before .before .before .before .before .before .before .before .before .before .before .before .before .before .before .before .loop-test .taken, c .before .before .before .before .before .before .before .before .before .before .before .before .before .before .before .before .before .before .before .before .before .before .before .before .before .pre .1 .3)
 
 lift-list-loop-less : (t : ℕ) → lift-list-lts.Need-loop-less (
   multiplied-reads.Asked,
@@ -244,12 +245,12 @@ lift-list-loop-again : (t : ℕ) → lift-list-lts.Need-loop-again (
   add-subtree-reads.Learnt,
 ) (lift-list-at t) lift-list.Post lift-list-Inv-loop lift-list-μ-loop
 lift-list-loop-again t c =
-    let a = c .before .before .before .before .before .before .before .before .before .before .before .before .before .before .before .before .before .before .before .before .before .before .before .before .before .before .before .before .args in
-    let P = c .before .before .before .before .before .before .before .before .before .before .before .before .before .before .before .before .before .before .before .before .before .before .before .before .before .before .before .before .pre .1 in
+    let a = c .before .before .before .before .before .before .before .before .before .before .before .before .before .before .before .before .before .before .before .before .before .before .before .before .before .args in
+    let P = c .before .before .before .before .before .before .before .before .before .before .before .before .before .before .before .before .before .before .before .before .before .before .before .before .before .pre .1 in
     let g = a .g in
-    let S : Words → Stage = λ below. stage-of g (a .level .now) (a .ends .now) (a .heads .now) below (table-order (g .code) (table-of (g .r) (a .above .now))) in
+    let S : Stage = stage-of g (a .level .now) (a .tables .now) (table-order (g .code) (table-of (g .r) (above-in (a .tables .now)))) in
     let l = c .before .before .before .before .before .before .before .before .before .before .before .before .before .before .before .before .before .before .before .before .loop in
-    let T : Words → Lift-term = λ below. term-definition (S below) (a .room) (a .left) in
+    let T : Lift-term = term-definition S (a .room) (a .left) in
     let x = c .before .before .before .before .before .before .before .before .before .before .before .before .before .before .before .before .before .before .multiplied in
     let t = term-of (x .result .term) in
     let p = multiple (g .p) (a .c) (a .q) (row-at (a .level .now) (l .i)) in
@@ -260,7 +261,7 @@ lift-list-loop-again t c =
     let product : t ≡ p = formed-as (x .result .fits) (fits? 255 (p .1 .0)) t p (x .ensures) (c .before .before .before .before .before .before .before .before .before .before .before .before .before .before .before .before .if1 .taken) in
     let b = c .before .y .given .1 in
     let f = subst (Fits (a .a) (g .tree) (a .room)) b (ad .ensures .1) in
-    (f .0, f .1, omega (arith, lt .kept .0, l .inv .2), omega (arith, lt .kept .1 .1 .1 .0, l .inv .3, ad .kept .1 .1 .0), (λ k h. ad .ensures .2 k h ∙ lt .ensures .2 k (omega (arith, h)) ∙ l .inv .4 k h), (λ below. l .inv .5 below ∙ listing-on (S below) (T below) (a .a) (a .c) (a .q) (a .level .now) (a .to) (l .i) (l .k) (l .work) (lt .last .1 .1 .1 .0) (ad .last .1 .1 .0) (lt .last .0) (cache-of (l .v) (l .cache)) t (lt .result) (ad .result) inside fits product (lt .ensures .2) (lt .ensures .0 below) (ad .ensures .0) (c .before .y .given .0 .0) (c .before .y .given .0 .1 .0) b))
+    (f .0, f .1, omega (arith, lt .kept .0, l .inv .2), omega (arith, lt .kept .1 .1 .1 .0, l .inv .3, ad .kept .1 .1 .0), (λ k h. ad .ensures .2 k h ∙ lt .ensures .2 k (omega (arith, h)) ∙ l .inv .4 k h), (l .inv .5 ∙ listing-on S T (a .a) (a .c) (a .q) (a .level .now) (a .to) (l .i) (l .k) (l .work) (lt .last .1 .1 .1 .0) (ad .last .1 .1 .0) (lt .last .0) (cache-of (l .v) (l .cache)) t (lt .result) (ad .result) inside fits product (lt .ensures .2) (lt .ensures .0) (ad .ensures .0) (c .before .y .given .0 .0) (c .before .y .given .0 .1 .0) b))
 
 lift-list-same-length-3 : (t : ℕ) → lift-list-lts.Need-same-length-3 (
   multiplied-reads.Asked,
@@ -291,18 +292,18 @@ lift-list-returns-2 : (t : ℕ) → lift-list-lts.Need-returns-2 (
   add-subtree-reads.Learnt,
 ) (lift-list-at t) lift-list.Post lift-list-Inv-loop lift-list-μ-loop
 lift-list-returns-2 t c =
-    let a = c .before .before .before .before .before .before .before .before .before .before .before .before .args in
-    let P = c .before .before .before .before .before .before .before .before .before .before .before .before .pre .1 in
+    let a = c .before .before .before .before .before .before .before .before .before .args in
+    let P = c .before .before .before .before .before .before .before .before .before .pre .1 in
     let g = a .g in
-    let S : Words → Stage = λ below. stage-of g (a .level .now) (a .ends .now) (a .heads .now) below (table-order (g .code) (table-of (g .r) (a .above .now))) in
+    let S : Stage = stage-of g (a .level .now) (a .tables .now) (table-order (g .code) (table-of (g .r) (above-in (a .tables .now)))) in
     let l = c .before .before .before .before .loop in
-    let T : Words → Lift-term = λ below. term-definition (S below) (a .room) (a .left) in
+    let T : Lift-term = term-definition S (a .room) (a .left) in
     let x = c .before .before .multiplied in
     let t = term-of (x .result .term) in
     let p = multiple (g .p) (a .c) (a .q) (row-at (a .level .now) (l .i)) in
     let inside : l .i < a .to = omega (arith, c .before .before .before .loop-test .taken) in
     let fits : fits? 255 (p .1 .0) ≡ false = sym (fits-as (x .result .fits) (fits? 255 (p .1 .0)) t p (x .ensures)) ∙ c .if1 .left in
-    ((λ below. sym (l .inv .5 below ∙ listing-unfit (S below) (T below) (a .a) (a .c) (a .q) (a .level .now) (a .to) (l .i) (rows (l .work) (a .a) (l .k), cache-of (l .v) (l .cache)) inside fits)), tt, l .inv .4)
+    ((sym (l .inv .5 ∙ listing-unfit S T (a .a) (a .c) (a .q) (a .level .now) (a .to) (l .i) (rows (l .work) (a .a) (l .k), cache-of (l .v) (l .cache)) inside fits)), tt, l .inv .4)
 
 lift-list-same-length-5 : (t : ℕ) → lift-list-lts.Need-same-length-5 (
   multiplied-reads.Asked,
@@ -333,13 +334,13 @@ lift-list-returns-3 : (t : ℕ) → lift-list-lts.Need-returns-3 (
   add-subtree-reads.Learnt,
 ) (lift-list-at t) lift-list.Post lift-list-Inv-loop lift-list-μ-loop
 lift-list-returns-3 t c =
-    let a = c .before .before .before .before .before .before .before .before .before .args in
-    let P = c .before .before .before .before .before .before .before .before .before .pre .1 in
+    let a = c .before .before .before .before .before .before .args in
+    let P = c .before .before .before .before .before .before .pre .1 in
     let g = a .g in
-    let S : Words → Stage = λ below. stage-of g (a .level .now) (a .ends .now) (a .heads .now) below (table-order (g .code) (table-of (g .r) (a .above .now))) in
+    let S : Stage = stage-of g (a .level .now) (a .tables .now) (table-order (g .code) (table-of (g .r) (above-in (a .tables .now)))) in
     let l = c .before .loop in
-    let T : Words → Lift-term = λ below. term-definition (S below) (a .room) (a .left) in
-    ((λ below. sym (l .inv .5 below ∙ listing-ends (S below) (T below) (a .a) (a .c) (a .q) (a .level .now) (a .to) (l .i) (rows (l .work) (a .a) (l .k), cache-of (l .v) (l .cache)) (omega arith))), (l .inv .0, l .inv .1), l .inv .4)
+    let T : Lift-term = term-definition S (a .room) (a .left) in
+    ((sym (l .inv .5 ∙ listing-ends S T (a .a) (a .c) (a .q) (a .level .now) (a .to) (l .i) (rows (l .work) (a .a) (l .k), cache-of (l .v) (l .cache)) (omega arith))), (l .inv .0, l .inv .1), l .inv .4)
 
 lift-term-reducer-of-requires : (t : ℕ) → lift-term-lts.Need-reducer-of-requires (
   reducer-of-reads.Asked,
@@ -349,7 +350,7 @@ lift-term-reducer-of-requires : (t : ℕ) → lift-term-lts.Need-reducer-of-requ
   open-subtree-below t,
   open-subtree.Post,
 ) (lift-term-at t) lift-term.Post
-lift-term-reducer-of-requires t c κs = let T = c .before .before .before .before .before .before .before .pre .1 .0 .tables in (T .prime, T .heads-fit, T .spans-fit, T .small, T .spanned)
+lift-term-reducer-of-requires t c κs = c .before .before .before .before .pre .1 .0 .tables
 
 lift-term-enum-known-answer : (t : ℕ) → lift-term-lts.Need-enum-known-answer (
   reducer-of-reads.Asked,
@@ -380,14 +381,14 @@ lift-term-returns : (t : ℕ) → lift-term-lts.Need-returns (
   open-subtree.Post,
 ) (lift-term-at t) lift-term.Post
 lift-term-returns t c =
-    let a = c .before .before .before .before .before .before .before .before .before .before .before .args in
-    let P = c .before .before .before .before .before .before .before .before .before .before .before .pre .1 in
+    let a = c .before .before .before .before .before .before .before .before .args in
+    let P = c .before .before .before .before .before .before .before .before .pre .1 in
     let g = a .g in
-    let S : Words → Stage = λ below. stage-of g (a .level .now) (a .ends .now) (a .heads .now) below (table-order (g .code) (table-of (g .r) (a .above .now))) in
+    let S : Stage = stage-of g (a .level .now) (a .tables .now) (table-order (g .code) (table-of (g .r) (above-in (a .tables .now)))) in
     let K = cache-of (a .used) (a .cache .now) in
     let m = monomial-of (a .m) in
     let f = c .before .before .before .reducer-of in
-    ((λ below. ap (λ (v : Vector). done (v, 0, K)) (rows-none (a .cache .now) 0) ∙ sym (term-lower (S below) (a .room) (a .left) (a .a) K m (sym (ap (λ y. answered y (f .result .quotient)) (c .enum-told .given .1)) ∙ f .ensures))), (omega arith, P .0 .used-fits), λ k h. refl)
+    ((ap (λ (v : Vector). done (v, 0, K)) (rows-none (a .cache .now) 0) ∙ sym (term-lower S (a .room) (a .left) (a .a) K m (sym (ap (λ y. answered y (f .result .quotient)) (c .enum-told .given .1)) ∙ f .ensures))), (omega arith, P .0 .used-fits), λ k h. refl)
 
 lift-term-look-up-requires : (t : ℕ) → lift-term-lts.Need-look-up-requires (
   reducer-of-reads.Asked,
@@ -397,7 +398,7 @@ lift-term-look-up-requires : (t : ℕ) → lift-term-lts.Need-look-up-requires (
   open-subtree-below t,
   open-subtree.Post,
 ) (lift-term-at t) lift-term.Post
-lift-term-look-up-requires t c κs = omega (arith, c .before .before .before .before .before .before .before .before .before .before .before .before .before .pre .1 .0 .used-fits, c .before .before .before .before .before .before .before .before .before .before .before .before .before .pre .1 .0 .room-fits)
+lift-term-look-up-requires t c κs = omega (arith, c .before .before .before .before .before .before .before .before .before .before .pre .1 .0 .used-fits, c .before .before .before .before .before .before .before .before .before .before .pre .1 .0 .room-fits)
 
 lift-term-enum-known-e : (t : ℕ) → lift-term-lts.Need-enum-known-e (
   reducer-of-reads.Asked,
@@ -428,18 +429,18 @@ lift-term-open-subtree-requires : (t : ℕ) → lift-term-lts.Need-open-subtree-
   open-subtree.Post,
 ) (lift-term-at t) lift-term.Post
 lift-term-open-subtree-requires t c κs =
-    let a = c .before .before .before .before .before .before .before .before .before .before .before .before .before .before .before .before .before .before .args in
-    let P = c .before .before .before .before .before .before .before .before .before .before .before .before .before .before .before .before .before .before .pre .1 in
+    let a = c .before .before .before .before .before .before .before .before .before .before .before .before .before .before .before .args in
+    let P = c .before .before .before .before .before .before .before .before .before .before .before .before .before .before .before .pre .1 in
     let g = a .g in
-    let S : Words → Stage = λ below. stage-of g (a .level .now) (a .ends .now) (a .heads .now) below (table-order (g .code) (table-of (g .r) (a .above .now))) in
+    let S : Stage = stage-of g (a .level .now) (a .tables .now) (table-order (g .code) (table-of (g .r) (above-in (a .tables .now)))) in
     let K = cache-of (a .used) (a .cache .now) in
     let m = monomial-of (a .m) in
     let f = c .before .before .before .before .before .before .before .before .before .before .reducer-of in
     let j = c .before .before .before .before .before .before .before .answer .given .0 .0 in
     let x = c .before .before .before .before .before .before .before .answer .given .0 .1 .0 in
     let eq = sym (ap (λ y. answered y (f .result .quotient)) (c .before .before .before .before .before .before .before .answer .given .1)) ∙ f .ensures in
-    let n = reducer-number (g .p) (rows (a .heads .now) 0 (g .r)) (1, m) j x (f .result .quotient) eq in
-    (omega (arith, c .before .before .before .before .before .before .before .before .before .before .before .before .before .before .before .before .before .before .pre .0), (P .0, P .1, n .0, omega (arith, n .1, length-rows (a .heads .now) 0 (g .r))))
+    let n = reducer-number (g .p) (rows (a .tables .now) 0 (g .r)) (1, m) j x (f .result .quotient) eq in
+    (omega (arith, c .before .before .before .before .before .before .before .before .before .before .before .before .before .before .before .pre .0), (P .0, P .1, n .0, omega (arith, n .1, length-rows (a .tables .now) 0 (g .r))))
 
 lift-term-same-length : (t : ℕ) → lift-term-lts.Need-same-length (
   reducer-of-reads.Asked,
@@ -470,10 +471,10 @@ lift-term-returns-2 : (t : ℕ) → lift-term-lts.Need-returns-2 (
   open-subtree.Post,
 ) (lift-term-at t) lift-term.Post
 lift-term-returns-2 t c =
-    let a = c .before .before .before .before .before .before .before .before .before .before .before .before .before .before .before .before .before .before .before .before .before .before .before .args in
-    let P = c .before .before .before .before .before .before .before .before .before .before .before .before .before .before .before .before .before .before .before .before .before .before .before .pre .1 in
+    let a = c .before .before .before .before .before .before .before .before .before .before .before .before .before .before .before .before .before .before .before .before .args in
+    let P = c .before .before .before .before .before .before .before .before .before .before .before .before .before .before .before .before .before .before .before .before .pre .1 in
     let g = a .g in
-    let S : Words → Stage = λ below. stage-of g (a .level .now) (a .ends .now) (a .heads .now) below (table-order (g .code) (table-of (g .r) (a .above .now))) in
+    let S : Stage = stage-of g (a .level .now) (a .tables .now) (table-order (g .code) (table-of (g .r) (above-in (a .tables .now)))) in
     let K = cache-of (a .used) (a .cache .now) in
     let m = monomial-of (a .m) in
     let f = c .before .before .before .before .before .before .before .before .before .before .before .before .before .before .before .reducer-of in
@@ -481,7 +482,7 @@ lift-term-returns-2 t c =
     let x = c .before .before .before .before .before .before .before .before .before .before .before .before .answer .given .0 .1 .0 in
     let eq = sym (ap (λ y. answered y (f .result .quotient)) (c .before .before .before .before .before .before .before .before .before .before .before .before .answer .given .1)) ∙ f .ensures in
     let op = c .before .before .before .before .open-subtree in
-    ((λ below. op .ensures .0 below ∙ sym (term-opened (S below) (a .room) (a .left) (a .a) K m j x (f .result .quotient) eq (sym (ap (entry-of (a .cache .now)) (c .before .before .before .before .before .before .before .enum-told2 .given .1)) ∙ c .before .before .before .before .before .before .before .before .before .look-up .ensures .0))), op .ensures .1, op .ensures .2)
+    ((op .ensures .0 ∙ sym (term-opened S (a .room) (a .left) (a .a) K m j x (f .result .quotient) eq (sym (ap (entry-of (a .cache .now)) (c .before .before .before .before .before .before .before .enum-told2 .given .1)) ∙ c .before .before .before .before .before .before .before .before .before .look-up .ensures .0))), op .ensures .1, op .ensures .2)
 
 lift-term-same-length-3 : (t : ℕ) → lift-term-lts.Need-same-length-3 (
   reducer-of-reads.Asked,
@@ -502,10 +503,10 @@ lift-term-returns-3 : (t : ℕ) → lift-term-lts.Need-returns-3 (
   open-subtree.Post,
 ) (lift-term-at t) lift-term.Post
 lift-term-returns-3 t c =
-    let a = c .before .before .before .before .before .before .before .before .before .before .before .before .before .before .before .before .before .args in
-    let P = c .before .before .before .before .before .before .before .before .before .before .before .before .before .before .before .before .before .pre .1 in
+    let a = c .before .before .before .before .before .before .before .before .before .before .before .before .before .before .args in
+    let P = c .before .before .before .before .before .before .before .before .before .before .before .before .before .before .pre .1 in
     let g = a .g in
-    let S : Words → Stage = λ below. stage-of g (a .level .now) (a .ends .now) (a .heads .now) below (table-order (g .code) (table-of (g .r) (a .above .now))) in
+    let S : Stage = stage-of g (a .level .now) (a .tables .now) (table-order (g .code) (table-of (g .r) (above-in (a .tables .now)))) in
     let K = cache-of (a .used) (a .cache .now) in
     let m = monomial-of (a .m) in
     let f = c .before .before .before .before .before .before .before .before .before .reducer-of in
@@ -513,7 +514,7 @@ lift-term-returns-3 t c =
     let x = c .before .before .before .before .before .before .answer .given .0 .1 .0 in
     let eq = sym (ap (λ y. answered y (f .result .quotient)) (c .before .before .before .before .before .before .answer .given .1)) ∙ f .ensures in
     let b = c .before .e .given .1 in
-    ((λ below. sym (term-found (S below) (a .room) (a .left) (a .a) K m j x (f .result .quotient) (rows (a .cache .now) (c .before .e .given .0 .0) (c .before .e .given .0 .1 .0)) eq (sym (ap (entry-of (a .cache .now)) b) ∙ c .before .before .before .look-up .ensures .0))), (subst (Inside (a .used)) b (c .before .before .before .look-up .ensures .1), P .0 .used-fits), λ k h. refl)
+    ((sym (term-found S (a .room) (a .left) (a .a) K m j x (f .result .quotient) (rows (a .cache .now) (c .before .e .given .0 .0) (c .before .e .given .0 .1 .0)) eq (sym (ap (entry-of (a .cache .now)) b) ∙ c .before .before .before .look-up .ensures .0))), (subst (Inside (a .used)) b (c .before .before .before .look-up .ensures .1), P .0 .used-fits), λ k h. refl)
 
 open-subtree-returns : (t : ℕ) → open-subtree-lts.Need-returns (
   negative-reads.Asked,
@@ -530,14 +531,14 @@ open-subtree-returns : (t : ℕ) → open-subtree-lts.Need-returns (
   keep-reads.Learnt,
 ) (open-subtree-at t) open-subtree.Post
 open-subtree-returns t c =
-    let a = c .before .before .before .before .before .before .before .before .before .args in
-    let P = c .before .before .before .before .before .before .before .before .before .pre .1 in
+    let a = c .before .before .before .before .before .before .args in
+    let P = c .before .before .before .before .before .before .pre .1 in
     let g = a .g in
-    let S : Words → Stage = λ below. stage-of g (a .level .now) (a .ends .now) (a .heads .now) below (table-order (g .code) (table-of (g .r) (a .above .now))) in
+    let S : Stage = stage-of g (a .level .now) (a .tables .now) (table-order (g .code) (table-of (g .r) (above-in (a .tables .now)))) in
     let K = cache-of (a .used) (a .cache .now) in
     let m = monomial-of (a .m) in
     let W = a .work .now in
-    ((λ below. sym (opened-full (S below) (a .room) (a .left) (a .a) K m (a .j) (minus (g .p) (a .c)) (a .q) (c .if1 .taken))), tt, λ k h. refl)
+    ((sym (opened-full S (a .room) (a .left) (a .a) K m (a .j) (minus (g .p) (a .c)) (a .q) (c .if1 .taken))), tt, λ k h. refl)
 
 open-subtree-returns-2 : (t : ℕ) → open-subtree-lts.Need-returns-2 (
   negative-reads.Asked,
@@ -554,14 +555,14 @@ open-subtree-returns-2 : (t : ℕ) → open-subtree-lts.Need-returns-2 (
   keep-reads.Learnt,
 ) (open-subtree-at t) open-subtree.Post
 open-subtree-returns-2 t c =
-    let a = c .before .before .before .before .before .before .before .before .before .before .args in
-    let P = c .before .before .before .before .before .before .before .before .before .before .pre .1 in
+    let a = c .before .before .before .before .before .before .before .args in
+    let P = c .before .before .before .before .before .before .before .pre .1 in
     let g = a .g in
-    let S : Words → Stage = λ below. stage-of g (a .level .now) (a .ends .now) (a .heads .now) below (table-order (g .code) (table-of (g .r) (a .above .now))) in
+    let S : Stage = stage-of g (a .level .now) (a .tables .now) (table-order (g .code) (table-of (g .r) (above-in (a .tables .now)))) in
     let K = cache-of (a .used) (a .cache .now) in
     let m = monomial-of (a .m) in
     let W = a .work .now in
-    ((λ below. sym (opened-deep (S below) (a .room) (a .left) (a .a) K m (a .j) (minus (g .p) (a .c)) (a .q) (ltb (a .a) (g .tree)) (c .if2 .taken))), tt, λ k h. refl)
+    ((sym (opened-deep S (a .room) (a .left) (a .a) K m (a .j) (minus (g .p) (a .c)) (a .q) (ltb (a .a) (g .tree)) (c .if2 .taken))), tt, λ k h. refl)
 
 open-subtree-negative-requires : (t : ℕ) → open-subtree-lts.Need-negative-requires (
   negative-reads.Asked,
@@ -577,7 +578,7 @@ open-subtree-negative-requires : (t : ℕ) → open-subtree-lts.Need-negative-re
   keep-reads.Asked,
   keep-reads.Learnt,
 ) (open-subtree-at t) open-subtree.Post
-open-subtree-negative-requires t c κs = c .before .before .before .before .before .before .before .before .before .before .pre .1 .0 .tables .prime
+open-subtree-negative-requires t c κs = c .before .before .before .before .before .before .before .pre .1 .0 .tables .prime
 
 open-subtree-cast-component : (t : ℕ) → open-subtree-lts.Need-cast-component (
   negative-reads.Asked,
@@ -593,7 +594,7 @@ open-subtree-cast-component : (t : ℕ) → open-subtree-lts.Need-cast-component
   keep-reads.Asked,
   keep-reads.Learnt,
 ) (open-subtree-at t) open-subtree.Post
-open-subtree-cast-component t c = omega (arith, c .before .before .before .before .before .before .before .before .before .before .before .pre .1 .3, c .before .before .before .before .before .before .before .before .before .before .before .pre .1 .0 .tables .few)
+open-subtree-cast-component t c = omega (arith, c .before .before .before .before .before .before .before .before .pre .1 .3, c .before .before .before .before .before .before .before .before .pre .1 .0 .tables .few)
 
 open-subtree-put-requires : (t : ℕ) → open-subtree-lts.Need-put-requires (
   negative-reads.Asked,
@@ -609,7 +610,7 @@ open-subtree-put-requires : (t : ℕ) → open-subtree-lts.Need-put-requires (
   keep-reads.Asked,
   keep-reads.Learnt,
 ) (open-subtree-at t) open-subtree.Post
-open-subtree-put-requires t c κs = omega (arith, c .before .before .before .if1 .left, c .before .before .before .before .before .before .before .before .before .before .before .before .pre .1 .0 .tree-fits)
+open-subtree-put-requires t c κs = omega (arith, c .before .before .before .if1 .left, c .before .before .before .before .before .before .before .before .before .pre .1 .0 .tree-fits)
 
 open-subtree-rows-of-requires : (t : ℕ) → open-subtree-lts.Need-rows-of-requires (
   negative-reads.Asked,
@@ -625,7 +626,7 @@ open-subtree-rows-of-requires : (t : ℕ) → open-subtree-lts.Need-rows-of-requ
   keep-reads.Asked,
   keep-reads.Learnt,
 ) (open-subtree-at t) open-subtree.Post
-open-subtree-rows-of-requires t c κs = let P = c .before .before .before .before .before .before .before .before .before .before .before .before .before .before .before .pre .1 in (P .2, omega (arith, P .3, P .0 .family .ends-fit))
+open-subtree-rows-of-requires t c κs = let P = c .before .before .before .before .before .before .before .before .before .before .before .before .pre .1 in (P .2, omega (arith, P .0 .tables .long), omega (arith, P .3, P .0 .family .ends-fit))
 
 open-subtree-add-lift-list : (t : ℕ) → open-subtree-lts.Need-add-lift-list (
   negative-reads.Asked,
@@ -674,12 +675,12 @@ open-subtree-lift-list-requires : (t : ℕ) → open-subtree-lts.Need-lift-list-
   keep-reads.Learnt,
 ) (open-subtree-at t) open-subtree.Post
 open-subtree-lift-list-requires t c κs =
-    let a = c .before .before .before .before .before .before .before .before .before .before .before .before .before .before .before .before .before .before .args in
-    let P = c .before .before .before .before .before .before .before .before .before .before .before .before .before .before .before .before .before .before .pre .1 in
+    let a = c .before .before .before .before .before .before .before .before .before .before .before .before .before .before .before .args in
+    let P = c .before .before .before .before .before .before .before .before .before .before .before .before .before .before .before .pre .1 in
     let g = a .g in
-    let S : Words → Stage = λ below. stage-of g (a .level .now) (a .ends .now) (a .heads .now) below (table-order (g .code) (table-of (g .r) (a .above .now))) in
+    let S : Stage = stage-of g (a .level .now) (a .tables .now) (table-order (g .code) (table-of (g .r) (above-in (a .tables .now)))) in
     let ro = c .before .before .rows-of in
-    (omega (arith, c .before .before .before .before .before .before .before .before .before .before .before .before .before .before .before .before .before .before .pre .0, c .before .before .before .before .before .before .before .before .if2 .left), (lent-again g (a .used) (a .used) (a .room) (a .cache .now) (a .cache .now) (a .work .now) (c .before .before .before .before .before .put .last .0) (a .level .now) (a .ends .now) (a .heads .now) (a .spans .now) (a .above .now) (P .0) (P .0 .used-fits) refl (c .before .before .before .before .before .put .kept .0), omega (arith, c .before .before .before .before .before .before .before .before .before .if1 .left), omega (arith, ro .ensures .1, P .0 .family .rows-fit (a .j - 1) (omega (arith, P .2, P .3))), ro .ensures .3))
+    (omega (arith, c .before .before .before .before .before .before .before .before .before .before .before .before .before .before .before .pre .0, c .before .before .before .before .before .before .before .before .if2 .left), (lent-again g (a .used) (a .used) (a .room) (a .cache .now) (a .cache .now) (a .work .now) (c .before .before .before .before .before .put .last .0) (a .level .now) (a .tables .now) (P .0) (P .0 .used-fits) refl (c .before .before .before .before .before .put .kept .0), omega (arith, c .before .before .before .before .before .before .before .before .before .if1 .left), omega (arith, ro .ensures .1, P .0 .family .rows-fit (a .j - 1) (omega (arith, P .2, P .3))), ro .ensures .3))
 
 open-subtree-enum-known-s : (t : ℕ) → open-subtree-lts.Need-enum-known-s (
   negative-reads.Asked,
@@ -776,10 +777,10 @@ open-subtree-returns-3 : (t : ℕ) → open-subtree-lts.Need-returns-3 (
   keep-reads.Learnt,
 ) (open-subtree-at t) open-subtree.Post
 open-subtree-returns-3 t c =
-    let a = c .before .before .before .before .before .before .before .before .before .before .before .before .before .before .before .before .before .before .before .before .before .before .before .before .before .before .args in
-    let P = c .before .before .before .before .before .before .before .before .before .before .before .before .before .before .before .before .before .before .before .before .before .before .before .before .before .before .pre .1 in
+    let a = c .before .before .before .before .before .before .before .before .before .before .before .before .before .before .before .before .before .before .before .before .before .before .before .args in
+    let P = c .before .before .before .before .before .before .before .before .before .before .before .before .before .before .before .before .before .before .before .before .before .before .before .pre .1 in
     let g = a .g in
-    let S : Words → Stage = λ below. stage-of g (a .level .now) (a .ends .now) (a .heads .now) below (table-order (g .code) (table-of (g .r) (a .above .now))) in
+    let S : Stage = stage-of g (a .level .now) (a .tables .now) (table-order (g .code) (table-of (g .r) (above-in (a .tables .now)))) in
     let K = cache-of (a .used) (a .cache .now) in
     let m = monomial-of (a .m) in
     let W = a .work .now in
@@ -792,7 +793,7 @@ open-subtree-returns-3 t c =
     let stays = stored-keeps W (pt .last .0) (a .a) t (pt .ensures .0) (pt .ensures .1) fits in
     let b = c .before .enum-told .given .1 in
     let pa = c .passed in
-    ((λ below. handed-on (a .room) m (a .a) (g .tree) (c .before .enum-told .given .0 .0) (ll .last .0) (ll .last .1 .1 .1 .0) (ll .result) (pa .result) b (pa .ensures) ∙ ap (λ y. y >>= λ r. done (finish (a .room) m r)) (ll .ensures .0 below) ∙ sym (opened-list (S below) (a .room) (a .left) (a .a) K m (a .j) (minus (g .p) (a .c)) (ne .result) (a .q) (rows (a .level .now) (ro .result .from + 1) (ro .result .to - (ro .result .from + 1))) (rows (pt .last .0) (a .a) 1) (omega (arith, c .before .before .before .before .before .before .before .before .before .before .before .before .before .before .before .before .before .if1 .left)) (omega (arith, c .before .before .before .before .before .before .before .before .before .before .before .before .before .before .before .before .if2 .left)) (ne .ensures) (rest-of g (a .level .now) (a .ends .now) (a .j) (ro .result .from) (ro .result .to) (P .0 .family) (P .2) (P .3) (ro .ensures .0) (ro .ensures .1)) (first-stored W (pt .last .0) (a .a) t (pt .ensures .0) (pt .ensures .1) fits))), subst (Sized (a .a) (g .tree) (a .room)) (sym (pa .ensures ∙ ap passed-as b)) tt, λ k h. ll .ensures .2 k h ∙ stays k h)
+    ((handed-on (a .room) m (a .a) (g .tree) (c .before .enum-told .given .0 .0) (ll .last .0) (ll .last .1 .1 .1 .0) (ll .result) (pa .result) b (pa .ensures) ∙ ap (λ y. y >>= λ r. done (finish (a .room) m r)) (ll .ensures .0) ∙ sym (opened-list S (a .room) (a .left) (a .a) K m (a .j) (minus (g .p) (a .c)) (ne .result) (a .q) (rows (a .level .now) (ro .result .from + 1) (ro .result .to - (ro .result .from + 1))) (rows (pt .last .0) (a .a) 1) (omega (arith, c .before .before .before .before .before .before .before .before .before .before .before .before .before .before .before .before .before .if1 .left)) (omega (arith, c .before .before .before .before .before .before .before .before .before .before .before .before .before .before .before .before .if2 .left)) (ne .ensures) (rest-of g (a .level .now) (ends-in (a .tables .now)) (a .j) (ro .result .from) (ro .result .to) (P .0 .family) (P .2) (P .3) (ro .ensures .0) (ro .ensures .1)) (first-stored W (pt .last .0) (a .a) t (pt .ensures .0) (pt .ensures .1) fits))), subst (Sized (a .a) (g .tree) (a .room)) (sym (pa .ensures ∙ ap passed-as b)) tt, λ k h. ll .ensures .2 k h ∙ stays k h)
 
 open-subtree-keep-requires : (t : ℕ) → open-subtree-lts.Need-keep-requires (
   negative-reads.Asked,
@@ -809,10 +810,10 @@ open-subtree-keep-requires : (t : ℕ) → open-subtree-lts.Need-keep-requires (
   keep-reads.Learnt,
 ) (open-subtree-at t) open-subtree.Post
 open-subtree-keep-requires t c κs =
-    let a = c .before .before .before .before .before .before .before .before .before .before .before .before .before .before .before .before .before .before .before .before .before .before .before .before .before .before .before .before .args in
-    let P = c .before .before .before .before .before .before .before .before .before .before .before .before .before .before .before .before .before .before .before .before .before .before .before .before .before .before .before .before .pre .1 in
+    let a = c .before .before .before .before .before .before .before .before .before .before .before .before .before .before .before .before .before .before .before .before .before .before .before .before .before .args in
+    let P = c .before .before .before .before .before .before .before .before .before .before .before .before .before .before .before .before .before .before .before .before .before .before .before .before .before .pre .1 in
     let g = a .g in
-    let S : Words → Stage = λ below. stage-of g (a .level .now) (a .ends .now) (a .heads .now) below (table-order (g .code) (table-of (g .r) (a .above .now))) in
+    let S : Stage = stage-of g (a .level .now) (a .tables .now) (table-order (g .code) (table-of (g .r) (above-in (a .tables .now)))) in
     let ll = c .before .before .before .before .before .before .before .before .before .lift-list in
     let f = subst (Fits (a .a) (g .tree) (a .room)) (c .before .before .before .s .given .1) (ll .ensures .1) in
     (f .1, omega (arith, P .0 .room-fits, ll .kept .0), f .0, omega (arith, P .0 .tree-fits, c .before .before .before .before .before .before .before .before .before .before .before .before .before .before .before .put .kept .0, ll .kept .1 .1 .1 .0), P .0 .tree-small)
@@ -864,10 +865,10 @@ open-subtree-returns-4 : (t : ℕ) → open-subtree-lts.Need-returns-4 (
   keep-reads.Learnt,
 ) (open-subtree-at t) open-subtree.Post
 open-subtree-returns-4 t c =
-    let a = c .before .before .before .before .before .before .before .before .before .before .before .before .before .before .before .before .before .before .before .before .before .before .before .before .before .before .before .before .before .before .before .before .before .args in
-    let P = c .before .before .before .before .before .before .before .before .before .before .before .before .before .before .before .before .before .before .before .before .before .before .before .before .before .before .before .before .before .before .before .before .before .pre .1 in
+    let a = c .before .before .before .before .before .before .before .before .before .before .before .before .before .before .before .before .before .before .before .before .before .before .before .before .before .before .before .before .before .before .args in
+    let P = c .before .before .before .before .before .before .before .before .before .before .before .before .before .before .before .before .before .before .before .before .before .before .before .before .before .before .before .before .before .before .pre .1 in
     let g = a .g in
-    let S : Words → Stage = λ below. stage-of g (a .level .now) (a .ends .now) (a .heads .now) below (table-order (g .code) (table-of (g .r) (a .above .now))) in
+    let S : Stage = stage-of g (a .level .now) (a .tables .now) (table-order (g .code) (table-of (g .r) (above-in (a .tables .now)))) in
     let K = cache-of (a .used) (a .cache .now) in
     let m = monomial-of (a .m) in
     let W = a .work .now in
@@ -880,7 +881,7 @@ open-subtree-returns-4 t c =
     let stays = stored-keeps W (pt .last .0) (a .a) t (pt .ensures .0) (pt .ensures .1) fits in
     let b = c .before .before .before .before .before .before .before .before .s .given .1 in
     let kp = c .before .before .before .before .keep in
-    ((λ below. kp .ensures .0 ∙ ap (λ y. y >>= λ r. done (finish (a .room) m r)) (sym (ap (λ y. sum-of (a .a) y (ll .last .0) (ll .last .1 .1 .1 .0)) b) ∙ ll .ensures .0 below) ∙ sym (opened-list (S below) (a .room) (a .left) (a .a) K m (a .j) (minus (g .p) (a .c)) (ne .result) (a .q) (rows (a .level .now) (ro .result .from + 1) (ro .result .to - (ro .result .from + 1))) (rows (pt .last .0) (a .a) 1) (omega (arith, c .before .before .before .before .before .before .before .before .before .before .before .before .before .before .before .before .before .before .before .before .before .before .before .before .if1 .left)) (omega (arith, c .before .before .before .before .before .before .before .before .before .before .before .before .before .before .before .before .before .before .before .before .before .before .before .if2 .left)) (ne .ensures) (rest-of g (a .level .now) (a .ends .now) (a .j) (ro .result .from) (ro .result .to) (P .0 .family) (P .2) (P .3) (ro .ensures .0) (ro .ensures .1)) (first-stored W (pt .last .0) (a .a) t (pt .ensures .0) (pt .ensures .1) fits))), kp .ensures .1, λ k h. kp .ensures .2 k h ∙ ll .ensures .2 k h ∙ stays k h)
+    ((kp .ensures .0 ∙ ap (λ y. y >>= λ r. done (finish (a .room) m r)) (sym (ap (λ y. sum-of (a .a) y (ll .last .0) (ll .last .1 .1 .1 .0)) b) ∙ ll .ensures .0) ∙ sym (opened-list S (a .room) (a .left) (a .a) K m (a .j) (minus (g .p) (a .c)) (ne .result) (a .q) (rows (a .level .now) (ro .result .from + 1) (ro .result .to - (ro .result .from + 1))) (rows (pt .last .0) (a .a) 1) (omega (arith, c .before .before .before .before .before .before .before .before .before .before .before .before .before .before .before .before .before .before .before .before .before .before .before .before .if1 .left)) (omega (arith, c .before .before .before .before .before .before .before .before .before .before .before .before .before .before .before .before .before .before .before .before .before .before .before .if2 .left)) (ne .ensures) (rest-of g (a .level .now) (ends-in (a .tables .now)) (a .j) (ro .result .from) (ro .result .to) (P .0 .family) (P .2) (P .3) (ro .ensures .0) (ro .ensures .1)) (first-stored W (pt .last .0) (a .a) t (pt .ensures .0) (pt .ensures .1) fits))), kp .ensures .1, λ k h. kp .ensures .2 k h ∙ ll .ensures .2 k h ∙ stays k h)
 
 pub +lift-list+lift-term+open-subtree-spec : {M : Type 1} → statement M
 +lift-list+lift-term+open-subtree-spec =

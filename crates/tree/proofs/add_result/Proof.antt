@@ -5,6 +5,7 @@ use Prim.Native.Nat.{_-_, _*_}
 use lib.ListN.{length}
 use Rattle.definitions.specs.Layout.{rows}
 use Rattle.orders.specs.Images.{table-of, table-order}
+use Rattle.reduce.specs.Grounds.{above-in}
 use Rattle.cache.specs.Entries.{Sized}
 use Rattle.cache.proofs.Parts.{length-part}
 use Rattle.subtrees.proofs.Joining.{fits-joined}
@@ -12,24 +13,33 @@ use Rattle.tree.proofs.Filling.{cached-fills, waiting-fills, refusal-fi
 use Rattle.tree.proofs.add_result.Statement.{statement}
 use Rattle.tree.proofs.add_result.Tie as tie
 
+sub-above : tie.Need-sub-above
+sub-above c = search needs
+
+part-above-start : tie.Need-part-above-start
+part-above-start c = search needs
+
+part-above-end : tie.Need-part-above-end
+part-above-end c = search needs
+
 enum-known-s : tie.Need-enum-known-s
 enum-known-s c = search needs
 
 held-requires : tie.Need-held-requires
 held-requires c κs =
-    let a = c .before .before .before .before .before .before .before .args in
-    let P = c .before .before .before .before .before .before .before .pre in
+    let a = c .before .before .before .before .before .before .before .before .args in
+    let P = c .before .before .before .before .before .before .before .before .pre in
     let g = a .g in
     let z = subst (Sized 0 (g .tree) (a .room)) (c .before .s .given .1) (P .5) in
     omega (arith, z .0, z .1, P .4)
 
 add-rows-requires : tie.Need-add-rows-requires
 add-rows-requires c κs =
-    let a = c .before .before .before .before .before .before .before .before .before .args in
-    let P = c .before .before .before .before .before .before .before .before .before .pre in
+    let a = c .before .before .before .before .before .before .before .before .before .before .args in
+    let P = c .before .before .before .before .before .before .before .before .before .before .pre in
     let g = a .g in
     let z = subst (Sized 0 (g .tree) (a .room)) (c .before .before .before .s .given .1) (P .5) in
-    (P .0, P .1, P .2, P .6 .fits, P .6 .tabled, omega (arith, ap length (c .before .held .ensures), length-part (a .cache .now) (c .before .before .before .s .given .0 .0 * 10) (c .before .before .before .s .given .0 .1 .0 * 10) (omega (arith, z .0, z .1, P .4))))
+    (P .0 .prime, P .1, P .2, P .6 .fits, P .6 .tabled, omega (arith, ap length (c .before .held .ensures), length-part (a .cache .now) (c .before .before .before .s .given .0 .0 * 10) (c .before .before .before .s .given .0 .1 .0 * 10) (omega (arith, z .0, z .1, P .4))))
 
 joined-requires : tie.Need-joined-requires
 joined-requires c κs = search needs
@@ -39,27 +49,27 @@ enum-known-s-2 c = search needs
 
 sub-held : tie.Need-sub-held
 sub-held c =
-    let a = c .before .before .before .before .before .before .before .before .args in
-    let P = c .before .before .before .before .before .before .before .before .pre in
+    let a = c .before .before .before .before .before .before .before .before .before .args in
+    let P = c .before .before .before .before .before .before .before .before .before .pre in
     let g = a .g in
     let z = subst (Sized 0 (g .tree) (a .room)) (c .before .before .s2 .given .1) (P .5) in
     omega (arith, z .0)
 
 held-requires-2 : tie.Need-held-requires-2
 held-requires-2 c κs =
-    let a = c .before .before .before .before .before .before .before .before .args in
-    let P = c .before .before .before .before .before .before .before .before .pre in
+    let a = c .before .before .before .before .before .before .before .before .before .args in
+    let P = c .before .before .before .before .before .before .before .before .before .pre in
     let g = a .g in
     let z = subst (Sized 0 (g .tree) (a .room)) (c .before .before .s2 .given .1) (P .5) in
     omega (arith, z .0, P .3)
 
 add-rows-requires-2 : tie.Need-add-rows-requires-2
 add-rows-requires-2 c κs =
-    let a = c .before .before .before .before .before .before .before .before .before .before .args in
-    let P = c .before .before .before .before .before .before .before .before .before .before .pre in
+    let a = c .before .before .before .before .before .before .before .before .before .before .before .args in
+    let P = c .before .before .before .before .before .before .before .before .before .before .before .pre in
     let g = a .g in
     let z = subst (Sized 0 (g .tree) (a .room)) (c .before .before .before .before .s2 .given .1) (P .5) in
-    (P .0, P .1, P .2, P .6 .fits, P .6 .tabled, omega (arith, ap length (c .before .held2 .ensures), length-part (a .work .now) ((g .tree - c .before .before .before .before .s2 .given .0 .0) * 10) (c .before .before .before .before .s2 .given .0 .0 * 10) (omega (arith, z .0, P .3))))
+    (P .0 .prime, P .1, P .2, P .6 .fits, P .6 .tabled, omega (arith, ap length (c .before .held2 .ensures), length-part (a .work .now) ((g .tree - c .before .before .before .before .s2 .given .0 .0) * 10) (c .before .before .before .before .s2 .given .0 .0 * 10) (omega (arith, z .0, P .3))))
 
 joined-requires-2 : tie.Need-joined-requires-2
 joined-requires-2 c κs = search needs
@@ -72,11 +82,11 @@ same-length c = search needs
 
 returns : tie.Need-returns
 returns c =
-    let a = c .before .before .before .before .before .before .before .before .before .before .before .before .before .args in
-    let P = c .before .before .before .before .before .before .before .before .before .before .before .before .before .pre in
+    let a = c .before .before .before .before .before .before .before .before .before .before .before .before .before .before .args in
+    let P = c .before .before .before .before .before .before .before .before .before .before .before .before .before .before .pre in
     let g = a .g in
     let z = subst (Sized 0 (g .tree) (a .room)) (c .before .before .before .before .before .before .before .s .given .1) (P .5) in
-    let O = table-order (g .code) (table-of (g .r) (a .above .now)) in
+    let O = table-order (g .code) (table-of (g .r) (above-in (a .tables .now))) in
     let total = rows (a .vector .now) 0 (a .n) in
     let x = c .before .before .before .add-rows in
     let u = c .before .before .before .before .before .before .before .s .given .0 .1 .1 .0 in
@@ -87,11 +97,11 @@ same-length-2 c = search needs
 
 returns-2 : tie.Need-returns-2
 returns-2 c =
-    let a = c .before .before .before .before .before .before .before .before .before .before .before .before .before .before .args in
-    let P = c .before .before .before .before .before .before .before .before .before .before .before .before .before .before .pre in
+    let a = c .before .before .before .before .before .before .before .before .before .before .before .before .before .before .before .args in
+    let P = c .before .before .before .before .before .before .before .before .before .before .before .before .before .before .before .pre in
     let g = a .g in
     let z = subst (Sized 0 (g .tree) (a .room)) (c .before .before .before .before .before .before .before .before .s2 .given .1) (P .5) in
-    let O = table-order (g .code) (table-of (g .r) (a .above .now)) in
+    let O = table-order (g .code) (table-of (g .r) (above-in (a .tables .now))) in
     let total = rows (a .vector .now) 0 (a .n) in
     let x = c .before .before .before .add-rows2 in
     let u = c .before .before .before .before .before .before .before .before .s2 .given .0 .1 .0 in
@@ -99,9 +109,9 @@ returns-2 c =
 
 returns-3 : tie.Need-returns-3
 returns-3 c =
-    let a = c .before .before .before .before .before .before .before .args in
+    let a = c .before .before .before .before .before .before .before .before .args in
     let g = a .g in
-    let O = table-order (g .code) (table-of (g .r) (a .above .now)) in
+    let O = table-order (g .code) (table-of (g .r) (above-in (a .tables .now))) in
     let total = rows (a .vector .now) 0 (a .n) in
     (refusal-fills O (g .p) (g .vector) (a .c) (g .tree) total (a .cache .now) (a .work .now) (a .vector .now) (c .before .s3 .given .0 .0) (a .s) (c .before .s3 .given .1), tt)
 
@@ -109,6 +119,9 @@ pub add-result-spec : {M : Type 1} → statement M
 add-result-spec =
     tie.close
     (tie.spec
+    sub-above
+    part-above-start
+    part-above-end
     enum-known-s
     held-requires
     add-rows-requires

@@ -5,10 +5,10 @@ use Prim.Native.Nat.{ℕ, _-_, _<_, _≤_}
 use lib.ListN.{length}
 use Rattle.definitions.specs.Result.{Result, done}
 use Rattle.definitions.specs.Stage.{Stage}
-use Rattle.definitions.specs.Layout.{Words}
 use Rattle.definitions.specs.Tree.{tree as tree-definition}
 use Rattle.definitions.specs.Lifting.{Lifted, lift-all as lift-all-definition}
 use Rattle.orders.specs.Images.{table-of, table-order}
+use Rattle.reduce.specs.Grounds.{above-in}
 use Rattle.runs.specs.Stages.{stage-of}
 use Rattle.cache.specs.Entries.{cache-of}
 use Rattle.lift.specs.Vectors.{lifted-vectors, Kept, frame-terms}
@@ -21,29 +21,29 @@ use Rattle.tree.proofs.lift_all.Statement.{statement}
 use Rattle.tree.proofs.lift_all.Tie as tie
 
 abbrev Inv-loop : tie.InvT-loop
-Inv-loop out₀ cache₀ work₀ frame count level ends heads spans above g room used₀ u₀ i₀ out cache work used u i =
+Inv-loop out₀ cache₀ work₀ frame count level tables g room used₀ u₀ i₀ out cache work used u i =
     (i ≤ count) × (used ≤ g .room) × (u ≤ room) × (length out ≡ length out₀) × (length cache ≡ length cache₀) × (length work ≡ length work₀) × Kept i used out ×
-    ((below : Words) → lift-all-definition (stage-of g level ends heads below (table-order (g .code) (table-of (g .r) above))) (tree-definition (stage-of g level ends heads below (table-order (g .code) (table-of (g .r) above))) room) ([], 0) [] (frame-terms frame count) ≡ all-from (stage-of g level ends heads below (table-order (g .code) (table-of (g .r) above))) room frame count i (lifted-vectors out i, used) (cache-of u cache))
+    (lift-all-definition (stage-of g level tables (table-order (g .code) (table-of (g .r) (above-in tables)))) (tree-definition (stage-of g level tables (table-order (g .code) (table-of (g .r) (above-in tables)))) room) ([], 0) [] (frame-terms frame count) ≡ all-from (stage-of g level tables (table-order (g .code) (table-of (g .r) (above-in tables)))) room frame count i (lifted-vectors out i, used) (cache-of u cache))
 
 abbrev μ-loop : tie.MeasureT-loop
-μ-loop out₀ cache₀ work₀ frame count level ends heads spans above g room used₀ u₀ i₀ out cache work used u i = count - i
+μ-loop out₀ cache₀ work₀ frame count level tables g room used₀ u₀ i₀ out cache work used u i = count - i
 
 loop-holds : tie.Need-loop-holds Inv-loop μ-loop
 loop-holds c =
-    let a = c .before .before .before .before .before .before .before .before .before .args in
-    let P = c .before .before .before .before .before .before .before .before .before .pre in
+    let a = c .before .before .before .before .before .before .args in
+    let P = c .before .before .before .before .before .before .pre in
     let g = a .g in
-    let S : Words → Stage = λ below. stage-of g (a .level .now) (a .ends .now) (a .heads .now) below (table-order (g .code) (table-of (g .r) (a .above .now))) in
+    let S : Stage = stage-of g (a .level .now) (a .tables .now) (table-order (g .code) (table-of (g .r) (above-in (a .tables .now)))) in
     let room = length (a .cache .now) / 10 in
     let none : Lifted = ([], 0) in
-    (omega arith, omega arith, omega arith, refl, refl, refl, none-kept (a .out .now), λ below. ap (all-from (S below) room (a .frame .now) (a .count) 0 none) (sym (empty-cache (a .cache .now))))
+    (omega arith, omega arith, omega arith, refl, refl, refl, none-kept (a .out .now), ap (all-from S room (a .frame .now) (a .count) 0 none) (sym (empty-cache (a .cache .now))))
 
 lift-one-requires : tie.Need-lift-one-requires Inv-loop μ-loop
 lift-one-requires c κs =
-    let a = c .before .before .before .before .before .before .before .before .before .before .before .before .before .before .args in
-    let P = c .before .before .before .before .before .before .before .before .before .before .before .before .before .before .pre in
+    let a = c .before .before .before .before .before .before .before .before .before .before .before .args in
+    let P = c .before .before .before .before .before .before .before .before .before .before .before .pre in
     let g = a .g in
-    let S : Words → Stage = λ below. stage-of g (a .level .now) (a .ends .now) (a .heads .now) below (table-order (g .code) (table-of (g .r) (a .above .now))) in
+    let S : Stage = stage-of g (a .level .now) (a .tables .now) (table-order (g .code) (table-of (g .r) (above-in (a .tables .now)))) in
     let l = c .before .before .before .before .loop in
     let room = length (a .cache .now) / 10 in
     (record { used-fits = l .inv .2; room-fits = omega (arith, l .inv .4); tree-fits = omega (arith, P .4, l .inv .5); tree-small = P .5; tables = P .0; family = P .1; images = P .2 }, P .6, P .3, omega (arith, c .before .before .before .loop-test .taken), omega (arith, P .7, l .inv .3), P .8, l .inv .1, l .inv .6)
@@ -65,30 +65,30 @@ same-length-3 c = omega (arith, c .before .before .before .before .before .befor
 
 returns : tie.Need-returns Inv-loop μ-loop
 returns c =
-    let a = c .before .before .before .before .before .before .before .before .before .before .before .before .before .before .before .before .before .before .before .before .before .before .before .before .args in
-    let P = c .before .before .before .before .before .before .before .before .before .before .before .before .before .before .before .before .before .before .before .before .before .before .before .before .pre in
+    let a = c .before .before .before .before .before .before .before .before .before .before .before .before .before .before .before .before .before .before .before .before .before .args in
+    let P = c .before .before .before .before .before .before .before .before .before .before .before .before .before .before .before .before .before .before .before .before .before .pre in
     let g = a .g in
-    let S : Words → Stage = λ below. stage-of g (a .level .now) (a .ends .now) (a .heads .now) below (table-order (g .code) (table-of (g .r) (a .above .now))) in
+    let S : Stage = stage-of g (a .level .now) (a .tables .now) (table-order (g .code) (table-of (g .r) (above-in (a .tables .now)))) in
     let l = c .before .before .before .before .before .before .before .before .before .before .before .before .before .before .loop in
     let room = length (a .cache .now) / 10 in
     let lo = c .before .before .before .before .before .before .before .before .before .lift-one in
     let before : Lifted = (lifted-vectors (l .out) (l .i), l .used) in
     let K = cache-of (l .u) (l .cache) in
     let inside : l .i < a .count = omega (arith, c .before .before .before .before .before .before .before .before .before .before .before .before .before .loop-test .taken) in
-    ((λ below. sym (l .inv .7 below ∙ all-refused (S below) room (a .frame .now) (a .count) (l .i) before K inside (lo .result) (lo .last .0) (lo .last .1 .1 .1 .0) (lo .ensures .0 below) (c .before .x .given .0 .0) (c .before .x .given .1))), tt, tt)
+    ((sym (l .inv .7 ∙ all-refused S room (a .frame .now) (a .count) (l .i) before K inside (lo .result) (lo .last .0) (lo .last .1 .1 .1 .0) (lo .ensures .0) (c .before .x .given .0 .0) (c .before .x .given .1))), tt, tt)
 
 add-i : tie.Need-add-i Inv-loop μ-loop
-add-i c = omega (arith, c .before .before .before .before .before .before .before .before .before .before .before .before .before .before .before .before .before .before .before .before .before .before .before .before .pre .3 .few, c .before .before .before .before .before .before .before .before .before .before .before .before .before .loop-test .taken)
+add-i c = omega (arith, c .before .before .before .before .before .before .before .before .before .before .before .before .before .before .before .before .before .before .before .before .before .pre .3 .few, c .before .before .before .before .before .before .before .before .before .before .before .before .before .loop-test .taken)
 
 loop-less : tie.Need-loop-less Inv-loop μ-loop
 loop-less c = omega arith
 
 loop-again : tie.Need-loop-again Inv-loop μ-loop
 loop-again c =
-    let a = c .before .before .before .before .before .before .before .before .before .before .before .before .before .before .before .before .before .before .before .before .before .before .before .before .args in
-    let P = c .before .before .before .before .before .before .before .before .before .before .before .before .before .before .before .before .before .before .before .before .before .before .before .before .pre in
+    let a = c .before .before .before .before .before .before .before .before .before .before .before .before .before .before .before .before .before .before .before .before .before .args in
+    let P = c .before .before .before .before .before .before .before .before .before .before .before .before .before .before .before .before .before .before .before .before .before .pre in
     let g = a .g in
-    let S : Words → Stage = λ below. stage-of g (a .level .now) (a .ends .now) (a .heads .now) below (table-order (g .code) (table-of (g .r) (a .above .now))) in
+    let S : Stage = stage-of g (a .level .now) (a .tables .now) (table-order (g .code) (table-of (g .r) (above-in (a .tables .now)))) in
     let l = c .before .before .before .before .before .before .before .before .before .before .before .before .before .before .loop in
     let room = length (a .cache .now) / 10 in
     let lo = c .before .before .before .before .before .before .before .before .before .lift-one in
@@ -97,7 +97,7 @@ loop-again c =
     let inside : l .i < a .count = omega (arith, c .before .before .before .before .before .before .before .before .before .before .before .before .before .loop-test .taken) in
     let b = c .before .v .given .1 in
     let now = subst (λ y. After g (l .i) (length (a .cache .now) / 10) y (lo .last .0)) b (lo .ensures .1) in
-    (omega (arith, c .before .before .before .before .before .before .before .before .before .before .before .before .before .loop-test .taken), now .0, now .1, omega (arith, lo .kept .0, l .inv .3), omega (arith, lo .kept .1 .1 .1 .0, l .inv .4), omega (arith, lo .kept .1 .1 .1 .1 .1 .1 .0, l .inv .5), now .2, (λ below. l .inv .7 below ∙ all-on (S below) room (a .frame .now) (a .count) (l .i) before K inside (lo .result) (lo .last .0) (lo .last .1 .1 .1 .0) (lo .ensures .0 below) (c .before .v .given .0 .0) (c .before .v .given .0 .1 .0) b))
+    (omega (arith, c .before .before .before .before .before .before .before .before .before .before .before .before .before .loop-test .taken), now .0, now .1, omega (arith, lo .kept .0, l .inv .3), omega (arith, lo .kept .1 .1 .1 .0, l .inv .4), omega (arith, lo .kept .1 .1 .1 .1 .1 .1 .0, l .inv .5), now .2, (l .inv .7 ∙ all-on S room (a .frame .now) (a .count) (l .i) before K inside (lo .result) (lo .last .0) (lo .last .1 .1 .1 .0) (lo .ensures .0) (c .before .v .given .0 .0) (c .before .v .given .0 .1 .0) b))
 
 same-length-4 : tie.Need-same-length-4 Inv-loop μ-loop
 same-length-4 c = omega arith
@@ -110,15 +110,15 @@ same-length-6 c = omega arith
 
 returns-2 : tie.Need-returns-2 Inv-loop μ-loop
 returns-2 c =
-    let a = c .before .before .before .before .before .before .before .before .before .before .before .args in
-    let P = c .before .before .before .before .before .before .before .before .before .before .before .pre in
+    let a = c .before .before .before .before .before .before .before .before .args in
+    let P = c .before .before .before .before .before .before .before .before .pre in
     let g = a .g in
-    let S : Words → Stage = λ below. stage-of g (a .level .now) (a .ends .now) (a .heads .now) below (table-order (g .code) (table-of (g .r) (a .above .now))) in
+    let S : Stage = stage-of g (a .level .now) (a .tables .now) (table-order (g .code) (table-of (g .r) (above-in (a .tables .now)))) in
     let l = c .before .loop in
     let room = length (a .cache .now) / 10 in
     let whole : l .i ≡ a .count = omega (arith, l .inv .0) in
     let X : ℕ → Result Level = λ n. done (lifted-vectors (l .out) n) in
-    ((λ below. ap X (sym whole) ∙ sym (l .inv .7 below ∙ all-end (S below) room (a .frame .now) (a .count) (l .i) (lifted-vectors (l .out) (l .i), l .used) (cache-of (l .u) (l .cache)) (omega arith))), (l .inv .1, subst (λ n. Kept n (l .used) (l .out)) whole (l .inv .6)), tt)
+    ((ap X (sym whole) ∙ sym (l .inv .7 ∙ all-end S room (a .frame .now) (a .count) (l .i) (lifted-vectors (l .out) (l .i), l .used) (cache-of (l .u) (l .cache)) (omega arith))), (l .inv .1, subst (λ n. Kept n (l .used) (l .out)) whole (l .inv .6)), tt)
 
 pub lift-all-spec : {M : Type 1} → statement M
 lift-all-spec =

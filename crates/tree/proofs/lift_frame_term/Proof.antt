@@ -5,7 +5,6 @@ use Prim.Native.Nat.{_-_}
 use lib.ListN.{getD}
 use Rattle.definitions.specs.Monomial.{Term}
 use Rattle.definitions.specs.Stage.{Stage}
-use Rattle.definitions.specs.Layout.{Words}
 use Rattle.definitions.specs.Tree.{lift-term, lift-vector as vector-definition}
 use Rattle.monomial.specs.Values.{monomial-of}
 use Rattle.orders.specs.Images.{table-of, table-order}
@@ -13,7 +12,7 @@ use Rattle.runs.specs.Stages.{stage-of}
 use Rattle.cache.specs.Entries.{cache-of}
 use Rattle.subtrees.proofs.Lifting.{first-stored}
 use Rattle.tree.proofs.Filling.{whole-of}
-use Rattle.reduce.specs.Grounds.{first-row}
+use Rattle.reduce.specs.Grounds.{first-row, ends-in, above-in}
 use Rattle.tree.proofs.lift_frame_term.Statement.{statement}
 use Rattle.tree.proofs.lift_frame_term.Tie as tie
 
@@ -28,8 +27,8 @@ rows-of-requires c κs = search needs
 
 lift-vector-requires : tie.Need-lift-vector-requires
 lift-vector-requires c κs =
-    let a = c .before .before .before .before .before .before .before .before .before .before .before .before .before .before .before .before .before .before .args in
-    let P = c .before .before .before .before .before .before .before .before .before .before .before .before .before .before .before .before .before .before .pre in
+    let a = c .before .before .before .before .before .before .before .before .before .before .before .before .before .before .before .args in
+    let P = c .before .before .before .before .before .before .before .before .before .before .before .before .before .before .before .pre in
     let g = a .g in
     let pl = c .before .before .before .before .before .place in
     let ro = c .before .before .before .before .rows-of in
@@ -46,10 +45,10 @@ same-length-3 c = search needs
 
 returns : tie.Need-returns
 returns c =
-    let a = c .before .before .before .before .before .before .before .before .before .before .before .before .before .before .before .before .before .before .before .before .before .before .before .before .before .args in
-    let P = c .before .before .before .before .before .before .before .before .before .before .before .before .before .before .before .before .before .before .before .before .before .before .before .before .before .pre in
+    let a = c .before .before .before .before .before .before .before .before .before .before .before .before .before .before .before .before .before .before .before .before .before .before .args in
+    let P = c .before .before .before .before .before .before .before .before .before .before .before .before .before .before .before .before .before .before .before .before .before .before .pre in
     let g = a .g in
-    let S : Words → Stage = λ below. stage-of g (a .level .now) (a .ends .now) (a .heads .now) below (table-order (g .code) (table-of (g .r) (a .above .now))) in
+    let S : Stage = stage-of g (a .level .now) (a .tables .now) (table-order (g .code) (table-of (g .r) (above-in (a .tables .now)))) in
     let pl = c .before .before .before .before .before .before .before .before .before .before .before .before .place in
     let ro = c .before .before .before .before .before .before .before .before .before .before .before .rows-of in
     let pt = c .before .before .before .before .before .before .before .before .before .before .before .before .before .before .before .put in
@@ -57,8 +56,8 @@ returns c =
     let m = monomial-of (a .m) in
     let one : Term = (1, m) in
     let first = first-stored (a .vector .now) (pt .last .0) 0 one (pt .ensures .0) (pt .ensures .1) (omega (arith, P .1, P .2)) in
-    let whole = whole-of g (a .level .now) (a .ends .now) (m .1) (ro .result .from) (ro .result .to) (P .0 .family) (P .3) (P .4) (ro .ensures .0 ∙ ap (first-row (a .ends .now)) (pl .ensures)) (ro .ensures .1 ∙ ap (λ x. getD (a .ends .now) (x - 1) 0) (pl .ensures)) in
-    ((λ below. lv .ensures .0 below ∙ (λ i. vector-definition (S below) (lift-term (S below) (a .room) (g .tree)) 1 (m .0) (sym whole i) (first i, cache-of (a .used) (a .cache .now)))), lv .ensures .1)
+    let whole = whole-of g (a .level .now) (ends-in (a .tables .now)) (m .1) (ro .result .from) (ro .result .to) (P .0 .family) (P .3) (P .4) (ro .ensures .0 ∙ ap (first-row (ends-in (a .tables .now))) (pl .ensures)) (ro .ensures .1 ∙ ap (λ x. getD (ends-in (a .tables .now)) (x - 1) 0) (pl .ensures)) in
+    ((lv .ensures .0 ∙ (λ i. vector-definition S (lift-term S (a .room) (g .tree)) 1 (m .0) (sym whole i) (first i, cache-of (a .used) (a .cache .now)))), lv .ensures .1)
 
 pub lift-frame-term-spec : {M : Type 1} → statement M
 lift-frame-term-spec =

@@ -6,11 +6,12 @@ use lib.ListN.{length}
 use Rattle.definitions.specs.Monomial.{Term}
 use Rattle.definitions.specs.Result.{Result, done}
 use Rattle.definitions.specs.Stage.{Stage}
-use Rattle.definitions.specs.Layout.{Words, row-at}
+use Rattle.definitions.specs.Layout.{row-at}
 use Rattle.definitions.specs.Lifting.{Lifted}
 use Rattle.monomial.specs.Values.{monomial-of}
 use Rattle.orders.specs.Images.{table-of, table-order}
 use Rattle.terms.specs.Rows.{term-of}
+use Rattle.reduce.specs.Grounds.{above-in}
 use Rattle.runs.specs.Stages.{stage-of}
 use Rattle.cache.specs.Entries.{cache-of}
 use Rattle.cache.proofs.Parts.{length-part}
@@ -24,7 +25,7 @@ use Rattle.tree.proofs.lift_one.Statement.{statement}
 use Rattle.tree.proofs.lift_one.Tie as tie
 
 row-requires : tie.Need-row-requires
-row-requires c κs = omega (arith, c .before .before .before .before .before .before .before .before .before .pre .2 .fits, c .before .before .before .before .before .before .before .before .before .pre .3)
+row-requires c κs = omega (arith, c .before .before .before .before .before .before .pre .2 .fits, c .before .before .before .before .before .before .pre .3)
 
 mul-start : tie.Need-mul-start
 mul-start c = search needs
@@ -52,8 +53,8 @@ part-lift-frame-term-end c = search needs
 
 lift-frame-term-requires : tie.Need-lift-frame-term-requires
 lift-frame-term-requires c κs =
-    let a = c .before .before .before .before .before .before .before .before .before .before .before .before .before .before .before .args in
-    let P = c .before .before .before .before .before .before .before .before .before .before .before .before .before .before .before .pre in
+    let a = c .before .before .before .before .before .before .before .before .before .before .before .before .args in
+    let P = c .before .before .before .before .before .before .before .before .before .before .before .before .pre in
     let g = a .g in
     let row = c .before .before .before .before .before .row in
     let f = frame-component g (a .count) (a .frame .now) (a .i) (term-of (row .result)) (P .2) (P .3) (row .ensures) in
@@ -63,7 +64,7 @@ enum-known-s : tie.Need-enum-known-s
 enum-known-s c = search needs
 
 sub-if1 : tie.Need-sub-if1
-sub-if1 c = omega (arith, c .before .before .before .before .before .before .before .before .before .before .before .before .before .before .before .before .before .before .before .before .before .before .before .before .before .before .pre .6)
+sub-if1 c = omega (arith, c .before .before .before .before .before .before .before .before .before .before .before .before .before .before .before .before .before .before .before .before .before .before .before .pre .6)
 
 same-length : tie.Need-same-length
 same-length c = search needs
@@ -76,10 +77,10 @@ same-length-3 c = search needs
 
 returns : tie.Need-returns
 returns c =
-    let a = c .before .before .before .before .before .before .before .before .before .before .before .before .before .before .before .before .before .before .before .before .before .before .before .before .before .before .before .args in
-    let P = c .before .before .before .before .before .before .before .before .before .before .before .before .before .before .before .before .before .before .before .before .before .before .before .before .before .before .before .pre in
+    let a = c .before .before .before .before .before .before .before .before .before .before .before .before .before .before .before .before .before .before .before .before .before .before .before .before .args in
+    let P = c .before .before .before .before .before .before .before .before .before .before .before .before .before .before .before .before .before .before .before .before .before .before .before .before .pre in
     let g = a .g in
-    let S : Words → Stage = λ below. stage-of g (a .level .now) (a .ends .now) (a .heads .now) below (table-order (g .code) (table-of (g .r) (a .above .now))) in
+    let S : Stage = stage-of g (a .level .now) (a .tables .now) (table-order (g .code) (table-of (g .r) (above-in (a .tables .now)))) in
     let lf = c .before .before .before .before .before .before .before .before .before .before .before .lift-frame-term in
     let row = c .before .before .before .before .before .before .before .before .before .before .before .before .before .before .before .before .before .row in
     let K = cache-of (a .u) (a .cache .now) in
@@ -87,21 +88,21 @@ returns c =
     let m′ = monomial-of (row .result .monomial) in
     let m = row-at (a .frame .now) (a .i) .1 in
     let same : m′ ≡ m = ap (λ (t : Term). t .1) (row .ensures) in
-    ((λ below. one-full (S below) (a .room) l K m m′ (lf .last .0) (lf .last .1 .0) (lf .result) same (lf .ensures .0 below) (c .before .before .before .s .given .0 .0) (c .before .before .before .s .given .0 .1 .0) (c .before .before .before .s .given .1) (omega (arith, P .6, c .if1 .taken))), tt)
+    ((one-full S (a .room) l K m m′ (lf .last .0) (lf .last .1 .0) (lf .result) same (lf .ensures .0) (c .before .before .before .s .given .0 .0) (c .before .before .before .s .given .0 .1 .0) (c .before .before .before .s .given .1) (omega (arith, P .6, c .if1 .taken))), tt)
 
 add-out : tie.Need-add-out
-add-out c = omega (arith, c .before .before .before .before .before .before .before .before .before .before .before .before .before .before .before .before .before .before .before .before .before .before .before .before .before .before .before .pre .5, c .before .before .before .before .before .before .before .before .before .before .before .before .before .before .before .before .before .before .before .before .before .before .before .before .before .before .before .pre .6, c .if1 .left)
+add-out c = omega (arith, c .before .before .before .before .before .before .before .before .before .before .before .before .before .before .before .before .before .before .before .before .before .before .before .before .pre .5, c .before .before .before .before .before .before .before .before .before .before .before .before .before .before .before .before .before .before .before .before .before .before .before .before .pre .6, c .if1 .left)
 
 cast-out : tie.Need-cast-out
-cast-out c = omega (arith, c .before .before .before .before .before .before .before .before .before .before .before .before .before .before .before .before .before .before .before .before .before .before .before .before .before .before .before .pre .5, c .before .before .before .before .before .before .before .before .before .before .before .before .before .before .before .before .before .before .before .before .before .before .before .before .before .before .before .pre .6, c .if1 .left)
+cast-out c = omega (arith, c .before .before .before .before .before .before .before .before .before .before .before .before .before .before .before .before .before .before .before .before .before .before .before .before .pre .5, c .before .before .before .before .before .before .before .before .before .before .before .before .before .before .before .before .before .before .before .before .before .before .before .before .pre .6, c .if1 .left)
 
 mul-out : tie.Need-mul-out
-mul-out c = omega (arith, c .before .before .before .before .before .before .before .before .before .before .before .before .before .before .before .before .before .before .before .before .before .before .before .before .before .before .before .pre .2 .few, c .before .before .before .before .before .before .before .before .before .before .before .before .before .before .before .before .before .before .before .before .before .before .before .before .before .before .before .pre .3)
+mul-out c = omega (arith, c .before .before .before .before .before .before .before .before .before .before .before .before .before .before .before .before .before .before .before .before .before .before .before .before .pre .2 .few, c .before .before .before .before .before .before .before .before .before .before .before .before .before .before .before .before .before .before .before .before .before .before .before .before .pre .3)
 
 slice-write-out : tie.Need-slice-write-out
 slice-write-out c =
-    let a = c .before .before .before .before .before .before .before .before .before .before .before .before .before .before .before .before .before .before .before .before .before .before .before .before .before .before .before .args in
-    let P = c .before .before .before .before .before .before .before .before .before .before .before .before .before .before .before .before .before .before .before .before .before .before .before .before .before .before .before .pre in
+    let a = c .before .before .before .before .before .before .before .before .before .before .before .before .before .before .before .before .before .before .before .before .before .before .before .before .args in
+    let P = c .before .before .before .before .before .before .before .before .before .before .before .before .before .before .before .before .before .before .before .before .before .before .before .before .pre in
     let g = a .g in
     let lf = c .before .before .before .before .before .before .before .before .before .before .before .lift-frame-term in
     let order : a .used * 10 + 128 ≤ a .used * 10 + 128 + g .vector * 10 = omega arith in
@@ -109,8 +110,8 @@ slice-write-out c =
     let long : length (lf .last .0) ≡ a .used * 10 + 128 + g .vector * 10 - (a .used * 10 + 128) = lf .kept .0 ∙ length-part (a .out .now) (a .used * 10 + 128) (a .used * 10 + 128 + g .vector * 10 - (a .used * 10 + 128)) (omega (arith, P .4, P .6)) in
     omega (arith, length-made (a .out .now) (lf .last .0) (a .used * 10 + 128) (a .used * 10 + 128 + g .vector * 10) order room long, P .2 .few, P .3, P .4)
 
-add-t34 : tie.Need-add-t34
-add-t34 c = omega (arith, c .before .before .before .before .before .before .before .before .before .before .before .before .before .before .before .before .before .before .before .before .before .before .before .before .before .before .before .pre .5, c .before .before .before .before .before .before .before .before .before .before .before .before .before .before .before .before .before .before .before .before .before .before .before .before .before .before .before .pre .6, c .if1 .left)
+add-t31 : tie.Need-add-t31
+add-t31 c = omega (arith, c .before .before .before .before .before .before .before .before .before .before .before .before .before .before .before .before .before .before .before .before .before .before .before .before .pre .5, c .before .before .before .before .before .before .before .before .before .before .before .before .before .before .before .before .before .before .before .before .before .before .before .before .pre .6, c .if1 .left)
 
 enum-known-s-2 : tie.Need-enum-known-s-2
 enum-known-s-2 c = search needs
@@ -126,10 +127,10 @@ same-length-6 c = search needs
 
 returns-2 : tie.Need-returns-2
 returns-2 c =
-    let a = c .before .before .before .before .before .before .before .before .before .before .before .before .before .before .before .before .before .before .before .before .before .before .before .before .before .before .before .args in
-    let P = c .before .before .before .before .before .before .before .before .before .before .before .before .before .before .before .before .before .before .before .before .before .before .before .before .before .before .before .pre in
+    let a = c .before .before .before .before .before .before .before .before .before .before .before .before .before .before .before .before .before .before .before .before .before .before .before .before .args in
+    let P = c .before .before .before .before .before .before .before .before .before .before .before .before .before .before .before .before .before .before .before .before .before .before .before .before .pre in
     let g = a .g in
-    let S : Words → Stage = λ below. stage-of g (a .level .now) (a .ends .now) (a .heads .now) below (table-order (g .code) (table-of (g .r) (a .above .now))) in
+    let S : Stage = stage-of g (a .level .now) (a .tables .now) (table-order (g .code) (table-of (g .r) (above-in (a .tables .now)))) in
     let lf = c .before .before .before .before .before .before .before .before .before .before .before .lift-frame-term in
     let row = c .before .before .before .before .before .before .before .before .before .before .before .before .before .before .before .before .before .row in
     let K = cache-of (a .u) (a .cache .now) in
@@ -150,7 +151,7 @@ returns-2 c =
     let has : v * 10 ≤ length (lf .last .0) = omega (arith, long, f .0) in
     let still : a .used + v ≤ g .room = omega (arith, P .6, c .if1 .left) in
     let X : Level → Result (Lifted × Cache) = λ w. done ((w, a .used + v), cache-of u (lf .last .1 .0)) in
-    ((λ below. ap X (vectors-made (a .out .now) (lf .last .0) (a .i) (a .used) v end order room long small has (P .7)) ∙ one-kept (S below) (a .room) l K m m′ (lf .last .0) (lf .last .1 .0) (lf .result) same (lf .ensures .0 below) v u b still), (still, f .1, kept-made (a .out .now) (lf .last .0) (a .i) (a .used) v end order room long small has (P .7)))
+    ((ap X (vectors-made (a .out .now) (lf .last .0) (a .i) (a .used) v end order room long small has (P .7)) ∙ one-kept S (a .room) l K m m′ (lf .last .0) (lf .last .1 .0) (lf .result) same (lf .ensures .0) v u b still), (still, f .1, kept-made (a .out .now) (lf .last .0) (a .i) (a .used) v end order room long small has (P .7)))
 
 same-length-7 : tie.Need-same-length-7
 same-length-7 c = search needs
@@ -163,10 +164,10 @@ same-length-9 c = search needs
 
 returns-3 : tie.Need-returns-3
 returns-3 c =
-    let a = c .before .before .before .before .before .before .before .before .before .before .before .before .before .before .before .before .before .before .before .before .before .before .before .before .before .args in
-    let P = c .before .before .before .before .before .before .before .before .before .before .before .before .before .before .before .before .before .before .before .before .before .before .before .before .before .pre in
+    let a = c .before .before .before .before .before .before .before .before .before .before .before .before .before .before .before .before .before .before .before .before .before .before .args in
+    let P = c .before .before .before .before .before .before .before .before .before .before .before .before .before .before .before .before .before .before .before .before .before .before .pre in
     let g = a .g in
-    let S : Words → Stage = λ below. stage-of g (a .level .now) (a .ends .now) (a .heads .now) below (table-order (g .code) (table-of (g .r) (a .above .now))) in
+    let S : Stage = stage-of g (a .level .now) (a .tables .now) (table-order (g .code) (table-of (g .r) (above-in (a .tables .now)))) in
     let lf = c .before .before .before .before .before .before .before .before .before .lift-frame-term in
     let row = c .before .before .before .before .before .before .before .before .before .before .before .before .before .before .before .row in
     let K = cache-of (a .u) (a .cache .now) in
@@ -174,7 +175,7 @@ returns-3 c =
     let m′ = monomial-of (row .result .monomial) in
     let m = row-at (a .frame .now) (a .i) .1 in
     let same : m′ ≡ m = ap (λ (t : Term). t .1) (row .ensures) in
-    ((λ below. one-refused (S below) (a .room) l K m m′ (lf .last .0) (lf .last .1 .0) (lf .result) same (lf .ensures .0 below) (c .before .s2 .given .0 .0) (c .before .s2 .given .1)), tt)
+    ((one-refused S (a .room) l K m m′ (lf .last .0) (lf .last .1 .0) (lf .result) same (lf .ensures .0) (c .before .s2 .given .0 .0) (c .before .s2 .given .1)), tt)
 
 pub lift-one-spec : {M : Type 1} → statement M
 lift-one-spec =
@@ -200,7 +201,7 @@ lift-one-spec =
     cast-out
     mul-out
     slice-write-out
-    add-t34
+    add-t31
     enum-known-s-2
     same-length-4
     same-length-5

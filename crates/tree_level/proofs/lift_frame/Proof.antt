@@ -5,7 +5,6 @@ use mathlib.Core.List.{[]}
 use Prim.Native.Nat.{_+_, _-_, _*_}
 use lib.ListN.{length, take, drop}
 use Prim.Native.Nat.{_/_}
-use Rattle.lifting.proofs.Readying.{ends-part}
 use Rattle.levels.proofs.Walking.{whole-part}
 use Rattle.lift.specs.Vectors.{frame-terms, lifted-of, Whole}
 use Rattle.tree_level.proofs.Framed.{asked, lifted-same}
@@ -21,12 +20,6 @@ mul-start c = search needs
 add-start : tie.Need-add-start
 add-start c = search needs
 
-mul-ends : tie.Need-mul-ends
-mul-ends c = search needs
-
-add-ends : tie.Need-add-ends
-add-ends c = search needs
-
 mul-lift-all : tie.Need-mul-lift-all
 mul-lift-all c = search needs
 
@@ -39,30 +32,18 @@ part-lift-all-start c = search needs
 part-lift-all-end : tie.Need-part-lift-all-end
 part-lift-all-end c = search needs
 
-mul-lift-all-2 : tie.Need-mul-lift-all-2
-mul-lift-all-2 c = search needs
-
-sub-lift-all-2 : tie.Need-sub-lift-all-2
-sub-lift-all-2 c = search needs
-
-part-lift-all-start-2 : tie.Need-part-lift-all-start-2
-part-lift-all-start-2 c = search needs
-
-part-lift-all-end-2 : tie.Need-part-lift-all-end-2
-part-lift-all-end-2 c = search needs
-
 lift-all-requires : tie.Need-lift-all-requires
 lift-all-requires c κs =
-    let a = c .before .before .before .before .before .before .before .before .before .before .before .before .before .before .args in
+    let a = c .before .before .before .before .before .before .before .before .before .before .before .args in
     let s = a .state .now in
-    let P = c .before .before .before .before .before .before .before .before .before .before .before .before .before .before .pre in
-    let g = c .before .before .before .before .before .ground-of in
-    let ask = asked s (a .j) (P .0) (a .heads .now) (a .spans .now) (a .above .now) (P .1) (P .3) (a .b) (g .result) (take (length s - (1295 + a .j * 20480)) (drop (1295 + a .j * 20480) s)) (take (length s - (6 + a .j * 129)) (drop (6 + a .j * 129) s)) (g .ensures) (whole-part (1295 + a .j * 20480) s) (ends-part s (a .j)) (P .4) (P .5) (P .6) (a .count) (a .frame .now) (P .7) in
+    let P = c .before .before .before .before .before .before .before .before .before .before .before .pre in
+    let g = c .before .before .before .before .ground-of in
+    let ask = asked s (a .j) (P .0) (a .tables .now) (P .1) (a .b) (g .result) (take (length s - (1295 + a .j * 20480)) (drop (1295 + a .j * 20480) s)) (g .ensures) (whole-part (1295 + a .j * 20480) s) (a .count) (a .frame .now) (P .2) in
     let v = ask .4 in
     let t = ask .5 in
     let r = ask .6 in
-    let i = P .10 in
-    (ask .0, ask .1, ask .2, ask .3, omega (arith, t, i .tree, P .9), omega (arith, t, i .tree), omega (arith, v, i .filled), omega (arith, v, i .vector, r, i .room, P .8), omega (arith, r, i .room))
+    let i = P .5 in
+    (ask .0, ask .1, ask .2, ask .3, omega (arith, t, i .tree, P .4), omega (arith, t, i .tree), omega (arith, v, i .filled), omega (arith, v, i .vector, r, i .room, P .3), omega (arith, r, i .room))
 
 same-length : tie.Need-same-length
 same-length c = search needs
@@ -75,12 +56,12 @@ same-length-3 c = search needs
 
 returns : tie.Need-returns
 returns c =
-    let a = c .before .before .before .before .before .before .before .before .before .before .before .before .before .before .before .before .before .before .before .before .before .args in
+    let a = c .before .before .before .before .before .before .before .before .before .before .before .before .before .before .before .before .before .before .args in
     let s = a .state .now in
-    let P = c .before .before .before .before .before .before .before .before .before .before .before .before .before .before .before .before .before .before .before .before .before .pre in
-    let g = c .before .before .before .before .before .before .before .before .before .before .before .before .ground-of in
+    let P = c .before .before .before .before .before .before .before .before .before .before .before .before .before .before .before .before .before .before .pre in
+    let g = c .before .before .before .before .before .before .before .before .before .before .before .ground-of in
     let L = c .before .before .before .before .before .before .lift-all in (
-      lifted-same s (a .j) (P .0) (a .heads .now) (a .spans .now) (a .above .now) (P .1) (P .3) (a .b) (g .result) (take (length s - (1295 + a .j * 20480)) (drop (1295 + a .j * 20480) s)) (take (length s - (6 + a .j * 129)) (drop (6 + a .j * 129) s)) (g .ensures) (whole-part (1295 + a .j * 20480) s) (ends-part s (a .j)) (P .2 .0) (P .2 .1) (length (a .cache .now) / 10) (frame-terms (a .frame .now) (a .count)) (lifted-of (L .result) (a .count) (L .last .0) []) (L .ensures .0 (P .2 .0)),
+      lifted-same s (a .j) (P .0) (a .tables .now) (P .1) (a .b) (g .result) (take (length s - (1295 + a .j * 20480)) (drop (1295 + a .j * 20480) s)) (g .ensures) (whole-part (1295 + a .j * 20480) s) (length (a .cache .now) / 10) (frame-terms (a .frame .now) (a .count)) (lifted-of (L .result) (a .count) (L .last .0) []) (L .ensures .0),
       subst (λ g. Whole g (a .count) (L .result) (L .last .0)) (g .ensures) (L .ensures .1),
     )
 
@@ -91,16 +72,10 @@ lift-frame-spec =
     ground-of-requires
     mul-start
     add-start
-    mul-ends
-    add-ends
     mul-lift-all
     sub-lift-all
     part-lift-all-start
     part-lift-all-end
-    mul-lift-all-2
-    sub-lift-all-2
-    part-lift-all-start-2
-    part-lift-all-end-2
     lift-all-requires
     same-length
     same-length-2

@@ -14,6 +14,7 @@ use Rattle.definitions.specs.Tree.{tree}
 use Rattle.definitions.specs.Lifting.{if-few, lift-all}
 use Rattle.definitions.specs.Layout.{rows, level-at}
 use Rattle.levels.specs.Places.{count-at}
+use Rattle.reduce.specs.Grounds.{spans-in}
 use Rattle.frame.specs.Generators.{monomials-of, framed-of, few}
 use Rattle.lift.specs.Vectors.{frame-terms, lifted-of, Whole}
 use Rattle.lifting.specs.Stages.{ground-at, stage-at}
@@ -32,7 +33,7 @@ slice-aggregate-form-2 : tie.Need-slice-aggregate-form-2
 slice-aggregate-form-2 c = search needs
 
 form-requires : tie.Need-form-requires
-form-requires c κs = (omega arith, omega (arith, c .before .before .count-of .ensures, few-vectors (c .before .before .before .before .before .before .before .before .before .before .args .state .now) (c .before .before .before .before .before .before .before .before .before .before .args .j) (c .before .before .before .before .before .before .before .before .before .before .pre .0)), omega (arith, c .before .before .count-of .ensures, few-vectors (c .before .before .before .before .before .before .before .before .before .before .args .state .now) (c .before .before .before .before .before .before .before .before .before .before .args .j) (c .before .before .before .before .before .before .before .before .before .before .pre .0), c .before .before .before .before .before .before .before .before .before .before .pre .4), omega (arith, c .before .before .count-of .ensures, few-vectors (c .before .before .before .before .before .before .before .before .before .before .args .state .now) (c .before .before .before .before .before .before .before .before .before .before .args .j) (c .before .before .before .before .before .before .before .before .before .before .pre .0)))
+form-requires c κs = (omega arith, omega (arith, c .before .before .count-of .ensures, few-vectors (c .before .before .before .before .before .before .before .before .args .state .now) (c .before .before .before .before .before .before .before .before .args .j) (c .before .before .before .before .before .before .before .before .pre .0)), omega (arith, c .before .before .count-of .ensures, few-vectors (c .before .before .before .before .before .before .before .before .args .state .now) (c .before .before .before .before .before .before .before .before .args .j) (c .before .before .before .before .before .before .before .before .pre .0), c .before .before .before .before .before .before .before .before .pre .1 .long), omega (arith, c .before .before .count-of .ensures, few-vectors (c .before .before .before .before .before .before .before .before .args .state .now) (c .before .before .before .before .before .before .before .before .args .j) (c .before .before .before .before .before .before .before .before .pre .0)))
 
 enum-told : tie.Need-enum-told
 enum-told c = search needs
@@ -45,17 +46,17 @@ slice-aggregate-lift-frame c = search needs
 
 lift-frame-requires : tie.Need-lift-frame-requires
 lift-frame-requires c κs =
-    let a = c .before .before .before .before .before .before .before .before .before .before .before .before .before .before .before .before .before .before .before .before .args in
+    let a = c .before .before .before .before .before .before .before .before .before .before .before .before .before .before .before .before .before .before .args in
     let s = a .state .now in
-    let P = c .before .before .before .before .before .before .before .before .before .before .before .before .before .before .before .before .before .before .before .before .pre in
+    let P = c .before .before .before .before .before .before .before .before .before .before .before .before .before .before .before .before .before .before .pre in
     let r : c .before .before .before .before .before .before .before .before .before .before .before .before .count-of .result ≡ count-at s (a .j) = c .before .before .before .before .before .before .before .before .before .before .before .before .count-of .ensures in
-    let F0 = monomials-of (rows (a .heads .now) 0 (c .before .before .before .before .before .before .before .before .before .before .before .before .count-of .result)) in
-    let lead : F0 ≡ leading-monomials (level-at document-01 s (a .j)) = ap (λ k. monomials-of (rows (a .heads .now) 0 k)) r ∙ leading-at s (a .j) (P .0) (a .heads .now) (a .spans .now) (P .1) in
+    let F0 = monomials-of (rows (a .tables .now) 0 (c .before .before .before .before .before .before .before .before .before .before .before .before .count-of .result)) in
+    let lead : F0 ≡ leading-monomials (level-at document-01 s (a .j)) = ap (λ k. monomials-of (rows (a .tables .now) 0 k)) r ∙ leading-at s (a .j) (P .0) (a .tables .now) (spans-in (a .tables .now)) (P .1 .led) in
     let F = c .before .before .before .before .before .before .before .before .before .form in
     let n = c .before .before .before .before .before .n .given .0 .0 in
     let told : done (monomials-of (rows (F .last .0) 0 n)) ≡ if-few (leb (length (frame 1 F0)) 128) (frame 1 F0) = sym (ap (λ y. framed-of y (F .last .0)) (c .before .before .before .before .before .n .given .1)) ∙ F .ensures .0 in
     let m : n ≤ 128 = subst (few 128) (c .before .before .before .before .before .n .given .1) (F .ensures .1) in
-    (P .0, P .1, P .2, P .3, P .4, P .5, P .6, record { few = m; fits = omega (arith, m); terms = whole-frame 1 F0 (leading-monomials (level-at document-01 s (a .j))) (frame-terms (F .last .0) n) lead told }, P .7, P .8, P .9)
+    (P .0, P .1, record { few = m; fits = omega (arith, m); terms = whole-frame 1 F0 (leading-monomials (level-at document-01 s (a .j))) (frame-terms (F .last .0) n) lead told }, P .2, P .3, P .4)
 
 enum-known-used : tie.Need-enum-known-used
 enum-known-used c = search needs
@@ -68,12 +69,12 @@ enum-known-x-2 c = search needs
 
 returns : tie.Need-returns
 returns c =
-    let a = c .before .before .before .before .before .before .before .before .before .before .before .before .before .before .before .args in
+    let a = c .before .before .before .before .before .before .before .before .before .before .before .before .before .args in
     let s = a .state .now in
-    let P = c .before .before .before .before .before .before .before .before .before .before .before .before .before .before .before .pre in
+    let P = c .before .before .before .before .before .before .before .before .before .before .before .before .before .pre in
     let r : c .before .before .before .before .before .before .before .count-of .result ≡ count-at s (a .j) = c .before .before .before .before .before .before .before .count-of .ensures in
-    let F0 = monomials-of (rows (a .heads .now) 0 (c .before .before .before .before .before .before .before .count-of .result)) in
-    let lead : F0 ≡ leading-monomials (level-at document-01 s (a .j)) = ap (λ k. monomials-of (rows (a .heads .now) 0 k)) r ∙ leading-at s (a .j) (P .0) (a .heads .now) (a .spans .now) (P .1) in
+    let F0 = monomials-of (rows (a .tables .now) 0 (c .before .before .before .before .before .before .before .count-of .result)) in
+    let lead : F0 ≡ leading-monomials (level-at document-01 s (a .j)) = ap (λ k. monomials-of (rows (a .tables .now) 0 k)) r ∙ leading-at s (a .j) (P .0) (a .tables .now) (spans-in (a .tables .now)) (P .1 .led) in
     let F = c .before .before .before .before .form in
     (too-many (getD s 2 0) (level-at document-01 s (a .j)) F0 (λ ms. lift-all (stage-at (a .b) s (a .j)) (tree (stage-at (a .b) s (a .j)) (length (a .cache .now) / 10)) ([], 0) [] ms) lead (sym (ap (λ y. framed-of y (F .last .0)) (c .enum-told .given .1)) ∙ F .ensures .0), tt)
 
@@ -88,18 +89,18 @@ same-length-3 c = search needs
 
 returns-2 : tie.Need-returns-2
 returns-2 c =
-    let a = c .before .before .before .before .before .before .before .before .before .before .before .before .before .before .before .before .before .before .before .before .before .before .before .before .before .before .before .before .before .before .args in
+    let a = c .before .before .before .before .before .before .before .before .before .before .before .before .before .before .before .before .before .before .before .before .before .before .before .before .before .before .before .before .args in
     let s = a .state .now in
-    let P = c .before .before .before .before .before .before .before .before .before .before .before .before .before .before .before .before .before .before .before .before .before .before .before .before .before .before .before .before .before .before .pre in
+    let P = c .before .before .before .before .before .before .before .before .before .before .before .before .before .before .before .before .before .before .before .before .before .before .before .before .before .before .before .before .pre in
     let r : c .before .before .before .before .before .before .before .before .before .before .before .before .before .before .before .before .before .before .before .before .before .before .count-of .result ≡ count-at s (a .j) = c .before .before .before .before .before .before .before .before .before .before .before .before .before .before .before .before .before .before .before .before .before .before .count-of .ensures in
-    let F0 = monomials-of (rows (a .heads .now) 0 (c .before .before .before .before .before .before .before .before .before .before .before .before .before .before .before .before .before .before .before .before .before .before .count-of .result)) in
-    let lead : F0 ≡ leading-monomials (level-at document-01 s (a .j)) = ap (λ k. monomials-of (rows (a .heads .now) 0 k)) r ∙ leading-at s (a .j) (P .0) (a .heads .now) (a .spans .now) (P .1) in
+    let F0 = monomials-of (rows (a .tables .now) 0 (c .before .before .before .before .before .before .before .before .before .before .before .before .before .before .before .before .before .before .before .before .before .before .count-of .result)) in
+    let lead : F0 ≡ leading-monomials (level-at document-01 s (a .j)) = ap (λ k. monomials-of (rows (a .tables .now) 0 k)) r ∙ leading-at s (a .j) (P .0) (a .tables .now) (spans-in (a .tables .now)) (P .1 .led) in
     let F = c .before .before .before .before .before .before .before .before .before .before .before .before .before .before .before .before .before .before .before .form in
     let n = c .before .before .before .before .before .before .before .before .before .before .before .before .before .before .before .n .given .0 .0 in
     let told : done (monomials-of (rows (F .last .0) 0 n)) ≡ if-few (leb (length (frame 1 F0)) 128) (frame 1 F0) = sym (ap (λ y. framed-of y (F .last .0)) (c .before .before .before .before .before .before .before .before .before .before .before .before .before .before .before .n .given .1)) ∙ F .ensures .0 in
     let L = c .before .before .before .before .before .before .before .before .before .lift-frame in (
       sym (ap (λ y. lifted-of y n (L .last .0) []) (c .before .used .given .1)) ∙ L .ensures .0 ∙ few-enough (getD s 2 0) (level-at document-01 s (a .j)) F0 (frame-terms (F .last .0) n) (λ ms. lift-all (stage-at (a .b) s (a .j)) (tree (stage-at (a .b) s (a .j)) (length (a .cache .now) / 10)) ([], 0) [] ms) lead told,
-      (let h = subst (λ y. Whole (ground-at (a .b) s (a .j)) n y (L .last .0)) (c .before .used .given .1) (L .ensures .1) in (omega (arith, h .0, P .9 .room), h .1)),
+      (let h = subst (λ y. Whole (ground-at (a .b) s (a .j)) n y (L .last .0)) (c .before .used .given .1) (L .ensures .1) in (omega (arith, h .0, P .4 .room), h .1)),
     )
 
 same-length-4 : tie.Need-same-length-4
@@ -113,12 +114,12 @@ same-length-6 c = search needs
 
 returns-3 : tie.Need-returns-3
 returns-3 c =
-    let a = c .before .before .before .before .before .before .before .before .before .before .before .before .before .before .before .before .before .before .before .before .before .before .before .before .before .before .before .before .before .before .args in
+    let a = c .before .before .before .before .before .before .before .before .before .before .before .before .before .before .before .before .before .before .before .before .before .before .before .before .before .before .before .before .args in
     let s = a .state .now in
-    let P = c .before .before .before .before .before .before .before .before .before .before .before .before .before .before .before .before .before .before .before .before .before .before .before .before .before .before .before .before .before .before .pre in
+    let P = c .before .before .before .before .before .before .before .before .before .before .before .before .before .before .before .before .before .before .before .before .before .before .before .before .before .before .before .before .pre in
     let r : c .before .before .before .before .before .before .before .before .before .before .before .before .before .before .before .before .before .before .before .before .before .before .count-of .result ≡ count-at s (a .j) = c .before .before .before .before .before .before .before .before .before .before .before .before .before .before .before .before .before .before .before .before .before .before .count-of .ensures in
-    let F0 = monomials-of (rows (a .heads .now) 0 (c .before .before .before .before .before .before .before .before .before .before .before .before .before .before .before .before .before .before .before .before .before .before .count-of .result)) in
-    let lead : F0 ≡ leading-monomials (level-at document-01 s (a .j)) = ap (λ k. monomials-of (rows (a .heads .now) 0 k)) r ∙ leading-at s (a .j) (P .0) (a .heads .now) (a .spans .now) (P .1) in
+    let F0 = monomials-of (rows (a .tables .now) 0 (c .before .before .before .before .before .before .before .before .before .before .before .before .before .before .before .before .before .before .before .before .before .before .count-of .result)) in
+    let lead : F0 ≡ leading-monomials (level-at document-01 s (a .j)) = ap (λ k. monomials-of (rows (a .tables .now) 0 k)) r ∙ leading-at s (a .j) (P .0) (a .tables .now) (spans-in (a .tables .now)) (P .1 .led) in
     let F = c .before .before .before .before .before .before .before .before .before .before .before .before .before .before .before .before .before .before .before .form in
     let n = c .before .before .before .before .before .before .before .before .before .before .before .before .before .before .before .n .given .0 .0 in
     let told : done (monomials-of (rows (F .last .0) 0 n)) ≡ if-few (leb (length (frame 1 F0)) 128) (frame 1 F0) = sym (ap (λ y. framed-of y (F .last .0)) (c .before .before .before .before .before .before .before .before .before .before .before .before .before .before .before .n .given .1)) ∙ F .ensures .0 in
@@ -138,12 +139,12 @@ same-length-9 c = search needs
 
 returns-4 : tie.Need-returns-4
 returns-4 c =
-    let a = c .before .before .before .before .before .before .before .before .before .before .before .before .before .before .before .before .before .before .before .before .before .before .before .before .before .before .before .before .before .before .args in
+    let a = c .before .before .before .before .before .before .before .before .before .before .before .before .before .before .before .before .before .before .before .before .before .before .before .before .before .before .before .before .args in
     let s = a .state .now in
-    let P = c .before .before .before .before .before .before .before .before .before .before .before .before .before .before .before .before .before .before .before .before .before .before .before .before .before .before .before .before .before .before .pre in
+    let P = c .before .before .before .before .before .before .before .before .before .before .before .before .before .before .before .before .before .before .before .before .before .before .before .before .before .before .before .before .pre in
     let r : c .before .before .before .before .before .before .before .before .before .before .before .before .before .before .before .before .before .before .before .before .before .before .count-of .result ≡ count-at s (a .j) = c .before .before .before .before .before .before .before .before .before .before .before .before .before .before .before .before .before .before .before .before .before .before .count-of .ensures in
-    let F0 = monomials-of (rows (a .heads .now) 0 (c .before .before .before .before .before .before .before .before .before .before .before .before .before .before .before .before .before .before .before .before .before .before .count-of .result)) in
-    let lead : F0 ≡ leading-monomials (level-at document-01 s (a .j)) = ap (λ k. monomials-of (rows (a .heads .now) 0 k)) r ∙ leading-at s (a .j) (P .0) (a .heads .now) (a .spans .now) (P .1) in
+    let F0 = monomials-of (rows (a .tables .now) 0 (c .before .before .before .before .before .before .before .before .before .before .before .before .before .before .before .before .before .before .before .before .before .before .count-of .result)) in
+    let lead : F0 ≡ leading-monomials (level-at document-01 s (a .j)) = ap (λ k. monomials-of (rows (a .tables .now) 0 k)) r ∙ leading-at s (a .j) (P .0) (a .tables .now) (spans-in (a .tables .now)) (P .1 .led) in
     let F = c .before .before .before .before .before .before .before .before .before .before .before .before .before .before .before .before .before .before .before .form in
     let n = c .before .before .before .before .before .before .before .before .before .before .before .before .before .before .before .n .given .0 .0 in
     let told : done (monomials-of (rows (F .last .0) 0 n)) ≡ if-few (leb (length (frame 1 F0)) 128) (frame 1 F0) = sym (ap (λ y. framed-of y (F .last .0)) (c .before .before .before .before .before .before .before .before .before .before .before .before .before .before .before .n .given .1)) ∙ F .ensures .0 in

@@ -1,0 +1,35 @@
+use borrow.Author.Needs.{needs}
+use mathlib.Core.Path.{ap, _∙_}
+use lib.Seq.{paste}
+use Rattle.reduce.specs.Grounds.{ends-start, below-start, above-start}
+use Rattle.lifting.proofs.join_tables.Statement.{statement}
+use Rattle.lifting.proofs.join_tables.Tie as tie
+
+copy-requires : tie.Need-copy-requires
+copy-requires c κs = search needs
+
+copy-requires-2 : tie.Need-copy-requires-2
+copy-requires-2 c κs = search needs
+
+copy-requires-3 : tie.Need-copy-requires-3
+copy-requires-3 c κs = search needs
+
+copy-requires-4 : tie.Need-copy-requires-4
+copy-requires-4 c κs = search needs
+
+same-length : tie.Need-same-length
+same-length c = search needs
+
+returns : tie.Need-returns
+returns c =
+    let a = c .before .before .before .before .before .before .before .before .before .before .before .before .before .before .before .before .before .before .before .before .before .args in
+    c .before .before .copy4 .ensures
+    ∙ ap (λ z. paste z above-start (a .above .now) 1280) (
+      c .before .before .before .before .before .before .copy3 .ensures
+      ∙ ap (λ z. paste z below-start (a .below .now) 1280) (c .before .before .before .before .before .before .before .before .before .before .copy2 .ensures ∙ ap (λ z. paste z ends-start (a .ends .now) 128) (c .before .before .before .before .before .before .before .before .before .before .before .before .before .before .copy .ensures))
+    )
+
+pub join-tables-spec : {M : Type 1} → statement M
+join-tables-spec =
+    tie.close
+    (tie.spec copy-requires copy-requires-2 copy-requires-3 copy-requires-4 same-length returns)
