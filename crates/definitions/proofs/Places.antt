@@ -4,7 +4,7 @@ use Prim.Native.Nat.{ℕ, suc, _+_, _*_, _<_, _≤_}
 use native.Mathlib.Omega.{arith}
 use Rattle.definitions.specs.Limits.{document-01}
 use Rattle.definitions.specs.Layout.{level-vectors, level-rows, count-place, rows-place, state-words, work-words, out-words, division, tree}
-use Rattle.definitions.specs.Places.{exponents-length, most-exponent, most-variables, most-components, most-elements, most-vectors, most-rows, most-terms, most-tree-terms, most-levels, all-levels, row-length, component-offset, exponents-offset, counts-length, rows-start, level-length, state-length, count-offset, ends-offset, rows-offset, value-length, tree-length, vector-length, table-length, spans-length, ends-length, lifted-length, grown-length, file-length, s-line-length, pair-line-length, s-lines-length, level-lines-length}
+use Rattle.definitions.specs.Places.{exponents-length, most-exponent, most-variables, most-components, most-elements, most-vectors, most-rows, most-terms, most-tree-terms, most-levels, all-levels, row-length, component-offset, exponents-offset, counts-length, rows-start, level-length, state-length, count-offset, ends-offset, rows-offset, value-length, tree-length, vector-length, table-length, spans-length, ends-length, lifted-length, grown-length, file-length, read-length, s-line-length, pair-line-length, s-lines-length, level-lines-length}
 
 -- ## The numbers
 
@@ -12,8 +12,8 @@ use Rattle.definitions.specs.Places.{exponents-length, most-exponent, mo
 limits-are : (exponents-length ≡ document-01 .variables) × (most-exponent ≡ document-01 .exponent) × (most-variables ≡ document-01 .variables)
     × (most-components ≡ document-01 .components) × (most-elements ≡ document-01 .elements) × (most-vectors ≡ document-01 .vectors) × (most-vectors ≡ level-vectors document-01)
     × (most-rows ≡ document-01 .t-lines) × (most-rows ≡ level-rows document-01) × (most-terms ≡ document-01 .working) × (most-terms ≡ document-01 .vector)
-    × (most-tree-terms ≡ document-01 .tree) × (most-levels ≡ document-01 .levels) × (all-levels ≡ suc (document-01 .levels)) × (file-length ≡ document-01 .file)
-limits-are = (refl, refl, refl, refl, refl, refl, refl, refl, refl, refl, refl, refl, refl, refl, refl)
+    × (most-tree-terms ≡ document-01 .tree) × (most-levels ≡ document-01 .levels) × (all-levels ≡ suc (document-01 .levels)) × (file-length ≡ document-01 .file) × (read-length ≡ suc file-length)
+limits-are = (refl, refl, refl, refl, refl, refl, refl, refl, refl, refl, refl, refl, refl, refl, refl, refl)
 
 -- of rows
 row-is : (row-length ≡ exponents-offset + exponents-length) × (exponents-offset ≡ suc component-offset)

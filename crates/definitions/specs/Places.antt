@@ -133,6 +133,10 @@ grown-length = 25_728
 abbrev pub file-length : ℕ
 file-length = 65_536
 
+-- what the program reads of one: a byte more, to tell a file that is too long
+abbrev pub read-length : ℕ
+read-length = 65_537
+
 -- the sheet's lines at the most: an S line, a W line, a Z or X line; all S lines of a level, and its Z line with them
 abbrev pub s-line-length : ℕ
 s-line-length = 74

@@ -17,6 +17,7 @@ use Rattle.definitions.specs.Lifting.{lift-level}
 use Rattle.definitions.specs.Calls.{refuse, settled, pick-code?, lift}
 use Rattle.definitions.specs.Layout.{Words, Way, division, hybrid, tree, Lift, lifting-by, work-words, levels-at, decode, holds-state?, meant, lift-left, lift-call}
 use Rattle.definitions.proofs.Tests.{true-is}
+use Rattle.definitions.specs.Places.{most-levels, state-length}
 use Rattle.levels.specs.Places.{parameters-at}
 use Rattle.stages.proofs.Complete.{up-to-is, meant-is, length-levels, holds-sound}
 use Rattle.engine_lift.specs.Lifts.{own-pick?, settled-lift, state-over, lifted-over}
@@ -34,21 +35,21 @@ module _ (s w z : Words) (k : ℕ) (way : Way) where
       then λ a. some (lift-left document-01 s w z a)
 
   abbrev at-tests : ℕ → Bool → Bool → State → Option Lift
-  at-tests n long long′ X = by-tests n long long′ X (sound? document-01 X) (between 1 k 9) (has-level? X (k - 1)) (pick-code? (lifting-by way z))
+  at-tests n long long′ X = by-tests n long long′ X (sound? document-01 X) (between 1 k most-levels) (has-level? X (k - 1)) (pick-code? (lifting-by way z))
 
   -- the call's contract
   abbrev Called : Lift → Type 0
   Called r = (n : ℕ) × (some r ≡ lift-call document-01 n k way s w z)
 
-  pub short-state : length s < 206095 → Called (16, 0, s, w, z)
-  short-state h = (0, sym (ap (λ b. at-tests 0 b (leb (work-words document-01 way) (length w)) (meant document-01 s)) (lt-leb 206095 (length s) h)))
+  pub short-state : length s < state-length → Called (16, 0, s, w, z)
+  short-state h = (0, sym (ap (λ b. at-tests 0 b (leb (work-words document-01 way) (length w)) (meant document-01 s)) (lt-leb state-length (length s) h)))
 
-  module _ (long : 206095 ≤ length s) where
+  module _ (long : state-length ≤ length s) where
     pub short-work : length w < work-words document-01 way → Called (16, 0, s, w, z)
     short-work h = (
       0,
       sym (ap (λ b. at-tests 0 true b (meant document-01 s)) (lt-leb (work-words document-01 way) (length w) h))
-          ∙ sym (ap (λ b. at-tests 0 b (leb (work-words document-01 way) (length w)) (meant document-01 s)) (le-leb 206095 (length s) long)),
+          ∙ sym (ap (λ b. at-tests 0 b (leb (work-words document-01 way) (length w)) (meant document-01 s)) (le-leb state-length (length s) long)),
     )
 
     module _ (wide : work-words document-01 way ≤ length w) where
@@ -56,7 +57,7 @@ module _ (s w z : Words) (k : ℕ) (way : Way) where
       after-lengths n X e =
           ap (at-tests n true true) e
           ∙ sym (ap (λ b. at-tests n true b (meant document-01 s)) (le-leb (work-words document-01 way) (length w) wide))
-          ∙ sym (ap (λ b. at-tests n b (leb (work-words document-01 way) (length w)) (meant document-01 s)) (le-leb 206095 (length s) long))
+          ∙ sym (ap (λ b. at-tests n b (leb (work-words document-01 way) (length w)) (meant document-01 s)) (le-leb state-length (length s) long))
 
       nothing-meant : false ≡ holds-state? document-01 s → empty ≡ meant document-01 s
       nothing-meant e = ap (λ b. elim b [ true ↦ decode document-01 s | false ↦ empty ]) e
@@ -71,21 +72,21 @@ module _ (s w z : Words) (k : ℕ) (way : Way) where
         sound-is : sound? document-01 X ≡ true
         sound-is = true-is (sound? document-01 X) (holds-sound s holds)
 
-        in-state : (n : ℕ) (inside has own : Bool) → between 1 k 9 ≡ inside → has-level? X (k - 1) ≡ has → pick-code? (lifting-by way z) ≡ own
+        in-state : (n : ℕ) (inside has own : Bool) → between 1 k most-levels ≡ inside → has-level? X (k - 1) ≡ has → pick-code? (lifting-by way z) ≡ own
             → by-tests n true true X true inside has own ≡ lift-call document-01 n k way s w z
         in-state n inside has own a b c =
             sym (λ i. by-tests n true true X (sound-is i) (a i) (b i) (c i)) ∙ after-lengths n X (sym (meant-is s holds))
 
-        pub no-such-level : false ≡ between 1 k 9 → Called (12, 0, s, w, z)
+        pub no-such-level : false ≡ between 1 k most-levels → Called (12, 0, s, w, z)
         no-such-level e = (0, in-state 0 false (has-level? X (k - 1)) (pick-code? (lifting-by way z)) (sym e) refl refl)
 
-        pub not-complete : true ≡ between 1 k 9 → getD s 4 0 ≤ k - 1 → Called (11, 0, s, w, z)
+        pub not-complete : true ≡ between 1 k most-levels → getD s 4 0 ≤ k - 1 → Called (11, 0, s, w, z)
         not-complete e h = (
           0,
           in-state 0 true false (pick-code? (lifting-by way z)) (sym e) (le-ltb (k - 1) (length (levels-at document-01 s (getD s 4 0))) (omega (arith, length-levels s (getD s 4 0), h))) refl,
         )
 
-        module _ (inside : between 1 k 9 ≡ true) (has : k - 1 < getD s 4 0) where
+        module _ (inside : between 1 k most-levels ≡ true) (has : k - 1 < getD s 4 0) where
           has-it : has-level? X (k - 1) ≡ true
           has-it = lt-ltb (k - 1) (length (levels-at document-01 s (getD s 4 0))) (omega (arith, length-levels s (getD s 4 0), has))
 

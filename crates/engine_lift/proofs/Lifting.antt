@@ -22,6 +22,7 @@ use Rattle.definitions.proofs.Modular.{prime-says}
 use Rattle.definitions.proofs.Numbers as numbers
 use Rattle.definitions.proofs.Numbers.{limit-number?, Numbered, lift-level-number}
 use Rattle.definitions.proofs.Rows.{length-rows}
+use Rattle.definitions.specs.Places.{most-rows, most-terms, state-length, ends-length, lifted-length}
 use Rattle.demands.proofs.Results.{Gives, gives, refuses, open-yet}
 use Rattle.demands.proofs.Over.{Lift-right, over}
 use Rattle.tables.specs.Cuts.{start-of}
@@ -40,7 +41,7 @@ use Rattle.storing.specs.Stored.{Kept-apart, with-level}
 use Rattle.engine_lift.specs.Lifts.{Chosen, by-picks, by-leading, Settles, settled-lift, state-over}
 use Rattle.engine.proofs.Settled.{zeroed}
 
-pub few-variables : (s : Words) → 206095 ≤ length s → T (holds-state? document-01 s) → getD s 1 0 ≤ 8
+pub few-variables : (s : Words) → state-length ≤ length s → T (holds-state? document-01 s) → getD s 1 0 ≤ 8
 few-variables s long holds = between-high 1 (getD s 1 0) 8 (and-left (between 1 (getD s 1 0) 8) (between 1 (getD s 2 0) 3 and between 1 (getD s 3 0) 16) (holds-said s long holds .3))
 
 module _ (s : Words) (j : ℕ) (b : Base s j) where
@@ -88,35 +89,35 @@ before a es zero = a
 before a es (suc i) = getD es i 0
 
 module _ (q : Parameters) (components : ℕ) (below : List Level) where
-  filled-from : (z : Words) (a : ℕ) (es : Words) → T (every (vector-sound? document-01 q components 512 below) (vectors-at z a es)) → (j : ℕ) → j < length es → before a es j < getD es j 0
+  filled-from : (z : Words) (a : ℕ) (es : Words) → T (every (vector-sound? document-01 q components most-terms below) (vectors-at z a es)) → (j : ℕ) → j < length es → before a es j < getD es j 0
   filled-from z a [] t j h = absurd (not-suc-le-zero h)
   filled-from z a (e ∷ es) t zero h =
-      let v = vector-says document-01 q components 512 below (rows z a (e - a)) (and-left (vector-sound? document-01 q components 512 below (rows z a (e - a))) (every (vector-sound? document-01 q components 512 below) (vectors-at z e es)) t) in
+      let v = vector-says document-01 q components most-terms below (rows z a (e - a)) (and-left (vector-sound? document-01 q components most-terms below (rows z a (e - a))) (every (vector-sound? document-01 q components most-terms below) (vectors-at z e es)) t) in
       omega (arith, v .filled, length-rows z a (e - a))
   filled-from z a (e ∷ es) t (suc zero) h =
-      filled-from z e es (and-right (vector-sound? document-01 q components 512 below (rows z a (e - a))) (every (vector-sound? document-01 q components 512 below) (vectors-at z e es)) t) zero (omega arith)
+      filled-from z e es (and-right (vector-sound? document-01 q components most-terms below (rows z a (e - a))) (every (vector-sound? document-01 q components most-terms below) (vectors-at z e es)) t) zero (omega arith)
   filled-from z a (e ∷ es) t (suc (suc j)) h =
-      filled-from z e es (and-right (vector-sound? document-01 q components 512 below (rows z a (e - a))) (every (vector-sound? document-01 q components 512 below) (vectors-at z e es)) t) (suc j) (omega arith)
+      filled-from z e es (and-right (vector-sound? document-01 q components most-terms below (rows z a (e - a))) (every (vector-sound? document-01 q components most-terms below) (vectors-at z e es)) t) (suc j) (omega arith)
 
 start-before : (out : Words) (n j : ℕ) → j < n → before 0 (take n out) j ≡ start-of out j
 start-before out n zero h = refl
 start-before out n (suc j) h = getD-take n out j 0 (omega arith)
 
-pub apart : (s : Words) (j : ℕ) (b : Base s j) (n used : ℕ) (out : Words) → 20608 ≤ length out → used ≤ 2048 → Kept n used out
+pub apart : (s : Words) (j : ℕ) (b : Base s j) (n used : ℕ) (out : Words) → lifted-length ≤ length out → used ≤ most-rows → Kept n used out
     → T (levels-sound? document-01 (parameters-at s) (lifted-vectors out n ∷ levels-at document-01 s (suc j))) → Kept-apart n out
 apart s j b n used out l u k t = record {
   few = k .few;
   long = omega (arith, l);
   filled = λ i h.
       let x = level-says document-01 (parameters-at s) (lifted-vectors out n) (level-at document-01 s j) (levels-at document-01 s j) t .vectors in
-      let y = filled-from (parameters-at s) (length (level-at document-01 s j)) (levels-at document-01 s (suc j)) (drop 128 out) 0 (take n out) x i (omega (arith, length-take-le n out (omega (arith, l, k .few)))) in
+      let y = filled-from (parameters-at s) (length (level-at document-01 s j)) (levels-at document-01 s (suc j)) (drop ends-length out) 0 (take n out) x i (omega (arith, length-take-le n out (omega (arith, l, k .few)))) in
       omega (arith, y, start-before out n i h, getD-take n out i 0 h);
   room = λ i h. omega (arith, k .inside i h, u);
 }
 
 -- ## What can be stored
 
-module _ (s : Words) (j : ℕ) (b : Base s j) (out : Words) (long : 20608 ≤ length out) where
+module _ (s : Words) (j : ℕ) (b : Base s j) (out : Words) (long : lifted-length ≤ length out) where
   settles : (x : Leveled) (v : Words) → Right s j b (leveled-of x out v) → Stored-as x out → Settles x out
   settles (Vectors n used) v r k = apart s j b n used out long (k .0) (k .1) r
   settles (Refused number) v r k = tt
@@ -150,7 +151,7 @@ module _ (s : Words) (j : ℕ) (b : Base s j) (out : Words) (long : 20608 ≤ le
 pub emptied : (room : ℕ) (z : Words) → length z ≡ room → cleared z 0 ≡ replicate room 0
 emptied room z e = let d : length z - 0 ≡ room = omega (arith, e) in ap (λ a. replicate a 0) d
 
-module _ (s : Words) (long : 206095 ≤ length s) (k : ℕ) (area room : ℕ) where
+module _ (s : Words) (long : state-length ≤ length s) (k : ℕ) (area room : ℕ) where
   pub lifted-words : (x : Leveled) (count used : ℕ) (out z y w : Words) → x ≡ Vectors count used → z ≡ encode document-01 (length s) (with-level s k count out) → length y ≡ area → length w ≡ room
       → _≡_ {A = Lift} (0, 0, z, cleared y 0, cleared w 0) (settled-lift (length s) area room (state-over s k (leveled-of x out [])))
   lifted-words x count used out z y w e p ly lw = (λ i. (0, 0, p i, zeroed area y ly i, emptied room w lw i)) ∙ ap (λ r. settled-lift (length s) area room (state-over s k (leveled-of r out []))) (sym e)

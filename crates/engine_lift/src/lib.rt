@@ -10,6 +10,7 @@ ghost use lib.ListN.{length, getD};
 ghost use Rattle.definitions.specs.Limits.{document-01};
 ghost use Rattle.definitions.specs.Result.{finished?};
 ghost use Rattle.definitions.specs.Layout.{work-words, lift-call, holds-state?};
+ghost use Rattle.definitions.specs.Places.{most-levels, row-length, state-length, value-length, tree-length};
 ghost use Rattle.terms.specs.Rows.{cleared};
 ghost use Rattle.lifting.specs.Stages.{Base, usual, lift-over, leveled-of};
 ghost use Rattle.tree_level.specs.Over.{tree-over};
@@ -56,7 +57,7 @@ fn settle(
     x: Leveled,
     out: &[u16],
 ) -> Reply
-    requires { ⌜ (1 ≤ k) × (k ≤ 9) × Base (now state) (k - 1) × Settles x (now out) ⌝ }
+    requires { ⌜ (1 ≤ k) × (k ≤ most-levels) × Base (now state) (k - 1) × Settles x (now out) ⌝ }
     ensures { λ r. ⌜ lift-reply r (now (state .exit)) (now (work .exit)) (now (cache .exit)) ≡ settled-lift (length (now (state .entry))) (length (now (work .entry))) (length (now (cache .entry))) (state-over (now (state .entry)) k (leveled-of x (now (out .entry)) [])) ⌝ }
 {
     match x {
@@ -86,10 +87,10 @@ fn settle(
 
 // Level k over the complete level k − 1, by division or hybrid.
 fn lift_runs(state: &mut [u16], work: &mut [u16], cache: &mut [u16], k: usize, w: Strategy) -> Reply
-    requires { ⌜ (1 ≤ k) × (k ≤ 9) × Base (now state) (k - 1) × (5120 ≤ length (now work)) × Chosen w ⌝ }
+    requires { ⌜ (1 ≤ k) × (k ≤ most-levels) × Base (now state) (k - 1) × (value-length ≤ length (now work)) × Chosen w ⌝ }
     ensures { λ r. ⌜ ((n : ℕ) × (lift-reply r (now (state .exit)) (now (work .exit)) (now (cache .exit)) ≡ settled-lift (length (now (state .entry))) (length (now (work .entry))) (length (now (cache .entry))) (state-over (now (state .entry)) k (lift-over usual (now (state .entry)) (k - 1) w n))) × T (finished? (lift-over usual (now (state .entry)) (k - 1) w n))) ⌝ }
 {
-    let mut out = [0u16; 20608];
+    let mut out = [0u16; words::LIFTED_LENGTH];
     let b = lifting::usual();
     let x = lifting::lift_level(&mut out, work, state, k - 1, w, b);
     settle(state, work, cache, k, x, &out)
@@ -97,10 +98,10 @@ fn lift_runs(state: &mut [u16], work: &mut [u16], cache: &mut [u16], k: usize, w
 
 // .. by the tree.
 fn lift_tree(state: &mut [u16], work: &mut [u16], cache: &mut [u16], k: usize) -> Reply
-    requires { ⌜ (1 ≤ k) × (k ≤ 9) × Base (now state) (k - 1) × (40960 ≤ length (now work)) ⌝ }
-    ensures { λ r. ⌜ (lift-reply r (now (state .exit)) (now (work .exit)) (now (cache .exit)) ≡ settled-lift (length (now (state .entry))) (length (now (work .entry))) (length (now (cache .entry))) (state-over (now (state .entry)) k (tree-over usual (now (state .entry)) (k - 1) (length (now (cache .entry)) / 10)))) × T (finished? (tree-over usual (now (state .entry)) (k - 1) (length (now (cache .entry)) / 10))) ⌝ }
+    requires { ⌜ (1 ≤ k) × (k ≤ most-levels) × Base (now state) (k - 1) × (tree-length ≤ length (now work)) ⌝ }
+    ensures { λ r. ⌜ (lift-reply r (now (state .exit)) (now (work .exit)) (now (cache .exit)) ≡ settled-lift (length (now (state .entry))) (length (now (work .entry))) (length (now (cache .entry))) (state-over (now (state .entry)) k (tree-over usual (now (state .entry)) (k - 1) (length (now (cache .entry)) / row-length)))) × T (finished? (tree-over usual (now (state .entry)) (k - 1) (length (now (cache .entry)) / row-length))) ⌝ }
 {
-    let mut out = [0u16; 25728];
+    let mut out = [0u16; words::GROWN_LENGTH];
     let b = lifting::usual();
     let x = tree_level::lift_level(&mut out, cache, work, state, k - 1, b);
     settle(state, work, cache, k, x, &out)
@@ -108,7 +109,7 @@ fn lift_tree(state: &mut [u16], work: &mut [u16], cache: &mut [u16], k: usize) -
 
 // Every test is passed.
 fn lift_by(state: &mut [u16], work: &mut [u16], cache: &mut [u16], k: usize, way: Way) -> Reply
-    requires { ⌜ (1 ≤ k) × (k ≤ 9) × Base (now state) (k - 1) × (work-words document-01 (way-of way) ≤ length (now work)) ⌝ }
+    requires { ⌜ (1 ≤ k) × (k ≤ most-levels) × Base (now state) (k - 1) × (work-words document-01 (way-of way) ≤ length (now work)) ⌝ }
     ensures { λ r. ⌜ ((n : ℕ) × (lift-reply r (now (state .exit)) (now (work .exit)) (now (cache .exit)) ≡ settled-lift (length (now (state .entry))) (length (now (work .entry))) (length (now (cache .entry))) (state-over (now (state .entry)) k (lifted-over (now (state .entry)) k (way-of way) (now (cache .entry)) n))) × T (finished? (lifted-over (now (state .entry)) k (way-of way) (now (cache .entry)) n))) ⌝ }
 {
     match way {
@@ -136,9 +137,9 @@ pub fn work_length(way: Way) -> usize
     ensures { λ r. ⌜ r ≡ work-words document-01 (way-of way) ⌝ }
 {
     match way {
-        Way::Division => 5120,
-        Way::Hybrid(_pick) => 5120,
-        Way::Tree => 40960,
+        Way::Division => words::VALUE_LENGTH,
+        Way::Hybrid(_pick) => words::VALUE_LENGTH,
+        Way::Tree => words::TREE_LENGTH,
     }
 }
 
@@ -166,7 +167,7 @@ fn lift_complete(
     k: usize,
     way: Way,
 ) -> Reply
-    requires { ⌜ (206095 ≤ length (now state)) × T (holds-state? document-01 (now state)) × (1 ≤ k) × (k ≤ 9) × (k - 1 < getD (now state) 4 0) × (work-words document-01 (way-of way) ≤ length (now work)) ⌝ }
+    requires { ⌜ (state-length ≤ length (now state)) × T (holds-state? document-01 (now state)) × (1 ≤ k) × (k ≤ most-levels) × (k - 1 < getD (now state) 4 0) × (work-words document-01 (way-of way) ≤ length (now work)) ⌝ }
     ensures { λ r. ⌜ ((n : ℕ) × (some (lift-reply r (now (state .exit)) (now (work .exit)) (now (cache .exit))) ≡ lift-call document-01 n k (way-of way) (now (state .entry)) (now (work .entry)) (now (cache .entry)))) ⌝ }
 {
     if own_pick(way) {
@@ -180,11 +181,11 @@ fn lift_complete(
 
 // The words hold a state.
 fn lift_sound(state: &mut [u16], work: &mut [u16], cache: &mut [u16], k: usize, way: Way) -> Reply
-    requires { ⌜ (206095 ≤ length (now state)) × T (holds-state? document-01 (now state)) × (work-words document-01 (way-of way) ≤ length (now work)) ⌝ }
+    requires { ⌜ (state-length ≤ length (now state)) × T (holds-state? document-01 (now state)) × (work-words document-01 (way-of way) ≤ length (now work)) ⌝ }
     ensures { λ r. ⌜ ((n : ℕ) × (some (lift-reply r (now (state .exit)) (now (work .exit)) (now (cache .exit))) ≡ lift-call document-01 n k (way-of way) (now (state .entry)) (now (work .entry)) (now (cache .entry)))) ⌝ }
 {
     if engine::level_number(k) {
-        let height = levels::place(state[4]);
+        let height = words::place(state[4]);
         if height < k {
             return Reply {
                 number: 11,
@@ -203,7 +204,7 @@ fn lift_sound(state: &mut [u16], work: &mut [u16], cache: &mut [u16], k: usize, 
 pub fn lift(state: &mut [u16], work: &mut [u16], cache: &mut [u16], k: usize, way: Way) -> Reply
     ensures { λ r. ⌜ ((n : ℕ) × (some (lift-reply r (now (state .exit)) (now (work .exit)) (now (cache .exit))) ≡ lift-call document-01 n k (way-of way) (now (state .entry)) (now (work .entry)) (now (cache .entry)))) ⌝ }
 {
-    if state.len() < 206095 {
+    if state.len() < words::STATE_LENGTH {
         return Reply {
             number: 16,
             place: 0,

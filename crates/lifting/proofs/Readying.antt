@@ -17,6 +17,7 @@ use Rattle.definitions.specs.State.{levels-sound?}
 use Rattle.definitions.specs.Layout.{Words, level-at, levels-at, decode}
 use Rattle.definitions.proofs.Tests.{and-right}
 use Rattle.definitions.proofs.Sound.{sound-says, level-says}
+use Rattle.definitions.specs.Places.{most-vectors, count-offset, ends-offset, table-length, spans-length}
 use Rattle.ending.specs.Well.{Well}
 use Rattle.ending.proofs.Soundness.{sound-well}
 use Rattle.orders.specs.Images.{table-of, table-order}
@@ -36,8 +37,8 @@ use Rattle.lifting.specs.declared.Bounds.{Bounds}
 use Rattle.stages.proofs.Complete.{holds-sound}
 
 -- the ends of a level's vectors, to the state's end
-pub ends-part : (s : Words) (j : ℕ) → take (length s - (6 + j * 129)) (drop (6 + j * 129) s) ≡ ends-from s j
-ends-part s j = let e : 6 + j * 129 ≡ suc (5 + j * 129) = omega arith in whole-part (6 + j * 129) s ∙ ap (λ n. drop n s) e
+pub ends-part : (s : Words) (j : ℕ) → take (length s - (ends-offset j)) (drop (ends-offset j) s) ≡ ends-from s j
+ends-part s j = let e : ends-offset j ≡ suc (count-offset j) = omega arith in whole-part (ends-offset j) s ∙ ap (λ n. drop n s) e
 
 module _ (s : Words) (j : ℕ) (b : Base s j) where
   -- ## Sound levels
@@ -68,13 +69,13 @@ module _ (s : Words) (j : ℕ) (b : Base s j) where
 
   -- ## Tables
 
-  pub few-vectors : count-at s j ≤ 128
+  pub few-vectors : count-at s j ≤ most-vectors
   few-vectors = complete-cut s (b .long) (b .holds) j (b .has) .0
 
-  pub images-below : (below : Words) → Ready s j below → 1280 ≤ length below → Images (count-below s j) below
+  pub images-below : (below : Words) → Ready s j below → table-length ≤ length below → Images (count-below s j) below
   images-below below r h = record { fits = omega (arith, r .few, h); tabled = ready-tabled s j below (omega (arith, b .low)) r }
 
-  pub images-above : (above : Words) → Ready s (suc j) above → 1280 ≤ length above → Images (count-at s j) above
+  pub images-above : (above : Words) → Ready s (suc j) above → table-length ≤ length above → Images (count-at s j) above
   images-above above r h = record { fits = omega (arith, few-vectors, h); tabled = ready-tabled s (suc j) above (omega (arith, b .low)) r }
 
   pub above-is : (above : Words) → Ready s (suc j) above → table-order (getD s 2 0) (table-of (count-at s j) above) ≡ compare-over (getD s 2 0) (levels-at document-01 s (suc j))
@@ -82,7 +83,7 @@ module _ (s : Words) (j : ℕ) (b : Base s j) where
       ap (table-order (getD s 2 0)) (r .made) ∙ (λ i m m′. table-order-is (getD s 2 0) (levels-at document-01 s (suc j)) led-levels m m′ i)
 
 module _ (s : Words) (j : ℕ) (b : Base s j) (lim : Bounds) where
-  pub tables-at : (leads spans : Words) → Led s j leads spans → 1280 ≤ length leads → 258 ≤ length spans → Tables (ground-at lim s j) leads spans
+  pub tables-at : (leads spans : Words) → Led s j leads spans → table-length ≤ length leads → spans-length ≤ length spans → Tables (ground-at lim s j) leads spans
   tables-at leads spans l h k = record {
     prime = omega (arith, prime-above s (b .long) (b .holds));
     few = omega (arith, few-vectors s j b);

@@ -7,6 +7,7 @@ ghost use lib.ListN.{length};
 ghost use Rattle.definitions.specs.Monomial.{Vector};
 ghost use Rattle.definitions.specs.Lifting.{accept-from};
 ghost use Rattle.definitions.specs.Layout.{Words, rows, rows-of, padded};
+ghost use Rattle.definitions.specs.Places.{row-length, value-length, table-length, spans-length, lifted-length};
 ghost use Rattle.levels.specs.Places.{count-below};
 ghost use Rattle.levels.specs.Tabled.{Ready};
 ghost use Rattle.stages.specs.Prepared.{Led};
@@ -31,10 +32,10 @@ pub fn usual() -> Bounds
     ensures { λ b. ⌜ b ≡ usual ⌝ }
 {
     Bounds {
-        working: 512,
-        vector: 512,
-        tree: 4096,
-        room: 2048,
+        working: words::MOST_TERMS,
+        vector: words::MOST_TERMS,
+        tree: words::MOST_TREE_TERMS,
+        room: words::MOST_ROWS,
     }
 }
 
@@ -91,13 +92,13 @@ fn lift_frame(
     w: Strategy,
     b: Bounds,
 ) -> Lifted
-    requires { ⌜ Base (now state) j × Led (now state) j (now heads) (now spans) × Ready (now state) j (now below) × Ready (now state) (suc j) (now above) × (1280 ≤ length (now heads)) × (258 ≤ length (now spans)) × (1280 ≤ length (now below)) × (1280 ≤ length (now above)) × Framed-by (now state) j count (now frame) × (20608 ≤ length (now out)) × (5120 ≤ length (now work)) × Within b ⌝ }
+    requires { ⌜ Base (now state) j × Led (now state) j (now heads) (now spans) × Ready (now state) j (now below) × Ready (now state) (suc j) (now above) × (table-length ≤ length (now heads)) × (spans-length ≤ length (now spans)) × (table-length ≤ length (now below)) × (table-length ≤ length (now above)) × Framed-by (now state) j count (now frame) × (lifted-length ≤ length (now out)) × (value-length ≤ length (now work)) × Within b ⌝ }
     ensures { λ x. ⌜ lifted-over b (now (state .entry)) j w count (now (frame .entry)) x (now (out .exit)) ⌝ }
 {
-    let mut vector = [0u16; 5120];
+    let mut vector = [0u16; words::VECTOR_LENGTH];
     let g = ground_of(state, j, b);
-    let start = 1295 + j * 20480;
-    let ends = 6 + j * 129;
+    let start = words::ROWS_START + j * words::LEVEL_LENGTH;
+    let ends = words::ENDS_START + j * words::COUNTS_LENGTH;
     lift::lift_all(
         out,
         work,
@@ -128,14 +129,14 @@ fn lift_with(
     w: Strategy,
     b: Bounds,
 ) -> Leveled
-    requires { ⌜ Base (now state) j × Led (now state) j (now heads) (now spans) × Ready (now state) j (now below) × Ready (now state) (suc j) (now above) × (1280 ≤ length (now heads)) × (258 ≤ length (now spans)) × (1280 ≤ length (now below)) × (1280 ≤ length (now above)) × (20608 ≤ length (now out)) × (5120 ≤ length (now work)) × Within b ⌝ }
+    requires { ⌜ Base (now state) j × Led (now state) j (now heads) (now spans) × Ready (now state) j (now below) × Ready (now state) (suc j) (now above) × (table-length ≤ length (now heads)) × (spans-length ≤ length (now spans)) × (table-length ≤ length (now below)) × (table-length ≤ length (now above)) × (lifted-length ≤ length (now out)) × (value-length ≤ length (now work)) × Within b ⌝ }
     ensures { λ x. ⌜ ((n : ℕ) × (v : Words) × (leveled-of x (now (out .exit)) v ≡ lift-over b (now (state .entry)) j w n)) × Stored-as x (now (out .exit)) ⌝ }
 {
-    let mut framed = [0u16; 1280];
-    let mut gens = [0u16; 1280];
+    let mut framed = [0u16; words::TABLE_LENGTH];
+    let mut gens = [0u16; words::TABLE_LENGTH];
     let r = levels::count_of(state, j);
     // numbered by code 1, the lexicographic order, whatever the file's (A10)
-    match frame::form(&mut framed, 128, &mut gens, heads, r, 1) {
+    match frame::form(&mut framed, words::MOST_VECTORS, &mut gens, heads, r, 1) {
         Stored::Full => Leveled::Refused(15),
         Stored::Rows(n) => match lift_frame(
             out,
@@ -167,13 +168,13 @@ pub fn lift_level(
     w: Strategy,
     b: Bounds,
 ) -> Leveled
-    requires { ⌜ Base (now state) j × (20608 ≤ length (now out)) × (5120 ≤ length (now work)) × Within b ⌝ }
+    requires { ⌜ Base (now state) j × (lifted-length ≤ length (now out)) × (value-length ≤ length (now work)) × Within b ⌝ }
     ensures { λ x. ⌜ ((n : ℕ) × (v : Words) × (leveled-of x (now (out .exit)) v ≡ lift-over b (now (state .entry)) j w n)) × Stored-as x (now (out .exit)) ⌝ }
 {
-    let mut heads = [0u16; 1280];
-    let mut spans = [0u16; 258];
-    let mut below = [0u16; 1280];
-    let mut above = [0u16; 1280];
+    let mut heads = [0u16; words::TABLE_LENGTH];
+    let mut spans = [0u16; words::SPANS_LENGTH];
+    let mut below = [0u16; words::TABLE_LENGTH];
+    let mut above = [0u16; words::TABLE_LENGTH];
     stages::fill_leads(&mut heads, &mut spans, state, j);
     stages::fill_tables(&mut below, &mut above, state, j + 1);
     lift_with(out, work, state, j, &heads, &spans, &below, &above, w, b)
@@ -181,11 +182,11 @@ pub fn lift_level(
 
 // Rows of another slice in front, zeros after them.
 fn show(work: &mut [u16], vector: &[u16], n: usize)
-    requires { ⌜ (n * 10 ≤ length (now vector)) × (n * 10 ≤ length (now work)) ⌝ }
+    requires { ⌜ (n * row-length ≤ length (now vector)) × (n * row-length ≤ length (now work)) ⌝ }
     ensures { λ _. ⌜ now (work .exit) ≡ padded (length (now (work .entry))) (rows-of (rows (now (vector .entry)) 0 n)) ⌝ }
 {
     writing::copy_rows(work, 0, vector, n);
-    terms::clear(work, n * 10);
+    terms::clear(work, n * words::ROW_LENGTH);
 }
 
 // A value without a reducer, shown in the work area.
@@ -214,18 +215,18 @@ fn accept_frame(
     below: &[u16],
     above: &[u16],
 ) -> Accepted
-    requires { ⌜ Base (now state) 0 × Led (now state) 0 (now heads) (now spans) × Ready (now state) 0 (now below) × Ready (now state) 1 (now above) × (1280 ≤ length (now heads)) × (258 ≤ length (now spans)) × (1280 ≤ length (now below)) × (1280 ≤ length (now above)) × Framed-by (now state) 0 count (now frame) × (5120 ≤ length (now work)) ⌝ }
+    requires { ⌜ Base (now state) 0 × Led (now state) 0 (now heads) (now spans) × Ready (now state) 0 (now below) × Ready (now state) 1 (now above) × (table-length ≤ length (now heads)) × (spans-length ≤ length (now spans)) × (table-length ≤ length (now below)) × (table-length ≤ length (now above)) × Framed-by (now state) 0 count (now frame) × (value-length ≤ length (now work)) ⌝ }
     ensures { λ x. ⌜ ((n : ℕ) × (v : Vector) × (accepted-with x v ≡ accept-from (stage-at usual (now (state .entry)) 0) n 1 (frame-terms (now (frame .entry)) count)) × Shown x v (now (work .exit))) ⌝ }
 {
-    let mut vector = [0u16; 5120];
+    let mut vector = [0u16; words::VECTOR_LENGTH];
     let g = ground_of(state, 0, usual());
     let x = lift::accept_all(
         work,
         &mut vector,
         frame,
         count,
-        &state[1295..],
-        &state[6..],
+        &state[words::ROWS_START..],
+        &state[words::ENDS_START..],
         heads,
         spans,
         below,
@@ -244,14 +245,14 @@ fn accept_with(
     below: &[u16],
     above: &[u16],
 ) -> Accepted
-    requires { ⌜ Base (now state) 0 × Led (now state) 0 (now heads) (now spans) × Ready (now state) 0 (now below) × Ready (now state) 1 (now above) × (1280 ≤ length (now heads)) × (258 ≤ length (now spans)) × (1280 ≤ length (now below)) × (1280 ≤ length (now above)) × (5120 ≤ length (now work)) ⌝ }
+    requires { ⌜ Base (now state) 0 × Led (now state) 0 (now heads) (now spans) × Ready (now state) 0 (now below) × Ready (now state) 1 (now above) × (table-length ≤ length (now heads)) × (spans-length ≤ length (now spans)) × (table-length ≤ length (now below)) × (table-length ≤ length (now above)) × (value-length ≤ length (now work)) ⌝ }
     ensures { λ x. ⌜ ((n : ℕ) × (v : Vector) × (accepted-with x v ≡ accepted-over (now (state .entry)) n) × Shown x v (now (work .exit))) ⌝ }
 {
-    let mut framed = [0u16; 1280];
-    let mut gens = [0u16; 1280];
+    let mut framed = [0u16; words::TABLE_LENGTH];
+    let mut gens = [0u16; words::TABLE_LENGTH];
     let r = levels::count_of(state, 0);
     // numbered by code 1, the lexicographic order, whatever the file's (A10)
-    match frame::form(&mut framed, 128, &mut gens, heads, r, 1) {
+    match frame::form(&mut framed, words::MOST_VECTORS, &mut gens, heads, r, 1) {
         Stored::Full => Accepted::Refused(15, 0),
         Stored::Rows(n) => accept_frame(work, state, &framed, n, heads, spans, below, above),
     }
@@ -259,13 +260,13 @@ fn accept_with(
 
 // Acceptance of level 0 by division.
 pub fn accept_level(work: &mut [u16], state: &[u16]) -> Accepted
-    requires { ⌜ Base (now state) 0 × (5120 ≤ length (now work)) ⌝ }
+    requires { ⌜ Base (now state) 0 × (value-length ≤ length (now work)) ⌝ }
     ensures { λ x. ⌜ ((n : ℕ) × (v : Vector) × (accepted-with x v ≡ accepted-over (now (state .entry)) n) × Shown x v (now (work .exit))) ⌝ }
 {
-    let mut heads = [0u16; 1280];
-    let mut spans = [0u16; 258];
-    let mut below = [0u16; 1280];
-    let mut above = [0u16; 1280];
+    let mut heads = [0u16; words::TABLE_LENGTH];
+    let mut spans = [0u16; words::SPANS_LENGTH];
+    let mut below = [0u16; words::TABLE_LENGTH];
+    let mut above = [0u16; words::TABLE_LENGTH];
     stages::fill_leads(&mut heads, &mut spans, state, 0);
     stages::fill_tables(&mut below, &mut above, state, 1);
     accept_with(work, state, &heads, &spans, &below, &above)

@@ -12,6 +12,7 @@ use Rattle.definitions.specs.Stage.{Reduction, Stage}
 use Rattle.definitions.specs.Run as definition
 use Rattle.definitions.specs.Run.{Run, by-code}
 use Rattle.definitions.specs.Layout.{Words, rows, vectors-at}
+use Rattle.definitions.specs.Places.{most-exponent, row-length}
 use Rattle.orders.specs.Images.{table-of, table-order, Tabled}
 use Rattle.reducers.specs.Search.{Small, Spanned}
 use Rattle.reduce.specs.declared.Ground.{Ground}
@@ -25,7 +26,7 @@ limits-of g = record {
   variables = document-01 .variables;
   components = document-01 .components;
   elements = document-01 .elements;
-  exponent = 255;
+  exponent = most-exponent;
   t-lines = document-01 .t-lines;
   file = document-01 .file;
   field = document-01 .field;
@@ -50,7 +51,7 @@ family-of g level ends = vectors-at level 0 (take (g .r) ends)
 pub record Tables (g : Ground) (heads spans : Words) : Type 0 where
   pub prime : 0 < g .p
   pub few : g .r < 65536
-  pub heads-fit : g .r * 10 ≤ length heads
+  pub heads-fit : g .r * row-length ≤ length heads
   pub spans-fit : g .components * 2 ≤ length spans
   pub small : Small (g .r) heads
   pub spanned : Spanned (g .components) (g .r) spans heads
@@ -70,7 +71,7 @@ Within limit (Refused number) = Unit {0}
 -- every vector ends within the rows
 pub record Family (g : Ground) (level ends : Words) : Type 0 where
   pub ends-fit : g .r ≤ length ends
-  pub rows-fit : (j : ℕ) → j < g .r → getD ends j 0 * 10 ≤ length level
+  pub rows-fit : (j : ℕ) → j < g .r → getD ends j 0 * row-length ≤ length level
 
 -- the first row of vector j, counted from 1: the end of the one before it
 abbrev pub first-row : Words → ℕ → ℕ

@@ -9,6 +9,7 @@ ghost use Rattle.definitions.specs.Monomial.{vector-of};
 ghost use Rattle.definitions.specs.Vectors.{store};
 ghost use Rattle.definitions.specs.Run.{add-term, unless-dropped, dropped?, add-products, multiple, by-code, greatest as greatest-definition};
 ghost use Rattle.definitions.specs.Layout.{row-at, rows};
+ghost use Rattle.definitions.specs.Places.{row-length};
 ghost use Rattle.orders.specs.Images.{key, key-of, table-of, table-order, Tabled};
 ghost use Rattle.terms.specs.Rows.{term-of};
 ghost use Rattle.reduce.specs.Grounds.{reduction-of, Tables, Family, family-of, first-row, added-of, Within};
@@ -40,7 +41,7 @@ pub enum Added {
 
 // A term into a sum in the order of arrival: 14 where it is full.
 pub fn store_term(s: &mut [u16], n: usize, limit: usize, p: u16, t: Term) -> Added
-    requires { ⌜ (0 < p) × (n ≤ limit) × (limit * 10 ≤ length (now s)) ⌝ }
+    requires { ⌜ (0 < p) × (n ≤ limit) × (limit * row-length ≤ length (now s)) ⌝ }
     ensures { λ x. ⌜ (added-of x (now (s .exit)) ≡ store limit p (term-of t) (rows (now (s .entry)) 0 n)) × Within limit x ⌝ }
 {
     match sums::store(s, n, limit, p, t) {
@@ -59,7 +60,7 @@ fn add_fitting(
     g: Ground,
     drops: bool,
 ) -> Added
-    requires { ⌜ Tables g (now heads) (now spans) × (n ≤ g .working) × (g .working * 10 ≤ length (now value)) ⌝ }
+    requires { ⌜ Tables g (now heads) (now spans) × (n ≤ g .working) × (g .working * row-length ≤ length (now value)) ⌝ }
     ensures { λ x. ⌜ (added-of x (now (value .exit)) ≡ unless-dropped (dropped? (reduction-of g (now (heads .entry))) drops (term-of t .1)) (reduction-of g (now (heads .entry))) (term-of t) (rows (now (value .entry)) 0 n)) × Within (g .working) x ⌝ }
 {
     if drops {
@@ -80,13 +81,13 @@ fn add_product(
     level: &[u16],
     i: usize,
     c: u16,
-    q: [u8; 8],
+    q: [u8; words::EXPONENTS_LENGTH],
     heads: &[u16],
     spans: &[u16],
     g: Ground,
     drops: bool,
 ) -> Added
-    requires { ⌜ Tables g (now heads) (now spans) × (n ≤ g .working) × (g .working * 10 ≤ length (now value)) × (i * 10 + 10 ≤ length (now level)) ⌝ }
+    requires { ⌜ Tables g (now heads) (now spans) × (n ≤ g .working) × (g .working * row-length ≤ length (now value)) × (i * row-length + row-length ≤ length (now level)) ⌝ }
     ensures { λ x. ⌜ (added-of x (now (value .exit)) ≡ add-term (reduction-of g (now (heads .entry))) drops (multiple (g .p) c q (row-at (now (level .entry)) i)) (rows (now (value .entry)) 0 n)) × Within (g .working) x ⌝ }
 {
     let x = reducers::multiplied(level, i, c, q, g.p);
@@ -106,13 +107,13 @@ pub fn add_all(
     from: usize,
     to: usize,
     c: u16,
-    q: [u8; 8],
+    q: [u8; words::EXPONENTS_LENGTH],
     heads: &[u16],
     spans: &[u16],
     g: Ground,
     drops: bool,
 ) -> Added
-    requires { ⌜ Tables g (now heads) (now spans) × (n ≤ g .working) × (g .working * 10 ≤ length (now value)) × (to * 10 ≤ length (now level)) ⌝ }
+    requires { ⌜ Tables g (now heads) (now spans) × (n ≤ g .working) × (g .working * row-length ≤ length (now value)) × (to * row-length ≤ length (now level)) ⌝ }
     ensures { λ x. ⌜ (added-of x (now (value .exit)) ≡ add-products (reduction-of g (now (heads .entry))) drops c q (rows (now (level .entry)) from (to - from)) (rows (now (value .entry)) 0 n)) × Within (g .working) x ⌝ }
 {
     let mut k = n;
@@ -129,12 +130,6 @@ pub fn add_all(
     Added::Rows(k)
 }
 
-fn place(x: u16) -> usize
-    ensures { λ r. ⌜ r ≡ x ⌝ }
-{
-    x as usize
-}
-
 // The first row of vector j.
 fn first_of(ends: &[u16], j: usize) -> usize
     requires { ⌜ (1 ≤ j) × (j ≤ length (now ends)) ⌝ }
@@ -143,7 +138,7 @@ fn first_of(ends: &[u16], j: usize) -> usize
     if j == 1 {
         return 0;
     }
-    place(ends[j - 2])
+    words::place(ends[j - 2])
 }
 
 // The products of c·q and the terms of f_j.
@@ -154,22 +149,22 @@ pub fn add_multiple(
     ends: &[u16],
     j: usize,
     c: u16,
-    q: [u8; 8],
+    q: [u8; words::EXPONENTS_LENGTH],
     heads: &[u16],
     spans: &[u16],
     g: Ground,
     drops: bool,
 ) -> Added
-    requires { ⌜ Tables g (now heads) (now spans) × Family g (now level) (now ends) × (n ≤ g .working) × (g .working * 10 ≤ length (now value)) × (1 ≤ j) × (j ≤ g .r) ⌝ }
+    requires { ⌜ Tables g (now heads) (now spans) × Family g (now level) (now ends) × (n ≤ g .working) × (g .working * row-length ≤ length (now value)) × (1 ≤ j) × (j ≤ g .r) ⌝ }
     ensures { λ x. ⌜ (added-of x (now (value .exit)) ≡ add-products (reduction-of g (now (heads .entry))) drops c q (vector-of (family-of g (now (level .entry)) (now (ends .entry))) j) (rows (now (value .entry)) 0 n)) × Within (g .working) x ⌝ }
 {
     let from = first_of(ends, j);
-    let to = place(ends[j - 1]);
+    let to = words::place(ends[j - 1]);
     add_all(value, n, level, from, to, c, q, heads, spans, g, drops)
 }
 
 fn image_at(value: &[u16], i: usize, below: &[u16], images: usize) -> Image
-    requires { ⌜ (i * 10 + 10 ≤ length (now value)) × (images * 10 ≤ length (now below)) × Tabled images (now below) ⌝ }
+    requires { ⌜ (i * row-length + row-length ≤ length (now value)) × (images * row-length ≤ length (now below)) × Tabled images (now below) ⌝ }
     ensures { λ k. ⌜ key-of k ≡ key (table-of images (now (below .entry))) (row-at (now (value .entry)) i .1) ⌝ }
 {
     let t = terms::row(value, i);
@@ -179,7 +174,7 @@ fn image_at(value: &[u16], i: usize, below: &[u16], images: usize) -> Image
 
 // The place of the greatest of n terms: from each best so far, its image beside it, a walk to the next.
 pub fn greatest(value: &[u16], n: usize, code: u16, below: &[u16], images: usize) -> usize
-    requires { ⌜ (0 < n) × (n * 10 ≤ length (now value)) × (images * 10 ≤ length (now below)) × Tabled images (now below) ⌝ }
+    requires { ⌜ (0 < n) × (n * row-length ≤ length (now value)) × (images * row-length ≤ length (now below)) × Tabled images (now below) ⌝ }
     ensures { λ r. ⌜ some r ≡ greatest-definition (table-order code (table-of images (now (below .entry)))) (rows (now (value .entry)) 0 n) ⌝ }
 {
     let image = image_at(value, 0, below, images);
@@ -199,7 +194,7 @@ pub fn greatest(value: &[u16], n: usize, code: u16, below: &[u16], images: usize
 
 // The place that the pick code says, of n terms.
 pub fn pick(value: &[u16], n: usize, pick: u16, code: u16, below: &[u16], images: usize) -> usize
-    requires { ⌜ (0 < n) × (n * 10 ≤ length (now value)) × (images * 10 ≤ length (now below)) × Tabled images (now below) ⌝ }
+    requires { ⌜ (0 < n) × (n * row-length ≤ length (now value)) × (images * row-length ≤ length (now below)) × Tabled images (now below) ⌝ }
     ensures { λ r. ⌜ some r ≡ by-code (table-order code (table-of images (now (below .entry)))) pick (rows (now (value .entry)) 0 n) ⌝ }
 {
     match pick {

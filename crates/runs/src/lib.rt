@@ -10,6 +10,7 @@ ghost use Rattle.definitions.specs.Monomial as definition;
 ghost use Rattle.definitions.specs.Order.{Comparison};
 ghost use Rattle.definitions.specs.Run.{step as step-definition, runs, run as run-definition, add-products};
 ghost use Rattle.definitions.specs.Layout.{rows};
+ghost use Rattle.definitions.specs.Places.{row-length};
 ghost use Rattle.ending.specs.Good.{good?};
 ghost use Rattle.ending.specs.Well.{Well};
 ghost use Rattle.monomial.specs.Values.{monomial-of};
@@ -57,7 +58,7 @@ fn reduced(
     drops: bool,
     j: usize,
     c: u16,
-    q: [u8; 8],
+    q: [u8; words::EXPONENTS_LENGTH],
 ) -> Step
     requires { ⌜ Tables g (now heads) (now spans) × Family g (now level) (now ends) × Rooms g (now value) (now vector) × (n ≤ g .working) × (v ≤ g .vector) × (1 ≤ j) × (j ≤ g .r) ⌝ }
     ensures { λ x. ⌜ ((order : definition.Monomial → definition.Monomial → Comparison) → step-of order (g .p) x (now (value .exit)) (now (vector .exit)) ≡ reduced-by (reduction-of g (now (heads .entry))) (family-of g (now (level .entry)) (now (ends .entry))) drops (run-of (now (value .entry)) n (now (vector .entry)) v) j c q) × Room g x ⌝ }
@@ -93,7 +94,7 @@ fn reduced(
 
 // The picked term, at place i, has no reducer: the run stops, or drops it.
 fn without_reducer(value: &mut [u16], n: usize, v: usize, i: usize, stops: bool) -> Step
-    requires { ⌜ (i < n) × (n * 10 ≤ length (now value)) ⌝ }
+    requires { ⌜ (i < n) × (n * row-length ≤ length (now value)) ⌝ }
     ensures { λ x. ⌜ x ≡ without-step stops n v × (now (value .exit) ≡ without-words stops (now (value .entry)) n i) ⌝ }
 {
     if stops {
@@ -214,7 +215,7 @@ fn started(
     drops: bool,
     m: Monomial,
 ) -> Added
-    requires { ⌜ Tables g (now heads) (now spans) × Family g (now level) (now ends) × (g .working * 10 ≤ length (now value)) × (1 ≤ monomial-of m .1) × (monomial-of m .1 ≤ g .r) ⌝ }
+    requires { ⌜ Tables g (now heads) (now spans) × Family g (now level) (now ends) × (g .working * row-length ≤ length (now value)) × (1 ≤ monomial-of m .1) × (monomial-of m .1 ≤ g .r) ⌝ }
     ensures { λ x. ⌜ (added-of x (now (value .exit)) ≡ add-products (reduction-of g (now (heads .entry))) drops 1 (monomial-of m .0) (definition.vector-of (family-of g (now (level .entry)) (now (ends .entry))) (monomial-of m .1)) []) × Within (g .working) x ⌝ }
 {
     let q = m.exponents;

@@ -25,6 +25,7 @@ use Rattle.definitions.proofs.Numbers.{limit-number?}
 use Rattle.definitions.proofs.RoundTrip.{decode-encode, holds-encode, length-encode}
 use Rattle.definitions.proofs.Steady.{answered?, steady-from}
 use Rattle.definitions.proofs.Bound.{lift-steady, levels-from-steady}
+use Rattle.definitions.specs.Places.{most-vectors, most-rows, most-levels, all-levels, state-length, rows-offset, value-length}
 use Rattle.demands.proofs.Lifts.{Lifted-to, one-more, limit-met, still-lifting, lifted-to, with-level, height-up-to}
 use Rattle.levels.specs.Places.{count-at, ends-from}
 use Rattle.stages.proofs.Complete.{words-below, length-levels, holds-sound}
@@ -40,15 +41,15 @@ ascends-each limit a (e ∷ es) t (suc j) h =
     ascends-each limit e es (and-right (leb e limit) (ascending? limit e es) (and-right (ltb a e) (leb e limit and ascending? limit e es) t)) j (omega arith)
 
 abbrev small : Words → ℕ → Bool
-small s k = exponents-fit? (drop (1295 + k * 20480) s) (last-end (last (ends-at document-01 s k)))
+small s k = exponents-fit? (drop (rows-offset k) s) (last-end (last (ends-at document-01 s k)))
 
-pub short-level : (s : Words) → 206095 ≤ length s → T (holds-state? document-01 s) → (k : ℕ) → k < getD s 4 0 → count-at s k ≤ length (ends-from s k) → Short (count-at s k) (ends-from s k)
+pub short-level : (s : Words) → state-length ≤ length s → T (holds-state? document-01 s) → (k : ℕ) → k < getD s 4 0 → count-at s k ≤ length (ends-from s k) → Short (count-at s k) (ends-from s k)
 short-level s long holds k h f j l =
     let w = words-below s long holds (suc k) h in
     let t = and-left (words-sound? document-01 s k) (all-words-sound? document-01 s k) w in
-    let u = and-right (leb (count-at s k) 128) (ascending? 2048 0 (ends-at document-01 s k) and small s k) t in
-    let v = ascends-each 2048 0 (ends-at document-01 s k) (and-left (ascending? 2048 0 (ends-at document-01 s k)) (small s k) u) j (omega (arith, length-take-le (count-at s k) (ends-from s k) f)) in
-    subst (λ e. e ≤ 2048) (getD-take (count-at s k) (ends-from s k) j 0 l) v
+    let u = and-right (leb (count-at s k) most-vectors) (ascending? most-rows 0 (ends-at document-01 s k) and small s k) t in
+    let v = ascends-each most-rows 0 (ends-at document-01 s k) (and-left (ascending? most-rows 0 (ends-at document-01 s k)) (small s k) u) j (omega (arith, length-take-le (count-at s k) (ends-from s k) f)) in
+    subst (λ e. e ≤ most-rows) (getD-take (count-at s k) (ends-from s k) j 0 l) v
 
 -- ## What a lifting leaves
 
@@ -56,7 +57,7 @@ abbrev or-else : Lift → Option Lift → Lift
 or-else r none = r
 or-else r (some a) = a
 
-module _ (s w z : Words) (k : ℕ) (long : 206095 ≤ length s) (wide : 5120 ≤ length w) (holds : T (holds-state? document-01 s)) (height : getD s 4 0 ≡ k) (low : 1 ≤ k) (high : k ≤ 9) where
+module _ (s w z : Words) (k : ℕ) (long : state-length ≤ length s) (wide : value-length ≤ length w) (holds : T (holds-state? document-01 s)) (height : getD s 4 0 ≡ k) (low : 1 ≤ k) (high : k ≤ most-levels) where
   abbrev X : State
   X = decode document-01 s
 
@@ -67,14 +68,14 @@ module _ (s w z : Words) (k : ℕ) (long : 206095 ≤ length s) (wide : 5120 ≤
   left x = settled x then λ a. some (lift-left document-01 s w z a)
 
   call-is : (n : ℕ) → left (lift document-01 n X k (by-hybrid 2)) ≡ lift-call document-01 n k (hybrid 2) s w z
-  call-is n = after-tests s w z k (hybrid 2) long wide holds (true-is (between 1 k 9) (between-shown 1 k 9 low high)) (omega (arith, height, low)) refl n
+  call-is n = after-tests s w z k (hybrid 2) long wide holds (true-is (between 1 k most-levels) (between-shown 1 k most-levels low high)) (omega (arith, height, low)) refl n
 
   -- the level is complete, and the state with it is in the words
   pub record Next (n : ℕ) (t : Words) : Type 0 where
     pub next : State
     pub lifts : lift document-01 n X k (by-hybrid 2) ≡ done next
     pub decoded : decode document-01 t ≡ next
-    pub still-long : 206095 ≤ length t
+    pub still-long : state-length ≤ length t
     pub still-holds : T (holds-state? document-01 t)
     pub still-height : getD t 4 0 ≡ suc k
     pub variables : getD t 1 0 ≡ getD s 1 0
@@ -88,7 +89,7 @@ module _ (s w z : Words) (k : ℕ) (long : 206095 ≤ length s) (wide : 5120 ≤
       go : {x : Result State} → Lifted-to document-01 X k x → lift document-01 n X k (by-hybrid 2) ≡ x → some r ≡ left x → Next n (r .2)
       go (one-more g h) p q =
           let Y : State = record { parameters = X .parameters; levels = g ∷ up-to X (k - 1) } in
-          let sound = with-level document-01 X sound-is k (between-shown 1 k 9 low high) (omega (arith, tall, low)) g (h .sound) in
+          let sound = with-level document-01 X sound-is k (between-shown 1 k most-levels low high) (omega (arith, tall, low)) g (h .sound) in
           let words : r .2 ≡ encode document-01 (length s) Y = ap (λ o. or-else r o .2) q in
           let d : decode document-01 (r .2) ≡ Y = ap (decode document-01) words ∙ decode-encode document-01 (omega arith) (length s) Y sound in
           let l = height-up-to document-01 X sound-is (k - 1) (omega (arith, tall, low)) in
@@ -117,13 +118,13 @@ module _ (s w z : Words) (k : ℕ) (long : 206095 ≤ length s) (wide : 5120 ≤
   abbrev lines-from : ℕ → ℕ → Option Bytes
   lines-from n lefts = levels-from document-01 n lefts k X
 
-  one-left : 10 - k ≡ suc (9 - k)
+  one-left : all-levels - k ≡ suc (most-levels - k)
   one-left = omega (arith, high)
 
-  pub refused-lines : (n number place : ℕ) → lift document-01 n X k (by-hybrid 2) ≡ refused number place [] → some (printed 88 (number ∷ place ∷ [])) ≡ lines-from n (10 - k)
+  pub refused-lines : (n number place : ℕ) → lift document-01 n X k (by-hybrid 2) ≡ refused number place [] → some (printed 88 (number ∷ place ∷ [])) ≡ lines-from n (all-levels - k)
   refused-lines n number place e =
       ap some (sym (append-nil (printed 88 (number ∷ place ∷ []))))
-      ∙ sym (ap (level-then (X .parameters .n) k (λ Y. levels-from document-01 n (9 - k) (suc k) Y)) e)
+      ∙ sym (ap (level-then (X .parameters .n) k (λ Y. levels-from document-01 n (most-levels - k) (suc k) Y)) e)
       ∙ sym (ap (lines-from n) one-left)
 
   -- the level that was lifted, as the words have it
@@ -131,7 +132,7 @@ module _ (s w z : Words) (k : ℕ) (long : 206095 ≤ length s) (wide : 5120 ≤
   top n t N = sym (ap (λ h. highest (levels-at document-01 t h)) (N .still-height)) ∙ ap (λ Z. highest (Z .levels)) (N .decoded)
 
   abbrev after-level : ℕ → State → Bool → Option Bytes
-  after-level n Y b = if-more b (X .parameters .n) k (highest (Y .levels)) (λ u. levels-from document-01 n (9 - k) (suc k) Y)
+  after-level n Y b = if-more b (X .parameters .n) k (highest (Y .levels)) (λ u. levels-from document-01 n (most-levels - k) (suc k) Y)
 
   none-in : (f : Level) → length f ≡ 0 → empty? f ≡ true
   none-in [] e = refl
@@ -141,29 +142,29 @@ module _ (s w z : Words) (k : ℕ) (long : 206095 ≤ length s) (wide : 5120 ≤
   some-in [] e = absurd (not-suc-le-zero e)
   some-in (v ∷ f) e = refl
 
-  pub last-lines : (n : ℕ) (t : Words) (N : Next n t) → length (level-at document-01 t k) ≡ 0 → some (level-lines (getD t 1 0) k (level-at document-01 t k)) ≡ lines-from n (10 - k)
+  pub last-lines : (n : ℕ) (t : Words) (N : Next n t) → length (level-at document-01 t k) ≡ 0 → some (level-lines (getD t 1 0) k (level-at document-01 t k)) ≡ lines-from n (all-levels - k)
   last-lines n t N e =
       (λ i. some (level-lines (N .variables i) k (top n t N i)))
       ∙ sym (ap (after-level n (N .next)) (none-in (highest (N .next .levels)) (sym (ap length (top n t N)) ∙ e)))
-      ∙ sym (ap (level-then (X .parameters .n) k (λ Y. levels-from document-01 n (9 - k) (suc k) Y)) (N .lifts))
+      ∙ sym (ap (level-then (X .parameters .n) k (λ Y. levels-from document-01 n (most-levels - k) (suc k) Y)) (N .lifts))
       ∙ sym (ap (lines-from n) one-left)
 
   pub more-lines : (n m : ℕ) (t : Words) (N : Next n t) → 0 < length (level-at document-01 t k) → (bytes : Bytes)
-      → some bytes ≡ levels-from document-01 m (10 - (k + 1)) (k + 1) (decode document-01 t)
-      → some (level-lines (getD t 1 0) k (level-at document-01 t k) ++ bytes) ≡ lines-from (n + m) (10 - k)
+      → some bytes ≡ levels-from document-01 m (all-levels - (k + 1)) (k + 1) (decode document-01 t)
+      → some (level-lines (getD t 1 0) k (level-at document-01 t k) ++ bytes) ≡ lines-from (n + m) (all-levels - k)
   more-lines n m t N e bytes h =
       let Y = N .next in
-      let a : 10 - (k + 1) ≡ 9 - k = omega arith in
+      let a : all-levels - (k + 1) ≡ most-levels - k = omega arith in
       let b : k + 1 ≡ suc k = omega arith in
-      let rest : some bytes ≡ levels-from document-01 m (9 - k) (suc k) Y = h ∙ (λ i. levels-from document-01 m (a i) (b i) (N .decoded i)) in
-      let more : some bytes ≡ levels-from document-01 (n + m) (9 - k) (suc k) Y =
+      let rest : some bytes ≡ levels-from document-01 m (most-levels - k) (suc k) Y = h ∙ (λ i. levels-from document-01 m (a i) (b i) (N .decoded i)) in
+      let more : some bytes ≡ levels-from document-01 (n + m) (most-levels - k) (suc k) Y =
       rest
-      ∙ sym (steady-from answered? (λ i. levels-from document-01 i (9 - k) (suc k) Y) (levels-from-steady document-01 (9 - k) (suc k) Y) m n (subst (λ o. T (answered? o)) rest tt))
-      ∙ ap (λ i. levels-from document-01 i (9 - k) (suc k) Y) (add-comm m n) in
+      ∙ sym (steady-from answered? (λ i. levels-from document-01 i (most-levels - k) (suc k) Y) (levels-from-steady document-01 (most-levels - k) (suc k) Y) m n (subst (λ o. T (answered? o)) rest tt))
+      ∙ ap (λ i. levels-from document-01 i (most-levels - k) (suc k) Y) (add-comm m n) in
       let lifts : lift document-01 (n + m) X k (by-hybrid 2) ≡ done Y =
       steady-from finished? (λ i. lift document-01 i X k (by-hybrid 2)) (lift-steady document-01 X k (by-hybrid 2)) n m (subst (λ x. T (finished? x)) (sym (N .lifts)) tt) ∙ N .lifts in
       (λ i. some (level-lines (N .variables i) k (top n t N i) ++ bytes))
       ∙ ap (λ o. o then λ bs. some (level-lines (X .parameters .n) k (highest (Y .levels)) ++ bs)) more
       ∙ sym (ap (after-level (n + m) Y) (some-in (highest (Y .levels)) (subst (λ f. 0 < length f) (top n t N) e)))
-      ∙ sym (ap (level-then (X .parameters .n) k (λ Z. levels-from document-01 (n + m) (9 - k) (suc k) Z)) lifts)
+      ∙ sym (ap (level-then (X .parameters .n) k (λ Z. levels-from document-01 (n + m) (most-levels - k) (suc k) Z)) lifts)
       ∙ sym (ap (lines-from (n + m)) one-left)

@@ -19,6 +19,7 @@ use Rattle.definitions.specs.Layout.{Words, padded, zeros, decode, level-at}
 use Rattle.definitions.specs.Sheet.{printed, w-lines, levels-from, variables-of, sheet-of, sheet}
 use Rattle.definitions.proofs.Steady.{answered?, steady-from}
 use Rattle.definitions.proofs.Bound.{accept-steady, levels-from-steady}
+use Rattle.definitions.specs.Places.{most-levels, state-length, value-length, sheet-length}
 use Rattle.files.specs.Answers.{Answered}
 use Rattle.files.proofs.Reader.{document-reader}
 use Rattle.terms.specs.Rows.{cleared}
@@ -36,14 +37,14 @@ module _ (s : Words) (n : ℕ) where
   abbrev from-accepted : ℕ → Result (Unit {0}) → Option Bytes
   from-accepted m r = sheet-of document-01 m (getD s 1 0) (r >>= λ u. done (decode document-01 s))
 
-  pub accepted-yes : done tt ≡ accepted-over s n → (m : ℕ) (bytes : Bytes) → some bytes ≡ levels-from document-01 m 9 1 (decode document-01 s) → some bytes ≡ accepted-sheet (n + m) s
+  pub accepted-yes : done tt ≡ accepted-over s n → (m : ℕ) (bytes : Bytes) → some bytes ≡ levels-from document-01 m most-levels 1 (decode document-01 s) → some bytes ≡ accepted-sheet (n + m) s
   accepted-yes e m bytes h =
       let X = decode document-01 s in
       let over : accepted-over s (n + m) ≡ accepted-over s n =
       steady-from finished? (accepted-over s) (accept-steady document-01 (getD s 0 0) (getD s 2 0) (level-at document-01 s 0)) n m (subst (λ x. T (finished? x)) e tt) in
       h
-      ∙ sym (steady-from answered? (λ i. levels-from document-01 i 9 1 X) (levels-from-steady document-01 9 1 X) m n (subst (λ o. T (answered? o)) h tt))
-      ∙ ap (λ i. levels-from document-01 i 9 1 X) (add-comm m n)
+      ∙ sym (steady-from answered? (λ i. levels-from document-01 i most-levels 1 X) (levels-from-steady document-01 most-levels 1 X) m n (subst (λ o. T (answered? o)) h tt))
+      ∙ ap (λ i. levels-from document-01 i most-levels 1 X) (add-comm m n)
       ∙ ap (from-accepted (n + m)) (e ∙ sym over)
 
   pub accepted-refused : (number place : ℕ) → refused number place [] ≡ accepted-over s n → some (printed 88 (number ∷ place ∷ [])) ≡ accepted-sheet n s
@@ -54,7 +55,7 @@ module _ (s : Words) (n : ℕ) where
 
 -- ## A file
 
-module _ (size : ℕ) (big : 206095 ≤ size) (file : Bytes) (f : Parameters × Level) (e : problem document-01 file ≡ done f) (s : Words) (w : s ≡ words-read size f) where
+module _ (size : ℕ) (big : state-length ≤ size) (file : Bytes) (f : Parameters × Level) (e : problem document-01 file ≡ done f) (s : Words) (w : s ≡ words-read size f) where
   pub one-level : getD s 4 0 ≡ 1
   one-level = sym (length-levels s (getD s 4 0)) ∙ ap (λ X. length (X .levels)) (decoded size big file f e s w)
 
@@ -92,24 +93,24 @@ module _ (file : Bytes) (state work : Words) (out : Bytes) where
   abbrev pub Called : ℕ → ℕ → Words → Words → Bytes → Type 0
   Called number size s w o = (n : ℕ) × (_≡_ {A = Option Told} (some (number, size, s, w, o)) (called n file state work out))
 
-  pub short-state : length state < 206095 → Called 16 0 state work out
-  short-state h = (0, sym (ap (λ a. by-tests 0 a (leb 5120 (length work)) (leb 1400000 (length out))) (lt-leb 206095 (length state) h)))
+  pub short-state : length state < state-length → Called 16 0 state work out
+  short-state h = (0, sym (ap (λ a. by-tests 0 a (leb value-length (length work)) (leb sheet-length (length out))) (lt-leb state-length (length state) h)))
 
-  module _ (long : 206095 ≤ length state) where
-    pub short-work : length work < 5120 → Called 16 0 state work out
-    short-work h = (0, sym (λ i. by-tests 0 (le-leb 206095 (length state) long i) (lt-leb 5120 (length work) h i) (leb 1400000 (length out))))
+  module _ (long : state-length ≤ length state) where
+    pub short-work : length work < value-length → Called 16 0 state work out
+    short-work h = (0, sym (λ i. by-tests 0 (le-leb state-length (length state) long i) (lt-leb value-length (length work) h i) (leb sheet-length (length out))))
 
-    module _ (wide : 5120 ≤ length work) where
-      pub short-out : length out < 1400000 → Called 16 0 state work out
-      short-out h = (0, sym (λ i. by-tests 0 (le-leb 206095 (length state) long i) (le-leb 5120 (length work) wide i) (lt-leb 1400000 (length out) h i)))
+    module _ (wide : value-length ≤ length work) where
+      pub short-out : length out < sheet-length → Called 16 0 state work out
+      short-out h = (0, sym (λ i. by-tests 0 (le-leb state-length (length state) long i) (le-leb value-length (length work) wide i) (lt-leb sheet-length (length out) h i)))
 
-      pub whole-sheet : 1400000 ≤ length out → (n : ℕ) (bytes : Bytes) → some bytes ≡ sheet document-01 n file → (r : ℕ) (s w : Words) (o : Bytes) → Printed out o 0 r bytes
+      pub whole-sheet : sheet-length ≤ length out → (n : ℕ) (bytes : Bytes) → some bytes ≡ sheet document-01 n file → (r : ℕ) (s w : Words) (o : Bytes) → Printed out o 0 r bytes
           → length s ≡ length state → length w ≡ length work → length o ≡ length out → Called 0 r (cleared s 0) (cleared w 0) (cleared o r)
       whole-sheet h n bytes e r s w o p ls lw lo = (
         n,
         (λ i. some (0, sum-none i, emptied (length state) s ls i, emptied (length work) w lw i, behind out o r bytes p lo i))
             ∙ ap (λ x. x then λ bs. some (0, length bs, zeros state, zeros work, padded (length out) bs)) e
-            ∙ sym (λ i. by-tests n (le-leb 206095 (length state) long i) (le-leb 5120 (length work) wide i) (le-leb 1400000 (length out) h i)),
+            ∙ sym (λ i. by-tests n (le-leb state-length (length state) long i) (le-leb value-length (length work) wide i) (le-leb sheet-length (length out) h i)),
       )
         where
           sum-none : r ≡ length bytes

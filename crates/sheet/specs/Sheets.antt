@@ -10,6 +10,7 @@ use Rattle.definitions.specs.Result.{done, _>>=_}
 use Rattle.definitions.specs.Problem.{Bytes}
 use Rattle.definitions.specs.Layout.{Words, decode, padded, zeros}
 use Rattle.definitions.specs.Sheet.{sheet-of, sheet}
+use Rattle.definitions.specs.Places.{state-length, value-length, sheet-length}
 use Rattle.lifting.specs.Stages.{accepted-over}
 use Rattle.printing.specs.Lines.{Printed}
 use Rattle.sheet.specs.declared.Answer.{Answer}
@@ -35,5 +36,5 @@ told r state work out = some (r .number, r .length, state, work, out)
 -- 16: "a lent buffer is shorter than its limit"; else the sheet, zeros after it and in the other buffers
 abbrev pub called : ℕ → Bytes → Words → Words → Bytes → Option Told
 called n file state work out =
-    choose (leb 206_095 (length state) and leb 5_120 (length work) and leb 1_400_000 (length out))
+    choose (leb state-length (length state) and leb value-length (length work) and leb sheet-length (length out))
     (sheet document-01 n file then λ bytes. some (0, length bytes, zeros state, zeros work, padded (length out) bytes)) (some (16, 0, state, work, out))

@@ -8,6 +8,7 @@ use Rattle.definitions.specs.Result.{Result}
 use Rattle.definitions.specs.Tree.{tree}
 use Rattle.definitions.specs.Lifting.{lift-all}
 use Rattle.definitions.specs.Layout.{Words}
+use Rattle.definitions.specs.Places.{table-length, spans-length}
 use Rattle.orders.specs.Images.{table-of, table-order}
 use Rattle.levels.specs.Places.{rows-from, ends-from}
 use Rattle.levels.specs.Tabled.{Ready}
@@ -27,7 +28,7 @@ module _ (s : Words) (j : ℕ) (b : Base s j) (leads spans above : Words) (l : L
   Asked count words g level ends =
       Tables g leads spans × Family g level ends × Images (g .r) above × Framed g count words × (g .vector ≡ lim .vector) × (g .tree ≡ lim .tree) × (g .room ≡ lim .room)
 
-  pub asked : 1280 ≤ length leads → 258 ≤ length spans → 1280 ≤ length above → (count : ℕ) (words : Words) → Framed-by s j count words → Asked count words g level ends
+  pub asked : table-length ≤ length leads → spans-length ≤ length spans → table-length ≤ length above → (count : ℕ) (words : Words) → Framed-by s j count words → Asked count words g level ends
   asked hl hs ha count words f =
       subst₃ (Asked count words) (sym eg) (sym el) (sym ee) (
         tables-at s j b lim leads spans l hl hs,

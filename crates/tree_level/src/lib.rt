@@ -6,6 +6,7 @@ ghost use mathlib.Core.List.{[]};
 ghost use Prim.Native.Nat.{suc, _/_, _≤_};
 ghost use lib.ListN.{length};
 ghost use Rattle.definitions.specs.Layout.{Words};
+ghost use Rattle.definitions.specs.Places.{row-length, tree-length, table-length, spans-length, grown-length};
 ghost use Rattle.levels.specs.Tabled.{Ready};
 ghost use Rattle.stages.specs.Prepared.{Led};
 ghost use Rattle.lifting.specs.Stages.{Base, Within, Framed-by, leveled-of, Stored-as};
@@ -29,12 +30,12 @@ fn lift_frame(
     above: &[u16],
     b: Bounds,
 ) -> Lifted
-    requires { ⌜ Base (now state) j × Led (now state) j (now heads) (now spans) × ((below : Words) × Ready (now state) j below) × Ready (now state) (suc j) (now above) × (1280 ≤ length (now heads)) × (258 ≤ length (now spans)) × (1280 ≤ length (now above)) × Framed-by (now state) j count (now frame) × (25728 ≤ length (now out)) × (40960 ≤ length (now work)) × Within b ⌝ }
-    ensures { λ x. ⌜ framed-over b (now (state .entry)) j (length (now (cache .entry)) / 10) count (now (frame .entry)) x (now (out .exit)) ⌝ }
+    requires { ⌜ Base (now state) j × Led (now state) j (now heads) (now spans) × ((below : Words) × Ready (now state) j below) × Ready (now state) (suc j) (now above) × (table-length ≤ length (now heads)) × (spans-length ≤ length (now spans)) × (table-length ≤ length (now above)) × Framed-by (now state) j count (now frame) × (grown-length ≤ length (now out)) × (tree-length ≤ length (now work)) × Within b ⌝ }
+    ensures { λ x. ⌜ framed-over b (now (state .entry)) j (length (now (cache .entry)) / row-length) count (now (frame .entry)) x (now (out .exit)) ⌝ }
 {
     let g = lifting::ground_of(state, j, b);
-    let start = 1295 + j * 20480;
-    let ends = 6 + j * 129;
+    let start = words::ROWS_START + j * words::LEVEL_LENGTH;
+    let ends = words::ENDS_START + j * words::COUNTS_LENGTH;
     tree::lift_all(
         out,
         cache,
@@ -62,14 +63,14 @@ fn lift_with(
     above: &[u16],
     b: Bounds,
 ) -> Leveled
-    requires { ⌜ Base (now state) j × Led (now state) j (now heads) (now spans) × ((below : Words) × Ready (now state) j below) × Ready (now state) (suc j) (now above) × (1280 ≤ length (now heads)) × (258 ≤ length (now spans)) × (1280 ≤ length (now above)) × (25728 ≤ length (now out)) × (40960 ≤ length (now work)) × Within b ⌝ }
-    ensures { λ x. ⌜ (leveled-of x (now (out .exit)) [] ≡ tree-over b (now (state .entry)) j (length (now (cache .entry)) / 10)) × Stored-as x (now (out .exit)) ⌝ }
+    requires { ⌜ Base (now state) j × Led (now state) j (now heads) (now spans) × ((below : Words) × Ready (now state) j below) × Ready (now state) (suc j) (now above) × (table-length ≤ length (now heads)) × (spans-length ≤ length (now spans)) × (table-length ≤ length (now above)) × (grown-length ≤ length (now out)) × (tree-length ≤ length (now work)) × Within b ⌝ }
+    ensures { λ x. ⌜ (leveled-of x (now (out .exit)) [] ≡ tree-over b (now (state .entry)) j (length (now (cache .entry)) / row-length)) × Stored-as x (now (out .exit)) ⌝ }
 {
-    let mut framed = [0u16; 1280];
-    let mut gens = [0u16; 1280];
+    let mut framed = [0u16; words::TABLE_LENGTH];
+    let mut gens = [0u16; words::TABLE_LENGTH];
     let r = levels::count_of(state, j);
     // numbered by code 1, the lexicographic order, whatever the file's (A10)
-    match frame::form(&mut framed, 128, &mut gens, heads, r, 1) {
+    match frame::form(&mut framed, words::MOST_VECTORS, &mut gens, heads, r, 1) {
         Stored::Full => Leveled::Refused(15),
         Stored::Rows(n) => match lift_frame(
             out,
@@ -100,13 +101,13 @@ pub fn lift_level(
     j: usize,
     b: Bounds,
 ) -> Leveled
-    requires { ⌜ Base (now state) j × (25728 ≤ length (now out)) × (40960 ≤ length (now work)) × Within b ⌝ }
-    ensures { λ x. ⌜ (leveled-of x (now (out .exit)) [] ≡ tree-over b (now (state .entry)) j (length (now (cache .entry)) / 10)) × Stored-as x (now (out .exit)) ⌝ }
+    requires { ⌜ Base (now state) j × (grown-length ≤ length (now out)) × (tree-length ≤ length (now work)) × Within b ⌝ }
+    ensures { λ x. ⌜ (leveled-of x (now (out .exit)) [] ≡ tree-over b (now (state .entry)) j (length (now (cache .entry)) / row-length)) × Stored-as x (now (out .exit)) ⌝ }
 {
-    let mut heads = [0u16; 1280];
-    let mut spans = [0u16; 258];
-    let mut below = [0u16; 1280];
-    let mut above = [0u16; 1280];
+    let mut heads = [0u16; words::TABLE_LENGTH];
+    let mut spans = [0u16; words::SPANS_LENGTH];
+    let mut below = [0u16; words::TABLE_LENGTH];
+    let mut above = [0u16; words::TABLE_LENGTH];
     stages::fill_leads(&mut heads, &mut spans, state, j);
     stages::fill_tables(&mut below, &mut above, state, j + 1);
     lift_with(out, cache, work, state, j, &heads, &spans, &above, b)

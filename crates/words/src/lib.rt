@@ -6,7 +6,7 @@ ghost use mathlib.Core.List.{_∷_, []};
 ghost use Prim.Native.Nat.{_≤_, _<_};
 ghost use Rattle.definitions.specs.Layout.{byte};
 ghost use Rattle.definitions.specs.Lists.{between as between-definition};
-ghost use Rattle.definitions.specs.Places.{exponents-length, most-exponent, most-variables, most-components, most-elements, most-vectors, most-rows, most-terms, most-tree-terms, most-levels, all-levels, component-offset, exponents-offset, row-length, header-length, counts-length, ends-start, rows-start, level-length, state-length, value-length, tree-length, vector-length, table-length, spans-length, ends-length, lifted-length, grown-length, file-length, s-line-length, w-line-length, pair-line-length, s-lines-length, level-lines-length, sheet-length};
+ghost use Rattle.definitions.specs.Places.{exponents-length, most-exponent, most-variables, most-components, most-elements, most-vectors, most-rows, most-terms, most-tree-terms, most-levels, all-levels, component-offset, exponents-offset, row-length, header-length, counts-length, ends-start, rows-start, level-length, state-length, value-length, tree-length, vector-length, table-length, spans-length, ends-length, lifted-length, grown-length, file-length, read-length, s-line-length, w-line-length, pair-line-length, s-lines-length, level-lines-length, sheet-length};
 
 // ## Limits
 
@@ -21,6 +21,8 @@ pub const MOST_COMPONENTS: u16 = 16;
 pub const MOST_ELEMENTS: u16 = 64;
 
 pub const MOST_VECTORS: usize = 128;
+
+pub const MOST_VECTORS_U16: u16 = 128;
 
 pub const MOST_ROWS: usize = 2048;
 
@@ -76,6 +78,8 @@ pub const GROWN_LENGTH: usize = LIFTED_LENGTH + VECTOR_LENGTH;
 
 pub const FILE_LENGTH: usize = 65536;
 
+pub const READ_LENGTH: usize = FILE_LENGTH + 1;
+
 pub const S_LINE_LENGTH: usize = 74;
 
 pub const W_LINE_LENGTH: usize = 62;
@@ -90,8 +94,8 @@ pub const SHEET_LENGTH: usize = 1400000;
 
 // ## Held to the definitions
 
-pub fn numbers() -> [usize; 31]
-    ensures { λ r. ⌜ r ≡ exponents-length ∷ most-vectors ∷ most-rows ∷ most-terms ∷ most-tree-terms ∷ most-levels ∷ all-levels ∷ component-offset ∷ exponents-offset ∷ row-length ∷ header-length ∷ counts-length ∷ ends-start ∷ rows-start ∷ level-length ∷ state-length ∷ value-length ∷ tree-length ∷ vector-length ∷ table-length ∷ spans-length ∷ ends-length ∷ lifted-length ∷ grown-length ∷ file-length ∷ s-line-length ∷ w-line-length ∷ pair-line-length ∷ s-lines-length ∷ level-lines-length ∷ sheet-length ∷ [] ⌝ }
+pub fn numbers() -> [usize; 32]
+    ensures { λ r. ⌜ r ≡ exponents-length ∷ most-vectors ∷ most-rows ∷ most-terms ∷ most-tree-terms ∷ most-levels ∷ all-levels ∷ component-offset ∷ exponents-offset ∷ row-length ∷ header-length ∷ counts-length ∷ ends-start ∷ rows-start ∷ level-length ∷ state-length ∷ value-length ∷ tree-length ∷ vector-length ∷ table-length ∷ spans-length ∷ ends-length ∷ lifted-length ∷ grown-length ∷ file-length ∷ read-length ∷ s-line-length ∷ w-line-length ∷ pair-line-length ∷ s-lines-length ∷ level-lines-length ∷ sheet-length ∷ [] ⌝ }
 {
     [
         EXPONENTS_LENGTH,
@@ -119,6 +123,7 @@ pub fn numbers() -> [usize; 31]
         LIFTED_LENGTH,
         GROWN_LENGTH,
         FILE_LENGTH,
+        READ_LENGTH,
         S_LINE_LENGTH,
         W_LINE_LENGTH,
         PAIR_LINE_LENGTH,
@@ -128,14 +133,15 @@ pub fn numbers() -> [usize; 31]
     ]
 }
 
-pub fn word_numbers() -> [u16; 4]
-    ensures { λ r. ⌜ r ≡ most-exponent ∷ most-variables ∷ most-components ∷ most-elements ∷ [] ⌝ }
+pub fn word_numbers() -> [u16; 5]
+    ensures { λ r. ⌜ r ≡ most-exponent ∷ most-variables ∷ most-components ∷ most-elements ∷ most-vectors ∷ [] ⌝ }
 {
     [
         MOST_EXPONENT,
         MOST_VARIABLES,
         MOST_COMPONENTS,
         MOST_ELEMENTS,
+        MOST_VECTORS_U16,
     ]
 }
 

@@ -6,6 +6,7 @@ use lib.Dec.{T}
 use Rattle.definitions.specs.Result.{finished?}
 use Rattle.definitions.specs.Layout.{Lift, work-words}
 use Rattle.definitions.specs.Limits.{document-01}
+use Rattle.definitions.specs.Places.{value-length, tree-length}
 use Rattle.engine_lift.specs.Lifts.{by-picks, by-leading, way-of, lift-reply, settled-lift, state-over, lifted-over}
 use Rattle.engine_lift.proofs.lift_by.Statement.{statement}
 use Rattle.engine_lift.proofs.lift_by.Tie as tie
@@ -18,7 +19,7 @@ lift-runs-requires c κs =
     let a = c .before .before .before .before .before .before .before .before .args in
     let s = a .state .now in
     let P = c .before .before .before .before .before .before .before .before .pre in
-    let h : 5120 ≤ length (a .work .now) = subst (λ x. work-words document-01 (way-of x) ≤ length (a .work .now)) (c .before .before .before .enum-told .given .1) (P .3) in
+    let h : value-length ≤ length (a .work .now) = subst (λ x. work-words document-01 (way-of x) ≤ length (a .work .now)) (c .before .before .before .enum-told .given .1) (P .3) in
     (P .0, P .1, P .2, h, by-leading refl refl refl)
 
 enum-known-way : tie.Need-enum-known-way
@@ -29,7 +30,7 @@ lift-runs-requires-2 c κs =
     let a = c .before .before .before .before .before .before .before .before .before .args in
     let s = a .state .now in
     let P = c .before .before .before .before .before .before .before .before .before .pre in
-    let h : 5120 ≤ length (a .work .now) = subst (λ x. work-words document-01 (way-of x) ≤ length (a .work .now)) (c .before .before .before .before .way .given .1) (P .3) in
+    let h : value-length ≤ length (a .work .now) = subst (λ x. work-words document-01 (way-of x) ≤ length (a .work .now)) (c .before .before .before .before .way .given .1) (P .3) in
     (P .0, P .1, P .2, h, by-picks refl refl)
 
 enum-told-2 : tie.Need-enum-told-2
@@ -40,7 +41,7 @@ lift-tree-requires c κs =
     let a = c .before .before .before .before .before .before .before .before .args in
     let s = a .state .now in
     let P = c .before .before .before .before .before .before .before .before .pre in
-    let h : 40960 ≤ length (a .work .now) = subst (λ x. work-words document-01 (way-of x) ≤ length (a .work .now)) (c .before .before .before .enum-told2 .given .1) (P .3) in
+    let h : tree-length ≤ length (a .work .now) = subst (λ x. work-words document-01 (way-of x) ≤ length (a .work .now)) (c .before .before .before .enum-told2 .given .1) (P .3) in
     (P .0, P .1, P .2, h)
 
 same-length : tie.Need-same-length

@@ -4,6 +4,7 @@ use mathlib.Core.Path.{sym, _∙_}
 use Prim.Native.Nat.{_-_}
 use Rattle.definitions.specs.Lists.{between}
 use Rattle.definitions.proofs.Tests.{true-is, between-shown}
+use Rattle.definitions.specs.Places.{most-levels}
 use Rattle.engine_lift.specs.Lifts.{way-of, lift-reply}
 use Rattle.engine_lift.proofs.Called.{lifted, no-such-pick}
 use Rattle.engine_lift.proofs.lift_complete.Statement.{statement}
@@ -34,14 +35,14 @@ returns c =
     let s = a .state .now in
     let P = c .before .before .before .before .before .before .before .before .before .before .before .before .before .before .before .pre in
     let L = c .before .before .before .before .before .before .lift-by in
-    lifted s (a .work .now) (a .cache .now) (a .k) (way-of (a .way)) (P .0) (P .5) (P .1) (true-is (between 1 (a .k) 9) (between-shown 1 (a .k) 9 (P .2) (P .3))) (P .4) (P .2) (sym (c .before .before .before .before .before .before .before .before .before .before .if1 .taken) ∙ c .before .before .before .before .before .before .before .before .before .before .before .own-pick .ensures) (L .ensures .0) (lift-reply (L .result) (L .last .0) (L .last .1 .0) (L .last .1 .1 .0)) (L .ensures .1) (L .ensures .2)
+    lifted s (a .work .now) (a .cache .now) (a .k) (way-of (a .way)) (P .0) (P .5) (P .1) (true-is (between 1 (a .k) most-levels) (between-shown 1 (a .k) most-levels (P .2) (P .3))) (P .4) (P .2) (sym (c .before .before .before .before .before .before .before .before .before .before .if1 .taken) ∙ c .before .before .before .before .before .before .before .before .before .before .before .own-pick .ensures) (L .ensures .0) (lift-reply (L .result) (L .last .0) (L .last .1 .0) (L .last .1 .1 .0)) (L .ensures .1) (L .ensures .2)
 
 returns-2 : tie.Need-returns-2
 returns-2 c =
     let a = c .before .before .before .before .before .args in
     let s = a .state .now in
     let P = c .before .before .before .before .before .pre in
-    no-such-pick s (a .work .now) (a .cache .now) (a .k) (way-of (a .way)) (P .0) (P .5) (P .1) (true-is (between 1 (a .k) 9) (between-shown 1 (a .k) 9 (P .2) (P .3))) (P .4) (sym (c .if1 .left) ∙ c .before .own-pick .ensures)
+    no-such-pick s (a .work .now) (a .cache .now) (a .k) (way-of (a .way)) (P .0) (P .5) (P .1) (true-is (between 1 (a .k) most-levels) (between-shown 1 (a .k) most-levels (P .2) (P .3))) (P .4) (sym (c .if1 .left) ∙ c .before .own-pick .ensures)
 
 pub lift-complete-spec : {M : Type 1} → statement M
 lift-complete-spec =

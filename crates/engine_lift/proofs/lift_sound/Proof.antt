@@ -3,6 +3,7 @@ use native.Mathlib.Omega.{arith}
 use mathlib.Core.Path.{sym, _∙_}
 use Prim.Native.Nat.{_-_}
 use Rattle.definitions.proofs.Tests.{is-true, between-low, between-high}
+use Rattle.definitions.specs.Places.{most-levels}
 use Rattle.engine_lift.specs.Lifts.{way-of}
 use Rattle.engine_lift.proofs.Called.{not-complete, no-such-level}
 use Rattle.engine_lift.proofs.lift_sound.Statement.{statement}
@@ -22,7 +23,7 @@ returns c =
     let a = c .before .before .before .before .before .before .before .before .args in
     let s = a .state .now in
     let P = c .before .before .before .before .before .before .before .before .pre in
-    not-complete s (a .work .now) (a .cache .now) (a .k) (way-of (a .way)) (P .0) (P .2) (P .1) (sym (c .before .before .before .if1 .taken) ∙ c .before .before .before .before .level-number .ensures) (omega (arith, c .before .place .ensures))
+    not-complete s (a .work .now) (a .cache .now) (a .k) (way-of (a .way)) (P .0) (P .2) (P .1) (sym (c .before .before .before .if1 .taken) ∙ c .before .before .before .before .level-number .ensures) (omega (arith, c .before .place .ensures .0))
 
 lift-complete-requires : tie.Need-lift-complete-requires
 lift-complete-requires c κs =
@@ -30,8 +31,8 @@ lift-complete-requires c κs =
     let s = a .state .now in
     let P = c .before .before .before .before .before .before .before .before .before .before .before .pre in
     let t = is-true (sym (c .before .before .before .before .before .before .before .level-number .ensures) ∙ c .before .before .before .before .before .before .if1 .taken) in
-    let l = between-low 1 (a .k) 9 t in
-    (P .0, P .1, l, between-high 1 (a .k) 9 t, omega (arith, c .before .before .before .before .place .ensures, l), P .2)
+    let l = between-low 1 (a .k) most-levels t in
+    (P .0, P .1, l, between-high 1 (a .k) most-levels t, omega (arith, c .before .before .before .before .place .ensures .0, l), P .2)
 
 same-length : tie.Need-same-length
 same-length c = search needs

@@ -11,6 +11,7 @@ use Rattle.engine_lift.specs.Lifts.{settled-lift, state-over}
 use Rattle.engine_lift.proofs.Lifting.{tree-settles, tree-finished}
 use Rattle.engine_lift.proofs.lift_tree.Statement.{statement}
 use Rattle.engine_lift.proofs.lift_tree.Tie as tie
+use Rattle.definitions.specs.Places.{row-length}
 
 usual-requires : tie.Need-usual-requires
 usual-requires c κs = search needs
@@ -37,8 +38,8 @@ settle-requires c κs =
     let s = a .state .now in
     let P = c .before .before .before .before .before .before .before .before .before .before .before .before .before .before .before .before .before .before .pre in
     let L = c .before .before .before .before .before .before .before .before .before .lift-level in
-    let e = L .ensures .0 ∙ ap (λ b. tree-over b s (a .k - 1) (length (a .cache .now) / 10)) (c .before .before .before .before .before .before .before .before .before .before .before .before .before .before .usual .ensures) in
-    (P .0, P .1, P .2, tree-settles s (a .k - 1) (P .2) (L .last .0) (omega arith) (length (a .cache .now) / 10) (L .result) e (L .ensures .1))
+    let e = L .ensures .0 ∙ ap (λ b. tree-over b s (a .k - 1) (length (a .cache .now) / row-length)) (c .before .before .before .before .before .before .before .before .before .before .before .before .before .before .usual .ensures) in
+    (P .0, P .1, P .2, tree-settles s (a .k - 1) (P .2) (L .last .0) (omega arith) (length (a .cache .now) / row-length) (L .result) e (L .ensures .1))
 
 same-length : tie.Need-same-length
 same-length c = search needs
@@ -55,10 +56,10 @@ returns c =
     let s = a .state .now in
     let P = c .before .before .before .before .before .before .before .before .before .before .before .before .before .before .before .before .before .before .before .before .before .before .before .before .before .pre in
     let L = c .before .before .before .before .before .before .before .before .before .before .before .before .before .before .before .before .lift-level in
-    let e = L .ensures .0 ∙ ap (λ b. tree-over b s (a .k - 1) (length (a .cache .now) / 10)) (c .before .before .before .before .before .before .before .before .before .before .before .before .before .before .before .before .before .before .before .before .before .usual .ensures) in
+    let e = L .ensures .0 ∙ ap (λ b. tree-over b s (a .k - 1) (length (a .cache .now) / row-length)) (c .before .before .before .before .before .before .before .before .before .before .before .before .before .before .before .before .before .before .before .before .before .usual .ensures) in
     let ec : length (L .last .1 .0) ≡ length (a .cache .now) = omega arith in
     let el : length (L .last .1 .1 .0) ≡ length (a .work .now) = omega arith in
-    (c .before .before .before .before .before .before .settle .ensures ∙ (λ i. settled-lift (length s) (el i) (ec i) (state-over s (a .k) (e i))), tree-finished s (a .k - 1) (P .2) (L .last .0) (omega arith) (length (a .cache .now) / 10) (L .result) e)
+    (c .before .before .before .before .before .before .settle .ensures ∙ (λ i. settled-lift (length s) (el i) (ec i) (state-over s (a .k) (e i))), tree-finished s (a .k - 1) (P .2) (L .last .0) (omega arith) (length (a .cache .now) / row-length) (L .result) e)
 
 pub lift-tree-spec : {M : Type 1} → statement M
 lift-tree-spec =

@@ -7,6 +7,7 @@ use native.Mathlib.Nat.{not-suc-le-zero}
 use Rattle.definitions.specs.Limits.{document-01}
 use Rattle.definitions.specs.Layout.{level-at, decode}
 use Rattle.definitions.specs.Sheet.{printed, level-lines, levels-from as levels-definition}
+use Rattle.definitions.specs.Places.{most-levels, all-levels}
 use Rattle.stages.proofs.Complete.{complete-count}
 use Rattle.engine_lift.specs.Lifts.{lift-reply}
 use Rattle.printing.proofs.Spelling.{nothing, after}
@@ -24,7 +25,7 @@ use Rattle.sheet.proofs.+levels_from.{statement}
 use Rattle.sheet.proofs.+levels_from.Tie.{close}
 
 abbrev μ-levels-from : Measures 3 levels-from-kinds.ps ℕ
-μ-levels-from κs a = 10 - a .1 .1 .1 .1 .0
+μ-levels-from κs a = all-levels - a .1 .1 .1 .1 .0
 
 abbrev levels-from-at : ℕ → In 3 levels-from-kinds.ps
 levels-from-at t =
@@ -48,7 +49,7 @@ levels-from-returns : (t : ℕ) → levels-from-lts.Need-returns (
 ) (levels-from-at t) levels-from.Post
 levels-from-returns t c =
     let a = c .before .before .before .before .args in
-    let e : 10 - a .k ≡ 0 = omega arith in
+    let e : all-levels - a .k ≡ 0 = omega arith in
     (record { bound = 0; bytes = []; gives = sym (ap (λ l. levels-definition document-01 0 l (a .k) (decode document-01 (a .state .now))) e); printed = nothing (a .out .now) (a .at) }, omega arith)
 
 levels-from-slice-aggregate-lift : (t : ℕ) → levels-from-lts.Need-slice-aggregate-lift (
@@ -98,7 +99,7 @@ levels-from-print-level-requires t c κs =
     let L = c .before .before .before .before .before .before .before .before .lift in
     let n = L .ensures .0 in
     let r = lift-reply (L .result) (L .last .0) (L .last .1 .0) (L .last .1 .1 .0) in
-    let nine : a .k ≤ 9 = omega (arith, P .1) in
+    let nine : a .k ≤ most-levels = omega (arith, P .1) in
     let N = next-of s (a .work .now) _ (a .k) (P .2) (P .5) (P .3) (P .4) (P .0) nine n r (L .ensures .1) (omega arith) in
     (record { long = N .still-long; holds = N .still-holds; has = omega (arith, N .still-height); low = omega (arith, nine) }, omega (arith, P .6, nine))
 
@@ -121,7 +122,7 @@ levels-from-count-of-requires t c κs =
     let L = c .before .before .before .before .before .before .before .before .before .before .before .before .lift in
     let n = L .ensures .0 in
     let r = lift-reply (L .result) (L .last .0) (L .last .1 .0) (L .last .1 .1 .0) in
-    let nine : a .k ≤ 9 = omega (arith, P .1) in
+    let nine : a .k ≤ most-levels = omega (arith, P .1) in
     let N = next-of s (a .work .now) _ (a .k) (P .2) (P .5) (P .3) (P .4) (P .0) nine n r (L .ensures .1) (omega arith) in
     (N .still-long, omega (arith, nine))
 
@@ -186,7 +187,7 @@ levels-from-returns-2 t c =
     let L = c .before .before .before .before .before .before .before .before .before .before .before .before .before .before .lift in
     let n = L .ensures .0 in
     let r = lift-reply (L .result) (L .last .0) (L .last .1 .0) (L .last .1 .1 .0) in
-    let nine : a .k ≤ 9 = omega (arith, P .1) in
+    let nine : a .k ≤ most-levels = omega (arith, P .1) in
     let N = next-of s (a .work .now) _ (a .k) (P .2) (P .5) (P .3) (P .4) (P .0) nine n r (L .ensures .1) (omega arith) in
     let counted = complete-count (L .last .0) (N .still-long) (N .still-holds) (a .k) (omega (arith, N .still-height)) in
     let v = c .before .before .before .before .before .print-level .ensures in
@@ -225,7 +226,7 @@ levels-from-levels-from-requires t c κs =
     let L = c .before .before .before .before .before .before .before .before .before .before .before .before .before .before .before .before .before .lift in
     let n = L .ensures .0 in
     let r = lift-reply (L .result) (L .last .0) (L .last .1 .0) (L .last .1 .1 .0) in
-    let nine : a .k ≤ 9 = omega (arith, P .1) in
+    let nine : a .k ≤ most-levels = omega (arith, P .1) in
     let N = next-of s (a .work .now) _ (a .k) (P .2) (P .5) (P .3) (P .4) (P .0) nine n r (L .ensures .1) (omega arith) in
     let v = c .before .before .before .before .before .before .before .before .print-level .ensures in
     (omega (arith, c .before .before .before .before .before .before .before .before .before .before .before .before .before .before .before .before .before .before .before .before .before .before .before .before .before .pre .0, nine), (omega arith, omega (arith, nine), N .still-long, N .still-holds, N .still-height ∙ (omega arith), omega (arith, P .5), omega (arith, P .6, v .1, nine)))
@@ -291,7 +292,7 @@ levels-from-returns-3 t c =
     let L = c .before .before .before .before .before .before .before .before .before .before .before .before .before .before .before .before .before .before .before .before .before .before .before .before .lift in
     let n = L .ensures .0 in
     let r = lift-reply (L .result) (L .last .0) (L .last .1 .0) (L .last .1 .1 .0) in
-    let nine : a .k ≤ 9 = omega (arith, P .1, c .before .before .before .before .before .before .before .before .before .before .before .before .before .before .before .before .before .before .before .before .before .before .before .before .before .before .before .before .if1 .left) in
+    let nine : a .k ≤ most-levels = omega (arith, P .1, c .before .before .before .before .before .before .before .before .before .before .before .before .before .before .before .before .before .before .before .before .before .before .before .before .before .before .before .before .if1 .left) in
     let N = next-of s (a .work .now) _ (a .k) (P .2) (P .5) (P .3) (P .4) (P .0) nine n r (L .ensures .1) (omega arith) in
     let counted = complete-count (L .last .0) (N .still-long) (N .still-holds) (a .k) (omega (arith, N .still-height)) in
     let v = c .before .before .before .before .before .before .before .before .before .before .before .before .before .before .before .print-level .ensures in
@@ -375,7 +376,7 @@ levels-from-returns-4 t c =
     let L = c .before .before .before .before .before .before .before .before .before .before .lift in
     let n = L .ensures .0 in
     let r = lift-reply (L .result) (L .last .0) (L .last .1 .0) (L .last .1 .1 .0) in
-    let nine : a .k ≤ 9 = omega (arith, P .1) in
+    let nine : a .k ≤ most-levels = omega (arith, P .1) in
     let v = c .before .before .pair-line .ensures in
     let e = refused-of s (a .work .now) _ (a .k) (P .2) (P .5) (P .3) (P .4) (P .0) nine n r (L .ensures .1) (λ z. not-suc-le-zero {n = 0} (omega (arith, z))) in
     (record { bound = n; bytes = printed 88 (L .result .number ∷ L .result .place ∷ []); gives = refused-lines s (a .work .now) [] (a .k) (P .2) (P .5) (P .3) (P .4) (P .0) nine n (L .result .number) (L .result .place) e; printed = v .0 }, omega (arith, v .1))
