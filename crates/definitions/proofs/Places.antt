@@ -4,7 +4,7 @@ use Prim.Native.Nat.{ℕ, suc, _+_, _*_, _<_, _≤_}
 use native.Mathlib.Omega.{arith}
 use Rattle.definitions.specs.Limits.{document-01}
 use Rattle.definitions.specs.Layout.{level-vectors, level-rows, count-place, rows-place, state-words, work-words, out-words, division, tree}
-use Rattle.definitions.specs.Places.{exponents-length, most-exponent, most-variables, most-components, most-elements, most-vectors, most-rows, most-terms, most-tree-terms, most-levels, all-levels, row-length, component-offset, exponents-offset, counts-length, rows-start, level-length, state-length, count-offset, ends-offset, rows-offset, value-length, tree-length, vector-length, table-length, spans-length, ends-length, lifted-length, grown-length, file-length, read-length, s-line-length, pair-line-length, s-lines-length, level-lines-length}
+use Rattle.definitions.specs.Places.{exponents-length, most-exponent, most-variables, most-components, most-elements, most-vectors, most-rows, most-terms, most-tree-terms, most-levels, all-levels, row-length, component-offset, exponents-offset, rank-offset, counts-length, rows-start, level-length, state-length, count-offset, ends-offset, rows-offset, value-length, tree-length, vector-length, table-length, spans-length, ends-length, lifted-length, grown-length, file-length, read-length, s-line-length, pair-line-length, s-lines-length, level-lines-length}
 
 -- ## The numbers
 
@@ -16,8 +16,8 @@ limits-are : (exponents-length ≡ document-01 .variables) × (most-exponent ≡
 limits-are = (refl, refl, refl, refl, refl, refl, refl, refl, refl, refl, refl, refl, refl, refl, refl, refl)
 
 -- of rows
-row-is : (row-length ≡ exponents-offset + exponents-length) × (exponents-offset ≡ suc component-offset)
-row-is = (refl, refl)
+row-is : (row-length ≡ exponents-offset + exponents-length) × (exponents-offset ≡ suc component-offset) × (rank-offset ≡ component-offset)
+row-is = (refl, refl, refl)
 
 -- of the state: each is a path in the level's number
 counts-are : (k : ℕ) → count-offset k ≡ count-place document-01 k

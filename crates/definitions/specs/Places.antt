@@ -58,6 +58,10 @@ component-offset = 1
 abbrev pub exponents-offset : ℕ
 exponents-offset = 2
 
+-- where an image's rank stands, in a row of a table of images
+abbrev pub rank-offset : ℕ
+rank-offset = 1
+
 -- ## The state
 
 -- p, n, the order code, s, how many levels are complete

@@ -8,7 +8,7 @@ ghost use lib.ListN.{length, getD};
 ghost use Rattle.definitions.specs.Monomial.{degree, product};
 ghost use Rattle.definitions.specs.Order.{numbers as numbers-definition, lexicographic as lexicographic-definition, last-differing as last-differing-definition, exponents-by, compare-over};
 ghost use Rattle.definitions.specs.Layout.{byte, exponents-at, row-at};
-ghost use Rattle.definitions.specs.Places.{row-length};
+ghost use Rattle.definitions.specs.Places.{row-length, component-offset, exponents-offset, rank-offset};
 ghost use Rattle.monomial.specs.Values.{monomial-of};
 ghost use Rattle.orders.specs.Images.{comparison-of, decided?, exponents-raw, table-of, Bounded, Tabled, key, key-of, compare-keys, row-image, degrees-by, places-by};
 use monomial::Monomial;
@@ -201,10 +201,10 @@ pub fn image_of(table: &[u16], r: usize, m: Monomial) -> Image
         };
     }
     let at = i * words::ROW_LENGTH - words::ROW_LENGTH;
-    let w = shifted(e, table, at + 2);
+    let w = shifted(e, table, at + words::EXPONENTS_OFFSET);
     Image {
         exponents: w,
-        rank: table[at + 1],
+        rank: table[at + words::RANK_OFFSET],
         component,
     }
 }
@@ -361,19 +361,19 @@ fn row_exponents(s: &[u16], at: usize) -> [u16; words::EXPONENTS_LENGTH]
 // The image of a row, from word at on, whose component the table lacks.
 fn own_image(s: &[u16], at: usize) -> Image
     requires { ⌜ at + row-length ≤ length (now s) ⌝ }
-    ensures { λ k. ⌜ key-of k ≡ (exponents-at (now (s .entry)) (at + 2), (0, getD (now (s .entry)) (at + 1) 0)) ⌝ }
+    ensures { λ k. ⌜ key-of k ≡ (exponents-at (now (s .entry)) (at + exponents-offset), (0, getD (now (s .entry)) (at + component-offset) 0)) ⌝ }
 {
-    let w = row_exponents(s, at + 2);
+    let w = row_exponents(s, at + words::EXPONENTS_OFFSET);
     Image {
         exponents: w,
         rank: 0,
-        component: s[at + 1],
+        component: s[at + words::COMPONENT_OFFSET],
     }
 }
 
 fn against_own(code: u16, a: Image, s: &[u16], at: usize) -> Comparison
     requires { ⌜ at + row-length ≤ length (now s) ⌝ }
-    ensures { λ c. ⌜ comparison-of c ≡ compare-keys code (key-of a) (exponents-at (now (s .entry)) (at + 2), (0, getD (now (s .entry)) (at + 1) 0)) ⌝ }
+    ensures { λ c. ⌜ comparison-of c ≡ compare-keys code (key-of a) (exponents-at (now (s .entry)) (at + exponents-offset), (0, getD (now (s .entry)) (at + component-offset) 0)) ⌝ }
 {
     let b = own_image(s, at);
     compare_images(code, a, b)
@@ -389,15 +389,26 @@ fn against_tabled(
     table: &[u16],
     to: usize,
 ) -> Comparison
-    requires { ⌜ (at + row-length ≤ length (now s)) × (to + row-length ≤ length (now table)) × Bounded (now table) (to + 2) × (total ≡ degree (a .exponents)) ⌝ }
-    ensures { λ c. ⌜ comparison-of c ≡ compare-keys code (key-of a) (row-image (now (s .entry)) (at + 2) (now (table .entry)) (to + 2), (getD (now (table .entry)) (to + 1) 0, getD (now (s .entry)) (at + 1) 0)) ⌝ }
+    requires { ⌜ (at + row-length ≤ length (now s)) × (to + row-length ≤ length (now table)) × Bounded (now table) (to + exponents-offset) × (total ≡ degree (a .exponents)) ⌝ }
+    ensures { λ c. ⌜ comparison-of c ≡ compare-keys code (key-of a) (row-image (now (s .entry)) (at + exponents-offset) (now (table .entry)) (to + exponents-offset), (getD (now (table .entry)) (to + rank-offset) 0, getD (now (s .entry)) (at + component-offset) 0)) ⌝ }
 {
     let x = a.exponents;
-    let d = row_by_code(code, x, total, s, at + 2, table, to + 2);
+    let d = row_by_code(
+        code,
+        x,
+        total,
+        s,
+        at + words::EXPONENTS_OFFSET,
+        table,
+        to + words::EXPONENTS_OFFSET,
+    );
     if decided(d) {
         return d;
     }
-    let e = numbers(words::wider(a.rank), words::wider(table[to + 1]));
+    let e = numbers(
+        words::wider(a.rank),
+        words::wider(table[to + words::RANK_OFFSET]),
+    );
     if decided(e) {
         return e;
     }
@@ -512,14 +523,19 @@ fn row_words(s: &[u16], at: usize, table: &[u16], to: usize) -> [u16; words::EXP
 
 // The image of a row, from word at on, whose component's row in the table begins at word to.
 fn tabled_image(s: &[u16], at: usize, table: &[u16], to: usize) -> Image
-    requires { ⌜ (at + row-length ≤ length (now s)) × (to + row-length ≤ length (now table)) × Bounded (now table) (to + 2) ⌝ }
-    ensures { λ k. ⌜ key-of k ≡ (row-image (now (s .entry)) (at + 2) (now (table .entry)) (to + 2), (getD (now (table .entry)) (to + 1) 0, getD (now (s .entry)) (at + 1) 0)) ⌝ }
+    requires { ⌜ (at + row-length ≤ length (now s)) × (to + row-length ≤ length (now table)) × Bounded (now table) (to + exponents-offset) ⌝ }
+    ensures { λ k. ⌜ key-of k ≡ (row-image (now (s .entry)) (at + exponents-offset) (now (table .entry)) (to + exponents-offset), (getD (now (table .entry)) (to + rank-offset) 0, getD (now (s .entry)) (at + component-offset) 0)) ⌝ }
 {
-    let w = row_words(s, at + 2, table, to + 2);
+    let w = row_words(
+        s,
+        at + words::EXPONENTS_OFFSET,
+        table,
+        to + words::EXPONENTS_OFFSET,
+    );
     Image {
         exponents: w,
-        rank: table[to + 1],
-        component: s[at + 1],
+        rank: table[to + words::RANK_OFFSET],
+        component: s[at + words::COMPONENT_OFFSET],
     }
 }
 

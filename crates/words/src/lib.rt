@@ -6,7 +6,7 @@ ghost use mathlib.Core.List.{_∷_, []};
 ghost use Prim.Native.Nat.{_≤_, _<_};
 ghost use Rattle.definitions.specs.Layout.{byte};
 ghost use Rattle.definitions.specs.Lists.{between as between-definition};
-ghost use Rattle.definitions.specs.Places.{exponents-length, most-exponent, most-variables, most-components, most-elements, most-vectors, most-rows, most-terms, most-tree-terms, most-levels, all-levels, component-offset, exponents-offset, row-length, header-length, counts-length, ends-start, rows-start, level-length, state-length, value-length, tree-length, vector-length, table-length, spans-length, ends-length, lifted-length, grown-length, file-length, read-length, s-line-length, w-line-length, pair-line-length, s-lines-length, level-lines-length, sheet-length};
+ghost use Rattle.definitions.specs.Places.{exponents-length, most-exponent, most-variables, most-components, most-elements, most-vectors, most-rows, most-terms, most-tree-terms, most-levels, all-levels, component-offset, exponents-offset, rank-offset, row-length, header-length, counts-length, ends-start, rows-start, level-length, state-length, value-length, tree-length, vector-length, table-length, spans-length, ends-length, lifted-length, grown-length, file-length, read-length, s-line-length, w-line-length, pair-line-length, s-lines-length, level-lines-length, sheet-length};
 
 // ## Limits
 
@@ -39,6 +39,8 @@ pub const ALL_LEVELS: usize = MOST_LEVELS + 1;
 pub const COMPONENT_OFFSET: usize = 1;
 
 pub const EXPONENTS_OFFSET: usize = COMPONENT_OFFSET + 1;
+
+pub const RANK_OFFSET: usize = COMPONENT_OFFSET;
 
 pub const ROW_LENGTH: usize = EXPONENTS_OFFSET + EXPONENTS_LENGTH;
 
@@ -94,8 +96,8 @@ pub const SHEET_LENGTH: usize = 1400000;
 
 // ## Held to the definitions
 
-pub fn numbers() -> [usize; 32]
-    ensures { λ r. ⌜ r ≡ exponents-length ∷ most-vectors ∷ most-rows ∷ most-terms ∷ most-tree-terms ∷ most-levels ∷ all-levels ∷ component-offset ∷ exponents-offset ∷ row-length ∷ header-length ∷ counts-length ∷ ends-start ∷ rows-start ∷ level-length ∷ state-length ∷ value-length ∷ tree-length ∷ vector-length ∷ table-length ∷ spans-length ∷ ends-length ∷ lifted-length ∷ grown-length ∷ file-length ∷ read-length ∷ s-line-length ∷ w-line-length ∷ pair-line-length ∷ s-lines-length ∷ level-lines-length ∷ sheet-length ∷ [] ⌝ }
+pub fn numbers() -> [usize; 33]
+    ensures { λ r. ⌜ r ≡ exponents-length ∷ most-vectors ∷ most-rows ∷ most-terms ∷ most-tree-terms ∷ most-levels ∷ all-levels ∷ component-offset ∷ exponents-offset ∷ rank-offset ∷ row-length ∷ header-length ∷ counts-length ∷ ends-start ∷ rows-start ∷ level-length ∷ state-length ∷ value-length ∷ tree-length ∷ vector-length ∷ table-length ∷ spans-length ∷ ends-length ∷ lifted-length ∷ grown-length ∷ file-length ∷ read-length ∷ s-line-length ∷ w-line-length ∷ pair-line-length ∷ s-lines-length ∷ level-lines-length ∷ sheet-length ∷ [] ⌝ }
 {
     [
         EXPONENTS_LENGTH,
@@ -107,6 +109,7 @@ pub fn numbers() -> [usize; 32]
         ALL_LEVELS,
         COMPONENT_OFFSET,
         EXPONENTS_OFFSET,
+        RANK_OFFSET,
         ROW_LENGTH,
         HEADER_LENGTH,
         COUNTS_LENGTH,
