@@ -4,7 +4,7 @@ use Prim.Native.Nat.{ℕ, suc, _+_, _*_, _<_, _≤_}
 use native.Mathlib.Omega.{arith}
 use Rattle.definitions.specs.Limits.{document-01}
 use Rattle.definitions.specs.Layout.{level-vectors, level-rows, count-place, rows-place, state-words, work-words, out-words, division, tree}
-use Rattle.definitions.specs.Places.{exponents-length, most-exponent, most-variables, most-components, most-elements, most-vectors, most-rows, most-terms, most-tree-terms, most-levels, all-levels, row-length, component-offset, exponents-offset, rank-offset, counts-length, rows-start, level-length, state-length, count-offset, ends-offset, rows-offset, value-length, tree-length, vector-length, table-length, spans-length, ends-length, lifted-length, grown-length, file-length, read-length, s-line-length, pair-line-length, s-lines-length, level-lines-length}
+use Rattle.definitions.specs.Places.{exponents-length, most-exponent, most-variables, most-components, most-elements, most-vectors, most-rows, most-terms, most-tree-terms, most-levels, all-levels, row-length, component-offset, exponents-offset, rank-offset, counts-length, rows-start, level-length, state-length, count-offset, ends-offset, rows-offset, value-length, tree-length, vector-length, table-length, spans-length, tables-spans, tables-ends, tables-below, tables-above, tables-length, ends-length, lifted-length, grown-length, file-length, read-length, s-line-length, pair-line-length, s-lines-length, level-lines-length, all-lines-length, sheet-length}
 
 -- ## The numbers
 
@@ -35,12 +35,16 @@ state-is = (refl, refl, refl, refl)
 -- of the other buffers
 buffers-are : (value-length ≡ work-words document-01 division) × (tree-length ≡ work-words document-01 tree) × (vector-length ≡ out-words document-01)
     × (table-length ≡ most-vectors * row-length) × (spans-length ≡ suc most-vectors * 2) × (ends-length ≡ most-vectors) × (lifted-length ≡ ends-length + level-length)
-    × (grown-length ≡ lifted-length + vector-length)
-buffers-are = (refl, refl, refl, refl, refl, refl, refl, refl)
+    × (grown-length ≡ lifted-length + vector-length) × (tables-spans ≡ table-length) × (tables-ends ≡ tables-spans + spans-length) × (tables-below ≡ tables-ends + ends-length)
+    × (tables-above ≡ tables-below + table-length) × (tables-length ≡ tables-above + table-length)
+buffers-are = (refl, refl, refl, refl, refl, refl, refl, refl, refl, refl, refl, refl, refl)
 
 -- of the sheet's lines
-lines-are : (s-lines-length ≡ most-rows * s-line-length) × (level-lines-length ≡ s-lines-length + pair-line-length)
-lines-are = (refl, refl)
+lines-are : (s-lines-length ≡ most-rows * s-line-length) × (level-lines-length ≡ s-lines-length + pair-line-length) × (all-lines-length ≡ most-levels * level-lines-length)
+lines-are = (refl, refl, refl)
+
+sheet-fits : all-lines-length + pair-line-length ≤ sheet-length
+sheet-fits = omega arith
 
 -- ## The laws
 

@@ -121,6 +121,22 @@ table-length = 1_280
 abbrev pub spans-length : ℕ
 spans-length = 258
 
+-- the tables of a lifting in one slice: leading rows, spans, the ends of the level below, images below it, images above it
+abbrev pub tables-spans : ℕ
+tables-spans = 1_280
+
+abbrev pub tables-ends : ℕ
+tables-ends = 1_538
+
+abbrev pub tables-below : ℕ
+tables-below = 1_666
+
+abbrev pub tables-above : ℕ
+tables-above = 2_946
+
+abbrev pub tables-length : ℕ
+tables-length = 4_226
+
 -- a lifted level before it is stored: an end for each vector, then their rows; the tree needs room for one vector more
 abbrev pub ends-length : ℕ
 ends-length = 128
@@ -156,6 +172,10 @@ s-lines-length = 151_552
 
 abbrev pub level-lines-length : ℕ
 level-lines-length = 151_581
+
+-- the lines of all levels above 0
+abbrev pub all-lines-length : ℕ
+all-lines-length = 1_364_229
 
 -- the sheet
 abbrev pub sheet-length : ℕ

@@ -6,7 +6,7 @@ ghost use mathlib.Core.List.{_∷_, []};
 ghost use Prim.Native.Nat.{_≤_, _<_};
 ghost use Rattle.definitions.specs.Layout.{byte};
 ghost use Rattle.definitions.specs.Lists.{between as between-definition};
-ghost use Rattle.definitions.specs.Places.{exponents-length, most-exponent, most-variables, most-components, most-elements, most-vectors, most-rows, most-terms, most-tree-terms, most-levels, all-levels, component-offset, exponents-offset, rank-offset, row-length, header-length, counts-length, ends-start, rows-start, level-length, state-length, value-length, tree-length, vector-length, table-length, spans-length, ends-length, lifted-length, grown-length, file-length, read-length, s-line-length, w-line-length, pair-line-length, s-lines-length, level-lines-length, sheet-length};
+ghost use Rattle.definitions.specs.Places.{exponents-length, most-exponent, most-variables, most-components, most-elements, most-vectors, most-rows, most-terms, most-tree-terms, most-levels, all-levels, row-length, component-offset, exponents-offset, rank-offset, header-length, counts-length, ends-start, rows-start, level-length, state-length, value-length, tree-length, vector-length, table-length, spans-length, tables-spans, tables-ends, tables-below, tables-above, tables-length, ends-length, lifted-length, grown-length, file-length, read-length, s-line-length, w-line-length, pair-line-length, s-lines-length, level-lines-length, all-lines-length, sheet-length};
 
 // ## Limits
 
@@ -72,6 +72,16 @@ pub const SPANS_LENGTH: usize = COUNTS_LENGTH * 2;
 
 pub const ENDS_LENGTH: usize = MOST_VECTORS;
 
+pub const TABLES_SPANS: usize = TABLE_LENGTH;
+
+pub const TABLES_ENDS: usize = TABLES_SPANS + SPANS_LENGTH;
+
+pub const TABLES_BELOW: usize = TABLES_ENDS + ENDS_LENGTH;
+
+pub const TABLES_ABOVE: usize = TABLES_BELOW + TABLE_LENGTH;
+
+pub const TABLES_LENGTH: usize = TABLES_ABOVE + TABLE_LENGTH;
+
 pub const LIFTED_LENGTH: usize = ENDS_LENGTH + LEVEL_LENGTH;
 
 pub const GROWN_LENGTH: usize = LIFTED_LENGTH + VECTOR_LENGTH;
@@ -92,12 +102,14 @@ pub const S_LINES_LENGTH: usize = MOST_ROWS * S_LINE_LENGTH;
 
 pub const LEVEL_LINES_LENGTH: usize = S_LINES_LENGTH + PAIR_LINE_LENGTH;
 
+pub const ALL_LINES_LENGTH: usize = MOST_LEVELS * LEVEL_LINES_LENGTH;
+
 pub const SHEET_LENGTH: usize = 1400000;
 
 // ## Held to the definitions
 
-pub fn numbers() -> [usize; 33]
-    ensures { λ r. ⌜ r ≡ exponents-length ∷ most-vectors ∷ most-rows ∷ most-terms ∷ most-tree-terms ∷ most-levels ∷ all-levels ∷ component-offset ∷ exponents-offset ∷ rank-offset ∷ row-length ∷ header-length ∷ counts-length ∷ ends-start ∷ rows-start ∷ level-length ∷ state-length ∷ value-length ∷ tree-length ∷ vector-length ∷ table-length ∷ spans-length ∷ ends-length ∷ lifted-length ∷ grown-length ∷ file-length ∷ read-length ∷ s-line-length ∷ w-line-length ∷ pair-line-length ∷ s-lines-length ∷ level-lines-length ∷ sheet-length ∷ [] ⌝ }
+pub fn numbers() -> [usize; 39]
+    ensures { λ r. ⌜ r ≡ exponents-length ∷ most-vectors ∷ most-rows ∷ most-terms ∷ most-tree-terms ∷ most-levels ∷ all-levels ∷ component-offset ∷ exponents-offset ∷ rank-offset ∷ row-length ∷ header-length ∷ counts-length ∷ ends-start ∷ rows-start ∷ level-length ∷ state-length ∷ value-length ∷ tree-length ∷ vector-length ∷ table-length ∷ spans-length ∷ ends-length ∷ tables-spans ∷ tables-ends ∷ tables-below ∷ tables-above ∷ tables-length ∷ lifted-length ∷ grown-length ∷ file-length ∷ read-length ∷ s-line-length ∷ w-line-length ∷ pair-line-length ∷ s-lines-length ∷ level-lines-length ∷ all-lines-length ∷ sheet-length ∷ [] ⌝ }
 {
     [
         EXPONENTS_LENGTH,
@@ -123,6 +135,11 @@ pub fn numbers() -> [usize; 33]
         TABLE_LENGTH,
         SPANS_LENGTH,
         ENDS_LENGTH,
+        TABLES_SPANS,
+        TABLES_ENDS,
+        TABLES_BELOW,
+        TABLES_ABOVE,
+        TABLES_LENGTH,
         LIFTED_LENGTH,
         GROWN_LENGTH,
         FILE_LENGTH,
@@ -132,6 +149,7 @@ pub fn numbers() -> [usize; 33]
         PAIR_LINE_LENGTH,
         S_LINES_LENGTH,
         LEVEL_LINES_LENGTH,
+        ALL_LINES_LENGTH,
         SHEET_LENGTH,
     ]
 }
