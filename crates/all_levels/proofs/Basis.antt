@@ -16,12 +16,13 @@ use Rattle.definitions.specs.Layout.{Words, encode, decode, level-at, holds-sta
 use Rattle.definitions.proofs.Results.{if-done-says}
 use Rattle.definitions.proofs.Reading.{problem-sound, basis-state}
 use Rattle.definitions.proofs.RoundTrip.{decode-encode, holds-encode, length-encode}
+use Rattle.definitions.specs.Places.{state-length}
 use Rattle.levels.proofs.StateTests.{holds-said}
 use Rattle.stages.proofs.Complete.{highest-is}
 use Rattle.problem.specs.Reading.{words-read}
 use Rattle.lifting.specs.Stages.{Base, accepted-over}
 
-module _ (size : ℕ) (big : 206095 ≤ size) (file : Bytes) (f : Parameters × Level) (e : problem document-01 file ≡ done f) (s : Words) (w : s ≡ words-read size f) where
+module _ (size : ℕ) (big : state-length ≤ size) (file : Bytes) (f : Parameters × Level) (e : problem document-01 file ≡ done f) (s : Words) (w : s ≡ words-read size f) where
   abbrev X : State
   X = basis-state f
 
@@ -37,7 +38,7 @@ module _ (size : ℕ) (big : 206095 ≤ size) (file : Bytes) (f : Parameters × 
   held : T (holds-state? document-01 s)
   held = subst (λ z. T (holds-state? document-01 z)) (sym w) (holds-encode document-01 (omega arith) size X sound-basis)
 
-  long-is : 206095 ≤ length s
+  long-is : state-length ≤ length s
   long-is = omega (arith, length-is, big)
 
   pub based : Base s 0

@@ -21,6 +21,7 @@ use Rattle.definitions.proofs.Numbers as numbers
 use Rattle.definitions.proofs.Numbers.{limit-number?, Numbered, lift-number}
 use Rattle.definitions.proofs.Steady.{steady-from}
 use Rattle.definitions.proofs.Bound.{lift-steady}
+use Rattle.definitions.specs.Places.{most-levels, all-levels}
 use Rattle.demands.proofs.Lifts.{Lifted-to, one-more, limit-met, still-lifting, lifted-to, height-up-to}
 use Rattle.stages.proofs.Complete.{length-levels, holds-sound}
 use Rattle.lifting.specs.Stages.{Base}
@@ -81,7 +82,7 @@ module _ (s : Words) (k : ℕ) (h : Liftable s k) where
 
 -- so far: whatever the bound, if it is large enough, the rest from level k on is the whole
 abbrev pub Going : Words → Words → ℕ → Type 0
-Going s t k = (n : ℕ) × ((m : ℕ) → reached document-01 (n + m) (decode document-01 s) ≡ reached-from document-01 (n + m) (10 - k) k (decode document-01 t))
+Going s t k = (n : ℕ) × ((m : ℕ) → reached document-01 (n + m) (decode document-01 s) ≡ reached-from document-01 (n + m) (all-levels - k) k (decode document-01 t))
 
 pub going-first : (s : Words) → Going s s 1
 going-first s = (0, λ m. refl)
@@ -102,11 +103,11 @@ module _ (s₀ s : Words) (k : ℕ) (h : Liftable s k) (g : Going s₀ s k) wher
   abbrev S : State
   S = decode document-01 s
 
-  one-left : 10 - k ≡ suc (9 - k)
+  one-left : all-levels - k ≡ suc (most-levels - k)
   one-left = omega (arith, h .high)
 
   abbrev on : ℕ → Result State → Option Levels
-  on n x = then-levels S (λ Y. reached-from document-01 n (9 - k) (suc k) Y) x
+  on n x = then-levels S (λ Y. reached-from document-01 n (most-levels - k) (suc k) Y) x
 
   -- the step at a bound that suffices for the levels before and for this one
   here : (n m : ℕ) → T (finished? (lift document-01 n S k (by-hybrid 2))) → reached document-01 (g .0 + (n + m)) (decode document-01 s₀) ≡ on (g .0 + (n + m)) (lift document-01 n S k (by-hybrid 2))
@@ -129,7 +130,7 @@ module _ (s₀ s : Words) (k : ℕ) (h : Liftable s k) (g : Going s₀ s k) wher
   top n t N = sym (ap (λ i. highest (levels-at document-01 t i)) (N .height)) ∙ ap (λ Z. highest (Z .levels)) (N .decoded)
 
   abbrev after : ℕ → State → Bool → Option Levels
-  after n Y b = unless-last b Y (λ Z. reached-from document-01 n (9 - k) (suc k) Z)
+  after n Y b = unless-last b Y (λ Z. reached-from document-01 n (most-levels - k) (suc k) Z)
 
   lifted-here : (n m : ℕ) (t : Words) (N : Next s k h n t) (b : Bool) → empty? (highest (N .next .levels)) ≡ b
       → reached document-01 (g .0 + (n + m)) (decode document-01 s₀) ≡ after (g .0 + (n + m)) (N .next) b
@@ -149,7 +150,7 @@ module _ (s₀ s : Words) (k : ℕ) (h : Liftable s k) (g : Going s₀ s k) wher
   going-on n t N e = (
     g .0 + n,
     λ m.
-        let a : 9 - k ≡ 10 - (k + 1) = omega arith in
+        let a : most-levels - k ≡ all-levels - (k + 1) = omega arith in
         let b : suc k ≡ k + 1 = omega arith in
         let c : g .0 + n + m ≡ g .0 + (n + m) = omega arith in
         ap (λ i. reached document-01 i (decode document-01 s₀)) c
@@ -157,9 +158,9 @@ module _ (s₀ s : Words) (k : ℕ) (h : Liftable s k) (g : Going s₀ s k) wher
         ∙ (λ i. reached-from document-01 (sym c i) (a i) (b i) (sym (N .decoded) i)),
   )
 
-pub going-nine : (s t : Words) (k : ℕ) → 10 ≤ k → Going s t k → Ended-as s 0 0 t
+pub going-nine : (s t : Words) (k : ℕ) → all-levels ≤ k → Going s t k → Ended-as s 0 0 t
 going-nine s t k h g =
-    let e : 0 ≡ 10 - k = omega (arith, h) in
+    let e : 0 ≡ all-levels - k = omega (arith, h) in
     (g .0 + 0, ap (λ l. reached-from document-01 (g .0 + 0) l k (decode document-01 t)) e ∙ sym (g .1 0))
 
 -- ## All levels or a refusal

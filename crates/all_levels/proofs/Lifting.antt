@@ -24,6 +24,7 @@ use Rattle.definitions.proofs.Modular.{prime-says}
 use Rattle.definitions.proofs.Numbers as numbers
 use Rattle.definitions.proofs.Numbers.{limit-number?, Numbered, lift-level-number}
 use Rattle.definitions.proofs.Rows.{length-rows}
+use Rattle.definitions.specs.Places.{most-rows, most-terms, most-levels, all-levels, state-length, ends-length, lifted-length}
 use Rattle.demands.proofs.Results.{Gives, gives, refuses, open-yet}
 use Rattle.demands.proofs.Over.{Lift-right, over}
 use Rattle.demands.proofs.Lifts.{Lifted-to, one-more, limit-met, still-lifting, lifted-to, with-level as level-above}
@@ -41,7 +42,7 @@ use Rattle.storing.specs.Stored.{Kept-apart, with-level, Added}
 use Rattle.stages.proofs.Complete.{up-to-is, length-levels, holds-sound}
 use Rattle.all_levels.specs.Level.{Liftable, Chosen, by-picks, by-leading, way-by, Settles, state-over, stored, told, Lifted-by, kept, Kept-as, Lifted-next}
 
-pub few-variables : (s : Words) → 206095 ≤ length s → T (holds-state? document-01 s) → getD s 1 0 ≤ 8
+pub few-variables : (s : Words) → state-length ≤ length s → T (holds-state? document-01 s) → getD s 1 0 ≤ 8
 few-variables s long holds = between-high 1 (getD s 1 0) 8 (and-left (between 1 (getD s 1 0) 8) (between 1 (getD s 2 0) 3 and between 1 (getD s 3 0) 16) (holds-said s long holds .3))
 
 module _ (s : Words) (j : ℕ) (b : Base s j) where
@@ -90,35 +91,35 @@ before a es zero = a
 before a es (suc i) = getD es i 0
 
 module _ (q : Parameters) (components : ℕ) (below : List Level) where
-  filled-from : (z : Words) (a : ℕ) (es : Words) → T (every (vector-sound? document-01 q components 512 below) (vectors-at z a es)) → (j : ℕ) → j < length es → before a es j < getD es j 0
+  filled-from : (z : Words) (a : ℕ) (es : Words) → T (every (vector-sound? document-01 q components most-terms below) (vectors-at z a es)) → (j : ℕ) → j < length es → before a es j < getD es j 0
   filled-from z a [] t j h = absurd (not-suc-le-zero h)
   filled-from z a (e ∷ es) t zero h =
-      let v = vector-says document-01 q components 512 below (rows z a (e - a)) (and-left (vector-sound? document-01 q components 512 below (rows z a (e - a))) (every (vector-sound? document-01 q components 512 below) (vectors-at z e es)) t) in
+      let v = vector-says document-01 q components most-terms below (rows z a (e - a)) (and-left (vector-sound? document-01 q components most-terms below (rows z a (e - a))) (every (vector-sound? document-01 q components most-terms below) (vectors-at z e es)) t) in
       omega (arith, v .filled, length-rows z a (e - a))
   filled-from z a (e ∷ es) t (suc zero) h =
-      filled-from z e es (and-right (vector-sound? document-01 q components 512 below (rows z a (e - a))) (every (vector-sound? document-01 q components 512 below) (vectors-at z e es)) t) zero (omega arith)
+      filled-from z e es (and-right (vector-sound? document-01 q components most-terms below (rows z a (e - a))) (every (vector-sound? document-01 q components most-terms below) (vectors-at z e es)) t) zero (omega arith)
   filled-from z a (e ∷ es) t (suc (suc j)) h =
-      filled-from z e es (and-right (vector-sound? document-01 q components 512 below (rows z a (e - a))) (every (vector-sound? document-01 q components 512 below) (vectors-at z e es)) t) (suc j) (omega arith)
+      filled-from z e es (and-right (vector-sound? document-01 q components most-terms below (rows z a (e - a))) (every (vector-sound? document-01 q components most-terms below) (vectors-at z e es)) t) (suc j) (omega arith)
 
 start-before : (out : Words) (n j : ℕ) → j < n → before 0 (take n out) j ≡ start-of out j
 start-before out n zero h = refl
 start-before out n (suc j) h = getD-take n out j 0 (omega arith)
 
-pub apart : (s : Words) (j : ℕ) (b : Base s j) (n used : ℕ) (out : Words) → 20608 ≤ length out → used ≤ 2048 → Kept n used out
+pub apart : (s : Words) (j : ℕ) (b : Base s j) (n used : ℕ) (out : Words) → lifted-length ≤ length out → used ≤ most-rows → Kept n used out
     → T (levels-sound? document-01 (parameters-at s) (lifted-vectors out n ∷ levels-at document-01 s (suc j))) → Kept-apart n out
 apart s j b n used out l u k t = record {
   few = k .few;
   long = omega (arith, l);
   filled = λ i h.
       let x = level-says document-01 (parameters-at s) (lifted-vectors out n) (level-at document-01 s j) (levels-at document-01 s j) t .vectors in
-      let y = filled-from (parameters-at s) (length (level-at document-01 s j)) (levels-at document-01 s (suc j)) (drop 128 out) 0 (take n out) x i (omega (arith, length-take-le n out (omega (arith, l, k .few)))) in
+      let y = filled-from (parameters-at s) (length (level-at document-01 s j)) (levels-at document-01 s (suc j)) (drop ends-length out) 0 (take n out) x i (omega (arith, length-take-le n out (omega (arith, l, k .few)))) in
       omega (arith, y, start-before out n i h, getD-take n out i 0 h);
   room = λ i h. omega (arith, k .inside i h, u);
 }
 
 -- ## What can be stored
 
-module _ (s : Words) (j : ℕ) (b : Base s j) (out : Words) (long : 20608 ≤ length out) where
+module _ (s : Words) (j : ℕ) (b : Base s j) (out : Words) (long : lifted-length ≤ length out) where
   settles : (x : Leveled) (v : Words) → Right s j b (leveled-of x out v) → Stored-as x out → Settles x out
   settles (Vectors n used) v r k = apart s j b n used out long (k .0) (k .1) r
   settles (Refused number) v r k = tt
@@ -161,7 +162,7 @@ module _ (s : Words) (k : ℕ) (h : Liftable s k) where
   at-finished unfinished t = t
 
   -- stored: the contract of one level
-  pub lifted-by : (way : Lifting) (n : ℕ) (out : Words) → 20608 ≤ length out → (x : Leveled) (v : Words)
+  pub lifted-by : (way : Lifting) (n : ℕ) (out : Words) → lifted-length ≤ length out → (x : Leveled) (v : Words)
       → leveled-of x out v ≡ lift-level document-01 (getD s 0 0) (getD s 2 0) (levels-at document-01 s (suc (k - 1))) way n → Stored-as x out
       → (number : ℕ) (t : Words) → told number t ≡ stored s (state-over s k (leveled-of x out [])) → Lifted-by s k way number t
   lifted-by way n out long x v e kept number t p =
@@ -193,17 +194,17 @@ module _ (s : Words) (k : ℕ) (h : Liftable s k) where
       go : {x : Result State} → Lifted-to document-01 here k x → x ≡ done Y → T (sound? document-01 Y)
       go (one-more g r) p =
           subst (λ Z. T (sound? document-01 Z)) (ap or-here p)
-          (level-above document-01 here (holds-sound s (h .base .holds)) k (between-shown 1 k 9 (h .low) (h .high)) (omega (arith, length-levels s (getD s 4 0), h .base .has)) g (r .sound))
+          (level-above document-01 here (holds-sound s (h .base .holds)) k (between-shown 1 k most-levels (h .low) (h .high)) (omega (arith, length-levels s (getD s 4 0), h .base .has)) g (r .sound))
       go (limit-met u) p = absurd (subst (λ x. T (is-done x)) (sym p) tt)
       go still-lifting p = absurd (subst (λ x. T (is-done x)) (sym p) tt)
 
   added-base : (t : Words) (count : ℕ) (out : Words) → Added s t k count out → T (sound? document-01 (with-level s k count out)) → Base t 0
   added-base t count out A sound =
-      let tall : getD t 4 0 ≤ 10 = omega (arith, A .height, h .high) in
+      let tall : getD t 4 0 ≤ all-levels = omega (arith, A .height, h .high) in
       record {
         long = omega (arith, A .long, h .base .long);
         holds =
-            and-both (leb (getD t 4 0) 10) (all-words-sound? document-01 t (getD t 4 0) and sound? document-01 (decode document-01 t)) (le→leb (getD t 4 0) 10 tall)
+            and-both (leb (getD t 4 0) all-levels) (all-words-sound? document-01 t (getD t 4 0) and sound? document-01 (decode document-01 t)) (le→leb (getD t 4 0) all-levels tall)
             (and-both (all-words-sound? document-01 t (getD t 4 0)) (sound? document-01 (decode document-01 t)) (subst (λ i. T (all-words-sound? document-01 t i)) (sym (A .height)) (A .words)) (subst (λ Z. T (sound? document-01 Z)) (sym (A .state)) sound));
         has = omega (arith, A .height);
         low = omega arith;
@@ -229,7 +230,7 @@ module _ (s : Words) (k : ℕ) (h : Liftable s k) where
       }
   next-of n out (Stopped m) number t a e = absurd a
 
-  pub lifted-next : (n : ℕ) (out : Words) → 20608 ≤ length out → (x : Leveled) (v : Words)
+  pub lifted-next : (n : ℕ) (out : Words) → lifted-length ≤ length out → (x : Leveled) (v : Words)
       → leveled-of x out v ≡ lift-level document-01 (getD s 0 0) (getD s 2 0) (levels-at document-01 s (suc (k - 1))) (by-hybrid 2) n → Stored-as x out
       → (number : ℕ) (t : Words) → Kept-as s k x out number t → Lifted-next s k number t
   lifted-next n out long x v e saved number t a =

@@ -14,6 +14,7 @@ use Rattle.definitions.specs.Lifting.{Lifting, by-division, by-hybrid}
 use Rattle.definitions.specs.State.{State}
 use Rattle.definitions.specs.Calls.{lift}
 use Rattle.definitions.specs.Layout.{Words, encode, decode, levels-at}
+use Rattle.definitions.specs.Places.{most-levels}
 use Rattle.levels.specs.Places.{parameters-at}
 use Rattle.runs.specs.declared.Strategy.{Strategy}
 use Rattle.lifting.specs.Stages.{Base}
@@ -26,7 +27,7 @@ use Rattle.all_levels.specs.declared.Ended.{Ended}
 -- level k can be lifted: level k − 1 of a sound state is complete
 pub record Liftable (s : Words) (k : ℕ) : Type 0 where
   pub low : 1 ≤ k
-  pub high : k ≤ 9
+  pub high : k ≤ most-levels
   pub base : Base s (k - 1)
 
 -- division, or hybrid with any pick

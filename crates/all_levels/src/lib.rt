@@ -7,6 +7,7 @@ ghost use Prim.Native.Nat.{_≤_};
 ghost use lib.ListN.{length};
 ghost use Rattle.lifting.specs.Stages.{Base, leveled-of};
 ghost use Rattle.all_levels.specs.Level.{Liftable, Chosen, way-by, Settles, state-over, stored, told, Lifted-by, Kept-as, Lifted-next, Reached};
+ghost use Rattle.definitions.specs.Places.{value-length};
 use lifting::Leveled;
 use runs::Strategy;
 
@@ -34,10 +35,10 @@ pub fn store(state: &mut [u16], k: usize, x: Leveled, out: &[u16]) -> u16
 
 // Level k by division or hybrid.
 pub fn lift_level(state: &mut [u16], work: &mut [u16], k: usize, w: Strategy) -> u16
-    requires { ⌜ Liftable (now state) k × (5120 ≤ length (now work)) × Chosen w ⌝ }
+    requires { ⌜ Liftable (now state) k × (value-length ≤ length (now work)) × Chosen w ⌝ }
     ensures { λ r. ⌜ Lifted-by (now (state .entry)) k (way-by w) r (now (state .exit)) ⌝ }
 {
-    let mut out = [0u16; 20608];
+    let mut out = [0u16; words::LIFTED_LENGTH];
     let b = lifting::usual();
     let x = lifting::lift_level(&mut out, work, state, k - 1, w, b);
     store(state, k, x, &out)
@@ -61,10 +62,10 @@ fn keep(state: &mut [u16], k: usize, x: Leveled, out: &[u16]) -> u16
 
 // Level k by hybrid with pick code 2.
 pub fn lift_next(state: &mut [u16], work: &mut [u16], k: usize) -> u16
-    requires { ⌜ Liftable (now state) k × (5120 ≤ length (now work)) ⌝ }
+    requires { ⌜ Liftable (now state) k × (value-length ≤ length (now work)) ⌝ }
     ensures { λ r. ⌜ Lifted-next (now (state .entry)) k r (now (state .exit)) ⌝ }
 {
-    let mut out = [0u16; 20608];
+    let mut out = [0u16; words::LIFTED_LENGTH];
     let b = lifting::usual();
     let w = Strategy {
         drops: true,
@@ -77,11 +78,11 @@ pub fn lift_next(state: &mut [u16], work: &mut [u16], k: usize) -> u16
 
 // "Levels 1 on, hybrid, pick code 2, until a count is 0 or level 9 is printed"; where one is refused, those below it stay.
 pub fn lift_levels(state: &mut [u16], work: &mut [u16]) -> Ended
-    requires { ⌜ Base (now state) 0 × (5120 ≤ length (now work)) ⌝ }
+    requires { ⌜ Base (now state) 0 × (value-length ≤ length (now work)) ⌝ }
     ensures { λ r. ⌜ Reached (now (state .entry)) r (now (state .exit)) × Base (now (state .exit)) 0 ⌝ }
 {
     let mut k: usize = 1;
-    while k < 10 {
+    while k < words::ALL_LEVELS {
         let number = lift_next(state, work, k);
         if 0 < number {
             return Ended { number, place: k };

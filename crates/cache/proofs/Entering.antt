@@ -14,6 +14,7 @@ use Rattle.definitions.specs.Tree.{Cache, Subtree, cached, used, finish, finish
 use Rattle.definitions.specs.Layout.{Words, row-at, rows}
 use Rattle.definitions.proofs.Rows.{Eight, length-rows, rows-same}
 use Rattle.definitions.proofs.Products.{same-monomial-says, same-monomial-shows}
+use Rattle.definitions.specs.Places.{row-length}
 use Rattle.terms.specs.Rows.{written}
 use Rattle.terms.proofs.Stored.{row-is, written-here, written-other}
 use Rattle.cache.specs.Area.{Keeps, Copied}
@@ -89,7 +90,7 @@ same-turned m n = go (same-monomial? m n) (same-monomial? n m) (λ t. same-monom
     go false true f g = absurd (g tt)
     go false false f g = refl
 
-module _ (m : Monomial) (k : ℕ) (s : Words) (n from : ℕ) (some-left : 0 < k) (count : n ≡ getD s ((k - 1) * 10) 0) (start : from ≡ k - 1 - n) where
+module _ (m : Monomial) (k : ℕ) (s : Words) (n from : ℕ) (some-left : 0 < k) (count : n ≡ getD s ((k - 1) * row-length) 0) (start : from ≡ k - 1 - n) where
   number : n ≡ row-at s (k - 1) .0
   number = count ∙ sym (ap (λ t. t .0) (row-is s (k - 1)))
 
@@ -127,25 +128,25 @@ waits u n a b room m c w z cp h =
     ∙ sym (finish-is room u n m (rows w a n) (cache-of u c) (used-cache u c) (length-rows w a n) ∙ ap (λ b. finish-by b m (rows w a n, cache-of u c)) (lt-leb (u + suc n) room (omega arith)))
 
 -- the words of a sum copied behind the entries, then the row of its key
-pub entered-words : (u n a room : ℕ) (m : Monomial) (c w d z : Words) → d ≡ paste c (u * 10) (take ((a + n) * 10 - a * 10) (drop (a * 10) w)) (n * 10) → z ≡ written d (u + n) (n, m) → Eight (m .0)
-    → room * 10 ≤ length c → (a + n) * 10 ≤ length w → length d ≡ length c → u + n < room
+pub entered-words : (u n a room : ℕ) (m : Monomial) (c w d z : Words) → d ≡ paste c (u * row-length) (take ((a + n) * row-length - a * row-length) (drop (a * row-length) w)) (n * row-length) → z ≡ written d (u + n) (n, m) → Eight (m .0)
+    → room * row-length ≤ length c → (a + n) * row-length ≤ length w → length d ≡ length c → u + n < room
     → _≡_ {A = Subtree} (rows z u n, 0, cache-of (u + n + 1) z) (finish room m (rows w a n, cache-of u c))
 entered-words u n a room m c w d z e₁ e₂ eight hc hw hd h = entered u n a room m c z w keeps copied key h
   where
-    fits : (u + n) * 10 + 10 ≤ length d
+    fits : (u + n) * row-length + row-length ≤ length d
     fits = omega (arith, hd)
 
-    long : n * 10 ≤ length (take ((a + n) * 10 - a * 10) (drop (a * 10) w))
-    long = omega (arith, length-part w (a * 10) ((a + n) * 10 - a * 10) (omega arith))
+    long : n * row-length ≤ length (take ((a + n) * row-length - a * row-length) (drop (a * row-length) w))
+    long = omega (arith, length-part w (a * row-length) ((a + n) * row-length - a * row-length) (omega arith))
 
-    other : (k : ℕ) → k < u + n → row-at z k ≡ row-at (paste c (u * 10) (take ((a + n) * 10 - a * 10) (drop (a * 10) w)) (n * 10)) k
+    other : (k : ℕ) → k < u + n → row-at z k ≡ row-at (paste c (u * row-length) (take ((a + n) * row-length - a * row-length) (drop (a * row-length) w)) (n * row-length)) k
     other k l = ap (λ x. row-at x k) e₂ ∙ written-other d (u + n) (n, m) k fits eight (λ q. omega arith) ∙ ap (λ x. row-at x k) e₁
 
     keeps : Keeps u c z
-    keeps k l = other k (omega arith) ∙ pasted-below c (take ((a + n) * 10 - a * 10) (drop (a * 10) w)) u n (omega arith) k l
+    keeps k l = other k (omega arith) ∙ pasted-below c (take ((a + n) * row-length - a * row-length) (drop (a * row-length) w)) u n (omega arith) k l
 
     copied : Copied a w n u z
-    copied k l = other (u + k) (omega arith) ∙ pasted-inside c (take ((a + n) * 10 - a * 10) (drop (a * 10) w)) u n k (omega arith) long l ∙ part-row w a ((a + n) * 10 - a * 10) k (omega arith)
+    copied k l = other (u + k) (omega arith) ∙ pasted-inside c (take ((a + n) * row-length - a * row-length) (drop (a * row-length) w)) u n k (omega arith) long l ∙ part-row w a ((a + n) * row-length - a * row-length) k (omega arith)
 
     key : row-at z (u + n) ≡ (n, m)
     key = ap (λ x. row-at x (u + n)) e₂ ∙ written-here d (u + n) (n, m) fits eight

@@ -8,6 +8,7 @@ ghost use Rattle.definitions.specs.Lists.{choose};
 ghost use Rattle.definitions.specs.Layout.{rows};
 ghost use Rattle.definitions.specs.Tree.{cached, finish, grow, add-result};
 ghost use Rattle.definitions.specs.Result.{done};
+ghost use Rattle.definitions.specs.Places.{row-length};
 ghost use Rattle.monomial.specs.Values.{monomial-of};
 ghost use Rattle.orders.specs.Images.{table-of, table-order, Tabled};
 ghost use Rattle.terms.specs.Rows.{term-of};
@@ -39,20 +40,14 @@ fn less(y: usize, x: usize) -> usize
     0
 }
 
-fn place(x: u16) -> usize
-    ensures { λ r. ⌜ r ≡ x ⌝ }
-{
-    x as usize
-}
-
 // The newest entry with the monomial, by a walk over the entries.
 pub fn look_up(cache: &[u16], used: usize, m: Monomial) -> Entry
-    requires { ⌜ used * 10 ≤ length (now cache) ⌝ }
+    requires { ⌜ used * row-length ≤ length (now cache) ⌝ }
     ensures { λ r. ⌜ (entry-of (now (cache .entry)) r ≡ cached (monomial-of m) (cache-of used (now (cache .entry)))) × Inside used r ⌝ }
 {
     let mut k = used;
     while 0 < k {
-        let n = place(cache[(k - 1) * 10]);
+        let n = words::place(cache[(k - 1) * words::ROW_LENGTH]);
         let from = less(k - 1, n);
         if terms::same_row(cache, k - 1, m) {
             return Entry::Rows(from, k - 1 - from);
@@ -85,11 +80,16 @@ pub fn keep(
     m: Monomial,
     limit: usize,
 ) -> Subtree
-    requires { ⌜ (used ≤ room) × (room * 10 ≤ length (now cache)) × (a + n ≤ limit) × (limit * 10 ≤ length (now work)) × (limit < 65536) ⌝ }
+    requires { ⌜ (used ≤ room) × (room * row-length ≤ length (now cache)) × (a + n ≤ limit) × (limit * row-length ≤ length (now work)) × (limit < 65536) ⌝ }
     ensures { λ x. ⌜ (subtree-of limit x (now (cache .exit)) (now (work .exit)) ≡ done (finish room (monomial-of m) (rows (now (work .entry)) a n, cache-of used (now (cache .entry))))) × Sized a limit room x × Keeps a (now (work .entry)) (now (work .exit)) ⌝ }
 {
     if used + n < room {
-        terms::copy(cache, used * 10, &work[a * 10..(a + n) * 10], n * 10);
+        terms::copy(
+            cache,
+            used * words::ROW_LENGTH,
+            &work[a * words::ROW_LENGTH..(a + n) * words::ROW_LENGTH],
+            n * words::ROW_LENGTH,
+        );
         terms::put(
             cache,
             used + n,
@@ -100,7 +100,12 @@ pub fn keep(
         );
         return Subtree::Cached(used, n, used + n + 1);
     }
-    move_up(work, a * 10, n * 10, (limit - n) * 10);
+    move_up(
+        work,
+        a * words::ROW_LENGTH,
+        n * words::ROW_LENGTH,
+        (limit - n) * words::ROW_LENGTH,
+    );
     Subtree::Waiting(n, used)
 }
 
@@ -112,13 +117,13 @@ pub fn held<'a>(
     from: usize,
     n: usize,
 ) -> &'a [u16]
-    requires { ⌜ (from + n) * 10 ≤ length (choose in_cache (now cache) (now work)) ⌝ }
-    ensures { λ r. ⌜ now r ≡ take (n * 10) (drop (from * 10) (choose in_cache (now (cache .entry)) (now (work .entry)))) ⌝ }
+    requires { ⌜ (from + n) * row-length ≤ length (choose in_cache (now cache) (now work)) ⌝ }
+    ensures { λ r. ⌜ now r ≡ take (n * row-length) (drop (from * row-length) (choose in_cache (now (cache .entry)) (now (work .entry)))) ⌝ }
 {
     if in_cache {
-        &cache[from * 10..(from + n) * 10]
+        &cache[from * words::ROW_LENGTH..(from + n) * words::ROW_LENGTH]
     } else {
-        &work[from * 10..(from + n) * 10]
+        &work[from * words::ROW_LENGTH..(from + n) * words::ROW_LENGTH]
     }
 }
 
@@ -134,11 +139,11 @@ fn insert_row(
     p: u16,
     t: Term,
 ) -> Stored
-    requires { ⌜ (0 < p) × (a + n ≤ top) × (top * 10 ≤ length (now work)) × (r * 10 ≤ length (now table)) × Tabled r (now table) ⌝ }
+    requires { ⌜ (0 < p) × (a + n ≤ top) × (top * row-length ≤ length (now work)) × (r * row-length ≤ length (now table)) × Tabled r (now table) ⌝ }
     ensures { λ x. ⌜ (grown-of a x (now (work .exit)) ≡ grow (table-order code (table-of r (now (table .entry)))) p top a (term-of t) (rows (now (work .entry)) a n)) × Room a top x × Keeps a (now (work .entry)) (now (work .exit)) × Leaves top (now (work .entry)) (now (work .exit)) ⌝ }
 {
     sums::insert(
-        &mut work[a * 10..top * 10],
+        &mut work[a * words::ROW_LENGTH..top * words::ROW_LENGTH],
         n,
         top - a,
         code,
@@ -165,7 +170,7 @@ pub fn add_part(
     r: usize,
     p: u16,
 ) -> Stored
-    requires { ⌜ (0 < p) × (a + n ≤ top) × (top * 10 ≤ length (now work)) × (r * 10 ≤ length (now table)) × Tabled r (now table) × ((from + len) * 10 ≤ length (choose in_cache (now cache) (now work))) × Apart in_cache top from ⌝ }
+    requires { ⌜ (0 < p) × (a + n ≤ top) × (top * row-length ≤ length (now work)) × (r * row-length ≤ length (now table)) × Tabled r (now table) × ((from + len) * row-length ≤ length (choose in_cache (now cache) (now work))) × Apart in_cache top from ⌝ }
     ensures { λ x. ⌜ (grown-of a x (now (work .exit)) ≡ add-result (table-order code (table-of r (now (table .entry)))) p top a c (rows (choose in_cache (now (cache .entry)) (now (work .entry))) from len) (rows (now (work .entry)) a n)) × Room a top x × Keeps a (now (work .entry)) (now (work .exit)) ⌝ }
 {
     let mut k = n;
@@ -211,7 +216,7 @@ pub fn add_rows(
     r: usize,
     p: u16,
 ) -> Stored
-    requires { ⌜ (0 < p) × (n ≤ limit) × (limit * 10 ≤ length (now s)) × (r * 10 ≤ length (now table)) × Tabled r (now table) × (len * 10 ≤ length (now part)) ⌝ }
+    requires { ⌜ (0 < p) × (n ≤ limit) × (limit * row-length ≤ length (now s)) × (r * row-length ≤ length (now table)) × Tabled r (now table) × (len * row-length ≤ length (now part)) ⌝ }
     ensures { λ x. ⌜ (grown-of 0 x (now (s .exit)) ≡ add-result (table-order code (table-of r (now (table .entry)))) p limit 0 c (rows (now (part .entry)) 0 len) (rows (now (s .entry)) 0 n)) × Room 0 limit x ⌝ }
 {
     let mut k = n;

@@ -25,3 +25,4 @@ pub mod Elements
 pub mod Reading
 pub mod Steady
 pub mod Bound
+pub mod Places

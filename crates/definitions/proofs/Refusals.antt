@@ -18,6 +18,7 @@ use Rattle.definitions.specs.Calls.{Reply, refuse, settled, read, lift, 
 use Rattle.definitions.specs.Layout.{Words, padded, zeros, rows-place, state-words, encode, state-after, rows-after, cache-after, meant, Way, division, lifting-by, work-words, out-words, long-enough?, Read, read-left, read-call, Lift, lift-left, lift-call, fetch-call}
 use Rattle.definitions.proofs.Tests.{and-left}
 use Rattle.definitions.proofs.Numbers.{Numbered, gives, refuses, stops, open-yet, limit-number?, read-number?, numbered-more, read-number, lift-number}
+use Rattle.definitions.specs.Places.{header-length}
 
 -- the numbers after which nothing has changed
 abbrev pub keeps? : ℕ → Bool
@@ -32,7 +33,7 @@ padded-zeros n k h =
 
 pub encode-empty : (lim : Limits) (size : ℕ) → state-words lim ≤ size → encode lim size empty ≡ replicate size 0
 encode-empty lim size h =
-    ap (padded size) (append-nil (padded (rows-place lim 0) (replicate 5 0)) ∙ padded-zeros (rows-place lim 0) 5 (omega arith)) ∙ padded-zeros size (rows-place lim 0) (omega arith)
+    ap (padded size) (append-nil (padded (rows-place lim 0) (replicate header-length 0)) ∙ padded-zeros (rows-place lim 0) header-length (omega arith)) ∙ padded-zeros size (rows-place lim 0) (omega arith)
 
 -- ## What a settled call leaves
 

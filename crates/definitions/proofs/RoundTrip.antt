@@ -49,6 +49,7 @@ use Rattle.definitions.specs.Layout.{
 use Rattle.definitions.proofs.Tests.{and-left, and-right, and-both}
 use Rattle.definitions.proofs.Rows.{Eights, no-terms, one-more, length-row, length-rows-of, rows-of-append, drop-behind, rows-spelled}
 use Rattle.definitions.proofs.Sound.{term-says, vector-says, basis-says, level-says, sound-says}
+use Rattle.definitions.specs.Places.{most-exponent, row-length, exponents-offset, header-length}
 
 -- ## What soundness says of a level's size and exponents
 
@@ -67,14 +68,14 @@ pub data All-housed (lim : Limits) : List Level → Type 0 where
   no-level : All-housed lim []
   one-level : (f : Level) (below : List Level) → Housed lim f → All-housed lim below → All-housed lim (f ∷ below)
 
-fits-more : (n : ℕ) (e : Exponents) → n ≤ 255 → T (fits? n e) → T (fits? 255 e)
+fits-more : (n : ℕ) (e : Exponents) → n ≤ 255 → T (fits? n e) → T (fits? most-exponent e)
 fits-more n [] h t = tt
 fits-more n (x ∷ e) h t =
-    and-both (leb x 255) (fits? 255 e)
-    (le→leb x 255 (let l : x ≤ n = leb→le x n (and-left (leb x n) (fits? n e) t) in omega arith))
+    and-both (leb x most-exponent) (fits? most-exponent e)
+    (le→leb x most-exponent (let l : x ≤ n = leb→le x n (and-left (leb x n) (fits? n e) t) in omega arith))
     (fits-more n e h (and-right (leb x n) (fits? n e) t))
 
-module _ (lim : Limits) (q : Parameters) (small : lim .exponent ≤ 255) where
+module _ (lim : Limits) (q : Parameters) (small : lim .exponent ≤ most-exponent) where
   pub eights : (c : ℕ) (v : Vector) → T (every (term-sound? lim q c) v) → Eights v
   eights c [] h = no-terms
   eights c (t ∷ v) h =
@@ -120,9 +121,9 @@ eights-joined : {f : Level} → Filled f → Eights (joined f)
 eights-joined no-vectors = no-terms
 eights-joined (one-vector l v f) = eights-append v (eights-joined f)
 
-length-level-rows : (lim : Limits) (f : Level) → Housed lim f → length (padded (level-rows lim * 10) (rows-of (joined f))) ≡ level-rows lim * 10
+length-level-rows : (lim : Limits) (f : Level) → Housed lim f → length (padded (level-rows lim * row-length) (rows-of (joined f))) ≡ level-rows lim * row-length
 length-level-rows lim f h =
-    length-padded (level-rows lim * 10) (rows-of (joined f)) (omega (arith, length-rows-of (joined f) (eights-joined (h .filled)), length-joined f, h .short))
+    length-padded (level-rows lim * row-length) (rows-of (joined f)) (omega (arith, length-rows-of (joined f) (eights-joined (h .filled)), length-joined f, h .short))
 
 -- ## A level among others
 
@@ -131,11 +132,11 @@ counts-last : (lim : Limits) (ls : List Level) (f : Level) → all-counts lim (l
 counts-last lim [] f = append-nil (counts-of lim f)
 counts-last lim (g ∷ ls) f = ap (λ l. counts-of lim g ++ l) (counts-last lim ls f) ∙ sym (append-assoc (counts-of lim g) (all-counts lim ls) (counts-of lim f))
 
-rows-last : (lim : Limits) (ls : List Level) (f : Level) → all-rows lim (ls ++ f ∷ []) ≡ all-rows lim ls ++ padded (level-rows lim * 10) (rows-of (joined f))
-rows-last lim [] f = append-nil (padded (level-rows lim * 10) (rows-of (joined f)))
+rows-last : (lim : Limits) (ls : List Level) (f : Level) → all-rows lim (ls ++ f ∷ []) ≡ all-rows lim ls ++ padded (level-rows lim * row-length) (rows-of (joined f))
+rows-last lim [] f = append-nil (padded (level-rows lim * row-length) (rows-of (joined f)))
 rows-last lim (g ∷ ls) f =
-    ap (λ l. padded (level-rows lim * 10) (rows-of (joined g)) ++ l) (rows-last lim ls f)
-    ∙ sym (append-assoc (padded (level-rows lim * 10) (rows-of (joined g))) (all-rows lim ls) (padded (level-rows lim * 10) (rows-of (joined f))))
+    ap (λ l. padded (level-rows lim * row-length) (rows-of (joined g)) ++ l) (rows-last lim ls f)
+    ∙ sym (append-assoc (padded (level-rows lim * row-length) (rows-of (joined g))) (all-rows lim ls) (padded (level-rows lim * row-length) (rows-of (joined f))))
 
 length-all-counts : (lim : Limits) (ls : List Level) → All-housed lim ls → length (all-counts lim (reverse ls)) ≡ length ls * suc (level-vectors lim)
 length-all-counts lim ls no-level = omega arith
@@ -143,25 +144,25 @@ length-all-counts lim ls (one-level f below h hs) =
     ap (λ l. length (all-counts lim l)) (reverse-cons f below) ∙ ap length (counts-last lim (reverse below) f)
     ∙ length-append (all-counts lim (reverse below)) (counts-of lim f) ∙ omega (arith, length-all-counts lim below hs, length-counts lim f (h .few))
 
-length-all-rows : (lim : Limits) (ls : List Level) → All-housed lim ls → length (all-rows lim (reverse ls)) ≡ length ls * (level-rows lim * 10)
+length-all-rows : (lim : Limits) (ls : List Level) → All-housed lim ls → length (all-rows lim (reverse ls)) ≡ length ls * (level-rows lim * row-length)
 length-all-rows lim ls no-level = omega arith
 length-all-rows lim ls (one-level f below h hs) =
     ap (λ l. length (all-rows lim l)) (reverse-cons f below) ∙ ap length (rows-last lim (reverse below) f)
-    ∙ length-append (all-rows lim (reverse below)) (padded (level-rows lim * 10) (rows-of (joined f))) ∙ omega (arith, length-all-rows lim below hs, length-level-rows lim f h)
+    ∙ length-append (all-rows lim (reverse below)) (padded (level-rows lim * row-length) (rows-of (joined f))) ∙ omega (arith, length-all-rows lim below hs, length-level-rows lim f h)
 
 -- ## A level read from its words
 
-vectors-spelled : (s : Words) (a : ℕ) (f : Level) (z : Words) → Filled f → drop (a * 10) s ≡ rows-of (joined f) ++ z → vectors-at s a (ends-from a f) ≡ f
+vectors-spelled : (s : Words) (a : ℕ) (f : Level) (z : Words) → Filled f → drop (a * row-length) s ≡ rows-of (joined f) ++ z → vectors-at s a (ends-from a f) ≡ f
 vectors-spelled s a f z no-vectors d = refl
 vectors-spelled s a f z (one-vector {v} {f = g} l h hs) d =
     let e : a + length v - a ≡ length v = omega arith in
     λ i. (ap (rows s a) e ∙ rows-spelled s a v (rows-of (joined g) ++ z) h here) i ∷ vectors-spelled s (a + length v) g z hs behind i
   where
-    here : drop (a * 10) s ≡ rows-of v ++ (rows-of (joined g) ++ z)
+    here : drop (a * row-length) s ≡ rows-of v ++ (rows-of (joined g) ++ z)
     here = d ∙ ap (λ w. w ++ z) (rows-of-append v (joined g)) ∙ append-assoc (rows-of v) (rows-of (joined g)) z
 
-    behind : drop ((a + length v) * 10) s ≡ rows-of (joined g) ++ z
-    behind = drop-behind s (rows-of v) (rows-of (joined g) ++ z) (a * 10) (length v * 10) ((a + length v) * 10) here (length-rows-of v h) (omega arith)
+    behind : drop ((a + length v) * row-length) s ≡ rows-of (joined g) ++ z
+    behind = drop-behind s (rows-of v) (rows-of (joined g) ++ z) (a * row-length) (length v * row-length) ((a + length v) * row-length) here (length-rows-of v h) (omega arith)
 
 ends-ascend : (limit a : ℕ) (f : Level) → Filled f → a + terms-of f ≤ limit → T (ascending? limit a (ends-from a f))
 ends-ascend limit a f no-vectors h = tt
@@ -179,14 +180,14 @@ last-end-is a (v ∷ f) = go (last (ends-from (a + length v) f)) (last-end-is (a
     go (some b) h = omega arith
 
 -- the rows from row n on
-rows-behind : (v : Vector) (n : ℕ) (z : Words) → Eights v → n ≤ length v → drop (n * 10) (rows-of v ++ z) ≡ rows-of (drop n v) ++ z
+rows-behind : (v : Vector) (n : ℕ) (z : Words) → Eights v → n ≤ length v → drop (n * row-length) (rows-of v ++ z) ≡ rows-of (drop n v) ++ z
 rows-behind v zero z h l = refl
 rows-behind v (suc n) z no-terms l = absurd (omega arith)
 rows-behind v (suc n) z (one-more {t} {v = w} h hs) l =
-    let e : suc n * 10 ≡ 10 + n * 10 = omega arith in
-    ap (λ j. drop j ((row-of t ++ rows-of w) ++ z)) e ∙ sym (drop-drop (n * 10) 10 ((row-of t ++ rows-of w) ++ z))
-    ∙ ap (λ x. drop (n * 10) (drop 10 x)) (append-assoc (row-of t) (rows-of w) z)
-    ∙ ap (drop (n * 10)) (ap (λ j. drop j (row-of t ++ (rows-of w ++ z))) (sym (length-row t h)) ∙ drop-append-seam (row-of t) (rows-of w ++ z))
+    let e : suc n * row-length ≡ row-length + n * row-length = omega arith in
+    ap (λ j. drop j ((row-of t ++ rows-of w) ++ z)) e ∙ sym (drop-drop (n * row-length) row-length ((row-of t ++ rows-of w) ++ z))
+    ∙ ap (λ x. drop (n * row-length) (drop row-length x)) (append-assoc (row-of t) (rows-of w) z)
+    ∙ ap (drop (n * row-length)) (ap (λ j. drop j (row-of t ++ (rows-of w ++ z))) (sym (length-row t h)) ∙ drop-append-seam (row-of t) (rows-of w ++ z))
     ∙ rows-behind w n z hs (omega arith)
 
 eights-drop : (v : Vector) (n : ℕ) → Eights v → Eights (drop n v)
@@ -197,21 +198,21 @@ eights-drop v (suc n) (one-more {t} {v = w} h hs) = eights-drop w n hs
 exponents-fit : (s : Words) (v : Vector) (z : Words) (n : ℕ) → Eights v → s ≡ rows-of v ++ z → n ≤ length v → T (exponents-fit? s n)
 exponents-fit s v z zero h e l = tt
 exponents-fit s v z (suc n) h e l =
-    and-both (exponents-fit? s n) (fits? 255 (take 8 (drop (n * 10 + 2) s))) (exponents-fit s v z n h e (omega arith))
-    (go (drop n v) (eights-drop v n h) (ap (drop (n * 10)) e ∙ rows-behind v n z h (omega arith)) (omega (arith, length-drop n v)))
+    and-both (exponents-fit? s n) (fits? most-exponent (take 8 (drop (n * row-length + exponents-offset) s))) (exponents-fit s v z n h e (omega arith))
+    (go (drop n v) (eights-drop v n h) (ap (drop (n * row-length)) e ∙ rows-behind v n z h (omega arith)) (omega (arith, length-drop n v)))
   where
-    go : (w : Vector) → Eights w → drop (n * 10) s ≡ rows-of w ++ z → 0 < length w → T (fits? 255 (take 8 (drop (n * 10 + 2) s)))
+    go : (w : Vector) → Eights w → drop (n * row-length) s ≡ rows-of w ++ z → 0 < length w → T (fits? most-exponent (take 8 (drop (n * row-length + exponents-offset) s)))
     go w no-terms d l = absurd (omega arith)
     go w (one-more {t} {v = u} k ks) d l =
-        let b : drop (n * 10 + 2) s ≡ t .1 .0 ++ (rows-of u ++ z) = sym (drop-drop 2 (n * 10) s) ∙ ap (drop 2) (d ∙ append-assoc (row-of t) (rows-of u) z) in
-        subst (λ x. T (fits? 255 x)) (sym (ap (take 8) b ∙ take-at (t .1 .0) (rows-of u ++ z) 8 (k .eight))) (k .small)
+        let b : drop (n * row-length + exponents-offset) s ≡ t .1 .0 ++ (rows-of u ++ z) = sym (drop-drop 2 (n * row-length) s) ∙ ap (drop 2) (d ∙ append-assoc (row-of t) (rows-of u) z) in
+        subst (λ x. T (fits? most-exponent x)) (sym (ap (take 8) b ∙ take-at (t .1 .0) (rows-of u ++ z) 8 (k .eight))) (k .small)
 
 -- level k's words
 record Written (lim : Limits) (s : Words) (k : ℕ) (f : Level) : Type 0 where
   counts-behind : Words
   counts : drop (count-place lim k) s ≡ counts-of lim f ++ counts-behind
   rows-behind : Words
-  terms : drop (rows-place lim k) s ≡ padded (level-rows lim * 10) (rows-of (joined f)) ++ rows-behind
+  terms : drop (rows-place lim k) s ≡ padded (level-rows lim * row-length) (rows-of (joined f)) ++ rows-behind
 
 module _ (lim : Limits) (s : Words) (k : ℕ) (f : Level) (w : Written lim s k f) (h : Housed lim f) where
   count-read : getD s (count-place lim k) 0 ≡ length f
@@ -230,13 +231,13 @@ module _ (lim : Limits) (s : Words) (k : ℕ) (f : Level) (w : Written lim s k f
           ap (λ j. drop j s) e ∙ sym (drop-drop 1 (count-place lim k) s) ∙ ap (drop 1) (w .counts)
           ∙ append-assoc (ends-from 0 f) (replicate (level-vectors lim - length (ends-from 0 f)) 0) (w .counts-behind)
 
-  terms-read : drop (rows-place lim k) s ≡ rows-of (joined f) ++ (replicate (level-rows lim * 10 - length (rows-of (joined f))) 0 ++ w .rows-behind)
-  terms-read = w .terms ∙ append-assoc (rows-of (joined f)) (replicate (level-rows lim * 10 - length (rows-of (joined f))) 0) (w .rows-behind)
+  terms-read : drop (rows-place lim k) s ≡ rows-of (joined f) ++ (replicate (level-rows lim * row-length - length (rows-of (joined f))) 0 ++ w .rows-behind)
+  terms-read = w .terms ∙ append-assoc (rows-of (joined f)) (replicate (level-rows lim * row-length - length (rows-of (joined f))) 0) (w .rows-behind)
 
   level-read : level-at lim s k ≡ f
   level-read =
       ap (vectors-at (drop (rows-place lim k) s) 0) ends-read
-      ∙ vectors-spelled (drop (rows-place lim k) s) 0 f (replicate (level-rows lim * 10 - length (rows-of (joined f))) 0 ++ w .rows-behind) (h .filled) terms-read
+      ∙ vectors-spelled (drop (rows-place lim k) s) 0 f (replicate (level-rows lim * row-length - length (rows-of (joined f))) 0 ++ w .rows-behind) (h .filled) terms-read
 
   words-read : T (words-sound? lim s k)
   words-read =
@@ -245,7 +246,7 @@ module _ (lim : Limits) (s : Words) (k : ℕ) (f : Level) (w : Written lim s k f
       (and-both (ascending? (level-rows lim) 0 (ends-at lim s k)) (exponents-fit? (drop (rows-place lim k) s) (last-end (last (ends-at lim s k))))
       (subst (λ e. T (ascending? (level-rows lim) 0 e)) (sym ends-read) (ends-ascend (level-rows lim) 0 f (h .filled) (omega (arith, h .short))))
       (subst (λ e. T (exponents-fit? (drop (rows-place lim k) s) (last-end (last e)))) (sym ends-read)
-      (exponents-fit (drop (rows-place lim k) s) (joined f) (replicate (level-rows lim * 10 - length (rows-of (joined f))) 0 ++ w .rows-behind) (last-end (last (ends-from 0 f))) (eights-joined (h .filled)) terms-read
+      (exponents-fit (drop (rows-place lim k) s) (joined f) (replicate (level-rows lim * row-length - length (rows-of (joined f))) 0 ++ w .rows-behind) (last-end (last (ends-from 0 f))) (eights-joined (h .filled)) terms-read
       (omega (arith, last-end-is 0 f, length-joined f)))))
 
 -- ## All levels
@@ -263,20 +264,20 @@ module _ (lim : Limits) (s : Words) (f : Level) (below : List Level) (w : All-wr
       w .counts ∙ ap (λ l. all-counts lim l ++ w .counts-behind) (reverse-cons f below) ∙ ap (λ l. l ++ w .counts-behind) (counts-last lim (reverse below) f)
       ∙ append-assoc (all-counts lim (reverse below)) (counts-of lim f) (w .counts-behind)
 
-  terms-split : drop (rows-place lim 0) s ≡ all-rows lim (reverse below) ++ (padded (level-rows lim * 10) (rows-of (joined f)) ++ w .rows-behind)
+  terms-split : drop (rows-place lim 0) s ≡ all-rows lim (reverse below) ++ (padded (level-rows lim * row-length) (rows-of (joined f)) ++ w .rows-behind)
   terms-split =
       w .terms ∙ ap (λ l. all-rows lim l ++ w .rows-behind) (reverse-cons f below) ∙ ap (λ l. l ++ w .rows-behind) (rows-last lim (reverse below) f)
-      ∙ append-assoc (all-rows lim (reverse below)) (padded (level-rows lim * 10) (rows-of (joined f))) (w .rows-behind)
+      ∙ append-assoc (all-rows lim (reverse below)) (padded (level-rows lim * row-length) (rows-of (joined f))) (w .rows-behind)
 
   written-below : All-written lim s below
-  written-below = record { counts-behind = counts-of lim f ++ w .counts-behind; counts = counts-split; rows-behind = padded (level-rows lim * 10) (rows-of (joined f)) ++ w .rows-behind; terms = terms-split }
+  written-below = record { counts-behind = counts-of lim f ++ w .counts-behind; counts = counts-split; rows-behind = padded (level-rows lim * row-length) (rows-of (joined f)) ++ w .rows-behind; terms = terms-split }
 
   written-here : All-housed lim below → Written lim s (length below) f
   written-here h = record {
     counts-behind = w .counts-behind;
     counts = drop-behind s (all-counts lim (reverse below)) (counts-of lim f ++ w .counts-behind) (count-place lim 0) (length below * suc (level-vectors lim)) (count-place lim (length below)) counts-split (length-all-counts lim below h) (omega arith);
     rows-behind = w .rows-behind;
-    terms = drop-behind s (all-rows lim (reverse below)) (padded (level-rows lim * 10) (rows-of (joined f)) ++ w .rows-behind) (rows-place lim 0) (length below * (level-rows lim * 10)) (rows-place lim (length below)) terms-split (length-all-rows lim below h) (omega arith);
+    terms = drop-behind s (all-rows lim (reverse below)) (padded (level-rows lim * row-length) (rows-of (joined f)) ++ w .rows-behind) (rows-place lim 0) (length below * (level-rows lim * row-length)) (rows-place lim (length below)) terms-split (length-all-rows lim below h) (omega arith);
   }
 
 levels-read : (lim : Limits) (s : Words) (ls : List Level) → All-housed lim ls → All-written lim s ls → levels-at lim s (length ls) ≡ ls
@@ -292,7 +293,7 @@ all-words-read lim s ls (one-level f below h hs) w =
 
 -- ## The state
 
-module _ (lim : Limits) (small : lim .exponent ≤ 255) (size : ℕ) (X : State) (h : T (sound? lim X)) where
+module _ (lim : Limits) (small : lim .exponent ≤ most-exponent) (size : ℕ) (X : State) (h : T (sound? lim X)) where
   housed : All-housed lim (X .levels)
   housed = all-housed lim (X .parameters) small (X .levels) (sound-says lim X h .levels)
 
@@ -325,7 +326,7 @@ module _ (lim : Limits) (small : lim .exponent ≤ 255) (size : ℕ) (X : State)
       zeros₂ : Words
       zeros₂ = replicate (size - length (padded (rows-place lim 0) (header-of lim X) ++ terms)) 0
 
-      five : count-place lim 0 ≡ 5
+      five : count-place lim 0 ≡ header-length
       five = omega arith
 
   pub decode-encode : decode lim (encode lim size X) ≡ X
@@ -354,4 +355,4 @@ module _ (lim : Limits) (small : lim .exponent ≤ 255) (size : ℕ) (X : State)
       whole =
           let k : length (X .levels) ≤ suc (lim .levels) = sound-says lim X h .height in
           subst (λ n. n ≤ size) (sym (length-append (padded (rows-place lim 0) (header-of lim X)) (all-rows lim (reverse (X .levels)))))
-          (omega (arith, length-padded (rows-place lim 0) (header-of lim X) header-fits, length-all-rows lim (X .levels) housed, mul-le-mul-right (level-rows lim * 10) k))
+          (omega (arith, length-padded (rows-place lim 0) (header-of lim X) header-fits, length-all-rows lim (X .levels) housed, mul-le-mul-right (level-rows lim * row-length) k))

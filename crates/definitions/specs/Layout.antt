@@ -12,6 +12,7 @@ use Rattle.definitions.specs.Lifting.{Lifting, by-division, by-hybrid, b
 use Rattle.definitions.specs.Problem.{Bytes}
 use Rattle.definitions.specs.State.{State, empty, sound?}
 use Rattle.definitions.specs.Calls.{Reply, read-reply, lift-reply, fetch-reply}
+use Rattle.definitions.specs.Places.{exponents-length, most-exponent, row-length, component-offset, exponents-offset, header-length}
 
 -- the contents of a lent buffer: numbers of 16 bits
 abbrev pub Words : Type 0
@@ -39,7 +40,7 @@ exponents-at s a =
 
 -- row i, counted from 0
 unfoldable pub row-at : Words → ℕ → Term
-row-at s i = (getD s (i * 10) 0, (exponents-at s (i * 10 + 2), getD s (i * 10 + 1) 0))
+row-at s i = (getD s (i * row-length) 0, (exponents-at s (i * row-length + exponents-offset), getD s (i * row-length + component-offset) 0))
 
 -- n rows from row a on
 unfoldable pub rows : Words → ℕ → ℕ → Vector
@@ -65,11 +66,11 @@ level-rows lim = max (lim .t-lines) (lim .level-terms)
 
 -- where level k's count of vectors stands; the ends of its vectors follow
 abbrev pub count-place : Limits → ℕ → ℕ
-count-place lim k = 5 + k * suc (level-vectors lim)
+count-place lim k = header-length + k * suc (level-vectors lim)
 
 -- where level k's rows begin
 abbrev pub rows-place : Limits → ℕ → ℕ
-rows-place lim k = count-place lim (suc (lim .levels)) + k * (level-rows lim * 10)
+rows-place lim k = count-place lim (suc (lim .levels)) + k * (level-rows lim * row-length)
 
 -- the state's words
 abbrev pub state-words : Limits → ℕ
@@ -94,7 +95,7 @@ all-counts lim (f ∷ fs) = counts-of lim f ++ all-counts lim fs
 
 abbrev pub all-rows : Limits → List Level → Words
 all-rows lim [] = []
-all-rows lim (f ∷ fs) = padded (level-rows lim * 10) (rows-of (joined f)) ++ all-rows lim fs
+all-rows lim (f ∷ fs) = padded (level-rows lim * row-length) (rows-of (joined f)) ++ all-rows lim fs
 
 -- p, n, the order code, s, how many levels are complete; the counts and ends of each level
 abbrev pub header-of : Limits → State → Words
@@ -136,7 +137,7 @@ last-end (some e) = e
 -- the exponents' words of the first n rows are in range, which `byte` would hide
 abbrev pub exponents-fit? : Words → ℕ → Bool
 exponents-fit? s zero = true
-exponents-fit? s (suc n) = exponents-fit? s n and fits? 255 (take 8 (drop (n * 10 + 2) s))
+exponents-fit? s (suc n) = exponents-fit? s n and fits? most-exponent (take exponents-length (drop (n * row-length + exponents-offset) s))
 
 -- what must hold of level k's words before its vectors can be cut out
 abbrev pub words-sound? : Limits → Words → ℕ → Bool
@@ -170,16 +171,16 @@ pub data Way : Type 0 where
 abbrev pub lifting-by : Way → Words → Lifting
 lifting-by division cache = by-division
 lifting-by (hybrid pick) cache = by-hybrid pick
-lifting-by tree cache = by-tree (length cache / 10)
+lifting-by tree cache = by-tree (length cache / row-length)
 
 -- the work area is that of the working value, or the tree's
 abbrev pub work-words : Limits → Way → ℕ
-work-words lim division = lim .working * 10
-work-words lim (hybrid pick) = lim .working * 10
-work-words lim tree = lim .tree * 10
+work-words lim division = lim .working * row-length
+work-words lim (hybrid pick) = lim .working * row-length
+work-words lim tree = lim .tree * row-length
 
 abbrev pub out-words : Limits → ℕ
-out-words lim = lim .vector * 10
+out-words lim = lim .vector * row-length
 
 -- 16: "a lent buffer is shorter than its limit above (the file and the cache may have any length)"
 abbrev pub long-enough? : Limits → Way → Words → Words → Bool

@@ -16,4 +16,5 @@ pub mod State
 pub mod Calls
 pub mod Reckoning
 pub mod Sheet
+pub mod Places
 pub mod Layout

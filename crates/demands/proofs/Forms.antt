@@ -23,6 +23,7 @@ use Rattle.definitions.proofs.Sound.{Sound-vector, vector-says, level-says}
 use Rattle.definitions.proofs.Refusals.{encode-empty}
 use Rattle.definitions.proofs.Rows.{length-rows-of}
 use Rattle.definitions.proofs.RoundTrip.{eights}
+use Rattle.definitions.specs.Places.{row-length}
 use Rattle.demands.specs.Demands
 use Rattle.demands.specs.Demands.{sensible?, out-long-enough?, no-basis, limit-met, Refused-reading, ill-formed, not-accepted}
 use Rattle.demands.specs.Demands.{Read-form, accepted-as, Lift-form, lifted-as, Fetch-form, fetched-as}
@@ -39,7 +40,7 @@ all-zeros words = let e : length words - 0 ≡ length words = omega arith in ap 
 module _ (lim : Limits) (o : T (sensible? lim)) where
   -- ## Rows have room
 
-  rows-room : (q : Parameters) (count most : ℕ) (v : Vector) → T (every (term-sound? lim q count) v) → length v ≤ most → (words : Words) → most * 10 ≤ length words
+  rows-room : (q : Parameters) (count most : ℕ) (v : Vector) → T (every (term-sound? lim q count) v) → length v ≤ most → (words : Words) → most * row-length ≤ length words
       → length (rows-of v) ≤ length words
   rows-room q count most v s l words r = omega (arith, length-rows-of v (eights lim q (small-exponents lim o) count v s))
 
@@ -57,7 +58,7 @@ module _ (lim : Limits) (o : T (sensible? lim)) where
   value-room file state work t (ill-formed b) = omega arith
   value-room file state work t (not-accepted (limit-met b w d l)) = omega arith
   value-room file state work t (not-accepted {q} (no-basis {value = value} b w d i s)) =
-      let r : lim .working * 10 ≤ length work = long-work division state work t in
+      let r : lim .working * row-length ≤ length work = long-work division state work t in
       rows-room q (q .s) (lim .working) value (s .sound) (s .short) work (omega arith)
 
   pub read-form : (n : ℕ) (file : Bytes) (state work : Words) → Holds (Read-form lim file state work) (read-call lim n file state work)

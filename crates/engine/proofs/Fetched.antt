@@ -14,6 +14,7 @@ use Rattle.definitions.specs.State.{State, empty, sound?, has-level?, up-to}
 use Rattle.definitions.specs.Calls.{refuse, fetch as fetch-definition}
 use Rattle.definitions.specs.Layout.{Words, Fetch, rows-of, padded, level-at, levels-at, decode, holds-state?, meant, fetch-left, fetch-call}
 use Rattle.definitions.proofs.Tests.{true-is}
+use Rattle.definitions.specs.Places.{most-levels, state-length, vector-length}
 use Rattle.levels.specs.Places.{count-at}
 use Rattle.stages.proofs.Complete.{highest-is, meant-is, complete-count, length-levels, holds-sound}
 
@@ -24,23 +25,23 @@ module _ (s out : Words) (k v : ℕ) where
       fetch-left out (choose (not (long and long′)) (refuse 16 X) (choose (not sound || (inside and not has)) (refuse 11 X) (choose (not (inside and own)) (refuse 12 X) (fetch-definition X k v))))
 
   abbrev at-tests : Bool → Bool → State → Fetch
-  at-tests long long′ X = by-tests long long′ X (sound? document-01 X) (between 1 k 9) (has-level? X k) (between 1 v (length (highest (up-to X k))))
+  at-tests long long′ X = by-tests long long′ X (sound? document-01 X) (between 1 k most-levels) (has-level? X k) (between 1 v (length (highest (up-to X k))))
 
-  pub short-state : length s < 206095 → _≡_ {A = Fetch} (16, 0, out) (fetch-call document-01 k v s out)
-  short-state h = sym (ap (λ b. at-tests b (leb 5120 (length out)) (meant document-01 s)) (lt-leb 206095 (length s) h))
+  pub short-state : length s < state-length → _≡_ {A = Fetch} (16, 0, out) (fetch-call document-01 k v s out)
+  short-state h = sym (ap (λ b. at-tests b (leb vector-length (length out)) (meant document-01 s)) (lt-leb state-length (length s) h))
 
-  module _ (long : 206095 ≤ length s) where
-    pub short-out : length out < 5120 → _≡_ {A = Fetch} (16, 0, out) (fetch-call document-01 k v s out)
+  module _ (long : state-length ≤ length s) where
+    pub short-out : length out < vector-length → _≡_ {A = Fetch} (16, 0, out) (fetch-call document-01 k v s out)
     short-out h =
-        sym (ap (λ b. at-tests true b (meant document-01 s)) (lt-leb 5120 (length out) h))
-        ∙ sym (ap (λ b. at-tests b (leb 5120 (length out)) (meant document-01 s)) (le-leb 206095 (length s) long))
+        sym (ap (λ b. at-tests true b (meant document-01 s)) (lt-leb vector-length (length out) h))
+        ∙ sym (ap (λ b. at-tests b (leb vector-length (length out)) (meant document-01 s)) (le-leb state-length (length s) long))
 
-    module _ (wide : 5120 ≤ length out) where
+    module _ (wide : vector-length ≤ length out) where
       after-lengths : (X : State) → X ≡ meant document-01 s → at-tests true true X ≡ fetch-call document-01 k v s out
       after-lengths X e =
           ap (at-tests true true) e
-          ∙ sym (ap (λ b. at-tests true b (meant document-01 s)) (le-leb 5120 (length out) wide))
-          ∙ sym (ap (λ b. at-tests b (leb 5120 (length out)) (meant document-01 s)) (le-leb 206095 (length s) long))
+          ∙ sym (ap (λ b. at-tests true b (meant document-01 s)) (le-leb vector-length (length out) wide))
+          ∙ sym (ap (λ b. at-tests b (leb vector-length (length out)) (meant document-01 s)) (le-leb state-length (length s) long))
 
       nothing-meant : false ≡ holds-state? document-01 s → empty ≡ meant document-01 s
       nothing-meant e = ap (λ b. elim b [ true ↦ decode document-01 s | false ↦ empty ]) e
@@ -55,19 +56,19 @@ module _ (s out : Words) (k v : ℕ) where
         sound-is : sound? document-01 X ≡ true
         sound-is = true-is (sound? document-01 X) (holds-sound s holds)
 
-        in-state : (inside has own : Bool) → between 1 k 9 ≡ inside → has-level? X k ≡ has → between 1 v (length (highest (up-to X k))) ≡ own
+        in-state : (inside has own : Bool) → between 1 k most-levels ≡ inside → has-level? X k ≡ has → between 1 v (length (highest (up-to X k))) ≡ own
             → by-tests true true X true inside has own ≡ fetch-call document-01 k v s out
         in-state inside has own a b c =
             sym (λ i. by-tests true true X (sound-is i) (a i) (b i) (c i)) ∙ after-lengths X (sym (meant-is s holds))
 
-        pub no-such-level : false ≡ between 1 k 9 → _≡_ {A = Fetch} (12, 0, out) (fetch-call document-01 k v s out)
+        pub no-such-level : false ≡ between 1 k most-levels → _≡_ {A = Fetch} (12, 0, out) (fetch-call document-01 k v s out)
         no-such-level e = in-state false (has-level? X k) (between 1 v (length (highest (up-to X k)))) (sym e) refl refl
 
-        pub not-complete : true ≡ between 1 k 9 → getD s 4 0 ≤ k → _≡_ {A = Fetch} (11, 0, out) (fetch-call document-01 k v s out)
+        pub not-complete : true ≡ between 1 k most-levels → getD s 4 0 ≤ k → _≡_ {A = Fetch} (11, 0, out) (fetch-call document-01 k v s out)
         not-complete e h =
             in-state true false (between 1 v (length (highest (up-to X k)))) (sym e) (le-ltb k (length (levels-at document-01 s (getD s 4 0))) (omega (arith, length-levels s (getD s 4 0), h))) refl
 
-        module _ (inside : between 1 k 9 ≡ true) (has : k < getD s 4 0) where
+        module _ (inside : between 1 k most-levels ≡ true) (has : k < getD s 4 0) where
           has-it : has-level? X k ≡ true
           has-it = lt-ltb k (length (levels-at document-01 s (getD s 4 0))) (omega (arith, length-levels s (getD s 4 0), has))
 

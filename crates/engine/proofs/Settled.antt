@@ -17,6 +17,7 @@ use Rattle.definitions.specs.State.{State}
 use Rattle.definitions.specs.Calls.{refuse, settled, accepted, read}
 use Rattle.definitions.specs.Layout.{Words, Read, rows-of, padded, encode, decode, meant, read-left, read-call}
 use Rattle.definitions.proofs.Refusals.{encode-empty}
+use Rattle.definitions.specs.Places.{state-length, value-length}
 use Rattle.files.specs.Answers.{Answered}
 use Rattle.files.proofs.Reader.{document-reader}
 use Rattle.terms.specs.Rows.{cleared}
@@ -38,7 +39,7 @@ accepted-finished Yes v = tt
 accepted-finished (Refused number place) v = tt
 accepted-finished (Stopped i n) v = tt
 
-module _ (s : Words) (long : 206095 ≤ length s) (whole : s ≡ encode document-01 (length s) (decode document-01 s)) (area : ℕ) (n : ℕ) (v : Vector) where
+module _ (s : Words) (long : state-length ≤ length s) (whole : s ≡ encode document-01 (length s) (decode document-01 s)) (area : ℕ) (n : ℕ) (v : Vector) where
   abbrev goes-on : Result (Unit {0}) → Read
   goes-on r = settled-words (length s) area (r >>= λ u. done (decode document-01 s))
 
@@ -58,7 +59,7 @@ module _ (s : Words) (long : 206095 ≤ length s) (whole : s ≡ encode document
 
 -- ## A file that was read
 
-module _ (size : ℕ) (big : 206095 ≤ size) (file : Bytes) (f : Parameters × Level) (e : problem document-01 file ≡ done f) (s : Words) (w : s ≡ words-read size f) where
+module _ (size : ℕ) (big : state-length ≤ size) (file : Bytes) (f : Parameters × Level) (e : problem document-01 file ≡ done f) (s : Words) (w : s ≡ words-read size f) where
   pub read-accepted : (area n : ℕ) (r : Read) → r ≡ accepted-words n s area → r ≡ settled-words size area (read document-01 n file)
   read-accepted area n r h = h ∙ (λ i. settled-words (length-is size big file f e s w i) area (accepted-is size big file f e s w n i))
 
@@ -76,7 +77,7 @@ pub record Refused-file (size area : ℕ) (file : Bytes) (r : Read) : Type 0 whe
   pub words : r ≡ settled-words size area (read document-01 0 file)
   pub over : T (finished? (read document-01 0 file))
 
-module _ (size area : ℕ) (big : 206095 ≤ size) (file : Bytes) (number place : ℕ) (s : Words) (some-number : number ≡ 0 → ⊥) where
+module _ (size area : ℕ) (big : state-length ≤ size) (file : Bytes) (number place : ℕ) (s : Words) (some-number : number ≡ 0 → ⊥) where
   pub file-refused : _≡_ {A = ℕ × ℕ × Words} (number, place, s) (read-as size (problem document-01 file)) → (w : Words) → length w ≡ area
       → Refused-file size area file (number, place, s, cleared w 0)
   file-refused e w l = go (problem document-01 file) refl (document-reader .answered file) e
@@ -99,13 +100,13 @@ module _ (file : Bytes) (s w : Words) where
   by-length n long long′ =
       choose (not (long and long′)) (some (refuse 16 (meant document-01 s))) (settled (read document-01 n file)) then λ a. some (read-left document-01 s w a)
 
-  pub read-short-state : length s < 206095 → (n : ℕ) × (_≡_ {A = Option Read} (some (16, 0, s, w)) (read-call document-01 n file s w))
-  read-short-state h = (0, sym (ap (λ b. by-length 0 b (leb 5120 (length w))) (lt-leb 206095 (length s) h)))
+  pub read-short-state : length s < state-length → (n : ℕ) × (_≡_ {A = Option Read} (some (16, 0, s, w)) (read-call document-01 n file s w))
+  read-short-state h = (0, sym (ap (λ b. by-length 0 b (leb value-length (length w))) (lt-leb state-length (length s) h)))
 
-  pub read-short-work : 206095 ≤ length s → length w < 5120 → (n : ℕ) × (_≡_ {A = Option Read} (some (16, 0, s, w)) (read-call document-01 n file s w))
+  pub read-short-work : state-length ≤ length s → length w < value-length → (n : ℕ) × (_≡_ {A = Option Read} (some (16, 0, s, w)) (read-call document-01 n file s w))
   read-short-work l h = (
     0,
-    sym (ap (by-length 0 true) (lt-leb 5120 (length w) h)) ∙ sym (ap (λ b. by-length 0 b (leb 5120 (length w))) (le-leb 206095 (length s) l)),
+    sym (ap (by-length 0 true) (lt-leb value-length (length w) h)) ∙ sym (ap (λ b. by-length 0 b (leb value-length (length w))) (le-leb state-length (length s) l)),
   )
 
   settled-then : (x : Result State) → T (finished? x) → _≡_ {A = Option Read} (some (settled-words (length s) (length w) x)) (settled x then λ a. some (read-left document-01 s w a))
@@ -113,10 +114,10 @@ module _ (file : Bytes) (s w : Words) where
   settled-then (refused number place value) t = refl
   settled-then unfinished t = absurd t
 
-  pub read-long : 206095 ≤ length s → 5120 ≤ length w → (n : ℕ) (r : Read) → r ≡ settled-words (length s) (length w) (read document-01 n file)
+  pub read-long : state-length ≤ length s → value-length ≤ length w → (n : ℕ) (r : Read) → r ≡ settled-words (length s) (length w) (read document-01 n file)
       → T (finished? (read document-01 n file)) → (m : ℕ) × (some r ≡ read-call document-01 m file s w)
   read-long l h n r e t = (
     n,
     ap some e ∙ settled-then (read document-01 n file) t
-        ∙ sym (ap (by-length n true) (le-leb 5120 (length w) h)) ∙ sym (ap (λ b. by-length n b (leb 5120 (length w))) (le-leb 206095 (length s) l)),
+        ∙ sym (ap (by-length n true) (le-leb value-length (length w) h)) ∙ sym (ap (λ b. by-length n b (leb value-length (length w))) (le-leb state-length (length s) l)),
   )

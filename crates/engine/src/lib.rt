@@ -11,6 +11,7 @@ ghost use Rattle.definitions.specs.Lists.{between};
 ghost use Rattle.definitions.specs.Result.{finished?};
 ghost use Rattle.definitions.specs.Calls.{read as read-definition};
 ghost use Rattle.definitions.specs.Layout.{encode, decode, holds-state?, read-call, fetch-call};
+ghost use Rattle.definitions.specs.Places.{most-levels, all-levels, state-length, value-length, vector-length};
 ghost use Rattle.levels.specs.Places.{count-at};
 ghost use Rattle.lifting.specs.Stages.{Base, accepted-over};
 ghost use Rattle.engine.specs.Replies.{read-reply, fetch-reply, settled-words, accepted-words};
@@ -24,7 +25,7 @@ pub struct Reply {
 
 // The basis that was just read, accepted or refused.
 fn accept(state: &mut [u16], work: &mut [u16]) -> Reply
-    requires { ⌜ Base (now state) 0 × (now state ≡ encode document-01 (length (now state)) (decode document-01 (now state))) × (5120 ≤ length (now work)) ⌝ }
+    requires { ⌜ Base (now state) 0 × (now state ≡ encode document-01 (length (now state)) (decode document-01 (now state))) × (value-length ≤ length (now work)) ⌝ }
     ensures { λ r. ⌜ ((n : ℕ) × (read-reply r (now (state .exit)) (now (work .exit)) ≡ accepted-words n (now (state .entry)) (length (now (work .entry)))) × T (finished? (accepted-over (now (state .entry)) n))) ⌝ }
 {
     match lifting::accept_level(work, state) {
@@ -49,7 +50,7 @@ fn accept(state: &mut [u16], work: &mut [u16]) -> Reply
 
 // Buffers long enough.
 fn read_file(file: &[u8], state: &mut [u16], work: &mut [u16]) -> Reply
-    requires { ⌜ (206095 ≤ length (now state)) × (5120 ≤ length (now work)) ⌝ }
+    requires { ⌜ (state-length ≤ length (now state)) × (value-length ≤ length (now work)) ⌝ }
     ensures { λ r. ⌜ ((n : ℕ) × (read-reply r (now (state .exit)) (now (work .exit)) ≡ settled-words (length (now (state .entry))) (length (now (work .entry))) (read-definition document-01 n (now (file .entry)))) × T (finished? (read-definition document-01 n (now (file .entry))))) ⌝ }
 {
     let r = problem::read(file, state);
@@ -68,13 +69,13 @@ fn read_file(file: &[u8], state: &mut [u16], work: &mut [u16]) -> Reply
 pub fn read(file: &[u8], state: &mut [u16], work: &mut [u16]) -> Reply
     ensures { λ r. ⌜ ((n : ℕ) × (some (read-reply r (now (state .exit)) (now (work .exit))) ≡ read-call document-01 n (now (file .entry)) (now (state .entry)) (now (work .entry)))) ⌝ }
 {
-    if state.len() < 206095 {
+    if state.len() < words::STATE_LENGTH {
         return Reply {
             number: 16,
             place: 0,
         };
     }
-    if work.len() < 5120 {
+    if work.len() < words::VALUE_LENGTH {
         return Reply {
             number: 16,
             place: 0,
@@ -84,16 +85,16 @@ pub fn read(file: &[u8], state: &mut [u16], work: &mut [u16]) -> Reply
 }
 
 pub fn level_number(k: usize) -> bool
-    ensures { λ r. ⌜ r ≡ between 1 k 9 ⌝ }
+    ensures { λ r. ⌜ r ≡ between 1 k most-levels ⌝ }
 {
     if k == 0 {
         return false;
     }
-    k <= 9
+    k <= words::MOST_LEVELS
 }
 
 fn vector_number(state: &[u16], k: usize, v: usize) -> bool
-    requires { ⌜ (206095 ≤ length (now state)) × (k < 10) ⌝ }
+    requires { ⌜ (state-length ≤ length (now state)) × (k < all-levels) ⌝ }
     ensures { λ r. ⌜ r ≡ between 1 v (count-at (now (state .entry)) k) ⌝ }
 {
     if v == 0 {
@@ -105,7 +106,7 @@ fn vector_number(state: &[u16], k: usize, v: usize) -> bool
 
 // Level k is complete.
 fn fetch_level(state: &[u16], out: &mut [u16], k: usize, v: usize) -> Reply
-    requires { ⌜ (206095 ≤ length (now state)) × T (holds-state? document-01 (now state)) × (1 ≤ k) × (k ≤ 9) × (k < getD (now state) 4 0) × (5120 ≤ length (now out)) ⌝ }
+    requires { ⌜ (state-length ≤ length (now state)) × T (holds-state? document-01 (now state)) × (1 ≤ k) × (k ≤ most-levels) × (k < getD (now state) 4 0) × (vector-length ≤ length (now out)) ⌝ }
     ensures { λ r. ⌜ fetch-reply r (now (out .exit)) ≡ fetch-call document-01 k v (now (state .entry)) (now (out .entry)) ⌝ }
 {
     if vector_number(state, k, v) {
@@ -123,11 +124,11 @@ fn fetch_level(state: &[u16], out: &mut [u16], k: usize, v: usize) -> Reply
 
 // The words hold a state.
 fn fetch_sound(state: &[u16], out: &mut [u16], k: usize, v: usize) -> Reply
-    requires { ⌜ (206095 ≤ length (now state)) × T (holds-state? document-01 (now state)) × (5120 ≤ length (now out)) ⌝ }
+    requires { ⌜ (state-length ≤ length (now state)) × T (holds-state? document-01 (now state)) × (vector-length ≤ length (now out)) ⌝ }
     ensures { λ r. ⌜ fetch-reply r (now (out .exit)) ≡ fetch-call document-01 k v (now (state .entry)) (now (out .entry)) ⌝ }
 {
     if level_number(k) {
-        let height = levels::place(state[4]);
+        let height = words::place(state[4]);
         if height <= k {
             return Reply {
                 number: 11,
@@ -146,13 +147,13 @@ fn fetch_sound(state: &[u16], out: &mut [u16], k: usize, v: usize) -> Reply
 pub fn fetch(state: &[u16], out: &mut [u16], k: usize, v: usize) -> Reply
     ensures { λ r. ⌜ fetch-reply r (now (out .exit)) ≡ fetch-call document-01 k v (now (state .entry)) (now (out .entry)) ⌝ }
 {
-    if state.len() < 206095 {
+    if state.len() < words::STATE_LENGTH {
         return Reply {
             number: 16,
             place: 0,
         };
     }
-    if out.len() < 5120 {
+    if out.len() < words::VECTOR_LENGTH {
         return Reply {
             number: 16,
             place: 0,

@@ -17,6 +17,7 @@ use Rattle.definitions.specs.Calls.{refuse, settled, pick-code?, lift}
 use Rattle.definitions.specs.Layout.{Words, Way, division, hybrid, tree, Lift, lifting-by, work-words, levels-at, encode, decode, holds-state?, meant, lift-left, lift-call}
 use Rattle.definitions.proofs.Tests.{true-is, is-true, between-low, between-high}
 use Rattle.definitions.proofs.Numbers.{limit-number?}
+use Rattle.definitions.specs.Places.{most-levels, state-length}
 use Rattle.demands.proofs.Lifts.{Lifted-to, one-more, limit-met, still-lifting, lifted-to}
 use Rattle.terms.specs.Rows.{cleared}
 use Rattle.writing.proofs.Growth.{cleared-empties}
@@ -54,21 +55,21 @@ module _ (s w z : Words) (k : ℕ) (way : Way) where
       then λ a. some (lift-left document-01 s w z a)
 
   abbrev at-tests : ℕ → Bool → Bool → State → Option Lift
-  at-tests n long long′ X = by-tests n long long′ X (sound? document-01 X) (between 1 k 9) (has-level? X (k - 1)) (pick-code? (lifting-by way z))
+  at-tests n long long′ X = by-tests n long long′ X (sound? document-01 X) (between 1 k most-levels) (has-level? X (k - 1)) (pick-code? (lifting-by way z))
 
   -- the call's contract
   abbrev Called : Lift → Type 0
   Called r = (n : ℕ) × (some r ≡ lift-call document-01 n k way s w z)
 
-  pub short-state : length s < 206095 → Called (16, 0, s, w, z)
-  short-state h = (0, sym (ap (λ b. at-tests 0 b (leb (work-words document-01 way) (length w)) (meant document-01 s)) (lt-leb 206095 (length s) h)))
+  pub short-state : length s < state-length → Called (16, 0, s, w, z)
+  short-state h = (0, sym (ap (λ b. at-tests 0 b (leb (work-words document-01 way) (length w)) (meant document-01 s)) (lt-leb state-length (length s) h)))
 
-  module _ (long : 206095 ≤ length s) where
+  module _ (long : state-length ≤ length s) where
     pub short-work : length w < work-words document-01 way → Called (16, 0, s, w, z)
     short-work h = (
       0,
       sym (ap (λ b. at-tests 0 true b (meant document-01 s)) (lt-leb (work-words document-01 way) (length w) h))
-          ∙ sym (ap (λ b. at-tests 0 b (leb (work-words document-01 way) (length w)) (meant document-01 s)) (le-leb 206095 (length s) long)),
+          ∙ sym (ap (λ b. at-tests 0 b (leb (work-words document-01 way) (length w)) (meant document-01 s)) (le-leb state-length (length s) long)),
     )
 
     module _ (wide : work-words document-01 way ≤ length w) where
@@ -76,7 +77,7 @@ module _ (s w z : Words) (k : ℕ) (way : Way) where
       after-lengths n X e =
           ap (at-tests n true true) e
           ∙ sym (ap (λ b. at-tests n true b (meant document-01 s)) (le-leb (work-words document-01 way) (length w) wide))
-          ∙ sym (ap (λ b. at-tests n b (leb (work-words document-01 way) (length w)) (meant document-01 s)) (le-leb 206095 (length s) long))
+          ∙ sym (ap (λ b. at-tests n b (leb (work-words document-01 way) (length w)) (meant document-01 s)) (le-leb state-length (length s) long))
 
       nothing-meant : false ≡ holds-state? document-01 s → empty ≡ meant document-01 s
       nothing-meant e = ap (λ b. elim b [ true ↦ decode document-01 s | false ↦ empty ]) e
@@ -91,21 +92,21 @@ module _ (s w z : Words) (k : ℕ) (way : Way) where
         sound-is : sound? document-01 X ≡ true
         sound-is = true-is (sound? document-01 X) (holds-sound s holds)
 
-        in-state : (n : ℕ) (inside has own : Bool) → between 1 k 9 ≡ inside → has-level? X (k - 1) ≡ has → pick-code? (lifting-by way z) ≡ own
+        in-state : (n : ℕ) (inside has own : Bool) → between 1 k most-levels ≡ inside → has-level? X (k - 1) ≡ has → pick-code? (lifting-by way z) ≡ own
             → by-tests n true true X true inside has own ≡ lift-call document-01 n k way s w z
         in-state n inside has own a b c =
             sym (λ i. by-tests n true true X (sound-is i) (a i) (b i) (c i)) ∙ after-lengths n X (sym (meant-is s holds))
 
-        pub no-such-level : false ≡ between 1 k 9 → Called (12, 0, s, w, z)
+        pub no-such-level : false ≡ between 1 k most-levels → Called (12, 0, s, w, z)
         no-such-level e = (0, in-state 0 false (has-level? X (k - 1)) (pick-code? (lifting-by way z)) (sym e) refl refl)
 
-        pub not-complete : true ≡ between 1 k 9 → getD s 4 0 ≤ k - 1 → Called (11, 0, s, w, z)
+        pub not-complete : true ≡ between 1 k most-levels → getD s 4 0 ≤ k - 1 → Called (11, 0, s, w, z)
         not-complete e h = (
           0,
           in-state 0 true false (pick-code? (lifting-by way z)) (sym e) (le-ltb (k - 1) (length (levels-at document-01 s (getD s 4 0))) (omega (arith, length-levels s (getD s 4 0), h))) refl,
         )
 
-        module _ (inside : between 1 k 9 ≡ true) (has : k - 1 < getD s 4 0) where
+        module _ (inside : between 1 k most-levels ≡ true) (has : k - 1 < getD s 4 0) where
           has-it : has-level? X (k - 1) ≡ true
           has-it = lt-ltb (k - 1) (length (levels-at document-01 s (getD s 4 0))) (omega (arith, length-levels s (getD s 4 0), has))
 
@@ -134,10 +135,10 @@ module _ (s w z : Words) (k : ℕ) (way : Way) where
 
 -- ## The tests of 11 and 12
 
-module _ (s : Words) (k : ℕ) (way : Way) (long : 206095 ≤ length s) where
+module _ (s : Words) (k : ℕ) (way : Way) (long : state-length ≤ length s) where
   pub record Passed : Type 0 where
     pub liftable : Liftable s k
-    pub inside : between 1 k 9 ≡ true
+    pub inside : between 1 k most-levels ≡ true
     pub own : true ≡ own-pick? way
 
   four : (a b c d : Bool) → _≡_ {A = ℕ} (choose a (choose b (choose c (choose d 0 12) 11) 12) 11) 0 → T a × T b × T c × T d
@@ -149,28 +150,28 @@ module _ (s : Words) (k : ℕ) (way : Way) (long : 206095 ≤ length s) where
 
   pub passed : complete-number s k way ≡ 0 → Passed
   passed e =
-      let t = four (holds-state? document-01 s) (between 1 k 9) (leb k (getD s 4 0)) (own-pick? way) e in
-      let l = between-low 1 k 9 (t .1) in
-      let g = between-high 1 k 9 (t .1) in
+      let t = four (holds-state? document-01 s) (between 1 k most-levels) (leb k (getD s 4 0)) (own-pick? way) e in
+      let l = between-low 1 k most-levels (t .1) in
+      let g = between-high 1 k most-levels (t .1) in
       let c = leb→le k (getD s 4 0) (t .2) in
       record {
         liftable = record { low = l; high = g; base = record { long = long; holds = t .0; has = omega (arith, c, l); low = omega (arith, g) } };
-        inside = true-is (between 1 k 9) (t .1);
+        inside = true-is (between 1 k most-levels) (t .1);
         own = sym (true-is (own-pick? way) (t .3));
       }
 
   module _ (w z : Words) (wide : work-words document-01 way ≤ length w) where
     pub refused-early : (number : ℕ) → number ≡ complete-number s k way → (number ≡ 0 → ⊥) → Called s w z k way (number, 0, s, w, z)
-    refused-early number e m = go (holds-state? document-01 s) refl (between 1 k 9) refl (leb k (getD s 4 0)) refl (own-pick? way) refl e
+    refused-early number e m = go (holds-state? document-01 s) refl (between 1 k most-levels) refl (leb k (getD s 4 0)) refl (own-pick? way) refl e
       where
         at : (i : ℕ) → number ≡ i → Called s w z k way (i, 0, s, w, z) → Called s w z k way (number, 0, s, w, z)
         at i q c = subst (λ j. Called s w z k way (j, 0, s, w, z)) (sym q) c
 
-        go : (a : Bool) → holds-state? document-01 s ≡ a → (b : Bool) → between 1 k 9 ≡ b → (c : Bool) → leb k (getD s 4 0) ≡ c → (d : Bool) → own-pick? way ≡ d
+        go : (a : Bool) → holds-state? document-01 s ≡ a → (b : Bool) → between 1 k most-levels ≡ b → (c : Bool) → leb k (getD s 4 0) ≡ c → (d : Bool) → own-pick? way ≡ d
             → number ≡ choose a (choose b (choose c (choose d 0 12) 11) 12) 11 → Called s w z k way (number, 0, s, w, z)
         go false p b q c r d t u = at 11 u (no-state s w z k way long wide (sym p))
         go true p false q c r d t u = at 12 u (no-such-level s w z k way long wide (is-true p) (sym q))
         go true p true q false r d t u = at 11 u (not-complete s w z k way long wide (is-true p) (sym q) (omega (arith, leb-false k (getD s 4 0) r)))
         go true p true q true r false t u =
-            at 12 u (no-such-pick s w z k way long wide (is-true p) q (omega (arith, leb-true k (getD s 4 0) r, between-low 1 k 9 (is-true q))) (sym t))
+            at 12 u (no-such-pick s w z k way long wide (is-true p) q (omega (arith, leb-true k (getD s 4 0) r, between-low 1 k most-levels (is-true q))) (sym t))
         go true p true q true r true t u = absurd (m u)

@@ -6,6 +6,7 @@ use lib.ListN.{getD}
 use Rattle.definitions.specs.Limits.{document-01}
 use Rattle.definitions.specs.Lists.{choose, between}
 use Rattle.definitions.specs.Layout.{Words, Way, division, hybrid, tree, Lift, holds-state?}
+use Rattle.definitions.specs.Places.{most-levels}
 use Rattle.terms.specs.Rows.{cleared}
 use Rattle.engine.specs.declared.Reply.{Reply}
 
@@ -18,7 +19,7 @@ own-pick? tree = true
 -- 11, 12, or 0 where neither comes
 abbrev pub complete-number : Words → ℕ → Way → ℕ
 complete-number s k way =
-    choose (holds-state? document-01 s) (choose (between 1 k 9) (choose (leb k (getD s 4 0)) (choose (own-pick? way) 0 12) 11) 12) 11
+    choose (holds-state? document-01 s) (choose (between 1 k most-levels) (choose (leb k (getD s 4 0)) (choose (own-pick? way) 0 12) 11) 12) 11
 
 abbrev pub lift-reply : Reply → Words → Words → Words → Lift
 lift-reply r state work cache = (r .number, r .place, state, work, cache)

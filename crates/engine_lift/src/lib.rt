@@ -7,6 +7,7 @@ ghost use Prim.Native.Nat.{ℕ, _≤_};
 ghost use lib.ListN.{length};
 ghost use Rattle.definitions.specs.Limits.{document-01};
 ghost use Rattle.definitions.specs.Layout.{work-words, lift-call};
+ghost use Rattle.definitions.specs.Places.{state-length};
 ghost use Rattle.ways.specs.Ways.{way-of};
 ghost use Rattle.engine_lift.specs.Codes.{coded-way};
 ghost use Rattle.engine_lift.specs.Lifts.{own-pick?, complete-number, lift-reply, left-by};
@@ -29,9 +30,9 @@ pub fn work_length(way: Way) -> usize
     ensures { λ r. ⌜ r ≡ work-words document-01 (way-of way) ⌝ }
 {
     match way {
-        Way::Division => 5120,
-        Way::Hybrid(_pick) => 5120,
-        Way::Tree => 40960,
+        Way::Division => words::VALUE_LENGTH,
+        Way::Hybrid(_pick) => words::VALUE_LENGTH,
+        Way::Tree => words::TREE_LENGTH,
     }
 }
 
@@ -53,12 +54,12 @@ pub fn own_pick(way: Way) -> bool
 
 // 11, 12, or 0 where neither comes.
 pub fn complete(state: &[u16], k: usize, way: Way) -> u16
-    requires { ⌜ 206095 ≤ length (now state) ⌝ }
+    requires { ⌜ state-length ≤ length (now state) ⌝ }
     ensures { λ r. ⌜ r ≡ complete-number (now (state .entry)) k (way-of way) ⌝ }
 {
     if levels::sound(state) {
         if engine::level_number(k) {
-            let height = levels::place(state[4]);
+            let height = words::place(state[4]);
             if height < k {
                 return 11;
             }
@@ -91,7 +92,7 @@ fn settle(state: &mut [u16], work: &mut [u16], cache: &mut [u16], k: usize, numb
 pub fn lift(state: &mut [u16], work: &mut [u16], cache: &mut [u16], k: usize, way: Way) -> Reply
     ensures { λ r. ⌜ ((n : ℕ) × (some (lift-reply r (now (state .exit)) (now (work .exit)) (now (cache .exit))) ≡ lift-call document-01 n k (way-of way) (now (state .entry)) (now (work .entry)) (now (cache .entry)))) ⌝ }
 {
-    if state.len() < 206095 {
+    if state.len() < words::STATE_LENGTH {
         return Reply {
             number: 16,
             place: 0,

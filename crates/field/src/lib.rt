@@ -3,7 +3,9 @@
 // All products are formed in u32.
 ghost use mathlib.Core.Path.{_≡_};
 ghost use Prim.Native.Nat.{_<_};
+ghost use Rattle.definitions.specs.Limits.{document-01};
 ghost use Rattle.definitions.specs.Field.{plus, times as times-definition, minus, inverse as inverse-definition, prime?};
+ghost use Rattle.definitions.specs.Problem.{prime-in-range?};
 
 // The sum modulo p.
 pub fn sum(a: u16, b: u16, p: u16) -> u16
@@ -65,4 +67,11 @@ pub fn is_prime(p: u16) -> bool
         d += 1;
     }
     true
+}
+
+// Every word is within the bound, 65,535 (A4).
+pub fn prime_in_range(p: u16) -> bool
+    ensures { λ r. ⌜ r ≡ prime-in-range? document-01 p ⌝ }
+{
+    is_prime(p)
 }

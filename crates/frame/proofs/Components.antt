@@ -9,6 +9,7 @@ use Rattle.definitions.specs.Monomial.{Exponents, Monomial, Vector, no-term}
 use Rattle.definitions.specs.Frame.{generators, minimal, with-component, frame-of, frame-from, frame}
 use Rattle.definitions.specs.Layout.{Words, rows}
 use Rattle.definitions.proofs.Rows.{length-rows}
+use Rattle.definitions.specs.Places.{row-length, component-offset}
 use Rattle.terms.proofs.Stored.{row-is}
 use Rattle.sums.proofs.Rowwise.{at-row}
 use Rattle.frame.specs.Generators.{monomials-of}
@@ -38,9 +39,9 @@ each-at P (t ∷ v) zero h a = a .0
 each-at P (t ∷ v) (suc i) h a = each-at P v i (omega arith) (a .1)
 
 pub frame-components : (code : ℕ) (ms : List Monomial) (d : Words) (n : ℕ) → monomials-of (rows d 0 n) ≡ frame code ms
-    → (i : ℕ) → i < n → (1 ≤ getD d (i * 10 + 1) 0) × (getD d (i * 10 + 1) 0 ≤ length ms)
+    → (i : ℕ) → i < n → (1 ≤ getD d (i * row-length + component-offset) 0) × (getD d (i * row-length + component-offset) 0 ≤ length ms)
 frame-components code ms d n e i h =
     let b = each-at (λ m. (1 ≤ m .1) × (m .1 < 1 + length ms)) (rows d 0 n) i (omega (arith, length-rows d 0 n))
     (subst (Each (λ m. (1 ≤ m .1) × (m .1 < 1 + length ms))) (sym e) (each-from code 1 (1 + length ms) 1 [] ms (omega arith) (omega arith))) in
-    let c : getD (rows d 0 n) i no-term .1 .1 ≡ getD d (i * 10 + 1) 0 = ap (λ t. t .1 .1) (at-row d n i h ∙ row-is d i) in
+    let c : getD (rows d 0 n) i no-term .1 .1 ≡ getD d (i * row-length + component-offset) 0 = ap (λ t. t .1 .1) (at-row d n i h ∙ row-is d i) in
     (omega (arith, b .0, c), omega (arith, b .1, c))

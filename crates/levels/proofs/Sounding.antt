@@ -7,6 +7,7 @@ use Rattle.definitions.specs.Limits.{document-01}
 use Rattle.definitions.specs.Field.{prime?}
 use Rattle.definitions.specs.Layout.{Words, levels-at, holds-state?}
 use Rattle.definitions.proofs.Tests.{and-right}
+use Rattle.definitions.specs.Places.{most-vectors, all-levels, state-length}
 use Rattle.orders.specs.Levels.{images}
 use Rattle.tables.specs.Cuts.{Cut}
 use Rattle.levels.specs.Places.{count-at, rows-from, ends-from}
@@ -19,8 +20,8 @@ above-one zero t = absurd t
 above-one (suc zero) t = absurd t
 above-one (suc (suc p)) t = omega arith
 
-module _ (s : Words) (long : 206095 ≤ length s) (t : T (holds-state? document-01 s)) where
-  pub height : getD s 4 0 ≤ 10
+module _ (s : Words) (long : state-length ≤ length s) (t : T (holds-state? document-01 s)) where
+  pub height : getD s 4 0 ≤ all-levels
   height = holds-said s long t .1
 
   pub prime-above : 1 < getD s 0 0
@@ -29,5 +30,5 @@ module _ (s : Words) (long : 206095 ≤ length s) (t : T (holds-state? document-
   pub complete-test : (k : ℕ) → k < getD s 4 0 → T (own-test? s k)
   complete-test k h = climbed s (getD s 4 0) (holds-said s long t .4) k h
 
-  pub complete-cut : (k : ℕ) → k < getD s 4 0 → (count-at s k ≤ 128) × Cut (count-at s k) (rows-from s k) (ends-from s k)
+  pub complete-cut : (k : ℕ) → k < getD s 4 0 → (count-at s k ≤ most-vectors) × Cut (count-at s k) (rows-from s k) (ends-from s k)
   complete-cut k h = test-cut s long k (images (levels-at document-01 s k)) (omega (arith, height)) (complete-test k h)

@@ -18,6 +18,7 @@ use Rattle.definitions.specs.Layout.{Words, row-at, rows, vectors-at, ascending
 use Rattle.definitions.proofs.Tests.{and-left, and-right, and-both, every-at}
 use Rattle.definitions.proofs.Sound.{Sound-vector, vector-says, vector-shown}
 use Rattle.definitions.proofs.Rows.{length-rows, getD-rows}
+use Rattle.definitions.specs.Places.{most-exponent, most-rows, row-length, exponents-offset, level-length}
 use Rattle.levels.specs.declared.Bounds.{Bounds}
 use Rattle.levels.specs.Holding.{bounds-of, row-holds?, follows?, all-hold?, vector-holds?, vectors-hold?}
 use Rattle.levels.proofs.Pointwise.{every-all, holds-at, holds-all, descends-at, descends-all}
@@ -32,15 +33,15 @@ All-fit s a e = (i : ℕ) → a ≤ i → i < e → Fits s i
 
 pub fit-said : (s : Words) (n : ℕ) → T (exponents-fit? s n) → All-fit s 0 n
 fit-said s zero t i h l = absurd (omega arith)
-fit-said s (suc n) t i h l = go (ℕ-discrete i n) (fit-said s n (and-left (exponents-fit? s n) (fits? 255 (take 8 (drop (n * 10 + 2) s))) t) i)
+fit-said s (suc n) t i h l = go (ℕ-discrete i n) (fit-said s n (and-left (exponents-fit? s n) (fits? most-exponent (take 8 (drop (n * row-length + exponents-offset) s))) t) i)
   where
     go : Dec (i ≡ n) → (0 ≤ i → i < n → Fits s i) → Fits s i
-    go (yes e) r = subst (Fits s) (sym e) (and-right (exponents-fit? s n) (fits? 255 (take 8 (drop (n * 10 + 2) s))) t)
+    go (yes e) r = subst (Fits s) (sym e) (and-right (exponents-fit? s n) (fits? most-exponent (take 8 (drop (n * row-length + exponents-offset) s))) t)
     go (no e) r = r (omega arith) (omega arith)
 
 pub fit-shown : (s : Words) (n : ℕ) → All-fit s 0 n → T (exponents-fit? s n)
 fit-shown s zero h = tt
-fit-shown s (suc n) h = and-both (exponents-fit? s n) (fits? 255 (take 8 (drop (n * 10 + 2) s))) (fit-shown s n (λ i l m. h i l (omega arith))) (h n (omega arith) (omega arith))
+fit-shown s (suc n) h = and-both (exponents-fit? s n) (fits? most-exponent (take 8 (drop (n * row-length + exponents-offset) s))) (fit-shown s n (λ i l m. h i l (omega arith))) (h n (omega arith) (omega arith))
 
 -- ## One vector
 
@@ -51,7 +52,7 @@ module _ (b : Bounds) (most : ℕ) (order : Monomial → Monomial → Comparison
   -- the rows of a vector that passes the test
   walked : T (vector-holds? b most order s a e) → T (row-holds? b s a) × T (all-hold? (follows? b order s) (suc a) (e - suc a))
   walked t =
-      let v = and-right (leb (e - a) most) (row-holds? b s a and walk) (and-right (leb e 2048) (leb (e - a) most and row-holds? b s a and walk) (and-right (ltb a e) (leb e 2048 and leb (e - a) most and row-holds? b s a and walk) t)) in
+      let v = and-right (leb (e - a) most) (row-holds? b s a and walk) (and-right (leb e most-rows) (leb (e - a) most and row-holds? b s a and walk) (and-right (ltb a e) (leb e most-rows and leb (e - a) most and row-holds? b s a and walk) t)) in
       (and-left (row-holds? b s a) walk v, and-right (row-holds? b s a) walk v)
 
   follows-said : T (vector-holds? b most order s a e) → (i : ℕ) → a < i → i < e → T (row-holds? b s i) × T (greater? (order (row-at s (i - 1) .1) (row-at s i .1)))
@@ -66,15 +67,15 @@ module _ (b : Bounds) (most : ℕ) (order : Monomial → Monomial → Comparison
       go (yes q) = subst (λ j. T (row-holds? b s j)) (sym q) (walked t .0)
       go (no q) = follows-said t i (omega arith) l .0
 
-  rows-shown : a < e → e ≤ 2048 → e - a ≤ most → ((i : ℕ) → a ≤ i → i < e → T (row-holds? b s i)) → ((i : ℕ) → a < i → i < e → T (greater? (order (row-at s (i - 1) .1) (row-at s i .1)))) → T (vector-holds? b most order s a e)
+  rows-shown : a < e → e ≤ most-rows → e - a ≤ most → ((i : ℕ) → a ≤ i → i < e → T (row-holds? b s i)) → ((i : ℕ) → a < i → i < e → T (greater? (order (row-at s (i - 1) .1) (row-at s i .1)))) → T (vector-holds? b most order s a e)
   rows-shown h l m f g =
-      and-both (ltb a e) (leb e 2048 and leb (e - a) most and row-holds? b s a and walk) (lt→ltb a e h)
-      (and-both (leb e 2048) (leb (e - a) most and row-holds? b s a and walk) (le→leb e 2048 l)
+      and-both (ltb a e) (leb e most-rows and leb (e - a) most and row-holds? b s a and walk) (lt→ltb a e h)
+      (and-both (leb e most-rows) (leb (e - a) most and row-holds? b s a and walk) (le→leb e most-rows l)
       (and-both (leb (e - a) most) (row-holds? b s a and walk) (le→leb (e - a) most m)
       (and-both (row-holds? b s a) walk (f a (omega arith) h)
       (holds-all (follows? b order s) (suc a) (e - suc a) (λ i u v. and-both (row-holds? b s i) (greater? (order (row-at s (i - 1) .1) (row-at s i .1))) (f i (omega arith) (omega arith)) (g i u (omega arith)))))))
 
-module _ (q : Parameters) (components most : ℕ) (s : Words) (long : 20480 ≤ length s) where
+module _ (q : Parameters) (components most : ℕ) (s : Words) (long : level-length ≤ length s) where
   abbrev B : Bounds
   B = bounds-of (q .p) (q .n) components
 
@@ -90,7 +91,7 @@ module _ (q : Parameters) (components most : ℕ) (s : Words) (long : 20480 ≤ 
       descends = descends-all (compare-over (q .code) below) (rows s a (e - a)) no-term falls;
     })
       where
-        vs : (a < e) × (e ≤ 2048) × (e - a ≤ most)
+        vs : (a < e) × (e ≤ most-rows) × (e - a ≤ most)
         vs = vector-ends B most order s a e t
 
         term : (i : ℕ) → a ≤ i → i < e → T (term-sound? document-01 q components (row-at s i))
@@ -103,7 +104,7 @@ module _ (q : Parameters) (components most : ℕ) (s : Words) (long : 20480 ≤ 
             let u = follows-said B most order s a e t (a + suc i) (omega arith) (omega arith) .1 in
             subst (λ c. T (greater? c)) (agree (row-at s (a + suc i - 1) .1) (row-at s (a + suc i) .1) ∙ (λ j. compare-over (q .code) below ((ap (row-at s) x ∙ sym (getD-rows s a (e - a) i no-term (omega arith))) j .1) (sym (getD-rows s a (e - a) (suc i) no-term l) j .1))) u
 
-    pub vector-kept : (a e : ℕ) → a < e → e ≤ 2048 → All-fit s a e → T (vector-sound? document-01 q components most below (rows s a (e - a))) → T (vector-holds? (bounds-of (q .p) (q .n) components) most order s a e)
+    pub vector-kept : (a e : ℕ) → a < e → e ≤ most-rows → All-fit s a e → T (vector-sound? document-01 q components most below (rows s a (e - a))) → T (vector-holds? (bounds-of (q .p) (q .n) components) most order s a e)
     vector-kept a e h l f t = rows-shown B most order s a e h l (omega (arith, v .short, length-rows s a (e - a)))
         (λ i m n. row-shown q components s i (omega arith) (f i m n) (term i m n)) falls
       where
@@ -171,14 +172,14 @@ length-vectors s a [] = refl
 length-vectors s a (e ∷ es) = ap suc (length-vectors s e es)
 
 module _ (b : Bounds) (most : ℕ) (order : Monomial → Monomial → Comparison) (s : Words) where
-  pub vectors-ascend : (a : ℕ) (es : Words) → T (vectors-hold? b most order s a es) → T (ascending? 2048 a es)
+  pub vectors-ascend : (a : ℕ) (es : Words) → T (vectors-hold? b most order s a es) → T (ascending? most-rows a es)
   vectors-ascend a [] t = tt
   vectors-ascend a (e ∷ es) t =
       let v = vector-ends b most order s a e (and-left (vector-holds? b most order s a e) (vectors-hold? b most order s e es) t) in
-      and-both (ltb a e) (leb e 2048 and ascending? 2048 e es) (lt→ltb a e (v .0))
-      (and-both (leb e 2048) (ascending? 2048 e es) (le→leb e 2048 (v .1)) (vectors-ascend e es (and-right (vector-holds? b most order s a e) (vectors-hold? b most order s e es) t)))
+      and-both (ltb a e) (leb e most-rows and ascending? most-rows e es) (lt→ltb a e (v .0))
+      (and-both (leb e most-rows) (ascending? most-rows e es) (le→leb e most-rows (v .1)) (vectors-ascend e es (and-right (vector-holds? b most order s a e) (vectors-hold? b most order s e es) t)))
 
-module _ (q : Parameters) (components most : ℕ) (s : Words) (long : 20480 ≤ length s) (order : Monomial → Monomial → Comparison) where
+module _ (q : Parameters) (components most : ℕ) (s : Words) (long : level-length ≤ length s) (order : Monomial → Monomial → Comparison) where
   pub vectors-fit : (a : ℕ) (es : Words) → T (vectors-hold? (bounds-of (q .p) (q .n) components) most order s a es) → All-fit s a (end-of a es)
   vectors-fit a [] t i h l = absurd (omega arith)
   vectors-fit a (e ∷ es) t i h l = go (ltb i e) (ltb→lt i e) (nltb→le i e) (vectors-fit e es (and-right (vector-holds? (bounds-of (q .p) (q .n) components) most order s a e) (vectors-hold? (bounds-of (q .p) (q .n) components) most order s e es) t) i)
@@ -200,13 +201,13 @@ module _ (q : Parameters) (components most : ℕ) (s : Words) (long : 20480 ≤ 
         and-both (good? (rows s a (e - a))) (every good? (vectors-at s e es)) (vector-said q components most s long order below agree a e (and-left (kept? a e) (vectors-hold? (bounds-of (q .p) (q .n) components) most order s e es) t))
         (vectors-said e es (and-right (kept? a e) (vectors-hold? (bounds-of (q .p) (q .n) components) most order s e es) t))
 
-    pub vectors-shown : (a : ℕ) (es : Words) → T (ascending? 2048 a es) → All-fit s a (end-of a es) → T (every (vector-sound? document-01 q components most below) (vectors-at s a es)) → T (vectors-hold? (bounds-of (q .p) (q .n) components) most order s a es)
+    pub vectors-shown : (a : ℕ) (es : Words) → T (ascending? most-rows a es) → All-fit s a (end-of a es) → T (every (vector-sound? document-01 q components most below) (vectors-at s a es)) → T (vectors-hold? (bounds-of (q .p) (q .n) components) most order s a es)
     vectors-shown a [] t f v = tt
     vectors-shown a (e ∷ es) t f v =
-        let h : a < e = ltb→lt a e (and-left (ltb a e) (leb e 2048 and ascending? 2048 e es) t) in
-        let u = and-right (ltb a e) (leb e 2048 and ascending? 2048 e es) t in
-        let w = and-right (leb e 2048) (ascending? 2048 e es) u in
-        let m : e ≤ end-of e es = ascends-past 2048 e es w in
+        let h : a < e = ltb→lt a e (and-left (ltb a e) (leb e most-rows and ascending? most-rows e es) t) in
+        let u = and-right (ltb a e) (leb e most-rows and ascending? most-rows e es) t in
+        let w = and-right (leb e most-rows) (ascending? most-rows e es) u in
+        let m : e ≤ end-of e es = ascends-past most-rows e es w in
         and-both (kept? a e) (vectors-hold? (bounds-of (q .p) (q .n) components) most order s e es)
-        (vector-kept q components most s long order below agree a e h (leb→le e 2048 (and-left (leb e 2048) (ascending? 2048 e es) u)) (λ i x y. f i x (omega arith)) (and-left (good? (rows s a (e - a))) (every good? (vectors-at s e es)) v))
+        (vector-kept q components most s long order below agree a e h (leb→le e most-rows (and-left (leb e most-rows) (ascending? most-rows e es) u)) (λ i x y. f i x (omega arith)) (and-left (good? (rows s a (e - a))) (every good? (vectors-at s e es)) v))
         (vectors-shown e es w (λ i x y. f i (omega arith) y) (and-right (good? (rows s a (e - a))) (every good? (vectors-at s e es)) v))

@@ -10,6 +10,7 @@ use Rattle.definitions.specs.Lists.{_and_}
 use Rattle.definitions.specs.Monomial.{Monomial}
 use Rattle.definitions.specs.Order.{Comparison}
 use Rattle.definitions.specs.Layout.{Words}
+use Rattle.definitions.specs.Places.{most-elements, most-vectors, most-rows, most-terms}
 use Rattle.orders.specs.Images.{Table, table-order}
 use Rattle.levels.specs.declared.Bounds.{Bounds}
 use Rattle.levels.specs.Places.{count-at, count-below}
@@ -33,13 +34,13 @@ module _ (b : Bounds) (most : ℕ) (order : Monomial → Monomial → Comparison
 -- ## Level 0 and those above it
 
 pub test-basis : (s : Words) (k : ℕ) (T : Table) → k ≡ 0
-    → level-holds? 1 64 2048 (bounds-of (getD s 0 0) (getD s 1 0) (getD s 3 0)) (table-order (getD s 2 0) T) s k ≡ level-test? s k T
-test-basis s k T e = ap (level-holds? 1 64 2048 (bounds-of (getD s 0 0) (getD s 1 0) (getD s 3 0)) (table-order (getD s 2 0) T) s) e ∙ sym (ap (λ j. level-test? s j T) e)
+    → level-holds? 1 most-elements most-rows (bounds-of (getD s 0 0) (getD s 1 0) (getD s 3 0)) (table-order (getD s 2 0) T) s k ≡ level-test? s k T
+test-basis s k T e = ap (level-holds? 1 most-elements most-rows (bounds-of (getD s 0 0) (getD s 1 0) (getD s 3 0)) (table-order (getD s 2 0) T) s) e ∙ sym (ap (λ j. level-test? s j T) e)
 
 pub test-above : (s : Words) (k : ℕ) (T : Table) → (k ≡ 0 → ⊥)
-    → level-holds? 0 128 512 (bounds-of (getD s 0 0) (getD s 1 0) (count-at s (k - 1))) (table-order (getD s 2 0) T) s k ≡ level-test? s k T
+    → level-holds? 0 most-vectors most-terms (bounds-of (getD s 0 0) (getD s 1 0) (count-at s (k - 1))) (table-order (getD s 2 0) T) s k ≡ level-test? s k T
 test-above s zero T n = absurd (n refl)
-test-above s (suc k) T n = let z : suc k - 1 ≡ k = omega arith in ap (λ j. level-holds? 0 128 512 (bounds-of (getD s 0 0) (getD s 1 0) (count-at s j)) (table-order (getD s 2 0) T) s (suc k)) z
+test-above s (suc k) T n = let z : suc k - 1 ≡ k = omega arith in ap (λ j. level-holds? 0 most-vectors most-terms (bounds-of (getD s 0 0) (getD s 1 0) (count-at s j)) (table-order (getD s 2 0) T) s (suc k)) z
 
 pub below-basis : (s : Words) (k : ℕ) → k ≡ 0 → 0 ≡ count-below s k
 below-basis s k e = ap (count-below s) (sym e)

@@ -9,6 +9,7 @@ use Rattle.definitions.specs.Lists.{_and_, between, choose}
 use Rattle.definitions.specs.Monomial.{Exponents, Monomial, divides?}
 use Rattle.definitions.specs.Order.{Comparison, greater?}
 use Rattle.definitions.specs.Layout.{Words, row-at, ends-at, levels-at}
+use Rattle.definitions.specs.Places.{most-exponent, most-elements, most-vectors, most-rows, most-terms, row-length, component-offset, exponents-offset}
 use Rattle.orders.specs.Images.{Table, exponents-raw, table-order}
 use Rattle.orders.specs.Levels.{images}
 use Rattle.levels.specs.declared.Bounds.{Bounds}
@@ -16,7 +17,7 @@ use Rattle.levels.specs.Places.{count-at, rows-from}
 
 -- an exponent is at most 255, one past n is zero
 abbrev pub limit-at : ℕ → ℕ → ℕ
-limit-at n j = choose (ltb j n) 255 0
+limit-at n j = choose (ltb j n) most-exponent 0
 
 abbrev pub exponent-limits : ℕ → Exponents
 exponent-limits n = limit-at n 0 ∷ limit-at n 1 ∷ limit-at n 2 ∷ limit-at n 3 ∷ limit-at n 4 ∷ limit-at n 5 ∷ limit-at n 6 ∷ limit-at n 7 ∷ []
@@ -27,7 +28,7 @@ bounds-of p n components = record { top = p - 1; components = components; expone
 -- the words of row i are in range
 abbrev pub row-holds? : Bounds → Words → ℕ → Bool
 row-holds? b s i =
-    between 1 (getD s (i * 10) 0) (b .top) and between 1 (getD s (i * 10 + 1) 0) (b .components) and divides? (exponents-raw s (i * 10 + 2)) (b .exponents)
+    between 1 (getD s (i * row-length) 0) (b .top) and between 1 (getD s (i * row-length + component-offset) 0) (b .components) and divides? (exponents-raw s (i * row-length + exponents-offset)) (b .exponents)
 
 -- .. and the row before it is greater
 abbrev pub follows? : Bounds → (Monomial → Monomial → Comparison) → Words → ℕ → Bool
@@ -41,7 +42,7 @@ all-hold? f i (suc n) = f i and all-hold? f (suc i) n
 -- a vector from row a up to row e
 abbrev pub vector-holds? : Bounds → ℕ → (Monomial → Monomial → Comparison) → Words → ℕ → ℕ → Bool
 vector-holds? b most order s a e =
-    ltb a e and leb e 2_048 and leb (e - a) most and row-holds? b s a and all-hold? (follows? b order s) (suc a) (e - suc a)
+    ltb a e and leb e most-rows and leb (e - a) most and row-holds? b s a and all-hold? (follows? b order s) (suc a) (e - suc a)
 
 -- vectors with these ends, after so many rows
 abbrev pub vectors-hold? : Bounds → ℕ → (Monomial → Monomial → Comparison) → Words → ℕ → Words → Bool
@@ -54,8 +55,8 @@ level-holds? low high most b order s k = between low (count-at s k) high and vec
 
 -- level k over the table of images of its module
 abbrev pub level-test? : Words → ℕ → Table → Bool
-level-test? s zero T = level-holds? 1 64 2_048 (bounds-of (getD s 0 0) (getD s 1 0) (getD s 3 0)) (table-order (getD s 2 0) T) s 0
-level-test? s (suc k) T = level-holds? 0 128 512 (bounds-of (getD s 0 0) (getD s 1 0) (count-at s k)) (table-order (getD s 2 0) T) s (suc k)
+level-test? s zero T = level-holds? 1 most-elements most-rows (bounds-of (getD s 0 0) (getD s 1 0) (getD s 3 0)) (table-order (getD s 2 0) T) s 0
+level-test? s (suc k) T = level-holds? 0 most-vectors most-terms (bounds-of (getD s 0 0) (getD s 1 0) (count-at s k)) (table-order (getD s 2 0) T) s (suc k)
 
 -- levels 0 to k − 1
 abbrev pub levels-hold? : Words → ℕ → Bool

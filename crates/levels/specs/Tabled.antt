@@ -3,6 +3,7 @@ use mathlib.Core.Path.{_≡_}
 use Prim.Native.Nat.{ℕ, _*_, _≤_}
 use Rattle.definitions.specs.Limits.{document-01}
 use Rattle.definitions.specs.Layout.{Words, level-at, levels-at}
+use Rattle.definitions.specs.Places.{most-exponent, most-vectors}
 use Rattle.orders.specs.Images.{table-of}
 use Rattle.orders.specs.Levels.{table-over, images}
 use Rattle.tables.specs.Ranking.{Capped, Raised}
@@ -10,9 +11,9 @@ use Rattle.levels.specs.Places.{count-at, count-below}
 
 -- the table over levels 0 to k − 1; an exponent grows by 255 with each level at the most
 pub record Ready (s : Words) (k : ℕ) (table : Words) : Type 0 where
-  pub few : count-below s k ≤ 128
+  pub few : count-below s k ≤ most-vectors
   pub made : table-of (count-below s k) table ≡ images (levels-at document-01 s k)
-  pub capped : Capped (k * 255) (count-below s k) table
+  pub capped : Capped (k * most-exponent) (count-below s k) table
 
 -- one level more: the old table stands below, the one made from it above
 pub record Advanced (s : Words) (k : ℕ) (old below above : Words) : Type 0 where

@@ -11,6 +11,7 @@ ghost use Rattle.definitions.specs.Monomial.{divides?};
 ghost use Rattle.definitions.specs.Order.{greater?};
 ghost use Rattle.definitions.specs.Problem.{prime-in-range?, in-ranges?};
 ghost use Rattle.definitions.specs.Layout.{holds-state?};
+ghost use Rattle.definitions.specs.Places.{most-vectors, all-levels, row-length, header-length, level-length, state-length, table-length};
 ghost use Rattle.orders.specs.Images.{exponents-raw, key-of, compare-keys, table-of, table-order, Tabled};
 ghost use Rattle.levels.specs.Places.{parameters-of, parameters-at, count-at, count-below, rows-from, ends-from};
 ghost use Rattle.levels.specs.Holding.{exponent-limits as limits-definition, limit-at, bounds-of, row-holds?, follows?, all-hold?, vector-holds?, vectors-hold?, level-holds?, level-test?, levels-hold?};
@@ -31,13 +32,7 @@ pub struct Parameters {
 pub struct Bounds {
     pub top: u16,
     pub components: u16,
-    pub exponents: [u16; 8],
-}
-
-pub fn place(x: u16) -> usize
-    ensures { λ r. ⌜ r ≡ x ⌝ }
-{
-    x as usize
+    pub exponents: [u16; words::EXPONENTS_LENGTH],
 }
 
 fn both(a: bool, b: bool) -> bool
@@ -58,19 +53,10 @@ fn fails(a: bool) -> bool
     true
 }
 
-fn between(a: u16, x: u16, b: u16) -> bool
-    ensures { λ r. ⌜ r ≡ between-definition a x b ⌝ }
-{
-    if x < a {
-        return false;
-    }
-    x <= b
-}
-
 // ## Parameters
 
 pub fn read_parameters(state: &[u16]) -> Parameters
-    requires { ⌜ 5 ≤ length (now state) ⌝ }
+    requires { ⌜ header-length ≤ length (now state) ⌝ }
     ensures { λ q. ⌜ parameters-of q ≡ parameters-at (now (state .entry)) ⌝ }
 {
     Parameters {
@@ -81,19 +67,12 @@ pub fn read_parameters(state: &[u16]) -> Parameters
     }
 }
 
-// Every word is within the bound, 65,535 (A4).
-fn prime_in_range(p: u16) -> bool
-    ensures { λ r. ⌜ r ≡ prime-in-range? document-01 p ⌝ }
-{
-    field::is_prime(p)
-}
-
 fn in_ranges(q: Parameters) -> bool
     ensures { λ r. ⌜ r ≡ in-ranges? document-01 (parameters-of q) ⌝ }
 {
-    let n = between(1, q.n, 8);
-    let code = between(1, q.code, 3);
-    let s = between(1, q.s, 16);
+    let n = words::between(1, q.n, words::MOST_VARIABLES);
+    let code = words::between(1, q.code, 3);
+    let s = words::between(1, q.s, words::MOST_COMPONENTS);
     both(n, both(code, s))
 }
 
@@ -103,18 +82,18 @@ fn in_ranges(q: Parameters) -> bool
 fn limit(n: u16, j: usize) -> u16
     ensures { λ r. ⌜ r ≡ limit-at n j ⌝ }
 {
-    if j < place(n) {
-        return 255;
+    if j < words::place(n) {
+        return words::MOST_EXPONENT;
     }
     0
 }
 
-fn exponent_limits(n: u16) -> [u16; 8]
+fn exponent_limits(n: u16) -> [u16; words::EXPONENTS_LENGTH]
     ensures { λ r. ⌜ r ≡ limits-definition n ⌝ }
 {
-    let mut w = [0u16; 8];
+    let mut w = [0u16; words::EXPONENTS_LENGTH];
     let mut j = 0;
-    while j < 8 {
+    while j < words::EXPONENTS_LENGTH {
         w[j] = limit(n, j);
         j += 1;
     }
@@ -143,13 +122,13 @@ fn row_bounds(p: u16, n: u16, components: u16) -> Bounds
 }
 
 // Whether each of the eight words from at on is at most its limit.
-fn within(level: &[u16], at: usize, w: [u16; 8]) -> bool
+fn within(level: &[u16], at: usize, w: [u16; words::EXPONENTS_LENGTH]) -> bool
     requires { ⌜ at + 8 ≤ length (now level) ⌝ }
     ensures { λ r. ⌜ r ≡ divides? (exponents-raw (now (level .entry)) at) w ⌝ }
 {
     let mut mark: u16 = 0;
     let mut j = 0;
-    while j < 8 {
+    while j < words::EXPONENTS_LENGTH {
         mark = monomial::mark_above(mark, level[at + j], w[j]);
         j += 1;
     }
@@ -157,14 +136,14 @@ fn within(level: &[u16], at: usize, w: [u16; 8]) -> bool
 }
 
 fn row_holds(level: &[u16], i: usize, b: Bounds) -> bool
-    requires { ⌜ i * 10 + 10 ≤ length (now level) ⌝ }
+    requires { ⌜ i * row-length + row-length ≤ length (now level) ⌝ }
     ensures { λ r. ⌜ r ≡ row-holds? b (now (level .entry)) i ⌝ }
 {
-    let at = i * 10;
+    let at = i * words::ROW_LENGTH;
     let w = b.exponents;
-    let c = between(1, level[at], b.top);
-    let m = between(1, level[at + 1], b.components);
-    let e = within(level, at + 2, w);
+    let c = words::between(1, level[at], b.top);
+    let m = words::between(1, level[at + words::COMPONENT_OFFSET], b.components);
+    let e = within(level, at + words::EXPONENTS_OFFSET, w);
     both(c, both(m, e))
 }
 
@@ -172,7 +151,7 @@ fn row_holds(level: &[u16], i: usize, b: Bounds) -> bool
 
 // Row i is in range and below the row with the image before it.
 fn follows(level: &[u16], i: usize, b: Bounds, code: u16, before: Image, image: Image) -> bool
-    requires { ⌜ i * 10 + 10 ≤ length (now level) ⌝ }
+    requires { ⌜ i * row-length + row-length ≤ length (now level) ⌝ }
     ensures { λ r. ⌜ r ≡ (row-holds? b (now (level .entry)) i and greater? (compare-keys code (key-of before) (key-of image))) ⌝ }
 {
     let x = row_holds(level, i, b);
@@ -193,7 +172,7 @@ fn rest_holds(
     table: &[u16],
     n: usize,
 ) -> bool
-    requires { ⌜ (from < to) × (to * 10 ≤ length (now level)) × (n * 10 ≤ length (now table)) × Tabled n (now table) ⌝ }
+    requires { ⌜ (from < to) × (to * row-length ≤ length (now level)) × (n * row-length ≤ length (now table)) × Tabled n (now table) ⌝ }
     ensures { λ r. ⌜ r ≡ all-hold? (follows? b (table-order code (table-of n (now (table .entry)))) (now (level .entry))) (from + 1) (to - (from + 1)) ⌝ }
 {
     let mut before = tables::image_at(level, from, table, n);
@@ -220,13 +199,13 @@ fn vector_holds(
     table: &[u16],
     n: usize,
 ) -> bool
-    requires { ⌜ (20480 ≤ length (now level)) × (n * 10 ≤ length (now table)) × Tabled n (now table) ⌝ }
+    requires { ⌜ (level-length ≤ length (now level)) × (n * row-length ≤ length (now table)) × Tabled n (now table) ⌝ }
     ensures { λ r. ⌜ r ≡ vector-holds? b most (table-order code (table-of n (now (table .entry)))) (now (level .entry)) from to ⌝ }
 {
     if to <= from {
         return false;
     }
-    if 2048 < to {
+    if words::MOST_ROWS < to {
         return false;
     }
     if most < to - from {
@@ -248,13 +227,13 @@ fn vectors_hold(
     table: &[u16],
     n: usize,
 ) -> bool
-    requires { ⌜ (r ≤ length (now ends)) × (20480 ≤ length (now level)) × (n * 10 ≤ length (now table)) × Tabled n (now table) ⌝ }
+    requires { ⌜ (r ≤ length (now ends)) × (level-length ≤ length (now level)) × (n * row-length ≤ length (now table)) × Tabled n (now table) ⌝ }
     ensures { λ x. ⌜ x ≡ vectors-hold? b most (table-order code (table-of n (now (table .entry)))) (now (level .entry)) 0 (take r (now (ends .entry))) ⌝ }
 {
     let mut from: usize = 0;
     let mut j: usize = 0;
     while j < r {
-        let to = place(ends[j]);
+        let to = words::place(ends[j]);
         if fails(vector_holds(level, from, to, most, b, code, table, n)) {
             return false;
         }
@@ -268,21 +247,21 @@ fn vectors_hold(
 
 // How many vectors level k has.
 pub fn count_of(state: &[u16], k: usize) -> usize
-    requires { ⌜ (206095 ≤ length (now state)) × (k < 10) ⌝ }
+    requires { ⌜ (state-length ≤ length (now state)) × (k < all-levels) ⌝ }
     ensures { λ r. ⌜ r ≡ count-at (now (state .entry)) k ⌝ }
 {
-    place(state[5 + k * 129])
+    words::place(state[words::HEADER_LENGTH + k * words::COUNTS_LENGTH])
 }
 
 // How many the level below has.
 fn count_under(state: &[u16], k: usize) -> usize
-    requires { ⌜ (206095 ≤ length (now state)) × (k ≤ 10) ⌝ }
+    requires { ⌜ (state-length ≤ length (now state)) × (k ≤ all-levels) ⌝ }
     ensures { λ r. ⌜ r ≡ count-below (now (state .entry)) k ⌝ }
 {
     if k == 0 {
         return 0;
     }
-    place(state[5 + (k - 1) * 129])
+    words::place(state[words::HEADER_LENGTH + (k - 1) * words::COUNTS_LENGTH])
 }
 
 // Level k: from low to high vectors, of at most so many terms each.
@@ -297,23 +276,23 @@ fn level_holds(
     table: &[u16],
     n: usize,
 ) -> bool
-    requires { ⌜ (206095 ≤ length (now state)) × (k < 10) × (high ≤ 128) × (n * 10 ≤ length (now table)) × Tabled n (now table) ⌝ }
+    requires { ⌜ (state-length ≤ length (now state)) × (k < all-levels) × (high ≤ most-vectors) × (n * row-length ≤ length (now table)) × Tabled n (now table) ⌝ }
     ensures { λ r. ⌜ r ≡ level-holds? low high most b (table-order code (table-of n (now (table .entry)))) (now (state .entry)) k ⌝ }
 {
-    let at = 5 + k * 129;
+    let at = words::HEADER_LENGTH + k * words::COUNTS_LENGTH;
     let count = state[at];
-    if fails(between(low, count, high)) {
+    if fails(words::between(low, count, high)) {
         return false;
     }
-    let start = 1295 + k * 20480;
-    let r = place(count);
+    let start = words::ROWS_START + k * words::LEVEL_LENGTH;
+    let r = words::place(count);
     let ends = at + 1;
     vectors_hold(&state[start..], &state[ends..], r, most, b, code, table, n)
 }
 
 // Level k, over the table of images of its module.
 fn level_test(state: &[u16], k: usize, table: &[u16], n: usize) -> bool
-    requires { ⌜ (206095 ≤ length (now state)) × (k < 10) × (n * 10 ≤ length (now table)) × Tabled n (now table) ⌝ }
+    requires { ⌜ (state-length ≤ length (now state)) × (k < all-levels) × (n * row-length ≤ length (now table)) × Tabled n (now table) ⌝ }
     ensures { λ r. ⌜ r ≡ level-test? (now (state .entry)) k (table-of n (now (table .entry))) ⌝ }
 {
     let p = state[0];
@@ -321,30 +300,54 @@ fn level_test(state: &[u16], k: usize, table: &[u16], n: usize) -> bool
     let code = state[2];
     if k == 0 {
         let b = row_bounds(p, v, state[3]);
-        return level_holds(state, k, 1, 64, 2048, b, code, table, n);
+        return level_holds(
+            state,
+            k,
+            1,
+            words::MOST_ELEMENTS,
+            words::MOST_ROWS,
+            b,
+            code,
+            table,
+            n,
+        );
     }
-    let b = row_bounds(p, v, state[5 + (k - 1) * 129]);
-    level_holds(state, k, 0, 128, 512, b, code, table, n)
+    let b = row_bounds(
+        p,
+        v,
+        state[words::HEADER_LENGTH + (k - 1) * words::COUNTS_LENGTH],
+    );
+    level_holds(
+        state,
+        k,
+        0,
+        words::MOST_VECTORS_U16,
+        words::MOST_TERMS,
+        b,
+        code,
+        table,
+        n,
+    )
 }
 
 // ## Tables of images
 
 // The table over levels 0 to k − 1 goes from above to below, the one over level k too is made from it.
 pub fn advance(below: &mut [u16], above: &mut [u16], state: &[u16], k: usize)
-    requires { ⌜ (206095 ≤ length (now state)) × (k < 10) × (1280 ≤ length (now below)) × (1280 ≤ length (now above)) × (count-below (now state) k ≤ 128) × (count-at (now state) k ≤ 128) × Cut (count-at (now state) k) (rows-from (now state) k) (ends-from (now state) k) × Tabled (count-below (now state) k) (now above) ⌝ }
+    requires { ⌜ (state-length ≤ length (now state)) × (k < all-levels) × (table-length ≤ length (now below)) × (table-length ≤ length (now above)) × (count-below (now state) k ≤ most-vectors) × (count-at (now state) k ≤ most-vectors) × Cut (count-at (now state) k) (rows-from (now state) k) (ends-from (now state) k) × Tabled (count-below (now state) k) (now above) ⌝ }
     ensures { λ _. ⌜ Advanced (now (state .entry)) k (now (above .entry)) (now (below .exit)) (now (above .exit)) ⌝ }
 {
     let n = count_under(state, k);
-    terms::copy(below, 0, above, n * 10);
+    terms::copy(below, 0, above, n * words::ROW_LENGTH);
     let r = count_of(state, k);
-    let start = 1295 + k * 20480;
-    let ends = 6 + k * 129;
+    let start = words::ROWS_START + k * words::LEVEL_LENGTH;
+    let ends = words::ENDS_START + k * words::COUNTS_LENGTH;
     tables::fill_images(above, &state[start..], &state[ends..], r, below, n);
 }
 
 // Levels 0 to h − 1, each over the table of the ones below it.
 fn levels_hold(below: &mut [u16], above: &mut [u16], state: &[u16], h: usize) -> bool
-    requires { ⌜ (206095 ≤ length (now state)) × (h ≤ 10) × (1280 ≤ length (now below)) × (1280 ≤ length (now above)) ⌝ }
+    requires { ⌜ (state-length ≤ length (now state)) × (h ≤ all-levels) × (table-length ≤ length (now below)) × (table-length ≤ length (now above)) ⌝ }
     ensures { λ r. ⌜ r ≡ levels-hold? (now (state .entry)) h ⌝ }
 {
     let mut k: usize = 0;
@@ -363,22 +366,22 @@ fn levels_hold(below: &mut [u16], above: &mut [u16], state: &[u16], h: usize) ->
 
 // Whether the contents are those of a state with an accepted basis: the test behind 11.
 pub fn sound(state: &[u16]) -> bool
-    requires { ⌜ 206095 ≤ length (now state) ⌝ }
+    requires { ⌜ state-length ≤ length (now state) ⌝ }
     ensures { λ r. ⌜ r ≡ holds-state? document-01 (now (state .entry)) ⌝ }
 {
-    let h = place(state[4]);
+    let h = words::place(state[4]);
     if h == 0 {
         return false;
     }
-    if 10 < h {
+    if words::ALL_LEVELS < h {
         return false;
     }
     let q = read_parameters(state);
     let ranges = in_ranges(q);
-    if fails(both(prime_in_range(q.p), ranges)) {
+    if fails(both(field::prime_in_range(q.p), ranges)) {
         return false;
     }
-    let mut below = [0u16; 1280];
-    let mut above = [0u16; 1280];
+    let mut below = [0u16; words::TABLE_LENGTH];
+    let mut above = [0u16; words::TABLE_LENGTH];
     levels_hold(&mut below, &mut above, state, h)
 }

@@ -13,6 +13,7 @@ use Rattle.definitions.specs.Stage.{Stage}
 use Rattle.definitions.specs.Lifting.{Lifted, with-vector, add-vector}
 use Rattle.definitions.specs.Layout.{Words, rows, row-at, vectors-at}
 use Rattle.definitions.proofs.Rows.{rows-same}
+use Rattle.definitions.specs.Places.{most-vectors, row-length, component-offset, ends-length}
 use borrow.Author.Tests.{le-leb, lt-leb}
 use Rattle.terms.proofs.Stored.{same-row, row-is}
 use Rattle.terms.proofs.Moving.{getD-paste-in, getD-paste-below}
@@ -55,15 +56,15 @@ final-of (suc n) out h = final-at 0 (take (suc n) out) (suc n) (length-take-le (
 
 -- ## One vector more
 
-module _ (out value : Words) (i used v : ℕ) (small : i < 128) (room : (used + v) * 10 + 128 ≤ length out) (has : v * 10 ≤ length value) (kept : Kept i used out) where
+module _ (out value : Words) (i used v : ℕ) (small : i < most-vectors) (room : (used + v) * row-length + ends-length ≤ length out) (has : v * row-length ≤ length value) (kept : Kept i used out) where
   abbrev pasted : Words
-  pasted = paste out (used * 10 + 128) value (v * 10)
+  pasted = paste out (used * row-length + ends-length) value (v * row-length)
 
   abbrev pub grown : Words
   grown = set pasted i (used + v)
 
   long : length pasted ≡ length out
-  long = length-paste out (used * 10 + 128) value (v * 10) (omega arith) has
+  long = length-paste out (used * row-length + ends-length) value (v * row-length) (omega arith) has
 
   first-words : take i grown ≡ take i out
   first-words =
@@ -72,7 +73,7 @@ module _ (out value : Words) (i used v : ℕ) (small : i < 128) (room : (used + 
       (length-take-le i pasted (omega (arith, long)) ∙ sym (length-take-le i out (omega arith)))
       (λ k h.
       let l : k < i = omega (arith, length-take-le i pasted (omega (arith, long))) in
-      getD-take i pasted k 0 l ∙ getD-paste-below out (used * 10 + 128) value (v * 10) k 0 (omega arith) (omega arith) ∙ sym (getD-take i out k 0 l))
+      getD-take i pasted k 0 l ∙ getD-paste-below out (used * row-length + ends-length) value (v * row-length) k 0 (omega arith) (omega arith) ∙ sym (getD-take i out k 0 l))
 
   own-end : getD grown i 0 ≡ used + v
   own-end = getD-set-same pasted i (used + v) 0 (omega (arith, long))
@@ -82,26 +83,26 @@ module _ (out value : Words) (i used v : ℕ) (small : i < 128) (room : (used + 
       let e : i + 1 ≡ suc i = omega arith in
       ap (λ k. take k grown) e ∙ take-suc grown i 0 (omega (arith, long, length-set pasted i (used + v))) ∙ (λ k. first-words k ++ own-end k ∷ [])
 
-  word : (x : ℕ) → getD (drop 128 grown) x 0 ≡ getD pasted (128 + x) 0
-  word x = getD-drop 128 grown x 0 ∙ getD-set-other pasted i (128 + x) (used + v) 0 (λ e. omega (arith, e))
+  word : (x : ℕ) → getD (drop ends-length grown) x 0 ≡ getD pasted (ends-length + x) 0
+  word x = getD-drop ends-length grown x 0 ∙ getD-set-other pasted i (ends-length + x) (used + v) 0 (λ e. omega (arith, e))
 
-  word-before : (x : ℕ) → x < used * 10 → getD (drop 128 grown) x 0 ≡ getD (drop 128 out) x 0
-  word-before x h = word x ∙ getD-paste-below out (used * 10 + 128) value (v * 10) (128 + x) 0 (omega arith) (omega arith) ∙ sym (getD-drop 128 out x 0)
+  word-before : (x : ℕ) → x < used * row-length → getD (drop ends-length grown) x 0 ≡ getD (drop ends-length out) x 0
+  word-before x h = word x ∙ getD-paste-below out (used * row-length + ends-length) value (v * row-length) (ends-length + x) 0 (omega arith) (omega arith) ∙ sym (getD-drop ends-length out x 0)
 
-  word-inside : (x : ℕ) → x < v * 10 → getD (drop 128 grown) (used * 10 + x) 0 ≡ getD value x 0
+  word-inside : (x : ℕ) → x < v * row-length → getD (drop ends-length grown) (used * row-length + x) 0 ≡ getD value x 0
   word-inside x h =
-      let e : 128 + (used * 10 + x) ≡ used * 10 + 128 + x = omega arith in
-      word (used * 10 + x) ∙ ap (λ k. getD pasted k 0) e ∙ getD-paste-in out (used * 10 + 128) value (v * 10) x 0 (omega arith) has h
+      let e : ends-length + (used * row-length + x) ≡ used * row-length + ends-length + x = omega arith in
+      word (used * row-length + x) ∙ ap (λ k. getD pasted k 0) e ∙ getD-paste-in out (used * row-length + ends-length) value (v * row-length) x 0 (omega arith) has h
 
-  row-before : (k : ℕ) → k < used → row-at (drop 128 grown) k ≡ row-at (drop 128 out) k
-  row-before k h = same-row (drop 128 out) (drop 128 grown) k k (λ j l. word-before (k * 10 + j) (omega arith))
+  row-before : (k : ℕ) → k < used → row-at (drop ends-length grown) k ≡ row-at (drop ends-length out) k
+  row-before k h = same-row (drop ends-length out) (drop ends-length grown) k k (λ j l. word-before (k * row-length + j) (omega arith))
 
-  row-inside : (k : ℕ) → k < v → row-at (drop 128 grown) (used + k) ≡ row-at value (0 + k)
+  row-inside : (k : ℕ) → k < v → row-at (drop ends-length grown) (used + k) ≡ row-at value (0 + k)
   row-inside k h =
-      same-row value (drop 128 grown) (0 + k) (used + k) λ j l.
-      let e : (used + k) * 10 + j ≡ used * 10 + (k * 10 + j) = omega arith in
-      let d : (0 + k) * 10 + j ≡ k * 10 + j = omega arith in
-      ap (λ x. getD (drop 128 grown) x 0) e ∙ word-inside (k * 10 + j) (omega arith) ∙ ap (λ x. getD value x 0) (sym d)
+      same-row value (drop ends-length grown) (0 + k) (used + k) λ j l.
+      let e : (used + k) * row-length + j ≡ used * row-length + (k * row-length + j) = omega arith in
+      let d : (0 + k) * row-length + j ≡ k * row-length + j = omega arith in
+      ap (λ x. getD (drop ends-length grown) x 0) e ∙ word-inside (k * row-length + j) (omega arith) ∙ ap (λ x. getD value x 0) (sym d)
 
   end-used : final 0 (take i out) ≡ used
   end-used = final-of i out (omega arith) ∙ kept .last
@@ -109,13 +110,13 @@ module _ (out value : Words) (i used v : ℕ) (small : i < 128) (room : (used + 
   pub vectors-grown : lifted-vectors grown (i + 1) ≡ lifted-vectors out i ++ rows value 0 v ∷ []
   vectors-grown =
       let d : used + v - used ≡ v = omega arith in
-      ap (vectors-at (drop 128 grown) 0) all-ends
-      ∙ vectors-more (drop 128 grown) 0 (take i out) (used + v)
-      ∙ (λ k. vectors-same (drop 128 out) (drop 128 grown) used row-before 0 (take i out)
+      ap (vectors-at (drop ends-length grown) 0) all-ends
+      ∙ vectors-more (drop ends-length grown) 0 (take i out) (used + v)
+      ∙ (λ k. vectors-same (drop ends-length out) (drop ends-length grown) used row-before 0 (take i out)
       (λ j h. omega (arith, kept .inside j (omega (arith, length-take-le i out (omega arith))), getD-take i out j 0 (omega (arith, length-take-le i out (omega arith))))) k
-      ++ rows (drop 128 grown) (end-used k) (used + v - end-used k) ∷ [])
-      ∙ ap (λ n. lifted-vectors out i ++ rows (drop 128 grown) used n ∷ []) d
-      ∙ ap (λ w. lifted-vectors out i ++ w ∷ []) (rows-same value (drop 128 grown) 0 used v row-inside)
+      ++ rows (drop ends-length grown) (end-used k) (used + v - end-used k) ∷ [])
+      ∙ ap (λ n. lifted-vectors out i ++ rows (drop ends-length grown) used n ∷ []) d
+      ∙ ap (λ w. lifted-vectors out i ++ w ∷ []) (rows-same value (drop ends-length grown) 0 used v row-inside)
 
   pub kept-grown : Kept (i + 1) (used + v) grown
   kept-grown = record { few = omega arith; last = last-grown (i + 1) (omega arith); inside = inside-grown }
@@ -129,7 +130,7 @@ module _ (out value : Words) (i used v : ℕ) (small : i < 128) (room : (used + 
           omega (
             arith,
             kept .inside j h,
-            getD-set-other pasted i j (used + v) 0 (λ e. omega (arith, e)) ∙ getD-paste-below out (used * 10 + 128) value (v * 10) j 0 (omega arith) (omega arith),
+            getD-set-other pasted i j (used + v) 0 (λ e. omega (arith, e)) ∙ getD-paste-below out (used * row-length + ends-length) value (v * row-length) j 0 (omega arith) (omega arith),
           )
 
       at : (j : ℕ) → j < i + 1 → Dec (j ≡ i) → getD grown j 0 ≤ used + v
@@ -157,5 +158,5 @@ module _ (S : Stage) (l : Lifted) (w : Vector) (v : ℕ) (n : length w ≡ v) wh
 
 pub frame-component : (g : Ground) (count : ℕ) (frame : Words) (i : ℕ) (t : Term) → Framed g count frame → i < count → t ≡ row-at frame i → (1 ≤ t .1 .1) × (t .1 .1 ≤ g .r)
 frame-component g count frame i t f h e =
-    let d : t .1 .1 ≡ getD frame (i * 10 + 1) 0 = ap (λ x. x .1 .1) (e ∙ row-is frame i) in
+    let d : t .1 .1 ≡ getD frame (i * row-length + component-offset) 0 = ap (λ x. x .1 .1) (e ∙ row-is frame i) in
     (omega (arith, d, f .components i h .0), omega (arith, d, f .components i h .1))

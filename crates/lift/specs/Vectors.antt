@@ -12,6 +12,7 @@ use Rattle.definitions.specs.Tree.{Cache, Sum}
 use Rattle.definitions.specs.Lifting as lifting
 use Rattle.definitions.specs.Lifting.{with-vector}
 use Rattle.definitions.specs.Layout.{Words, rows, vectors-at}
+use Rattle.definitions.specs.Places.{most-vectors, row-length, component-offset, ends-length}
 use Rattle.reduce.specs.declared.Ground.{Ground}
 use Rattle.lift.specs.declared.One.{One}
 use Rattle.lift.specs.declared.One.the-variants.{Used, Refused as One-refused, Stopped as One-stopped}
@@ -22,7 +23,7 @@ use Rattle.lift.specs.declared.Accepted.the-variants.{Yes, Refused as Ac
 
 -- the first n vectors: their ends first, their rows from word 128 on
 abbrev pub lifted-vectors : Words → ℕ → Level
-lifted-vectors out n = vectors-at (drop 128 out) 0 (take n out)
+lifted-vectors out n = vectors-at (drop ends-length out) 0 (take n out)
 
 -- where the rows of the first n vectors end
 abbrev pub end-of : ℕ → Words → ℕ
@@ -31,7 +32,7 @@ end-of (suc n) out = getD out n 0
 
 -- the first n vectors have so many rows, none of them more
 pub record Kept (n used : ℕ) (out : Words) : Type 0 where
-  pub few : n ≤ 128
+  pub few : n ≤ most-vectors
   pub last : end-of n out ≡ used
   pub inside : (j : ℕ) → j < n → getD out j 0 ≤ used
 
@@ -41,9 +42,9 @@ abbrev pub frame-terms : Words → ℕ → List Monomial
 frame-terms s n = map (λ t. t .1) (rows s 0 n)
 
 pub record Framed (g : Ground) (count : ℕ) (frame : Words) : Type 0 where
-  pub few : count ≤ 128
-  pub fits : count * 10 ≤ length frame
-  pub components : (i : ℕ) → i < count → (1 ≤ getD frame (i * 10 + 1) 0) × (getD frame (i * 10 + 1) 0 ≤ g .r)
+  pub few : count ≤ most-vectors
+  pub fits : count * row-length ≤ length frame
+  pub components : (i : ℕ) → i < count → (1 ≤ getD frame (i * row-length + component-offset) 0) × (getD frame (i * row-length + component-offset) 0 ≤ g .r)
 
 -- ## Answers
 

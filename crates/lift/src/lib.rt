@@ -8,6 +8,7 @@ ghost use lib.ListN.{length, set};
 ghost use lib.Seq.{paste};
 ghost use Rattle.definitions.specs.Layout.{row-at};
 ghost use Rattle.definitions.specs.Lifting.{accepting-place, lift-all as lift-all-definition, accept-from};
+ghost use Rattle.definitions.specs.Places.{most-vectors, row-length, ends-length};
 ghost use Rattle.ending.specs.Well.{Well};
 ghost use Rattle.orders.specs.Images.{table-of, table-order};
 ghost use Rattle.reduce.specs.Grounds.{ends-in, below-in, above-in, Tables, Family};
@@ -40,10 +41,15 @@ pub enum Accepted {
 
 // The first v rows of value behind the used ones, as vector i, counted from 0.
 fn append(out: &mut [u16], i: usize, used: usize, value: &[u16], v: usize)
-    requires { ⌜ (i < 128) × (used + v < 65536) × ((used + v) * 10 + 128 ≤ length (now out)) × (v * 10 ≤ length (now value)) ⌝ }
-    ensures { λ _. ⌜ now (out .exit) ≡ set (paste (now (out .entry)) (used * 10 + 128) (now (value .entry)) (v * 10)) i (used + v) ⌝ }
+    requires { ⌜ (i < most-vectors) × (used + v < 65536) × ((used + v) * row-length + ends-length ≤ length (now out)) × (v * row-length ≤ length (now value)) ⌝ }
+    ensures { λ _. ⌜ now (out .exit) ≡ set (paste (now (out .entry)) (used * row-length + ends-length) (now (value .entry)) (v * row-length)) i (used + v) ⌝ }
 {
-    terms::copy(out, used * 10 + 128, value, v * 10);
+    terms::copy(
+        out,
+        used * words::ROW_LENGTH + words::ENDS_LENGTH,
+        value,
+        v * words::ROW_LENGTH,
+    );
     out[i] = (used + v) as u16;
 }
 
@@ -61,7 +67,7 @@ fn lift_one(
     g: Ground,
     w: Strategy,
 ) -> One
-    requires { ⌜ Tables g (now tables) × Family g (now level) (ends-in (now tables)) × Images (g .images) (below-in (now tables)) × Images (g .r) (above-in (now tables)) × Rooms g (now value) (now vector) × (1 ≤ g .vector) × Well (stage-of g (now level) (now tables) (order-of g (now tables))) × Framed g count (now frame) × (i < count) × (g .room * 10 + 128 ≤ length (now out)) × (g .room < 65536) × (used ≤ g .room) × Kept i used (now out) ⌝ }
+    requires { ⌜ Tables g (now tables) × Family g (now level) (ends-in (now tables)) × Images (g .images) (below-in (now tables)) × Images (g .r) (above-in (now tables)) × Rooms g (now value) (now vector) × (1 ≤ g .vector) × Well (stage-of g (now level) (now tables) (order-of g (now tables))) × Framed g count (now frame) × (i < count) × (g .room * row-length + ends-length ≤ length (now out)) × (g .room < 65536) × (used ≤ g .room) × Kept i used (now out) ⌝ }
     ensures { λ x. ⌜ ((k : ℕ) × (one-of x i (now (out .exit)) (now (vector .exit)) ≡ lifted-one (stage-of g (now (level .entry)) (now (tables .entry)) (table-order (g .code) (table-of (g .r) (above-in (now (tables .entry)))))) (strategy-of g (now (tables .entry)) w) k (lifted-vectors (now (out .entry)) i, used) (row-at (now (frame .entry)) i .1))) × After g i x (now (out .exit)) ⌝ }
 {
     let t = terms::row(frame, i);
@@ -91,7 +97,7 @@ pub fn lift_all(
     g: Ground,
     w: Strategy,
 ) -> Lifted
-    requires { ⌜ Tables g (now tables) × Family g (now level) (ends-in (now tables)) × Images (g .images) (below-in (now tables)) × Images (g .r) (above-in (now tables)) × Rooms g (now value) (now vector) × (1 ≤ g .vector) × Well (stage-of g (now level) (now tables) (order-of g (now tables))) × Framed g count (now frame) × (g .room * 10 + 128 ≤ length (now out)) × (g .room < 65536) ⌝ }
+    requires { ⌜ Tables g (now tables) × Family g (now level) (ends-in (now tables)) × Images (g .images) (below-in (now tables)) × Images (g .r) (above-in (now tables)) × Rooms g (now value) (now vector) × (1 ≤ g .vector) × Well (stage-of g (now level) (now tables) (order-of g (now tables))) × Framed g count (now frame) × (g .room * row-length + ends-length ≤ length (now out)) × (g .room < 65536) ⌝ }
     ensures { λ x. ⌜ ((k : ℕ) × (lifted-of x count (now (out .exit)) (now (vector .exit)) ≡ lift-all-definition (stage-of g (now (level .entry)) (now (tables .entry)) (table-order (g .code) (table-of (g .r) (above-in (now (tables .entry)))))) (lifts (stage-of g (now (level .entry)) (now (tables .entry)) (table-order (g .code) (table-of (g .r) (above-in (now (tables .entry)))))) (strategy-of g (now (tables .entry)) w) k) ([], 0) [] (frame-terms (now (frame .entry)) count))) × Whole g count x (now (out .exit)) ⌝ }
 {
     let mut used: usize = 0;

@@ -16,6 +16,7 @@ use Rattle.definitions.specs.Frame.{frame}
 use Rattle.definitions.specs.Lifting.{limited-frame, if-few, lift-all, accept-from}
 use Rattle.definitions.specs.Layout.{Words, rows, rows-of, padded, level-at}
 use Rattle.definitions.proofs.Rows.{length-rows, rows-spelled}
+use Rattle.definitions.specs.Places.{most-vectors, most-terms, value-length}
 use Rattle.ending.specs.Well.{Well}
 use Rattle.orders.specs.Images.{table-of, table-order}
 use Rattle.levels.specs.Places.{count-at, rows-from, ends-from}
@@ -110,7 +111,7 @@ module _ (s : Words) (j : ℕ) (b : Base s j) where
 
 -- the frame, numbered lexicographically, if a level has room for it
 abbrev if-room : ℕ → List Monomial → Result (List Monomial)
-if-room code F = if-few (leb (length (frame (document-01 .numbering code) F)) 128) (frame (document-01 .numbering code) F)
+if-room code F = if-few (leb (length (frame (document-01 .numbering code) F)) most-vectors) (frame (document-01 .numbering code) F)
 
 -- more frame terms than a level has vectors
 pub too-many : {A : Type 0} (code : ℕ) (f : Level) (F : List Monomial) (go : List Monomial → Result A) → F ≡ leading-monomials f
@@ -131,12 +132,12 @@ says F true = refl
 says F false = tt
 
 -- the frame's terms are all of them
-pub whole-frame : (code : ℕ) (F G ms : List Monomial) → F ≡ G → done ms ≡ if-few (leb (length (frame code F)) 128) (frame code F) → ms ≡ frame code G
-whole-frame code F G ms e h = subst (Says (frame code F)) (sym h) (says (frame code F) (leb (length (frame code F)) 128)) ∙ ap (frame code) e
+pub whole-frame : (code : ℕ) (F G ms : List Monomial) → F ≡ G → done ms ≡ if-few (leb (length (frame code F)) most-vectors) (frame code F) → ms ≡ frame code G
+whole-frame code F G ms e h = subst (Says (frame code F)) (sym h) (says (frame code F) (leb (length (frame code F)) most-vectors)) ∙ ap (frame code) e
 
 -- ## A value without a reducer
 
-pub left-room : (g : Ground) (x : Accepted) (vector work : Words) → g .working ≡ 512 → Left g x → 5120 ≤ length vector → 5120 ≤ length work → Left-in x vector work
+pub left-room : (g : Ground) (x : Accepted) (vector work : Words) → g .working ≡ most-terms → Left g x → value-length ≤ length vector → value-length ≤ length work → Left-in x vector work
 left-room g Yes vector work e l h k = tt
 left-room g (Accepted-refused number place) vector work e l h k = tt
 left-room g (Accepted-stopped i n) vector work e l h k = (omega (arith, l, e), omega (arith, l, e), omega (arith, l, e))

@@ -18,6 +18,7 @@ use Rattle.definitions.specs.State.{levels-sound?}
 use Rattle.definitions.specs.Layout.{Words, vectors-at, level-at, levels-at, decode}
 use Rattle.definitions.proofs.Tests.{and-right}
 use Rattle.definitions.proofs.Sound.{sound-says, level-says}
+use Rattle.definitions.specs.Places.{most-vectors, count-offset, ends-offset, tables-spans, tables-ends, tables-below, tables-above}
 use Rattle.ending.specs.Well.{Well}
 use Rattle.ending.proofs.Soundness.{sound-well}
 use Rattle.orders.specs.Images.{table-of, table-order}
@@ -36,8 +37,8 @@ use Rattle.lifting.specs.declared.Bounds.{Bounds}
 use Rattle.stages.proofs.Complete.{holds-sound}
 
 -- the ends of a level's vectors, to the state's end
-pub ends-part : (s : Words) (j : ℕ) → take (length s - (6 + j * 129)) (drop (6 + j * 129) s) ≡ ends-from s j
-ends-part s j = let e : 6 + j * 129 ≡ suc (5 + j * 129) = omega arith in whole-part (6 + j * 129) s ∙ ap (λ n. drop n s) e
+pub ends-part : (s : Words) (j : ℕ) → take (length s - (ends-offset j)) (drop (ends-offset j) s) ≡ ends-from s j
+ends-part s j = let e : ends-offset j ≡ suc (count-offset j) = omega arith in whole-part (ends-offset j) s ∙ ap (λ n. drop n s) e
 
 module _ (s : Words) (j : ℕ) (b : Base s j) where
   -- ## Sound levels
@@ -68,15 +69,15 @@ module _ (s : Words) (j : ℕ) (b : Base s j) where
 
   -- ## Tables
 
-  pub few-vectors : count-at s j ≤ 128
+  pub few-vectors : count-at s j ≤ most-vectors
   few-vectors = complete-cut s (b .long) (b .holds) j (b .has) .0
 
   module _ (tables : Words) (t : Tables-at s j tables) where
     pub images-below : Images (count-below s j) (below-in tables)
-    images-below = record { fits = omega (arith, t .below .few, length-part 1666 tables, t .long); tabled = ready-tabled s j (below-in tables) (omega (arith, b .low)) (t .below) }
+    images-below = record { fits = omega (arith, t .below .few, length-part tables-below tables, t .long); tabled = ready-tabled s j (below-in tables) (omega (arith, b .low)) (t .below) }
 
     pub images-above : Images (count-at s j) (above-in tables)
-    images-above = record { fits = omega (arith, few-vectors, length-part 2946 tables, t .long); tabled = ready-tabled s (suc j) (above-in tables) (omega (arith, b .low)) (t .above) }
+    images-above = record { fits = omega (arith, few-vectors, length-part tables-above tables, t .long); tabled = ready-tabled s (suc j) (above-in tables) (omega (arith, b .low)) (t .above) }
 
   pub above-is : (above : Words) → Ready s (suc j) above → table-order (getD s 2 0) (table-of (count-at s j) above) ≡ compare-over (getD s 2 0) (levels-at document-01 s (suc j))
   above-is above r =
@@ -93,7 +94,7 @@ module _ (s : Words) (j : ℕ) (b : Base s j) (lim : Bounds) where
       few = omega (arith, few-vectors s j b);
       long = t .long;
       heads-fit = omega (arith, few-vectors s j b, t .long);
-      spans-fit = omega (arith, components-few s (b .long) (b .holds) j (b .has), length-part 1280 tables, t .long);
+      spans-fit = omega (arith, components-few s (b .long) (b .holds) j (b .has), length-part tables-spans tables, t .long);
       small = t .led .small;
       spanned = t .led .spanned;
     }
@@ -102,7 +103,7 @@ module _ (s : Words) (j : ℕ) (b : Base s j) (lim : Bounds) where
     same-end i h = sym (getD-take (count-at s j) (ends-in tables) i 0 h) ∙ ap (λ l. getD l i 0) (t .ends) ∙ getD-take (count-at s j) (ends-from s j) i 0 h
 
     pub family-in : Family (ground-at lim s j) (rows-from s j) (ends-in tables)
-    family-in = record { ends-fit = omega (arith, few-vectors s j b, length-part 1538 tables, t .long); rows-fit = λ i h. omega (arith, same-end i h, family-at .rows-fit i h) }
+    family-in = record { ends-fit = omega (arith, few-vectors s j b, length-part tables-ends tables, t .long); rows-fit = λ i h. omega (arith, same-end i h, family-at .rows-fit i h) }
 
     -- ## The stage
 

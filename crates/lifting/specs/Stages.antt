@@ -14,6 +14,7 @@ use Rattle.definitions.specs.Run.{by-code}
 use Rattle.definitions.specs.Frame.{frame}
 use Rattle.definitions.specs.Lifting.{limited-frame, lift-all, accept}
 use Rattle.definitions.specs.Layout.{Words, rows, rows-of, padded, level-at, levels-at, holds-state?}
+use Rattle.definitions.specs.Places.{most-exponent, most-vectors, most-rows, most-terms, most-tree-terms, all-levels, row-length, ends-start, state-length, table-length, spans-length, tables-length, ends-length}
 use Rattle.levels.specs.Places.{count-at, count-below, ends-from}
 use Rattle.levels.specs.Tabled.{Ready}
 use Rattle.stages.specs.Prepared.{components-at, Led}
@@ -30,22 +31,22 @@ use Rattle.lifting.specs.declared.Leveled.the-variants.{Vectors, Refused
 
 -- a sound state with level j complete
 pub record Base (s : Words) (j : ℕ) : Type 0 where
-  pub long : 206095 ≤ length s
+  pub long : state-length ≤ length s
   pub holds : T (holds-state? document-01 s)
   pub has : j < getD s 4 0
-  pub low : j < 10
+  pub low : j < all-levels
 
 -- document 01's limits of a lifting
 abbrev pub usual : Bounds
-usual = record { working = 512; vector = 512; tree = 4_096; room = 2_048 }
+usual = record { working = most-terms; vector = most-terms; tree = most-tree-terms; room = most-rows }
 
 -- at most those, so that the tables and the lent slices suffice
 pub record Within (b : Bounds) : Type 0 where
-  pub working : b .working ≤ 512
-  pub vector : b .vector ≤ 512
+  pub working : b .working ≤ most-terms
+  pub vector : b .vector ≤ most-terms
   pub filled : 1 ≤ b .vector
-  pub tree : b .tree ≤ 4_096
-  pub room : b .room ≤ 2_048
+  pub tree : b .tree ≤ most-tree-terms
+  pub room : b .room ≤ most-rows
 
 -- document 01's limits, but for those of a lifting
 abbrev pub limits-with : Bounds → Limits
@@ -54,7 +55,7 @@ limits-with b = record {
   variables = document-01 .variables;
   components = document-01 .components;
   elements = document-01 .elements;
-  exponent = 255;
+  exponent = most-exponent;
   t-lines = document-01 .t-lines;
   file = document-01 .file;
   field = document-01 .field;
@@ -91,7 +92,7 @@ strategy-at b s j w = record { drops = w .drops; pick = by-code (stage-at b s j 
 
 -- behind the heads
 abbrev pub joined : Words → Words → Words → Words → Words → Words
-joined heads spans ends below above = paste (paste (paste (paste heads spans-start spans 258) ends-start ends 128) below-start below 1280) above-start above 1280
+joined heads spans ends below above = paste (paste (paste (paste heads spans-start spans spans-length) ends-start ends ends-length) below-start below table-length) above-start above table-length
 
 pub record Tables-at (s : Words) (j : ℕ) (tables : Words) : Type 0 where
   pub long : tables-length ≤ length tables
@@ -102,8 +103,8 @@ pub record Tables-at (s : Words) (j : ℕ) (tables : Words) : Type 0 where
 
 -- the frame's rows, all of them
 pub record Framed-by (s : Words) (j count : ℕ) (words : Words) : Type 0 where
-  pub few : count ≤ 128
-  pub fits : count * 10 ≤ length words
+  pub few : count ≤ most-vectors
+  pub fits : count * row-length ≤ length words
   pub terms : frame-terms words count ≡ frame (document-01 .numbering (getD s 2 0)) (leading-monomials (level-at document-01 s j))
 
 -- what lifting these frame terms gives; the value of one without a reducer is not kept
@@ -123,7 +124,7 @@ leveled-of (Refused number) out v = refusal number
 leveled-of (Stopped n) out v = refused 9 0 (rows v 0 n)
 
 abbrev pub Stored-as : Leveled → Words → Type 0
-Stored-as (Vectors n used) out = (used ≤ 2_048) × Kept n used out
+Stored-as (Vectors n used) out = (used ≤ most-rows) × Kept n used out
 Stored-as (Refused number) out = Unit {0}
 Stored-as (Stopped n) out = Unit {0}
 
@@ -139,7 +140,7 @@ accepted-with (Accepted-stopped i n) v = refused 9 i v
 abbrev pub Shown : Accepted → Vector → Words → Type 0
 Shown Yes v work = Unit {0}
 Shown (Accepted-refused number place) v work = Unit {0}
-Shown (Accepted-stopped i n) v work = (work ≡ padded (length work) (rows-of v)) × (v ≡ rows work 0 n) × (n * 10 ≤ length work) × (n ≤ 512)
+Shown (Accepted-stopped i n) v work = (work ≡ padded (length work) (rows-of v)) × (v ≡ rows work 0 n) × (n * row-length ≤ length work) × (n ≤ most-terms)
 
 -- the value where division stopped
 abbrev pub value-in : Accepted → Words → Vector
@@ -150,4 +151,4 @@ value-in (Accepted-stopped i n) vector = rows vector 0 n
 abbrev pub Left-in : Accepted → Words → Words → Type 0
 Left-in Yes vector work = Unit {0}
 Left-in (Accepted-refused number place) vector work = Unit {0}
-Left-in (Accepted-stopped i n) vector work = (n * 10 ≤ length vector) × (n * 10 ≤ length work) × (n ≤ 512)
+Left-in (Accepted-stopped i n) vector work = (n * row-length ≤ length vector) × (n * row-length ≤ length work) × (n ≤ most-terms)

@@ -7,6 +7,7 @@ ghost use lib.ListN.{length};
 ghost use Rattle.definitions.specs.Monomial.{Vector};
 ghost use Rattle.definitions.specs.Lifting.{accept-from};
 ghost use Rattle.definitions.specs.Layout.{Words, rows, rows-of, padded};
+ghost use Rattle.definitions.specs.Places.{row-length, value-length, table-length, spans-length, tables-length, ends-length, lifted-length};
 ghost use Rattle.levels.specs.Places.{count-below};
 ghost use Rattle.lift.specs.Vectors.{frame-terms};
 ghost use Rattle.reduce.specs.Grounds.{tables-length};
@@ -30,10 +31,10 @@ pub fn usual() -> Bounds
     ensures { λ b. ⌜ b ≡ usual ⌝ }
 {
     Bounds {
-        working: 512,
-        vector: 512,
-        tree: 4096,
-        room: 2048,
+        working: words::MOST_TERMS,
+        vector: words::MOST_TERMS,
+        tree: words::MOST_TREE_TERMS,
+        room: words::MOST_ROWS,
     }
 }
 
@@ -77,13 +78,13 @@ pub fn ground_of(state: &[u16], j: usize, b: Bounds) -> Ground
 
 // Spans, ends and images behind the heads.
 fn join_tables(tables: &mut [u16], spans: &[u16], ends: &[u16], below: &[u16], above: &[u16])
-    requires { ⌜ (tables-length ≤ length (now tables)) × (258 ≤ length (now spans)) × (128 ≤ length (now ends)) × (1280 ≤ length (now below)) × (1280 ≤ length (now above)) ⌝ }
+    requires { ⌜ (tables-length ≤ length (now tables)) × (spans-length ≤ length (now spans)) × (ends-length ≤ length (now ends)) × (table-length ≤ length (now below)) × (table-length ≤ length (now above)) ⌝ }
     ensures { λ _. ⌜ now (tables .exit) ≡ joined (now (tables .entry)) (now (spans .entry)) (now (ends .entry)) (now (below .entry)) (now (above .entry)) ⌝ }
 {
-    terms::copy(tables, reduce::SPANS, spans, 258);
-    terms::copy(tables, reduce::ENDS, ends, 128);
-    terms::copy(tables, reduce::BELOW, below, 1280);
-    terms::copy(tables, reduce::ABOVE, above, 1280);
+    terms::copy(tables, reduce::SPANS, spans, words::SPANS_LENGTH);
+    terms::copy(tables, reduce::ENDS, ends, words::ENDS_LENGTH);
+    terms::copy(tables, reduce::BELOW, below, words::TABLE_LENGTH);
+    terms::copy(tables, reduce::ABOVE, above, words::TABLE_LENGTH);
 }
 
 // The tables of a lifting over level j.
@@ -91,12 +92,12 @@ pub fn make_tables(tables: &mut [u16], state: &[u16], j: usize)
     requires { ⌜ Base (now state) j × (tables-length ≤ length (now tables)) ⌝ }
     ensures { λ _. ⌜ Tables-at (now (state .entry)) j (now (tables .exit)) ⌝ }
 {
-    let mut spans = [0u16; 258];
-    let mut below = [0u16; 1280];
-    let mut above = [0u16; 1280];
+    let mut spans = [0u16; words::SPANS_LENGTH];
+    let mut below = [0u16; words::TABLE_LENGTH];
+    let mut above = [0u16; words::TABLE_LENGTH];
     stages::fill_leads(tables, &mut spans, state, j);
     stages::fill_tables(&mut below, &mut above, state, j + 1);
-    let ends = 6 + j * 129;
+    let ends = words::ENDS_START + j * words::COUNTS_LENGTH;
     join_tables(tables, &spans, &state[ends..], &below, &above);
 }
 
@@ -112,12 +113,12 @@ fn lift_frame(
     w: Strategy,
     b: Bounds,
 ) -> Lifted
-    requires { ⌜ Base (now state) j × Tables-at (now state) j (now tables) × Framed-by (now state) j count (now frame) × (20608 ≤ length (now out)) × (5120 ≤ length (now work)) × Within b ⌝ }
+    requires { ⌜ Base (now state) j × Tables-at (now state) j (now tables) × Framed-by (now state) j count (now frame) × (lifted-length ≤ length (now out)) × (value-length ≤ length (now work)) × Within b ⌝ }
     ensures { λ x. ⌜ lifted-over b (now (state .entry)) j w count (now (frame .entry)) x (now (out .exit)) ⌝ }
 {
-    let mut vector = [0u16; 5120];
+    let mut vector = [0u16; words::VECTOR_LENGTH];
     let g = ground_of(state, j, b);
-    let start = 1295 + j * 20480;
+    let start = words::ROWS_START + j * words::LEVEL_LENGTH;
     lift::lift_all(
         out,
         work,
@@ -141,14 +142,14 @@ fn lift_with(
     w: Strategy,
     b: Bounds,
 ) -> Leveled
-    requires { ⌜ Base (now state) j × Tables-at (now state) j (now tables) × (20608 ≤ length (now out)) × (5120 ≤ length (now work)) × Within b ⌝ }
+    requires { ⌜ Base (now state) j × Tables-at (now state) j (now tables) × (lifted-length ≤ length (now out)) × (value-length ≤ length (now work)) × Within b ⌝ }
     ensures { λ x. ⌜ ((n : ℕ) × (v : Words) × (leveled-of x (now (out .exit)) v ≡ lift-over b (now (state .entry)) j w n)) × Stored-as x (now (out .exit)) ⌝ }
 {
-    let mut framed = [0u16; 1280];
-    let mut gens = [0u16; 1280];
+    let mut framed = [0u16; words::TABLE_LENGTH];
+    let mut gens = [0u16; words::TABLE_LENGTH];
     let r = levels::count_of(state, j);
     // numbered by code 1, the lexicographic order, whatever the file's (A10)
-    match frame::form(&mut framed, 128, &mut gens, tables, r, 1) {
+    match frame::form(&mut framed, words::MOST_VECTORS, &mut gens, tables, r, 1) {
         Stored::Full => Leveled::Refused(15),
         Stored::Rows(n) => match lift_frame(out, work, state, j, &framed, n, tables, w, b) {
             Lifted::Rows(used) => Leveled::Vectors(n, used),
@@ -167,21 +168,21 @@ pub fn lift_level(
     w: Strategy,
     b: Bounds,
 ) -> Leveled
-    requires { ⌜ Base (now state) j × (20608 ≤ length (now out)) × (5120 ≤ length (now work)) × Within b ⌝ }
+    requires { ⌜ Base (now state) j × (lifted-length ≤ length (now out)) × (value-length ≤ length (now work)) × Within b ⌝ }
     ensures { λ x. ⌜ ((n : ℕ) × (v : Words) × (leveled-of x (now (out .exit)) v ≡ lift-over b (now (state .entry)) j w n)) × Stored-as x (now (out .exit)) ⌝ }
 {
-    let mut tables = [0u16; 4226];
+    let mut tables = [0u16; words::TABLES_LENGTH];
     make_tables(&mut tables, state, j);
     lift_with(out, work, state, j, &tables, w, b)
 }
 
 // Rows of another slice in front, zeros after them.
 fn show(work: &mut [u16], vector: &[u16], n: usize)
-    requires { ⌜ (n * 10 ≤ length (now vector)) × (n * 10 ≤ length (now work)) ⌝ }
+    requires { ⌜ (n * row-length ≤ length (now vector)) × (n * row-length ≤ length (now work)) ⌝ }
     ensures { λ _. ⌜ now (work .exit) ≡ padded (length (now (work .entry))) (rows-of (rows (now (vector .entry)) 0 n)) ⌝ }
 {
     writing::copy_rows(work, 0, vector, n);
-    terms::clear(work, n * 10);
+    terms::clear(work, n * words::ROW_LENGTH);
 }
 
 // A value without a reducer, shown in the work area.
@@ -207,25 +208,33 @@ fn accept_frame(
     count: usize,
     tables: &[u16],
 ) -> Accepted
-    requires { ⌜ Base (now state) 0 × Tables-at (now state) 0 (now tables) × Framed-by (now state) 0 count (now frame) × (5120 ≤ length (now work)) ⌝ }
+    requires { ⌜ Base (now state) 0 × Tables-at (now state) 0 (now tables) × Framed-by (now state) 0 count (now frame) × (value-length ≤ length (now work)) ⌝ }
     ensures { λ x. ⌜ ((n : ℕ) × (v : Vector) × (accepted-with x v ≡ accept-from (stage-at usual (now (state .entry)) 0) n 1 (frame-terms (now (frame .entry)) count)) × Shown x v (now (work .exit))) ⌝ }
 {
-    let mut vector = [0u16; 5120];
+    let mut vector = [0u16; words::VECTOR_LENGTH];
     let g = ground_of(state, 0, usual());
-    let x = lift::accept_all(work, &mut vector, frame, count, &state[1295..], tables, g);
+    let x = lift::accept_all(
+        work,
+        &mut vector,
+        frame,
+        count,
+        &state[words::ROWS_START..],
+        tables,
+        g,
+    );
     settle(work, &vector, x)
 }
 
 // The frame over level 0, then the division of its terms.
 fn accept_with(work: &mut [u16], state: &[u16], tables: &[u16]) -> Accepted
-    requires { ⌜ Base (now state) 0 × Tables-at (now state) 0 (now tables) × (5120 ≤ length (now work)) ⌝ }
+    requires { ⌜ Base (now state) 0 × Tables-at (now state) 0 (now tables) × (value-length ≤ length (now work)) ⌝ }
     ensures { λ x. ⌜ ((n : ℕ) × (v : Vector) × (accepted-with x v ≡ accepted-over (now (state .entry)) n) × Shown x v (now (work .exit))) ⌝ }
 {
-    let mut framed = [0u16; 1280];
-    let mut gens = [0u16; 1280];
+    let mut framed = [0u16; words::TABLE_LENGTH];
+    let mut gens = [0u16; words::TABLE_LENGTH];
     let r = levels::count_of(state, 0);
     // numbered by code 1, the lexicographic order, whatever the file's (A10)
-    match frame::form(&mut framed, 128, &mut gens, tables, r, 1) {
+    match frame::form(&mut framed, words::MOST_VECTORS, &mut gens, tables, r, 1) {
         Stored::Full => Accepted::Refused(15, 0),
         Stored::Rows(n) => accept_frame(work, state, &framed, n, tables),
     }
@@ -233,10 +242,10 @@ fn accept_with(work: &mut [u16], state: &[u16], tables: &[u16]) -> Accepted
 
 // Acceptance of level 0 by division.
 pub fn accept_level(work: &mut [u16], state: &[u16]) -> Accepted
-    requires { ⌜ Base (now state) 0 × (5120 ≤ length (now work)) ⌝ }
+    requires { ⌜ Base (now state) 0 × (value-length ≤ length (now work)) ⌝ }
     ensures { λ x. ⌜ ((n : ℕ) × (v : Vector) × (accepted-with x v ≡ accepted-over (now (state .entry)) n) × Shown x v (now (work .exit))) ⌝ }
 {
-    let mut tables = [0u16; 4226];
+    let mut tables = [0u16; words::TABLES_LENGTH];
     make_tables(&mut tables, state, 0);
     accept_with(work, state, &tables)
 }

@@ -15,6 +15,7 @@ use Rattle.definitions.specs.Order.{Comparison, greater, equal, smaller, or-at-
 use Rattle.definitions.specs.Problem.{Parameters, term-in-range?}
 use Rattle.definitions.specs.Layout.{Words}
 use Rattle.definitions.proofs.Comparisons.{Says, numbers-say}
+use Rattle.definitions.specs.Places.{most-exponent, most-elements}
 use Rattle.lines.specs.Tests.{term-in, begins?, goes-on?, follows?, above?}
 
 and-no : (t : Bool) → (t and false) ≡ false
@@ -35,16 +36,16 @@ between-from a b c h = sym (λ i. le-leb a b h i and leb b c)
 
 module _ (q : Parameters) (w : Words) where
   pub coefficient-zero : getD w 1 0 ≡ 0 → false ≡ term-in-range? document-01 q (term-in w)
-  coefficient-zero e = sym (λ i. (lt-leb 1 (getD w 1 0) (omega arith) i and leb (getD w 1 0) (q .p - 1)) and between 1 (getD w 2 0) (q .s) and fits? 255 (take 8 (drop 3 w)))
+  coefficient-zero e = sym (λ i. (lt-leb 1 (getD w 1 0) (omega arith) i and leb (getD w 1 0) (q .p - 1)) and between 1 (getD w 2 0) (q .s) and fits? most-exponent (take 8 (drop 3 w)))
 
   pub coefficient-large : (getD w 1 0 ≡ 0 → ⊥) → q .p ≤ getD w 1 0 → false ≡ term-in-range? document-01 q (term-in w)
   coefficient-large n h =
-      sym ((λ i. (leb 1 (getD w 1 0) and lt-leb (getD w 1 0) (q .p - 1) (omega arith) i) and between 1 (getD w 2 0) (q .s) and fits? 255 (take 8 (drop 3 w)))
-      ∙ ap (λ t. t and between 1 (getD w 2 0) (q .s) and fits? 255 (take 8 (drop 3 w))) (and-no (leb 1 (getD w 1 0))))
+      sym ((λ i. (leb 1 (getD w 1 0) and lt-leb (getD w 1 0) (q .p - 1) (omega arith) i) and between 1 (getD w 2 0) (q .s) and fits? most-exponent (take 8 (drop 3 w)))
+      ∙ ap (λ t. t and between 1 (getD w 2 0) (q .s) and fits? most-exponent (take 8 (drop 3 w))) (and-no (leb 1 (getD w 1 0))))
 
-  pub coefficient-good : (getD w 1 0 ≡ 0 → ⊥) → getD w 1 0 < q .p → term-in-range? document-01 q (term-in w) ≡ (between 1 (getD w 2 0) (q .s) and fits? 255 (take 8 (drop 3 w)))
+  pub coefficient-good : (getD w 1 0 ≡ 0 → ⊥) → getD w 1 0 < q .p → term-in-range? document-01 q (term-in w) ≡ (between 1 (getD w 2 0) (q .s) and fits? most-exponent (take 8 (drop 3 w)))
   coefficient-good n h =
-      λ i. (le-leb 1 (getD w 1 0) (omega arith) i and le-leb (getD w 1 0) (q .p - 1) (omega arith) i) and between 1 (getD w 2 0) (q .s) and fits? 255 (take 8 (drop 3 w))
+      λ i. (le-leb 1 (getD w 1 0) (omega arith) i and le-leb (getD w 1 0) (q .p - 1) (omega arith) i) and between 1 (getD w 2 0) (q .s) and fits? most-exponent (take 8 (drop 3 w))
 
 -- ## The sequence of elements
 
@@ -53,18 +54,18 @@ begins-pred r zero n = absurd (n refl)
 begins-pred r (suc k) n = let z : suc k - 1 ≡ k = omega arith in ap (λ x. eqb x r) z ∙ sym (eqb·suc-suc k r)
 
 module _ (r e : ℕ) where
-  pub follows-large : 64 < e → false ≡ follows? r e
-  follows-large h = sym ((λ i. (begins? r e || goes-on? r e) and lt-leb e 64 h i) ∙ and-no (begins? r e || goes-on? r e))
+  pub follows-large : most-elements < e → false ≡ follows? r e
+  follows-large h = sym ((λ i. (begins? r e || goes-on? r e) and lt-leb e most-elements h i) ∙ and-no (begins? r e || goes-on? r e))
 
-  pub follows-next : e ≤ 64 → begins? r e ≡ true → true ≡ follows? r e
-  follows-next h b = sym (λ i. (b i || goes-on? r e) and le-leb e 64 h i)
+  pub follows-next : e ≤ most-elements → begins? r e ≡ true → true ≡ follows? r e
+  follows-next h b = sym (λ i. (b i || goes-on? r e) and le-leb e most-elements h i)
 
   pub follows-other : begins? r e ≡ false → (e ≡ r → ⊥) → false ≡ follows? r e
-  follows-other b n = sym (λ i. (b i || (ne-eqb e r n i and not (eqb r 0))) and leb e 64)
+  follows-other b n = sym (λ i. (b i || (ne-eqb e r n i and not (eqb r 0))) and leb e most-elements)
 
-  pub follows-same : e ≤ 64 → begins? r e ≡ false → e ≡ r → not (eqb e 0) ≡ follows? r e
+  pub follows-same : e ≤ most-elements → begins? r e ≡ false → e ≡ r → not (eqb e 0) ≡ follows? r e
   follows-same h b q =
-      ap (λ x. not (eqb x 0)) q ∙ sym ((λ i. (b i || (eq-eqb e r q i and not (eqb r 0))) and le-leb e 64 h i) ∙ and-yes (not (eqb r 0)))
+      ap (λ x. not (eqb x 0)) q ∙ sym ((λ i. (b i || (eq-eqb e r q i and not (eqb r 0))) and le-leb e most-elements h i) ∙ and-yes (not (eqb r 0)))
 
 -- ## The eight exponents
 

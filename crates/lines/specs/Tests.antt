@@ -11,6 +11,7 @@ use Rattle.definitions.specs.Order.{compare-over, greater?}
 use Rattle.definitions.specs.Problem as definition
 use Rattle.definitions.specs.Problem.{prime-in-range?, in-ranges?, term-in-range?}
 use Rattle.definitions.specs.Layout.{Words}
+use Rattle.definitions.specs.Places.{most-elements, most-rows}
 use Rattle.lines.specs.declared.Parameters.{Parameters}
 
 abbrev pub parameters-of : Parameters → definition.Parameters
@@ -35,7 +36,7 @@ goes-on? r e = eqb e r and not (eqb r 0)
 
 -- not 5: "element number out of sequence or above 64"
 abbrev pub follows? : ℕ → ℕ → Bool
-follows? r e = (begins? r e || goes-on? r e) and leb e 64
+follows? r e = (begins? r e || goes-on? r e) and leb e most-elements
 
 -- the term before is the greater one
 abbrev pub above? : ℕ → Words → Words → Bool
@@ -48,7 +49,7 @@ descends? code r before w = begins? r (getD w 0 0) || above? code before w
 -- "1, 8, 5, 4, 6 for T", after the shape
 abbrev pub t-number : definition.Parameters → ℕ → ℕ → Words → Words → ℕ
 t-number q count r before w =
-    unless (ltb count 2_048) 8
+    unless (ltb count most-rows) 8
     (unless (follows? r (getD w 0 0)) 5 (unless (term-in-range? document-01 q (term-in w)) 4 (unless (descends? (q .code) r before w) 6 0)))
 
 -- "1, then 2, 3 for R", after the shape

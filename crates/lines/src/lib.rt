@@ -8,6 +8,7 @@ ghost use Rattle.definitions.specs.Lists.{between};
 ghost use Rattle.definitions.specs.Limits.{document-01};
 ghost use Rattle.definitions.specs.Monomial.{fits?};
 ghost use Rattle.definitions.specs.Problem.{prime-in-range?, in-ranges?, term-in-range?};
+ghost use Rattle.definitions.specs.Places.{most-exponent, most-rows};
 ghost use Rattle.lines.specs.Tests.{parameters-of, term-in, begins?, follows?, above?, descends? as descends-definition, t-number, r-number};
 ghost use Rattle.lines.specs.Steps.{r-first, t-first, e-first, line-first, first-as, taken-as};
 ghost use Rattle.lines.specs.declared.Step.the-variants.{Refused};
@@ -45,31 +46,15 @@ pub struct Taken {
     pub numbers: [u16; 16],
 }
 
-fn in_range(least: u16, x: u16, most: u16) -> bool
-    ensures { λ r. ⌜ r ≡ between least x most ⌝ }
-{
-    if x < least {
-        return false;
-    }
-    x <= most
-}
-
-// Every word is within the bound, 65,535 (A4).
-fn prime_in_range(p: u16) -> bool
-    ensures { λ r. ⌜ r ≡ prime-in-range? document-01 p ⌝ }
-{
-    field::is_prime(p)
-}
-
 fn parameters_in_range(q: Parameters) -> bool
     ensures { λ r. ⌜ r ≡ in-ranges? document-01 (parameters-of q) ⌝ }
 {
     let n = q.n;
     let code = q.code;
     let s = q.s;
-    if in_range(1, n, 8) {
-        if in_range(1, code, 3) {
-            return in_range(1, s, 16);
+    if words::between(1, n, 8) {
+        if words::between(1, code, 3) {
+            return words::between(1, s, 16);
         }
         return false;
     }
@@ -80,7 +65,7 @@ fn parameters_refusal(q: Parameters) -> u16
     ensures { λ r. ⌜ r ≡ r-number (parameters-of q) ⌝ }
 {
     let p = q.p;
-    if prime_in_range(p) {
+    if field::prime_in_range(p) {
         if parameters_in_range(q) {
             return 0;
         }
@@ -132,7 +117,7 @@ fn begins(elements: u16, element: u16) -> bool
 fn follows(elements: u16, element: u16) -> bool
     ensures { λ r. ⌜ r ≡ follows? elements element ⌝ }
 {
-    if 64 < element {
+    if words::MOST_ELEMENTS < element {
         return false;
     }
     if begins(elements, element) {
@@ -144,19 +129,19 @@ fn follows(elements: u16, element: u16) -> bool
     element != 0
 }
 
-fn exponents(w: [u16; 16]) -> [u16; 8]
+fn exponents(w: [u16; 16]) -> [u16; words::EXPONENTS_LENGTH]
     ensures { λ r. ⌜ r ≡ take 8 (drop 3 w) ⌝ }
 {
     [w[3], w[4], w[5], w[6], w[7], w[8], w[9], w[10]]
 }
 
-fn fits(e: [u16; 8]) -> bool
-    ensures { λ r. ⌜ r ≡ fits? 255 e ⌝ }
+fn fits(e: [u16; words::EXPONENTS_LENGTH]) -> bool
+    ensures { λ r. ⌜ r ≡ fits? most-exponent e ⌝ }
 {
     let mut mark: u16 = 0;
     let mut j = 0;
-    while j < 8 {
-        mark = monomial::mark_above(mark, e[j], 255);
+    while j < words::EXPONENTS_LENGTH {
+        mark = monomial::mark_above(mark, e[j], words::MOST_EXPONENT);
         j += 1;
     }
     mark == 0
@@ -174,7 +159,7 @@ fn term_in_range(q: Parameters, w: [u16; 16]) -> bool
     if p <= c {
         return false;
     }
-    if in_range(1, w[2], s) {
+    if words::between(1, w[2], s) {
         return fits(exponents(w));
     }
     false
@@ -205,7 +190,7 @@ fn descends(code: u16, elements: u16, before: [u16; 16], w: [u16; 16]) -> bool
 fn term_refusal(q: Parameters, count: usize, elements: u16, before: [u16; 16], w: [u16; 16]) -> u16
     ensures { λ r. ⌜ r ≡ t-number (parameters-of q) count elements before w ⌝ }
 {
-    if 2048 <= count {
+    if words::MOST_ROWS <= count {
         return 8;
     }
     if follows(elements, w[0]) {
@@ -244,7 +229,7 @@ fn term_line(
     elements: u16,
     before: [u16; 16],
 ) -> Taken
-    requires { ⌜ (q .n ≤ 8) × (count ≤ 2048) ⌝ }
+    requires { ⌜ (q .n ≤ 8) × (count ≤ most-rows) ⌝ }
     ensures { λ r. ⌜ taken-as r (now (file .entry)) ≡ t-first (parameters-of q) count elements before (drop at (now (file .entry))) ⌝ }
 {
     let n = size_of(q.n);
@@ -265,7 +250,7 @@ fn term_line(
 }
 
 fn end_line(file: &[u8], at: usize, count: usize) -> Taken
-    requires { ⌜ count ≤ 2048 ⌝ }
+    requires { ⌜ count ≤ most-rows ⌝ }
     ensures { λ r. ⌜ taken-as r (now (file .entry)) ≡ e-first count (drop at (now (file .entry))) ⌝ }
 {
     let line = fields::line_at(file, at, b'E', 1);
@@ -299,7 +284,7 @@ pub fn next_line(
     elements: u16,
     before: [u16; 16],
 ) -> Taken
-    requires { ⌜ (q .n ≤ 8) × (count ≤ 2048) ⌝ }
+    requires { ⌜ (q .n ≤ 8) × (count ≤ most-rows) ⌝ }
     ensures { λ r. ⌜ taken-as r (now (file .entry)) ≡ line-first (parameters-of q) count elements before (drop at (now (file .entry))) ⌝ }
 {
     if file.len() <= at {

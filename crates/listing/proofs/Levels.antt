@@ -22,6 +22,7 @@ use Rattle.definitions.specs.Sheet.{printed, letter-X, x-lines, level-lines, if
 use Rattle.definitions.proofs.Tests.{and-left, and-right}
 use Rattle.definitions.proofs.Numbers as numbers
 use Rattle.definitions.proofs.Numbers.{limit-number?, Numbered, lift-level-number}
+use Rattle.definitions.specs.Places.{most-vectors, most-rows, most-levels, state-length, rows-offset}
 use Rattle.levels.specs.Places.{count-at, ends-from}
 use Rattle.stages.proofs.Complete.{words-below, length-levels}
 use Rattle.all_levels.specs.Levels.{Levels, unless-last, then-levels, reached-from, reached}
@@ -37,15 +38,15 @@ ascends-each limit a (e ∷ es) t (suc j) h =
     ascends-each limit e es (and-right (leb e limit) (ascending? limit e es) (and-right (ltb a e) (leb e limit and ascending? limit e es) t)) j (omega arith)
 
 abbrev small : Words → ℕ → Bool
-small s k = exponents-fit? (drop (1295 + k * 20480) s) (last-end (last (ends-at document-01 s k)))
+small s k = exponents-fit? (drop (rows-offset k) s) (last-end (last (ends-at document-01 s k)))
 
-pub short-level : (s : Words) → 206095 ≤ length s → T (holds-state? document-01 s) → (k : ℕ) → k < getD s 4 0 → count-at s k ≤ length (ends-from s k) → Short (count-at s k) (ends-from s k)
+pub short-level : (s : Words) → state-length ≤ length s → T (holds-state? document-01 s) → (k : ℕ) → k < getD s 4 0 → count-at s k ≤ length (ends-from s k) → Short (count-at s k) (ends-from s k)
 short-level s long holds k h f j l =
     let w = words-below s long holds (suc k) h in
     let t = and-left (words-sound? document-01 s k) (all-words-sound? document-01 s k) w in
-    let u = and-right (leb (count-at s k) 128) (ascending? 2048 0 (ends-at document-01 s k) and small s k) t in
-    let v = ascends-each 2048 0 (ends-at document-01 s k) (and-left (ascending? 2048 0 (ends-at document-01 s k)) (small s k) u) j (omega (arith, length-take-le (count-at s k) (ends-from s k) f)) in
-    subst (λ e. e ≤ 2048) (getD-take (count-at s k) (ends-from s k) j 0 l) v
+    let u = and-right (leb (count-at s k) most-vectors) (ascending? most-rows 0 (ends-at document-01 s k) and small s k) t in
+    let v = ascends-each most-rows 0 (ends-at document-01 s k) (and-left (ascending? most-rows 0 (ends-at document-01 s k)) (small s k) u) j (omega (arith, length-take-le (count-at s k) (ends-from s k) f)) in
+    subst (λ e. e ≤ most-rows) (getD-take (count-at s k) (ends-from s k) j 0 l) v
 
 -- ## The lines of all levels
 
@@ -145,7 +146,7 @@ as-it-is (some bytes) = refl
 
 module _ (s t : Words) (n number place : ℕ) (one : getD s 4 0 ≡ 1) (tall : 0 < getD t 4 0)
     (r : some (number, place, decode document-01 t) ≡ reached document-01 n (decode document-01 s)) where
-  pub lifted-lines : some (all-lines-of t ++ refusal-line number place) ≡ levels-from document-01 n 9 1 (decode document-01 s)
+  pub lifted-lines : some (all-lines-of t ++ refusal-line number place) ≡ levels-from document-01 n most-levels 1 (decode document-01 s)
   lifted-lines =
       let X = decode document-01 s in
       let up : suc (getD t 4 0 - 1) ≡ getD t 4 0 = omega (arith, tall) in
@@ -153,13 +154,13 @@ module _ (s t : Words) (n number place : ℕ) (one : getD s 4 0 ≡ 1) (tall : 0
       ap (λ l. some (l ++ refusal-line number place)) (sym (words-over t (getD t 4 0 - 1)) ∙ ap (λ h. lines-over (getD t 1 0) (levels-at document-01 t h)) up)
       ∙ ap all-lines r
       ∙ sym (listed document-01 n 9 1 X (omega arith) (length-levels s (getD s 4 0) ∙ one))
-      ∙ ap (λ l. levels-from document-01 n 9 1 X then λ bytes. some (l ++ bytes)) none-yet
-      ∙ as-it-is (levels-from document-01 n 9 1 X)
+      ∙ ap (λ l. levels-from document-01 n most-levels 1 X then λ bytes. some (l ++ bytes)) none-yet
+      ∙ as-it-is (levels-from document-01 n most-levels 1 X)
 
-  pub whole-lines : number ≡ 0 → some (all-lines-of t) ≡ levels-from document-01 n 9 1 (decode document-01 s)
+  pub whole-lines : number ≡ 0 → some (all-lines-of t) ≡ levels-from document-01 n most-levels 1 (decode document-01 s)
   whole-lines e =
       ap some (sym (append-nil (all-lines-of t)) ∙ ap (λ m. all-lines-of t ++ refusal-line m place) (sym e)) ∙ lifted-lines
 
-  pub refused-lines : (number ≡ 0 → ⊥) → some (all-lines-of t ++ printed letter-X (number ∷ place ∷ [])) ≡ levels-from document-01 n 9 1 (decode document-01 s)
+  pub refused-lines : (number ≡ 0 → ⊥) → some (all-lines-of t ++ printed letter-X (number ∷ place ∷ [])) ≡ levels-from document-01 n most-levels 1 (decode document-01 s)
   refused-lines m =
       sym (ap (λ b. some (all-lines-of t ++ choose b [] (printed letter-X (number ∷ place ∷ [])))) (ne-eqb number 0 m)) ∙ lifted-lines

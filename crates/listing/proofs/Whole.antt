@@ -15,6 +15,7 @@ use Rattle.definitions.specs.Layout.{Words, decode, level-at}
 use Rattle.definitions.specs.Sheet.{printed, w-lines, levels-from, variables-of, sheet-of, sheet}
 use Rattle.definitions.proofs.Steady.{answered?, steady-from}
 use Rattle.definitions.proofs.Bound.{accept-steady, levels-from-steady}
+use Rattle.definitions.specs.Places.{most-levels, state-length}
 use Rattle.files.specs.Answers.{Answered}
 use Rattle.files.proofs.Reader.{document-reader}
 use Rattle.problem.specs.Reading.{read-as, words-read}
@@ -29,14 +30,14 @@ module _ (s : Words) (n : ℕ) where
   abbrev from-accepted : ℕ → Result (Unit {0}) → Option Bytes
   from-accepted m r = sheet-of document-01 m (getD s 1 0) (r >>= λ u. done (decode document-01 s))
 
-  pub accepted-yes : done tt ≡ accepted-over s n → (m : ℕ) (bytes : Bytes) → some bytes ≡ levels-from document-01 m 9 1 (decode document-01 s) → some bytes ≡ accepted-sheet (n + m) s
+  pub accepted-yes : done tt ≡ accepted-over s n → (m : ℕ) (bytes : Bytes) → some bytes ≡ levels-from document-01 m most-levels 1 (decode document-01 s) → some bytes ≡ accepted-sheet (n + m) s
   accepted-yes e m bytes h =
       let X = decode document-01 s in
       let over : accepted-over s (n + m) ≡ accepted-over s n =
       steady-from finished? (accepted-over s) (accept-steady document-01 (getD s 0 0) (getD s 2 0) (level-at document-01 s 0)) n m (subst (λ x. T (finished? x)) e tt) in
       h
-      ∙ sym (steady-from answered? (λ i. levels-from document-01 i 9 1 X) (levels-from-steady document-01 9 1 X) m n (subst (λ o. T (answered? o)) h tt))
-      ∙ ap (λ i. levels-from document-01 i 9 1 X) (add-comm m n)
+      ∙ sym (steady-from answered? (λ i. levels-from document-01 i most-levels 1 X) (levels-from-steady document-01 most-levels 1 X) m n (subst (λ o. T (answered? o)) h tt))
+      ∙ ap (λ i. levels-from document-01 i most-levels 1 X) (add-comm m n)
       ∙ ap (from-accepted (n + m)) (e ∙ sym over)
 
   pub accepted-refused : (number place : ℕ) → refused number place [] ≡ accepted-over s n → some (printed 88 (number ∷ place ∷ [])) ≡ accepted-sheet n s
@@ -47,7 +48,7 @@ module _ (s : Words) (n : ℕ) where
 
 -- ## A file
 
-module _ (size : ℕ) (big : 206095 ≤ size) (file : Bytes) (f : Parameters × Level) (e : problem document-01 file ≡ done f) (s : Words) (w : s ≡ words-read size f) where
+module _ (size : ℕ) (big : state-length ≤ size) (file : Bytes) (f : Parameters × Level) (e : problem document-01 file ≡ done f) (s : Words) (w : s ≡ words-read size f) where
   pub one-level : getD s 4 0 ≡ 1
   one-level = sym (length-levels s (getD s 4 0)) ∙ ap (λ X. length (X .levels)) (decoded size big file f e s w)
 

@@ -11,6 +11,7 @@ use Rattle.definitions.specs.Result.{done, _>>=_}
 use Rattle.definitions.specs.Problem.{Bytes}
 use Rattle.definitions.specs.Layout.{Words, decode, level-at}
 use Rattle.definitions.specs.Sheet.{printed, letter-X, level-lines, levels-from, sheet-of}
+use Rattle.definitions.specs.Places.{most-levels}
 use Rattle.lifting.specs.Stages.{accepted-over}
 use Rattle.printing.specs.Lines.{Printed}
 
@@ -40,7 +41,7 @@ refusal-line number place = choose (eqb number 0) [] (printed letter-X (number �
 
 -- all levels over the state that the words hold
 abbrev pub levels-sheet : ℕ → Words → Option Bytes
-levels-sheet n s = levels-from document-01 n 9 1 (decode document-01 s)
+levels-sheet n s = levels-from document-01 n most-levels 1 (decode document-01 s)
 
 -- the sheet of a state that was read, if it is accepted
 abbrev pub accepted-sheet : ℕ → Words → Option Bytes

@@ -6,6 +6,7 @@ ghost use Prim.Native.Nat.{ℕ, _+_, _≤_, _<_};
 ghost use lib.ListN.{length, getD};
 ghost use Rattle.definitions.specs.Limits.{document-01};
 ghost use Rattle.definitions.specs.Sheet.{sheet as sheet-definition};
+ghost use Rattle.definitions.specs.Places.{state-length, value-length, level-lines-length, all-lines-length, sheet-length};
 ghost use Rattle.lifting.specs.Stages.{Base};
 ghost use Rattle.printing.specs.Lines.{Printed};
 ghost use Rattle.listing.specs.Listed.{Prints, lines-of, all-lines-of, levels-sheet, accepted-sheet};
@@ -20,23 +21,23 @@ fn narrow(k: usize) -> u16
 
 // Level k of a state.
 fn print_level(out: &mut [u8], at: usize, state: &[u16], k: usize) -> usize
-    requires { ⌜ Base (now state) k × (at + 151581 ≤ length (now out)) ⌝ }
-    ensures { λ r. ⌜ Printed (now (out .entry)) (now (out .exit)) at r (lines-of (now (state .entry)) k) × (r ≤ at + 151581) ⌝ }
+    requires { ⌜ Base (now state) k × (at + level-lines-length ≤ length (now out)) ⌝ }
+    ensures { λ r. ⌜ Printed (now (out .entry)) (now (out .exit)) at r (lines-of (now (state .entry)) k) × (r ≤ at + level-lines-length) ⌝ }
 {
     let count = levels::count_of(state, k);
-    let n = levels::place(state[1]);
-    let start = 1295 + k * 20480;
-    let ends = 6 + k * 129;
+    let n = words::place(state[1]);
+    let start = words::ROWS_START + k * words::LEVEL_LENGTH;
+    let ends = words::ENDS_START + k * words::COUNTS_LENGTH;
     let l = narrow(k);
     printing::level_lines(out, at, &state[start..], &state[ends..], count, n, l)
 }
 
 // The levels of a state from level 1 on.
 fn print_levels(out: &mut [u8], state: &[u16]) -> usize
-    requires { ⌜ Base (now state) 0 × (1364229 ≤ length (now out)) ⌝ }
-    ensures { λ r. ⌜ Printed (now (out .entry)) (now (out .exit)) 0 r (all-lines-of (now (state .entry))) × (r ≤ 1364229) ⌝ }
+    requires { ⌜ Base (now state) 0 × (all-lines-length ≤ length (now out)) ⌝ }
+    ensures { λ r. ⌜ Printed (now (out .entry)) (now (out .exit)) 0 r (all-lines-of (now (state .entry))) × (r ≤ all-lines-length) ⌝ }
 {
-    let height = levels::place(state[4]);
+    let height = words::place(state[4]);
     let mut at: usize = 0;
     let mut k: usize = 1;
     while k < height {
@@ -48,8 +49,8 @@ fn print_levels(out: &mut [u8], state: &[u16]) -> usize
 
 // "Levels 1 on, hybrid, pick code 2, until a count is 0 or level 9 is printed"; "A refusal prints, after finished levels, `X,number,place`".
 fn print_lifted(out: &mut [u8], state: &mut [u16], work: &mut [u16]) -> usize
-    requires { ⌜ Base (now state) 0 × (getD (now state) 4 0 ≡ 1) × (5120 ≤ length (now work)) × (1400000 ≤ length (now out)) ⌝ }
-    ensures { λ r. ⌜ Prints (λ n. levels-sheet n (now (state .entry))) (now (out .entry)) (now (out .exit)) 0 r × (r ≤ 1400000) ⌝ }
+    requires { ⌜ Base (now state) 0 × (getD (now state) 4 0 ≡ 1) × (value-length ≤ length (now work)) × (sheet-length ≤ length (now out)) ⌝ }
+    ensures { λ r. ⌜ Prints (λ n. levels-sheet n (now (state .entry))) (now (out .entry)) (now (out .exit)) 0 r × (r ≤ sheet-length) ⌝ }
 {
     let e = all_levels::lift_levels(state, work);
     let number = e.number;
@@ -62,14 +63,14 @@ fn print_lifted(out: &mut [u8], state: &mut [u16], work: &mut [u16]) -> usize
 
 // A file that was read: accepted or refused.
 fn accept(out: &mut [u8], state: &mut [u16], work: &mut [u16]) -> usize
-    requires { ⌜ Base (now state) 0 × (getD (now state) 4 0 ≡ 1) × (5120 ≤ length (now work)) × (1400000 ≤ length (now out)) ⌝ }
-    ensures { λ r. ⌜ Prints (λ n. accepted-sheet n (now (state .entry))) (now (out .entry)) (now (out .exit)) 0 r × (r ≤ 1400000) ⌝ }
+    requires { ⌜ Base (now state) 0 × (getD (now state) 4 0 ≡ 1) × (value-length ≤ length (now work)) × (sheet-length ≤ length (now out)) ⌝ }
+    ensures { λ r. ⌜ Prints (λ n. accepted-sheet n (now (state .entry))) (now (out .entry)) (now (out .exit)) 0 r × (r ≤ sheet-length) ⌝ }
 {
     match lifting::accept_level(work, state) {
         Accepted::Yes => print_lifted(out, state, work),
         Accepted::Refused(number, place) => printing::pair_line(out, 0, 88, number, place),
         Accepted::Stopped(place, m) => {
-            let n = levels::place(state[1]);
+            let n = words::place(state[1]);
             let a = printing::pair_line(out, 0, 88, 9, place);
             printing::w_lines(out, a, work, m, n)
         }
@@ -78,8 +79,8 @@ fn accept(out: &mut [u8], state: &mut [u16], work: &mut [u16]) -> usize
 
 // The sheet of a file, in front of out.
 pub fn print(file: &[u8], state: &mut [u16], work: &mut [u16], out: &mut [u8]) -> usize
-    requires { ⌜ (206095 ≤ length (now state)) × (5120 ≤ length (now work)) × (1400000 ≤ length (now out)) ⌝ }
-    ensures { λ r. ⌜ Prints (λ n. sheet-definition document-01 n (now (file .entry))) (now (out .entry)) (now (out .exit)) 0 r × (r ≤ 1400000) ⌝ }
+    requires { ⌜ (state-length ≤ length (now state)) × (value-length ≤ length (now work)) × (sheet-length ≤ length (now out)) ⌝ }
+    ensures { λ r. ⌜ Prints (λ n. sheet-definition document-01 n (now (file .entry))) (now (out .entry)) (now (out .exit)) 0 r × (r ≤ sheet-length) ⌝ }
 {
     let r = problem::read(file, state);
     let number = r.number;

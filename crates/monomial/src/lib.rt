@@ -9,7 +9,7 @@ ghost use Rattle.definitions.specs.Monomial.{divides?, divides-monomial?, same-
 ghost use Rattle.monomial.specs.Values.{monomial-of, unit, product-of, formed};
 
 pub struct Monomial {
-    pub exponents: [u8; 8],
+    pub exponents: [u8; words::EXPONENTS_LENGTH],
     pub component: u16,
 }
 
@@ -17,12 +17,6 @@ pub struct Monomial {
 pub struct Product {
     pub fits: bool,
     pub monomial: Monomial,
-}
-
-pub fn wide(x: u8) -> u16
-    ensures { λ r. ⌜ (r ≡ x) × (r < 256) ⌝ }
-{
-    x as u16
 }
 
 // 1 where x is above y, else the mark.
@@ -35,23 +29,23 @@ pub fn mark_above(mark: u16, x: u16, y: u16) -> u16
     mark
 }
 
-fn divides_exponents(x: [u8; 8], y: [u8; 8]) -> bool
+fn divides_exponents(x: [u8; words::EXPONENTS_LENGTH], y: [u8; words::EXPONENTS_LENGTH]) -> bool
     ensures { λ r. ⌜ r ≡ divides? x y ⌝ }
 {
     let mut mark: u16 = 0;
     let mut j = 0;
-    while j < 8 {
-        mark = mark_above(mark, wide(x[j]), wide(y[j]));
+    while j < words::EXPONENTS_LENGTH {
+        mark = mark_above(mark, words::wide(x[j]), words::wide(y[j]));
         j += 1;
     }
     mark == 0
 }
 
-fn same_exponents(x: [u8; 8], y: [u8; 8]) -> bool
+fn same_exponents(x: [u8; words::EXPONENTS_LENGTH], y: [u8; words::EXPONENTS_LENGTH]) -> bool
     ensures { λ r. ⌜ r ≡ same-exponents? x y ⌝ }
 {
     let mut j = 0;
-    while j < 8 {
+    while j < words::EXPONENTS_LENGTH {
         if x[j] != y[j] {
             return false;
         }
@@ -78,52 +72,62 @@ fn larger(x: u8, y: u8) -> u8
     x
 }
 
-fn quotient_exponents(y: [u8; 8], x: [u8; 8]) -> [u8; 8]
+fn quotient_exponents(
+    y: [u8; words::EXPONENTS_LENGTH],
+    x: [u8; words::EXPONENTS_LENGTH],
+) -> [u8; words::EXPONENTS_LENGTH]
     ensures { λ r. ⌜ r ≡ quotient-definition y x ⌝ }
 {
-    let mut e = [0u8; 8];
+    let mut e = [0u8; words::EXPONENTS_LENGTH];
     let mut j = 0;
-    while j < 8 {
+    while j < words::EXPONENTS_LENGTH {
         e[j] = less(y[j], x[j]);
         j += 1;
     }
     e
 }
 
-fn lcm_exponents(x: [u8; 8], y: [u8; 8]) -> [u8; 8]
+fn lcm_exponents(
+    x: [u8; words::EXPONENTS_LENGTH],
+    y: [u8; words::EXPONENTS_LENGTH],
+) -> [u8; words::EXPONENTS_LENGTH]
     ensures { λ r. ⌜ r ≡ lcm-definition x y ⌝ }
 {
-    let mut e = [0u8; 8];
+    let mut e = [0u8; words::EXPONENTS_LENGTH];
     let mut j = 0;
-    while j < 8 {
+    while j < words::EXPONENTS_LENGTH {
         e[j] = larger(x[j], y[j]);
         j += 1;
     }
     e
 }
 
-fn degree_exponents(x: [u8; 8]) -> u16
+fn degree_exponents(x: [u8; words::EXPONENTS_LENGTH]) -> u16
     ensures { λ r. ⌜ r ≡ degree-definition x ⌝ }
 {
     let mut d: u16 = 0;
     let mut j = 0;
-    while j < 8 {
-        d += wide(x[j]);
+    while j < words::EXPONENTS_LENGTH {
+        d += words::wide(x[j]);
         j += 1;
     }
     d
 }
 
 // The product's exponents; where one is above 255 it does not fit.
-fn product_exponents(q: [u8; 8], e: [u8; 8], component: u16) -> Product
+fn product_exponents(
+    q: [u8; words::EXPONENTS_LENGTH],
+    e: [u8; words::EXPONENTS_LENGTH],
+    component: u16,
+) -> Product
     ensures { λ r. ⌜ product-of r ≡ formed q (e, component) ⌝ }
 {
-    let mut d = [0u8; 8];
+    let mut d = [0u8; words::EXPONENTS_LENGTH];
     let mut mark: u16 = 0;
     let mut j = 0;
-    while j < 8 {
-        let x = wide(q[j]) + wide(e[j]);
-        mark = mark_above(mark, x, 255);
+    while j < words::EXPONENTS_LENGTH {
+        let x = words::wide(q[j]) + words::wide(e[j]);
+        mark = mark_above(mark, x, words::MOST_EXPONENT);
         d[j] = (x % 256) as u8;
         j += 1;
     }
@@ -138,7 +142,7 @@ fn product_exponents(q: [u8; 8], e: [u8; 8], component: u16) -> Product
 
 impl Monomial {
     pub const UNIT: Monomial = Monomial {
-        exponents: [0; 8],
+        exponents: [0; words::EXPONENTS_LENGTH],
         component: 0,
     };
 
@@ -175,7 +179,7 @@ impl Monomial {
     }
 
     // self / other, where other divides self.
-    pub fn quotient(self, other: Monomial) -> [u8; 8]
+    pub fn quotient(self, other: Monomial) -> [u8; words::EXPONENTS_LENGTH]
         ensures { λ r. ⌜ r ≡ quotient-definition (monomial-of self .0) (monomial-of other .0) ⌝ }
     {
         let y = self.exponents;
@@ -203,7 +207,7 @@ impl Monomial {
         degree_exponents(x)
     }
 
-    pub fn product(self, q: [u8; 8]) -> Product
+    pub fn product(self, q: [u8; words::EXPONENTS_LENGTH]) -> Product
         ensures { λ r. ⌜ product-of r ≡ formed q (monomial-of self) ⌝ }
     {
         let e = self.exponents;

@@ -12,6 +12,7 @@ use Rattle.definitions.specs.Monomial.{Exponents, Monomial, degree}
 use Rattle.definitions.specs.Order.{Comparison, equal, or-at-tie, numbers, lexicographic, last-differing, degrees, exponents-by}
 use Rattle.definitions.specs.Layout.{Words, byte, exponents-at, row-at}
 use Rattle.definitions.proofs.Rows.{getD-exponents}
+use Rattle.definitions.specs.Places.{row-length, component-offset, exponents-offset}
 use Rattle.monomial.proofs.Places.{getD-product}
 use Rattle.orders.specs.Images.{Key, exponents-raw, row-image, degrees-by, places-by, table-of, key}
 use Rattle.orders.proofs.Comparing.{getD-raw}
@@ -54,19 +55,19 @@ places-last code x y n m =
 
 -- ## The key of a row
 
-row-monomial : (s : Words) (i : ℕ) → _≡_ {A = Monomial} (row-at s i .1) (exponents-at s (i * 10 + 2), getD s (i * 10 + 1) 0)
+row-monomial : (s : Words) (i : ℕ) → _≡_ {A = Monomial} (row-at s i .1) (exponents-at s (i * row-length + exponents-offset), getD s (i * row-length + component-offset) 0)
 unfolding row-at
 row-monomial s i = refl
 
-pub row-key-at-0 : (r : ℕ) (t s : Words) (i : ℕ) → getD s (i * 10 + 1) 0 ≡ 0 → _≡_ {A = Key} (exponents-at s (i * 10 + 2), (0, getD s (i * 10 + 1) 0)) (key (table-of r t) (row-at s i .1))
-row-key-at-0 r t s i z = key-at-0 r t (exponents-at s (i * 10 + 2), getD s (i * 10 + 1) 0) (exponents-at s (i * 10 + 2)) z refl ∙ ap (key (table-of r t)) (sym (row-monomial s i))
+pub row-key-at-0 : (r : ℕ) (t s : Words) (i : ℕ) → getD s (i * row-length + component-offset) 0 ≡ 0 → _≡_ {A = Key} (exponents-at s (i * row-length + exponents-offset), (0, getD s (i * row-length + component-offset) 0)) (key (table-of r t) (row-at s i .1))
+row-key-at-0 r t s i z = key-at-0 r t (exponents-at s (i * row-length + exponents-offset), getD s (i * row-length + component-offset) 0) (exponents-at s (i * row-length + exponents-offset)) z refl ∙ ap (key (table-of r t)) (sym (row-monomial s i))
 
-pub row-key-beyond : (r : ℕ) (t s : Words) (i : ℕ) → r < getD s (i * 10 + 1) 0 → _≡_ {A = Key} (exponents-at s (i * 10 + 2), (0, getD s (i * 10 + 1) 0)) (key (table-of r t) (row-at s i .1))
-row-key-beyond r t s i h = key-beyond r t (exponents-at s (i * 10 + 2), getD s (i * 10 + 1) 0) (exponents-at s (i * 10 + 2)) h refl ∙ ap (key (table-of r t)) (sym (row-monomial s i))
+pub row-key-beyond : (r : ℕ) (t s : Words) (i : ℕ) → r < getD s (i * row-length + component-offset) 0 → _≡_ {A = Key} (exponents-at s (i * row-length + exponents-offset), (0, getD s (i * row-length + component-offset) 0)) (key (table-of r t) (row-at s i .1))
+row-key-beyond r t s i h = key-beyond r t (exponents-at s (i * row-length + exponents-offset), getD s (i * row-length + component-offset) 0) (exponents-at s (i * row-length + exponents-offset)) h refl ∙ ap (key (table-of r t)) (sym (row-monomial s i))
 
-pub row-key-inside : (r : ℕ) (t s : Words) (i to : ℕ) → (getD s (i * 10 + 1) 0 ≡ 0 → ⊥) → getD s (i * 10 + 1) 0 ≤ r → to ≡ getD s (i * 10 + 1) 0 * 10 - 10
-    → _≡_ {A = Key} (row-image s (i * 10 + 2) t (to + 2), (getD t (to + 1) 0, getD s (i * 10 + 1) 0)) (key (table-of r t) (row-at s i .1))
+pub row-key-inside : (r : ℕ) (t s : Words) (i to : ℕ) → (getD s (i * row-length + component-offset) 0 ≡ 0 → ⊥) → getD s (i * row-length + component-offset) 0 ≤ r → to ≡ getD s (i * row-length + component-offset) 0 * row-length - row-length
+    → _≡_ {A = Key} (row-image s (i * row-length + exponents-offset) t (to + 2), (getD t (to + 1) 0, getD s (i * row-length + component-offset) 0)) (key (table-of r t) (row-at s i .1))
 row-key-inside r t s i to n h e =
-    ap (λ b. (row-image s (i * 10 + 2) t (b + 2), (getD t (b + 1) 0, getD s (i * 10 + 1) 0))) e
-    ∙ key-inside r t (exponents-at s (i * 10 + 2), getD s (i * 10 + 1) 0) (row-image s (i * 10 + 2) t (getD s (i * 10 + 1) 0 * 10 - 10 + 2)) n h refl
+    ap (λ b. (row-image s (i * row-length + exponents-offset) t (b + 2), (getD t (b + 1) 0, getD s (i * row-length + component-offset) 0))) e
+    ∙ key-inside r t (exponents-at s (i * row-length + exponents-offset), getD s (i * row-length + component-offset) 0) (row-image s (i * row-length + exponents-offset) t (getD s (i * row-length + component-offset) 0 * row-length - row-length + 2)) n h refl
     ∙ ap (key (table-of r t)) (sym (row-monomial s i))

@@ -8,6 +8,7 @@ ghost use lib.ListN.{length, getD};
 ghost use Rattle.definitions.specs.Monomial.{degree, product};
 ghost use Rattle.definitions.specs.Order.{numbers as numbers-definition, lexicographic as lexicographic-definition, last-differing as last-differing-definition, exponents-by, compare-over};
 ghost use Rattle.definitions.specs.Layout.{byte, exponents-at, row-at};
+ghost use Rattle.definitions.specs.Places.{row-length, component-offset, exponents-offset, rank-offset};
 ghost use Rattle.monomial.specs.Values.{monomial-of};
 ghost use Rattle.orders.specs.Images.{comparison-of, decided?, exponents-raw, table-of, Bounded, Tabled, key, key-of, compare-keys, row-image, degrees-by, places-by};
 use monomial::Monomial;
@@ -20,7 +21,7 @@ pub enum Comparison {
 
 // The image of a module monomial on level 0; the rank of its component's image decides ties, then its own component.
 pub struct Image {
-    pub exponents: [u16; 8],
+    pub exponents: [u16; words::EXPONENTS_LENGTH],
     pub rank: u16,
     pub component: u16,
 }
@@ -48,11 +49,11 @@ fn decided(c: Comparison) -> bool
     }
 }
 
-fn lexicographic(x: [u16; 8], y: [u16; 8]) -> Comparison
+fn lexicographic(x: [u16; words::EXPONENTS_LENGTH], y: [u16; words::EXPONENTS_LENGTH]) -> Comparison
     ensures { λ r. ⌜ comparison-of r ≡ lexicographic-definition x y ⌝ }
 {
     let mut j = 0;
-    while j < 8 {
+    while j < words::EXPONENTS_LENGTH {
         if y[j] < x[j] {
             return Comparison::Greater;
         }
@@ -65,10 +66,13 @@ fn lexicographic(x: [u16; 8], y: [u16; 8]) -> Comparison
 }
 
 // From the last exponent down; the smaller one is greater.
-fn last_differing(x: [u16; 8], y: [u16; 8]) -> Comparison
+fn last_differing(
+    x: [u16; words::EXPONENTS_LENGTH],
+    y: [u16; words::EXPONENTS_LENGTH],
+) -> Comparison
     ensures { λ r. ⌜ comparison-of r ≡ last-differing-definition x y ⌝ }
 {
-    let mut j = 8;
+    let mut j = words::EXPONENTS_LENGTH;
     while 0 < j {
         j -= 1;
         if x[j] < y[j] {
@@ -81,26 +85,24 @@ fn last_differing(x: [u16; 8], y: [u16; 8]) -> Comparison
     Comparison::Equal
 }
 
-fn wider(x: u16) -> u32
-    ensures { λ r. ⌜ (r ≡ x) × (r ≤ 65535) ⌝ }
-{
-    x as u32
-}
-
-pub fn total(x: [u16; 8]) -> u32
+pub fn total(x: [u16; words::EXPONENTS_LENGTH]) -> u32
     ensures { λ r. ⌜ r ≡ degree x ⌝ }
 {
     let mut d: u32 = 0;
     let mut j = 0;
-    while j < 8 {
-        d += wider(x[j]);
+    while j < words::EXPONENTS_LENGTH {
+        d += words::wider(x[j]);
         j += 1;
     }
     d
 }
 
 // The order code decides.
-pub fn by_code(code: u16, x: [u16; 8], y: [u16; 8]) -> Comparison
+pub fn by_code(
+    code: u16,
+    x: [u16; words::EXPONENTS_LENGTH],
+    y: [u16; words::EXPONENTS_LENGTH],
+) -> Comparison
     ensures { λ r. ⌜ comparison-of r ≡ exponents-by code x y ⌝ }
 {
     match code {
@@ -122,13 +124,13 @@ pub fn by_code(code: u16, x: [u16; 8], y: [u16; 8]) -> Comparison
     }
 }
 
-pub fn widened(e: [u8; 8]) -> [u16; 8]
+pub fn widened(e: [u8; words::EXPONENTS_LENGTH]) -> [u16; words::EXPONENTS_LENGTH]
     ensures { λ r. ⌜ r ≡ e ⌝ }
 {
-    let mut w = [0u16; 8];
+    let mut w = [0u16; words::EXPONENTS_LENGTH];
     let mut j = 0;
-    while j < 8 {
-        w[j] = monomial::wide(e[j]);
+    while j < words::EXPONENTS_LENGTH {
+        w[j] = words::wide(e[j]);
         j += 1;
     }
     w
@@ -144,25 +146,33 @@ pub fn compare(code: u16, a: Monomial, b: Monomial) -> Comparison
     if decided(d) {
         return d;
     }
-    numbers(wider(a.component), wider(b.component))
+    numbers(words::wider(a.component), words::wider(b.component))
 }
 
 // Exponents alone.
-pub fn compare_exponents(code: u16, x: [u8; 8], y: [u8; 8]) -> Comparison
+pub fn compare_exponents(
+    code: u16,
+    x: [u8; words::EXPONENTS_LENGTH],
+    y: [u8; words::EXPONENTS_LENGTH],
+) -> Comparison
     ensures { λ r. ⌜ comparison-of r ≡ exponents-by code x y ⌝ }
 {
     by_code(code, widened(x), widened(y))
 }
 
 // Eight exponents times those from word at on.
-fn shifted(e: [u8; 8], table: &[u16], at: usize) -> [u16; 8]
+fn shifted(
+    e: [u8; words::EXPONENTS_LENGTH],
+    table: &[u16],
+    at: usize,
+) -> [u16; words::EXPONENTS_LENGTH]
     requires { ⌜ (at + 8 ≤ length (now table)) × Bounded (now table) at ⌝ }
     ensures { λ r. ⌜ r ≡ product e (exponents-raw (now (table .entry)) at) ⌝ }
 {
-    let mut w = [0u16; 8];
+    let mut w = [0u16; words::EXPONENTS_LENGTH];
     let mut j = 0;
-    while j < 8 {
-        w[j] = monomial::wide(e[j]) + table[at + j];
+    while j < words::EXPONENTS_LENGTH {
+        w[j] = words::wide(e[j]) + table[at + j];
         j += 1;
     }
     w
@@ -170,7 +180,7 @@ fn shifted(e: [u8; 8], table: &[u16], at: usize) -> [u16; 8]
 
 // The image of a monomial through a table with a row for each component: its image's rank and exponents.
 pub fn image_of(table: &[u16], r: usize, m: Monomial) -> Image
-    requires { ⌜ (r * 10 ≤ length (now table)) × Tabled r (now table) ⌝ }
+    requires { ⌜ (r * row-length ≤ length (now table)) × Tabled r (now table) ⌝ }
     ensures { λ k. ⌜ key-of k ≡ key (table-of r (now (table .entry))) (monomial-of m) ⌝ }
 {
     let component = m.component;
@@ -190,11 +200,11 @@ pub fn image_of(table: &[u16], r: usize, m: Monomial) -> Image
             component,
         };
     }
-    let at = i * 10 - 10;
-    let w = shifted(e, table, at + 2);
+    let at = i * words::ROW_LENGTH - words::ROW_LENGTH;
+    let w = shifted(e, table, at + words::EXPONENTS_OFFSET);
     Image {
         exponents: w,
-        rank: table[at + 1],
+        rank: table[at + words::RANK_OFFSET],
         component,
     }
 }
@@ -208,39 +218,35 @@ pub fn compare_images(code: u16, a: Image, b: Image) -> Comparison
     if decided(d) {
         return d;
     }
-    let t = numbers(wider(a.rank), wider(b.rank));
+    let t = numbers(words::wider(a.rank), words::wider(b.rank));
     if decided(t) {
         return t;
     }
-    numbers(wider(a.component), wider(b.component))
+    numbers(words::wider(a.component), words::wider(b.component))
 }
 
 // ## An image against that of a row, which is formed word by word and only as far as it decides: no term by value
-
-// An exponent's word, read.
-fn clamped(x: u16) -> u16
-    ensures { λ r. ⌜ (r ≡ byte x) × (r ≤ 255) ⌝ }
-{
-    if x < 256 {
-        return x;
-    }
-    255
-}
 
 // An exponent's word times the table's.
 fn word_of(x: u16, y: u16) -> u16
     requires { ⌜ y ≤ 65280 ⌝ }
     ensures { λ r. ⌜ (r ≡ byte x + y) × (r ≤ 65535) ⌝ }
 {
-    clamped(x) + y
+    words::clamped(x) + y
 }
 
-fn row_lexicographic(x: [u16; 8], s: &[u16], at: usize, table: &[u16], to: usize) -> Comparison
+fn row_lexicographic(
+    x: [u16; words::EXPONENTS_LENGTH],
+    s: &[u16],
+    at: usize,
+    table: &[u16],
+    to: usize,
+) -> Comparison
     requires { ⌜ (at + 8 ≤ length (now s)) × (to + 8 ≤ length (now table)) × Bounded (now table) to ⌝ }
     ensures { λ r. ⌜ comparison-of r ≡ lexicographic-definition x (row-image (now (s .entry)) at (now (table .entry)) to) ⌝ }
 {
     let mut j = 0;
-    while j < 8 {
+    while j < words::EXPONENTS_LENGTH {
         let y = word_of(s[at + j], table[to + j]);
         if y < x[j] {
             return Comparison::Greater;
@@ -253,11 +259,17 @@ fn row_lexicographic(x: [u16; 8], s: &[u16], at: usize, table: &[u16], to: usize
     Comparison::Equal
 }
 
-fn row_last_differing(x: [u16; 8], s: &[u16], at: usize, table: &[u16], to: usize) -> Comparison
+fn row_last_differing(
+    x: [u16; words::EXPONENTS_LENGTH],
+    s: &[u16],
+    at: usize,
+    table: &[u16],
+    to: usize,
+) -> Comparison
     requires { ⌜ (at + 8 ≤ length (now s)) × (to + 8 ≤ length (now table)) × Bounded (now table) to ⌝ }
     ensures { λ r. ⌜ comparison-of r ≡ last-differing-definition x (row-image (now (s .entry)) at (now (table .entry)) to) ⌝ }
 {
-    let mut j = 8;
+    let mut j = words::EXPONENTS_LENGTH;
     while 0 < j {
         j -= 1;
         let z = word_of(s[at + j], table[to + j]);
@@ -277,10 +289,10 @@ fn row_total(s: &[u16], at: usize, table: &[u16], to: usize) -> u32
     ensures { λ r. ⌜ r ≡ degree (row-image (now (s .entry)) at (now (table .entry)) to) ⌝ }
 {
     let mut d: u32 = 0;
-    let mut j = 8;
+    let mut j = words::EXPONENTS_LENGTH;
     while 0 < j {
         j -= 1;
-        d += wider(word_of(s[at + j], table[to + j]));
+        d += words::wider(word_of(s[at + j], table[to + j]));
     }
     d
 }
@@ -297,7 +309,14 @@ fn row_degrees(code: u16, total: u32, s: &[u16], at: usize, table: &[u16], to: u
 }
 
 // What the places decide: each of the two walks is called at one place only, so that it becomes part of the loop around it.
-fn row_places(code: u16, x: [u16; 8], s: &[u16], at: usize, table: &[u16], to: usize) -> Comparison
+fn row_places(
+    code: u16,
+    x: [u16; words::EXPONENTS_LENGTH],
+    s: &[u16],
+    at: usize,
+    table: &[u16],
+    to: usize,
+) -> Comparison
     requires { ⌜ (at + 8 ≤ length (now s)) × (to + 8 ≤ length (now table)) × Bounded (now table) to ⌝ }
     ensures { λ r. ⌜ comparison-of r ≡ places-by code x (row-image (now (s .entry)) at (now (table .entry)) to) ⌝ }
 {
@@ -309,7 +328,7 @@ fn row_places(code: u16, x: [u16; 8], s: &[u16], at: usize, table: &[u16], to: u
 
 fn row_by_code(
     code: u16,
-    x: [u16; 8],
+    x: [u16; words::EXPONENTS_LENGTH],
     total: u32,
     s: &[u16],
     at: usize,
@@ -326,14 +345,14 @@ fn row_by_code(
     row_places(code, x, s, at, table, to)
 }
 
-fn row_exponents(s: &[u16], at: usize) -> [u16; 8]
+fn row_exponents(s: &[u16], at: usize) -> [u16; words::EXPONENTS_LENGTH]
     requires { ⌜ at + 8 ≤ length (now s) ⌝ }
     ensures { λ r. ⌜ r ≡ exponents-at (now (s .entry)) at ⌝ }
 {
-    let mut w = [0u16; 8];
+    let mut w = [0u16; words::EXPONENTS_LENGTH];
     let mut j = 0;
-    while j < 8 {
-        w[j] = clamped(s[at + j]);
+    while j < words::EXPONENTS_LENGTH {
+        w[j] = words::clamped(s[at + j]);
         j += 1;
     }
     w
@@ -341,20 +360,20 @@ fn row_exponents(s: &[u16], at: usize) -> [u16; 8]
 
 // The image of a row, from word at on, whose component the table lacks.
 fn own_image(s: &[u16], at: usize) -> Image
-    requires { ⌜ at + 10 ≤ length (now s) ⌝ }
-    ensures { λ k. ⌜ key-of k ≡ (exponents-at (now (s .entry)) (at + 2), (0, getD (now (s .entry)) (at + 1) 0)) ⌝ }
+    requires { ⌜ at + row-length ≤ length (now s) ⌝ }
+    ensures { λ k. ⌜ key-of k ≡ (exponents-at (now (s .entry)) (at + exponents-offset), (0, getD (now (s .entry)) (at + component-offset) 0)) ⌝ }
 {
-    let w = row_exponents(s, at + 2);
+    let w = row_exponents(s, at + words::EXPONENTS_OFFSET);
     Image {
         exponents: w,
         rank: 0,
-        component: s[at + 1],
+        component: s[at + words::COMPONENT_OFFSET],
     }
 }
 
 fn against_own(code: u16, a: Image, s: &[u16], at: usize) -> Comparison
-    requires { ⌜ at + 10 ≤ length (now s) ⌝ }
-    ensures { λ c. ⌜ comparison-of c ≡ compare-keys code (key-of a) (exponents-at (now (s .entry)) (at + 2), (0, getD (now (s .entry)) (at + 1) 0)) ⌝ }
+    requires { ⌜ at + row-length ≤ length (now s) ⌝ }
+    ensures { λ c. ⌜ comparison-of c ≡ compare-keys code (key-of a) (exponents-at (now (s .entry)) (at + exponents-offset), (0, getD (now (s .entry)) (at + component-offset) 0)) ⌝ }
 {
     let b = own_image(s, at);
     compare_images(code, a, b)
@@ -370,25 +389,33 @@ fn against_tabled(
     table: &[u16],
     to: usize,
 ) -> Comparison
-    requires { ⌜ (at + 10 ≤ length (now s)) × (to + 10 ≤ length (now table)) × Bounded (now table) (to + 2) × (total ≡ degree (a .exponents)) ⌝ }
-    ensures { λ c. ⌜ comparison-of c ≡ compare-keys code (key-of a) (row-image (now (s .entry)) (at + 2) (now (table .entry)) (to + 2), (getD (now (table .entry)) (to + 1) 0, getD (now (s .entry)) (at + 1) 0)) ⌝ }
+    requires { ⌜ (at + row-length ≤ length (now s)) × (to + row-length ≤ length (now table)) × Bounded (now table) (to + exponents-offset) × (total ≡ degree (a .exponents)) ⌝ }
+    ensures { λ c. ⌜ comparison-of c ≡ compare-keys code (key-of a) (row-image (now (s .entry)) (at + exponents-offset) (now (table .entry)) (to + exponents-offset), (getD (now (table .entry)) (to + rank-offset) 0, getD (now (s .entry)) (at + component-offset) 0)) ⌝ }
 {
     let x = a.exponents;
-    let d = row_by_code(code, x, total, s, at + 2, table, to + 2);
+    let d = row_by_code(
+        code,
+        x,
+        total,
+        s,
+        at + words::EXPONENTS_OFFSET,
+        table,
+        to + words::EXPONENTS_OFFSET,
+    );
     if decided(d) {
         return d;
     }
-    let e = numbers(wider(a.rank), wider(table[to + 1]));
+    let e = numbers(
+        words::wider(a.rank),
+        words::wider(table[to + words::RANK_OFFSET]),
+    );
     if decided(e) {
         return e;
     }
-    numbers(wider(a.component), wider(s[at + 1]))
-}
-
-fn place(x: u16) -> usize
-    ensures { λ r. ⌜ (r ≡ x) × (r ≤ 65535) ⌝ }
-{
-    x as usize
+    numbers(
+        words::wider(a.component),
+        words::wider(s[at + words::COMPONENT_OFFSET]),
+    )
 }
 
 // An image with its total degree against the image of row i.
@@ -401,23 +428,31 @@ pub fn against_row(
     table: &[u16],
     r: usize,
 ) -> Comparison
-    requires { ⌜ (i * 10 + 10 ≤ length (now s)) × (r * 10 ≤ length (now table)) × Tabled r (now table) × (total ≡ degree (a .exponents)) ⌝ }
+    requires { ⌜ (i * row-length + row-length ≤ length (now s)) × (r * row-length ≤ length (now table)) × Tabled r (now table) × (total ≡ degree (a .exponents)) ⌝ }
     ensures { λ c. ⌜ comparison-of c ≡ compare-keys code (key-of a) (key (table-of r (now (table .entry))) (row-at (now (s .entry)) i .1)) ⌝ }
 {
-    let at = i * 10;
-    let c = place(s[at + 1]);
+    let at = i * words::ROW_LENGTH;
+    let c = words::place(s[at + words::COMPONENT_OFFSET]);
     if c == 0 {
         return against_own(code, a, s, at);
     }
     if r < c {
         return against_own(code, a, s, at);
     }
-    against_tabled(code, a, total, s, at, table, c * 10 - 10)
+    against_tabled(
+        code,
+        a,
+        total,
+        s,
+        at,
+        table,
+        c * words::ROW_LENGTH - words::ROW_LENGTH,
+    )
 }
 
 // ## An image against another, when the first's total degree is known; the image of a row by value, to be kept
 
-fn formed_degrees(code: u16, d: u32, y: [u16; 8]) -> Comparison
+fn formed_degrees(code: u16, d: u32, y: [u16; words::EXPONENTS_LENGTH]) -> Comparison
     ensures { λ r. ⌜ comparison-of r ≡ degrees-by code d (degree y) ⌝ }
 {
     match code {
@@ -426,7 +461,11 @@ fn formed_degrees(code: u16, d: u32, y: [u16; 8]) -> Comparison
     }
 }
 
-fn formed_places(code: u16, x: [u16; 8], y: [u16; 8]) -> Comparison
+fn formed_places(
+    code: u16,
+    x: [u16; words::EXPONENTS_LENGTH],
+    y: [u16; words::EXPONENTS_LENGTH],
+) -> Comparison
     ensures { λ r. ⌜ comparison-of r ≡ places-by code x y ⌝ }
 {
     match code {
@@ -435,7 +474,12 @@ fn formed_places(code: u16, x: [u16; 8], y: [u16; 8]) -> Comparison
     }
 }
 
-fn formed_by_code(code: u16, x: [u16; 8], d: u32, y: [u16; 8]) -> Comparison
+fn formed_by_code(
+    code: u16,
+    x: [u16; words::EXPONENTS_LENGTH],
+    d: u32,
+    y: [u16; words::EXPONENTS_LENGTH],
+) -> Comparison
     requires { ⌜ d ≡ degree x ⌝ }
     ensures { λ r. ⌜ comparison-of r ≡ exponents-by code x y ⌝ }
 {
@@ -457,20 +501,20 @@ pub fn against_image(code: u16, a: Image, d: u32, b: Image) -> Comparison
     if decided(c) {
         return c;
     }
-    let t = numbers(wider(a.rank), wider(b.rank));
+    let t = numbers(words::wider(a.rank), words::wider(b.rank));
     if decided(t) {
         return t;
     }
-    numbers(wider(a.component), wider(b.component))
+    numbers(words::wider(a.component), words::wider(b.component))
 }
 
-fn row_words(s: &[u16], at: usize, table: &[u16], to: usize) -> [u16; 8]
+fn row_words(s: &[u16], at: usize, table: &[u16], to: usize) -> [u16; words::EXPONENTS_LENGTH]
     requires { ⌜ (at + 8 ≤ length (now s)) × (to + 8 ≤ length (now table)) × Bounded (now table) to ⌝ }
     ensures { λ r. ⌜ r ≡ row-image (now (s .entry)) at (now (table .entry)) to ⌝ }
 {
-    let mut w = [0u16; 8];
+    let mut w = [0u16; words::EXPONENTS_LENGTH];
     let mut j = 0;
-    while j < 8 {
+    while j < words::EXPONENTS_LENGTH {
         w[j] = word_of(s[at + j], table[to + j]);
         j += 1;
     }
@@ -479,29 +523,34 @@ fn row_words(s: &[u16], at: usize, table: &[u16], to: usize) -> [u16; 8]
 
 // The image of a row, from word at on, whose component's row in the table begins at word to.
 fn tabled_image(s: &[u16], at: usize, table: &[u16], to: usize) -> Image
-    requires { ⌜ (at + 10 ≤ length (now s)) × (to + 10 ≤ length (now table)) × Bounded (now table) (to + 2) ⌝ }
-    ensures { λ k. ⌜ key-of k ≡ (row-image (now (s .entry)) (at + 2) (now (table .entry)) (to + 2), (getD (now (table .entry)) (to + 1) 0, getD (now (s .entry)) (at + 1) 0)) ⌝ }
+    requires { ⌜ (at + row-length ≤ length (now s)) × (to + row-length ≤ length (now table)) × Bounded (now table) (to + exponents-offset) ⌝ }
+    ensures { λ k. ⌜ key-of k ≡ (row-image (now (s .entry)) (at + exponents-offset) (now (table .entry)) (to + exponents-offset), (getD (now (table .entry)) (to + rank-offset) 0, getD (now (s .entry)) (at + component-offset) 0)) ⌝ }
 {
-    let w = row_words(s, at + 2, table, to + 2);
+    let w = row_words(
+        s,
+        at + words::EXPONENTS_OFFSET,
+        table,
+        to + words::EXPONENTS_OFFSET,
+    );
     Image {
         exponents: w,
-        rank: table[to + 1],
-        component: s[at + 1],
+        rank: table[to + words::RANK_OFFSET],
+        component: s[at + words::COMPONENT_OFFSET],
     }
 }
 
 // The image of row i.
 pub fn image_of_row(s: &[u16], i: usize, table: &[u16], r: usize) -> Image
-    requires { ⌜ (i * 10 + 10 ≤ length (now s)) × (r * 10 ≤ length (now table)) × Tabled r (now table) ⌝ }
+    requires { ⌜ (i * row-length + row-length ≤ length (now s)) × (r * row-length ≤ length (now table)) × Tabled r (now table) ⌝ }
     ensures { λ k. ⌜ key-of k ≡ key (table-of r (now (table .entry))) (row-at (now (s .entry)) i .1) ⌝ }
 {
-    let at = i * 10;
-    let c = place(s[at + 1]);
+    let at = i * words::ROW_LENGTH;
+    let c = words::place(s[at + words::COMPONENT_OFFSET]);
     if c == 0 {
         return own_image(s, at);
     }
     if r < c {
         return own_image(s, at);
     }
-    tabled_image(s, at, table, c * 10 - 10)
+    tabled_image(s, at, table, c * words::ROW_LENGTH - words::ROW_LENGTH)
 }

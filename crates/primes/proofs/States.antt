@@ -13,6 +13,7 @@ use Rattle.definitions.specs.Problem.{Parameters, in-ranges?}
 use Rattle.definitions.specs.State.{State, empty, vector-sound?, terms-of, levels-sound?, sound?}
 use Rattle.definitions.specs.Layout.{Words, padded, rows-of, joined, level-rows, rows-place, header-of, counts-of, all-counts, all-rows, encode, level-at, levels-at, decode}
 use Rattle.definitions.specs.Layout.{words-sound?, all-words-sound?, holds-state?, meant, Way, division, hybrid, tree, work-words}
+use Rattle.definitions.specs.Places.{row-length}
 use Rattle.primes.specs.Primes.{with-prime-bound}
 use Rattle.primes.proofs.Reading.{in-range-same}
 
@@ -54,7 +55,7 @@ module _ (lim : Limits) (bound : ℕ) where
 
   rows-same : (fs : List Level) → all-rows wide fs ≡ all-rows lim fs
   rows-same [] = refl
-  rows-same (f ∷ fs) = ap (λ ws. padded (level-rows lim * 10) (rows-of (joined f)) ++ ws) (rows-same fs)
+  rows-same (f ∷ fs) = ap (λ ws. padded (level-rows lim * row-length) (rows-of (joined f)) ++ ws) (rows-same fs)
 
   pub encode-same : (size : ℕ) (X : State) → encode wide size X ≡ encode lim size X
   encode-same size X = λ i.

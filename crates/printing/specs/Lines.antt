@@ -6,6 +6,7 @@ use lib.ListN.{length, getD, take}
 use Rattle.definitions.specs.Problem.{Bytes, comma}
 use Rattle.definitions.specs.Layout.{Words}
 use Rattle.definitions.specs.Sheet.{decimal}
+use Rattle.definitions.specs.Places.{most-rows}
 
 -- the first r bytes after are the first `at` ones before, then these
 pub record Printed (before after : Bytes) (at r : ℕ) (bytes : Bytes) : Type 0 where
@@ -14,7 +15,7 @@ pub record Printed (before after : Bytes) (at r : ℕ) (bytes : Bytes) : Type 0 
 
 -- vectors that end within a level's room
 abbrev pub Short : ℕ → Words → Type 0
-Short count ends = (j : ℕ) → j < count → getD ends j 0 ≤ 2_048
+Short count ends = (j : ℕ) → j < count → getD ends j 0 ≤ most-rows
 
 -- each number after a comma
 abbrev pub listed : List ℕ → Bytes

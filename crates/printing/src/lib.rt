@@ -8,6 +8,7 @@ ghost use lib.ListN.{length, take};
 ghost use Rattle.definitions.specs.Problem.{comma};
 ghost use Rattle.definitions.specs.Sheet.{decimal, printed, term-fields, letter-S, letter-W, s-lines, vector-lines, level-lines, w-lines};
 ghost use Rattle.definitions.specs.Layout.{rows};
+ghost use Rattle.definitions.specs.Places.{most-vectors, row-length, s-line-length, w-line-length, pair-line-length, s-lines-length, level-lines-length};
 ghost use Rattle.terms.specs.Rows.{term-of};
 ghost use Rattle.tables.specs.Cuts.{Cut, cut-level};
 ghost use Rattle.printing.specs.Lines.{Printed, listed, Short};
@@ -62,14 +63,14 @@ fn word(out: &mut [u8], at: usize, v: u16) -> usize
 }
 
 // The first n exponents.
-fn exponents(out: &mut [u8], at: usize, e: [u8; 8], n: usize) -> usize
+fn exponents(out: &mut [u8], at: usize, e: [u8; words::EXPONENTS_LENGTH], n: usize) -> usize
     requires { ⌜ (n ≤ 8) × (at + n * 6 ≤ length (now out)) ⌝ }
     ensures { λ r. ⌜ Printed (now (out .entry)) (now (out .exit)) at r (listed (take n e)) × (r ≤ at + n * 6) ⌝ }
 {
     let mut a = at;
     let mut j = 0;
     while j < n {
-        let x = monomial::wide(e[j]);
+        let x = words::wide(e[j]);
         a = word(out, a, x);
         j += 1;
     }
@@ -90,8 +91,8 @@ fn term(out: &mut [u8], at: usize, t: Term, n: usize) -> usize
 
 // `S,level,vector,coefficient,component,e1,..,en`
 fn s_line(out: &mut [u8], at: usize, t: Term, n: usize, k: u16, v: u16) -> usize
-    requires { ⌜ (n ≤ 8) × (at + 74 ≤ length (now out)) ⌝ }
-    ensures { λ r. ⌜ Printed (now (out .entry)) (now (out .exit)) at r (printed letter-S (k ∷ v ∷ term-fields n (term-of t))) × (r ≤ at + 74) ⌝ }
+    requires { ⌜ (n ≤ 8) × (at + s-line-length ≤ length (now out)) ⌝ }
+    ensures { λ r. ⌜ Printed (now (out .entry)) (now (out .exit)) at r (printed letter-S (k ∷ v ∷ term-fields n (term-of t))) × (r ≤ at + s-line-length) ⌝ }
 {
     let a = byte(out, at, 83);
     let b = word(out, a, k);
@@ -102,8 +103,8 @@ fn s_line(out: &mut [u8], at: usize, t: Term, n: usize, k: u16, v: u16) -> usize
 
 // `W,coefficient,component,e1,..,en`
 fn w_line(out: &mut [u8], at: usize, t: Term, n: usize) -> usize
-    requires { ⌜ (n ≤ 8) × (at + 62 ≤ length (now out)) ⌝ }
-    ensures { λ r. ⌜ Printed (now (out .entry)) (now (out .exit)) at r (printed letter-W (term-fields n (term-of t))) × (r ≤ at + 62) ⌝ }
+    requires { ⌜ (n ≤ 8) × (at + w-line-length ≤ length (now out)) ⌝ }
+    ensures { λ r. ⌜ Printed (now (out .entry)) (now (out .exit)) at r (printed letter-W (term-fields n (term-of t))) × (r ≤ at + w-line-length) ⌝ }
 {
     let a = byte(out, at, 87);
     let b = term(out, a, t, n);
@@ -112,8 +113,8 @@ fn w_line(out: &mut [u8], at: usize, t: Term, n: usize) -> usize
 
 // A letter and two numbers: `Z,level,count` or `X,number,place`.
 pub fn pair_line(out: &mut [u8], at: usize, letter: u8, x: u16, y: usize) -> usize
-    requires { ⌜ at + 29 ≤ length (now out) ⌝ }
-    ensures { λ r. ⌜ Printed (now (out .entry)) (now (out .exit)) at r (printed letter (x ∷ y ∷ [])) × (r ≤ at + 29) ⌝ }
+    requires { ⌜ at + pair-line-length ≤ length (now out) ⌝ }
+    ensures { λ r. ⌜ Printed (now (out .entry)) (now (out .exit)) at r (printed letter (x ∷ y ∷ [])) × (r ≤ at + pair-line-length) ⌝ }
 {
     let a = byte(out, at, letter);
     let b = word(out, a, x);
@@ -132,8 +133,8 @@ fn s_lines(
     k: u16,
     v: u16,
 ) -> usize
-    requires { ⌜ (n ≤ 8) × (from ≤ to) × (to * 10 ≤ length (now level)) × (at + (to - from) * 74 ≤ length (now out)) ⌝ }
-    ensures { λ r. ⌜ Printed (now (out .entry)) (now (out .exit)) at r (s-lines n k v (rows (now (level .entry)) from (to - from))) × (r ≤ at + (to - from) * 74) ⌝ }
+    requires { ⌜ (n ≤ 8) × (from ≤ to) × (to * row-length ≤ length (now level)) × (at + (to - from) * s-line-length ≤ length (now out)) ⌝ }
+    ensures { λ r. ⌜ Printed (now (out .entry)) (now (out .exit)) at r (s-lines n k v (rows (now (level .entry)) from (to - from))) × (r ≤ at + (to - from) * s-line-length) ⌝ }
 {
     let mut a = at;
     let mut i = from;
@@ -143,12 +144,6 @@ fn s_lines(
         i += 1;
     }
     a
-}
-
-fn place(x: u16) -> usize
-    ensures { λ r. ⌜ r ≡ x ⌝ }
-{
-    x as usize
 }
 
 // The lines of all vectors of level k.
@@ -161,15 +156,15 @@ fn vector_lines(
     n: usize,
     k: u16,
 ) -> usize
-    requires { ⌜ (n ≤ 8) × (count ≤ 128) × Cut count (now level) (now ends) × Short count (now ends) × (at + 151552 ≤ length (now out)) ⌝ }
-    ensures { λ r. ⌜ Printed (now (out .entry)) (now (out .exit)) at r (vector-lines n k 1 (cut-level count (now (level .entry)) (now (ends .entry)))) × (r ≤ at + 151552) ⌝ }
+    requires { ⌜ (n ≤ 8) × (count ≤ most-vectors) × Cut count (now level) (now ends) × Short count (now ends) × (at + s-lines-length ≤ length (now out)) ⌝ }
+    ensures { λ r. ⌜ Printed (now (out .entry)) (now (out .exit)) at r (vector-lines n k 1 (cut-level count (now (level .entry)) (now (ends .entry)))) × (r ≤ at + s-lines-length) ⌝ }
 {
     let mut a = at;
     let mut start: usize = 0;
     let mut v: u16 = 1;
     let mut j = 0;
     while j < count {
-        let end = place(ends[j]);
+        let end = words::place(ends[j]);
         a = s_lines(out, a, level, start, end, n, k, v);
         start = end;
         v += 1;
@@ -188,8 +183,8 @@ pub fn level_lines(
     n: usize,
     k: u16,
 ) -> usize
-    requires { ⌜ (n ≤ 8) × (count ≤ 128) × Cut count (now level) (now ends) × Short count (now ends) × (at + 151581 ≤ length (now out)) ⌝ }
-    ensures { λ r. ⌜ Printed (now (out .entry)) (now (out .exit)) at r (level-lines n k (cut-level count (now (level .entry)) (now (ends .entry)))) × (r ≤ at + 151581) ⌝ }
+    requires { ⌜ (n ≤ 8) × (count ≤ most-vectors) × Cut count (now level) (now ends) × Short count (now ends) × (at + level-lines-length ≤ length (now out)) ⌝ }
+    ensures { λ r. ⌜ Printed (now (out .entry)) (now (out .exit)) at r (level-lines n k (cut-level count (now (level .entry)) (now (ends .entry)))) × (r ≤ at + level-lines-length) ⌝ }
 {
     let a = vector_lines(out, at, level, ends, count, n, k);
     pair_line(out, a, 90, k, count)
@@ -197,8 +192,8 @@ pub fn level_lines(
 
 // "After X,9 the value follows": the lines of the first m rows.
 pub fn w_lines(out: &mut [u8], at: usize, s: &[u16], m: usize, n: usize) -> usize
-    requires { ⌜ (n ≤ 8) × (m * 10 ≤ length (now s)) × (at + m * 62 ≤ length (now out)) ⌝ }
-    ensures { λ r. ⌜ Printed (now (out .entry)) (now (out .exit)) at r (w-lines n (rows (now (s .entry)) 0 m)) × (r ≤ at + m * 62) ⌝ }
+    requires { ⌜ (n ≤ 8) × (m * row-length ≤ length (now s)) × (at + m * w-line-length ≤ length (now out)) ⌝ }
+    ensures { λ r. ⌜ Printed (now (out .entry)) (now (out .exit)) at r (w-lines n (rows (now (s .entry)) 0 m)) × (r ≤ at + m * w-line-length) ⌝ }
 {
     let mut a = at;
     let mut i = 0;

@@ -13,6 +13,7 @@ use Rattle.definitions.specs.Layout.{Words}
 use Rattle.definitions.proofs.Tests.{between-low, between-high}
 use Rattle.definitions.proofs.Numbers.{Numbered, gives, refuses, stops, open-yet, line-number?, problem-number}
 use Rattle.definitions.proofs.Finished.{problem-finished}
+use Rattle.definitions.specs.Places.{file-length}
 use Rattle.terms.specs.Rows.{cleared}
 use Rattle.lines.specs.Steps.{r-first}
 use Rattle.problem.specs.Reading.{words-read, read-as, body-words, problem-words, begun, outcome-as}
@@ -39,13 +40,13 @@ module _ (size : ℕ) (file : Bytes) where
   abbrev worded : Result (Parameters × Level) → Result Words
   worded x = x >>= λ f. done (words-read size f)
 
-  pub read-too-long : 65536 < length file → refused 1 0 [] ≡ problem-words size file
+  pub read-too-long : file-length < length file → refused 1 0 [] ≡ problem-words size file
   read-too-long h = sym (ap worded (too-long file h))
 
-  pub read-barred : (number : ℕ) → length file ≤ 65536 → r-first file ≡ refused number 1 [] → refused number 1 [] ≡ problem-words size file
+  pub read-barred : (number : ℕ) → length file ≤ file-length → r-first file ≡ refused number 1 [] → refused number 1 [] ≡ problem-words size file
   read-barred number h e = sym (ap worded (problem-step file h ∙ ap (λ x. x >>= goes-on-body) e))
 
-  pub read-on : (q : Parameters) (rest : Bytes) → length file ≤ 65536 → r-first file ≡ done (q, rest) → body-words size q rest ≡ problem-words size file
+  pub read-on : (q : Parameters) (rest : Bytes) → length file ≤ file-length → r-first file ≡ done (q, rest) → body-words size q rest ≡ problem-words size file
   read-on q rest h e = sym (ap worded (problem-step file h ∙ ap (λ x. x >>= goes-on-body) e) ∙ go (body document-01 q 2 0 [] (lines rest)))
     where
       go : (x : Result Level) → worded (x >>= λ f. done (q, f)) ≡ (x >>= λ f. done (words-read size (q, f)))

@@ -43,6 +43,7 @@ use Rattle.definitions.specs.Problem.{
 use Rattle.definitions.specs.Layout.{Words, padded}
 use Rattle.definitions.proofs.Tests.{is-true, and-left, between-high}
 use Rattle.definitions.proofs.Results.{If-done, If-some}
+use Rattle.definitions.specs.Places.{most-variables, most-components, most-elements, most-rows, file-length}
 use Rattle.fields.specs.Scanning.{behind, shaped-of, shaped-first, in-sixteen}
 use Rattle.fields.proofs.Lines.{first-of, lines-none, letter-differs, shaped-count}
 use Rattle.lines.specs.Tests.{term-in, unless, begins?, follows?, above?, descends?, t-number}
@@ -122,7 +123,7 @@ module _ (q : Parameters) (few : q .n ≤ 8) (count : ℕ) (f : Level) (r : ℕ)
   descends-same : (w : Words) → follows? r (getD w 0 0) ≡ true → (begins? r (getD w 0 0) || below? (q .code) (last-term (last f)) (term-in w)) ≡ descends? (q .code) r before w
   descends-same w s = go (begins? r (getD w 0 0)) (follows-says r (getD w 0 0) (begins? r (getD w 0 0)) refl s)
     where
-      go : (b : Bool) → (b ≡ true → getD w 0 0 ≡ suc r) × (b ≡ false → (getD w 0 0 ≡ r) × (r ≡ 0 → ⊥)) × (getD w 0 0 ≤ 64)
+      go : (b : Bool) → (b ≡ true → getD w 0 0 ≡ suc r) × (b ≡ false → (getD w 0 0 ≡ r) × (r ≡ 0 → ⊥)) × (getD w 0 0 ≤ most-elements)
           → (b || below? (q .code) (last-term (last f)) (term-in w)) ≡ (b || above? (q .code) before w)
       go true h = refl
       go false h = ap (λ o. below? (q .code) o (term-in w)) (held .last-one (h .1 refl .1))
@@ -131,11 +132,11 @@ module _ (q : Parameters) (few : q .n ≤ 8) (count : ℕ) (f : Level) (r : ℕ)
       → t-line document-01 q place count f v ≡ judged (t-number q count r before (padded 16 v)) place (more (padded 16 v))
   unfolding guarded
   t-line-judged place v l =
-      (λ i. guarded (ltb count 2048) ((eqb (first i) (suc (held .elements i)) || (eqb (first i) (held .elements i) and not (none-yet i))) and leb (first i) 64)
+      (λ i. guarded (ltb count most-rows) ((eqb (first i) (suc (held .elements i)) || (eqb (first i) (held .elements i) and not (none-yet i))) and leb (first i) most-elements)
       (term-in-range? document-01 q (term i)) (eqb (first i) (suc (held .elements i)) || below? (q .code) (last-term (last f)) (term i)) place
       (with-term (eqb (first i) (suc (held .elements i))) f (term i)))
-      ∙ guarded-same (ltb count 2048) (follows? r (getD w 0 0)) (term-in-range? document-01 q (term-in w)) (begins? r (getD w 0 0) || below? (q .code) (last-term (last f)) (term-in w)) (descends? (q .code) r before w) place (more w) (descends-same w)
-      ∙ guarded-number (ltb count 2048) (follows? r (getD w 0 0)) (term-in-range? document-01 q (term-in w)) (descends? (q .code) r before w) place (more w)
+      ∙ guarded-same (ltb count most-rows) (follows? r (getD w 0 0)) (term-in-range? document-01 q (term-in w)) (begins? r (getD w 0 0) || below? (q .code) (last-term (last f)) (term-in w)) (descends? (q .code) r before w) place (more w) (descends-same w)
+      ∙ guarded-number (ltb count most-rows) (follows? r (getD w 0 0)) (term-in-range? document-01 q (term-in w)) (descends? (q .code) r before w) place (more w)
     where
       w : Words
       w = padded 16 v
@@ -252,14 +253,14 @@ module _ (q : Parameters) (few : q .n ≤ 8) (count : ℕ) (f : Level) (r : ℕ)
 
 abbrev pub Passed : ℕ → ℕ → Said → Type 0
 Passed count r none = Unit {0}
-Passed count r (some line) = (ltb count 2048 ≡ true) × (follows? r (getD (line .0) 0 0) ≡ true)
+Passed count r (some line) = (ltb count most-rows ≡ true) × (follows? r (getD (line .0) 0 0) ≡ true)
 
 module _ (q : Parameters) (count r : ℕ) (before : Words) where
   judged-passed : (line : Words × Bytes) → If-done (Passed count r) (t-judged q count r before line)
   judged-passed line =
-      go (ltb count 2048) refl (follows? r (getD (line .0) 0 0)) refl (unless (term-in-range? document-01 q (term-in (line .0))) 4 (unless (descends? (q .code) r before (line .0)) 6 0))
+      go (ltb count most-rows) refl (follows? r (getD (line .0) 0 0)) refl (unless (term-in-range? document-01 q (term-in (line .0))) 4 (unless (descends? (q .code) r before (line .0)) 6 0))
     where
-      go : (a : Bool) → ltb count 2048 ≡ a → (b : Bool) → follows? r (getD (line .0) 0 0) ≡ b → (n : ℕ)
+      go : (a : Bool) → ltb count most-rows ≡ a → (b : Bool) → follows? r (getD (line .0) 0 0) ≡ b → (n : ℕ)
           → If-done (Passed count r) (judged (unless a 8 (unless b 5 n)) (count + 2) (some line))
       go false e b k n = tt
       go true e false k n = tt
@@ -322,11 +323,11 @@ first-step (b ∷ bytes) = parted (first-of b bytes)
         go none = refl
         go (some v) = r-step v (behind (b ∷ bytes))
 
-pub too-long : (file : Bytes) → 65536 < length file → problem document-01 file ≡ refused 1 0 []
-too-long file h = λ i. unless-refused (lt-leb (length file) 65536 h i) 1 0 >>= λ u. first-line document-01 (lines file)
+pub too-long : (file : Bytes) → file-length < length file → problem document-01 file ≡ refused 1 0 []
+too-long file h = λ i. unless-refused (lt-leb (length file) file-length h i) 1 0 >>= λ u. first-line document-01 (lines file)
 
-pub problem-step : (file : Bytes) → length file ≤ 65536 → problem document-01 file ≡ (r-first file >>= goes-on-body)
-problem-step file h = (λ i. unless-refused (le-leb (length file) 65536 h i) 1 0 >>= λ u. first-line document-01 (lines file)) ∙ first-step file
+pub problem-step : (file : Bytes) → length file ≤ file-length → problem document-01 file ≡ (r-first file >>= goes-on-body)
+problem-step file h = (λ i. unless-refused (le-leb (length file) file-length h i) 1 0 >>= λ u. first-line document-01 (lines file)) ∙ first-step file
 
 -- n is in range in what the R line says
 pub few-variables : (file : Bytes) → If-done (λ (a : Parameters × Bytes). a .0 .n ≤ 8) (r-first file)
@@ -335,7 +336,7 @@ few-variables file = shape (in-sixteen (shaped-first 65535 82 4 file))
     judge : (q : Parameters) (rest : Bytes) (a b : Bool) → in-ranges? document-01 q ≡ b → If-done (λ (a : Parameters × Bytes). a .0 .n ≤ 8) (judged (unless a 2 (unless b 3 0)) 1 (q, rest))
     judge q rest false b e = tt
     judge q rest true false e = tt
-    judge q rest true true e = between-high 1 (q .n) 8 (and-left (between 1 (q .n) 8) (between 1 (q .code) 3 and between 1 (q .s) 16) (is-true e))
+    judge q rest true true e = between-high 1 (q .n) most-variables (and-left (between 1 (q .n) most-variables) (between 1 (q .code) 3 and between 1 (q .s) most-components) (is-true e))
 
     shape : (o : Option (Words × Bytes)) → If-done (λ (a : Parameters × Bytes). a .0 .n ≤ 8) (with-shape o 1 r-judged)
     shape none = tt

@@ -15,6 +15,7 @@ use Rattle.definitions.specs.Problem.{last-term, extend, with-term}
 use Rattle.definitions.specs.State.{terms-of}
 use Rattle.definitions.specs.Layout.{row-of, rows-of, ends-from, joined}
 use Rattle.definitions.proofs.Rows.{rows-of-append}
+use Rattle.definitions.specs.Places.{most-elements}
 use Rattle.lines.specs.Tests.{begins?, goes-on?, follows?}
 
 -- ## The last one
@@ -89,14 +90,14 @@ rows-more v t = rows-of-append v (t ∷ []) ∙ ap (λ l. rows-of v ++ l) (appen
 -- ## A term after r elements, of an element that follows
 
 -- which element follows
-pub follows-says : (r e : ℕ) (b : Bool) → begins? r e ≡ b → follows? r e ≡ true → (b ≡ true → e ≡ suc r) × (b ≡ false → (e ≡ r) × (r ≡ 0 → ⊥)) × (e ≤ 64)
-follows-says r e b q s = (λ t. eqb-true e (suc r) (q ∙ t), λ t. goes t, leb-true e 64 (right (begins? r e || goes-on? r e) s))
+pub follows-says : (r e : ℕ) (b : Bool) → begins? r e ≡ b → follows? r e ≡ true → (b ≡ true → e ≡ suc r) × (b ≡ false → (e ≡ r) × (r ≡ 0 → ⊥)) × (e ≤ most-elements)
+follows-says r e b q s = (λ t. eqb-true e (suc r) (q ∙ t), λ t. goes t, leb-true e most-elements (right (begins? r e || goes-on? r e) s))
   where
-    right : (t : Bool) → (t and leb e 64) ≡ true → leb e 64 ≡ true
+    right : (t : Bool) → (t and leb e most-elements) ≡ true → leb e most-elements ≡ true
     right true h = h
     right false h = let z : _≡_ {A = ℕ} 0 1 = cc in absurd (omega arith)
 
-    left : (t : Bool) → (t and leb e 64) ≡ true → t ≡ true
+    left : (t : Bool) → (t and leb e most-elements) ≡ true → t ≡ true
     left true h = refl
     left false h = h
 
@@ -120,7 +121,7 @@ pub record Grown (f g : Level) (e : ℕ) (t : Term) : Type 0 where
   pub low : e - 1 ≤ length (ends-from 0 f)
   pub high : length (ends-from 0 f) ≤ e
   pub one : 1 ≤ e
-  pub few : e ≤ 64
+  pub few : e ≤ most-elements
 
 terms-append : (f : Level) (t : Term) → terms-of (f ++ (t ∷ []) ∷ []) ≡ terms-of f + 1
 terms-append [] t = refl
@@ -134,7 +135,7 @@ terms-extend (v ∷ w ∷ f) t n = omega (arith, terms-extend (w ∷ f) t (λ z.
 pub grows : (f : Level) (r e : ℕ) (t : Term) → length f ≡ r → follows? r e ≡ true → Grown f (with-term (begins? r e) f t) e t
 grows f r e t l s = go (begins? r e) (follows-says r e (begins? r e) refl s)
   where
-    go : (b : Bool) → (b ≡ true → e ≡ suc r) × (b ≡ false → (e ≡ r) × (r ≡ 0 → ⊥)) × (e ≤ 64) → Grown f (with-term b f t) e t
+    go : (b : Bool) → (b ≡ true → e ≡ suc r) × (b ≡ false → (e ≡ r) × (r ≡ 0 → ⊥)) × (e ≤ most-elements) → Grown f (with-term b f t) e t
     go true h =
         let q : e ≡ suc r = h .0 refl in
         let z : 0 + terms-of f + 1 ≡ terms-of f + 1 = omega arith in

@@ -13,6 +13,7 @@ use Rattle.definitions.specs.Problem.{Bytes, Parameters, lines, with-term, body
 use Rattle.definitions.specs.State.{terms-of}
 use Rattle.definitions.specs.Result.{Result, done, refused, _>>=_}
 use Rattle.definitions.specs.Layout.{Words, row-of, rows-of, ends-from, joined}
+use Rattle.definitions.specs.Places.{most-elements, most-rows, row-length, state-length}
 use Rattle.lines.specs.Tests.{term-in, begins?, follows?}
 use Rattle.lines.specs.Steps.{Said, line-first}
 use Rattle.problem.specs.Reading.{words-read, body-words, stored, begun}
@@ -22,12 +23,12 @@ use Rattle.problem.proofs.Following.{Held, goes-on, body-step}
 
 pub record So-far (q : Parameters) (size : ℕ) (f : Level) (count r : ℕ) (before state : Words) : Type 0 where
   pub held : Held f r before
-  pub few : r ≤ 64
+  pub few : r ≤ most-elements
   pub terms : terms-of f ≡ count
-  pub rows : length (rows-of (joined f)) ≡ count * 10
+  pub rows : length (rows-of (joined f)) ≡ count * row-length
   pub words : state ≡ laid-level q f size
 
-pub none-so-far : (q : Parameters) (size : ℕ) (before state : Words) → 206095 ≤ size → state ≡ begun (replicate size 0) q → So-far q size [] 0 0 before state
+pub none-so-far : (q : Parameters) (size : ℕ) (before state : Words) → state-length ≤ size → state ≡ begun (replicate size 0) q → So-far q size [] 0 0 before state
 none-so-far q size before state h e = record {
   held = record { elements = refl; last-one = λ n. absurd (n refl) };
   few = omega arith;
@@ -37,18 +38,18 @@ none-so-far q size before state h e = record {
 }
 
 -- the row of a line's term
-row-in : (w : Words) → length w ≡ 16 → row-of (term-in w) ≡ take 10 (drop 1 w)
-row-in w l = sym (ap (take 10) (drop-cons w 1 0 (omega arith) ∙ ap (λ z. getD w 1 0 ∷ z) (drop-cons w 2 0 (omega arith))))
+row-in : (w : Words) → length w ≡ 16 → row-of (term-in w) ≡ take row-length (drop 1 w)
+row-in w l = sym (ap (take row-length) (drop-cons w 1 0 (omega arith) ∙ ap (λ z. getD w 1 0 ∷ z) (drop-cons w 2 0 (omega arith))))
 
-module _ (q : Parameters) (size : ℕ) (f : Level) (count r : ℕ) (before state : Words) (k : So-far q size f count r before state) (h : 206095 ≤ size) where
+module _ (q : Parameters) (size : ℕ) (f : Level) (count r : ℕ) (before state : Words) (k : So-far q size f count r before state) (h : state-length ≤ size) where
   -- a term more
-  pub one-more : (w : Words) → count < 2048 → length w ≡ 16 → follows? r (getD w 0 0) ≡ true
+  pub one-more : (w : Words) → count < most-rows → length w ≡ 16 → follows? r (getD w 0 0) ≡ true
       → So-far q size (with-term (begins? r (getD w 0 0)) f (term-in w)) (count + 1) (getD w 0 0) w (stored state count w)
   one-more w c l s = record {
     held = record { elements = g .elements; last-one = λ n. g .last-one };
     few = g .few;
     terms = g .terms ∙ ap (λ n. n + 1) (k .terms);
-    rows = ap length (g .rows ∙ ap (λ z. rows-of (joined f) ++ z) (row-in w l)) ∙ length-append (rows-of (joined f)) (take 10 (drop 1 w)) ∙ omega (arith, k .rows, length-take-le 10 (drop 1 w) (omega (arith, length-drop 1 w)));
+    rows = ap length (g .rows ∙ ap (λ z. rows-of (joined f) ++ z) (row-in w l)) ∙ length-append (rows-of (joined f)) (take row-length (drop 1 w)) ∙ omega (arith, k .rows, length-take-le row-length (drop 1 w) (omega (arith, length-drop 1 w)));
     words =
         ap (λ z. stored z count w) (k .words)
         ∙ laid-stored q size (length f) (ends-from 0 f) (rows-of (joined f)) count w h (omega (arith, length-ends 0 f, k .held .elements, k .few)) l (k .rows) c (g .one) (g .low) (g .high) (omega (arith, g .few))
@@ -59,12 +60,12 @@ module _ (q : Parameters) (size : ℕ) (f : Level) (count r : ℕ) (before state
       g = grows f r (getD w 0 0) (term-in w) (k .held .elements) s
 
   -- the definitions' words
-  pub words-so-far : count ≤ 2048 → words-read size (q, f) ≡ state
+  pub words-so-far : count ≤ most-rows → words-read size (q, f) ≡ state
   words-so-far c = words-laid q f size h (omega (arith, length-ends 0 f, k .held .elements, k .few)) (omega (arith, k .rows)) ∙ sym (k .words)
 
   -- ## The lines that are left
 
-  module _ (few : q .n ≤ 8) (c : count ≤ 2048) (from left : Bytes) (e : body document-01 q 2 0 [] (lines from) ≡ body document-01 q (count + 2) count f (lines left)) where
+  module _ (few : q .n ≤ 8) (c : count ≤ most-rows) (from left : Bytes) (e : body document-01 q 2 0 [] (lines from) ≡ body document-01 q (count + 2) count f (lines left)) where
     stepped : (o : Result Said) → line-first q count r before left ≡ o → body document-01 q 2 0 [] (lines from) ≡ (o >>= goes-on q few count f r before (k .held))
     stepped o s = e ∙ body-step q few count f r before (k .held) left ∙ ap (λ (x : Result Said). x >>= goes-on q few count f r before (k .held)) s
 

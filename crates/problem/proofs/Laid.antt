@@ -10,12 +10,13 @@ use Rattle.definitions.specs.Monomial.{Level}
 use Rattle.definitions.specs.Problem.{Parameters}
 use Rattle.definitions.specs.Layout.{Words, rows-of, padded, ends-from, joined, header-of, all-rows}
 use Rattle.definitions.proofs.RoundTrip.{length-padded}
+use Rattle.definitions.specs.Places.{most-vectors, most-rows, row-length, header-length, counts-length, ends-start, rows-start, level-length, state-length}
 use Rattle.problem.specs.Reading.{words-read, state-read, stored, begun}
 
 -- r elements with these ends and these rows
 abbrev pub laid : Parameters → ℕ → Words → Words → ℕ → Words
 laid q r ends rows size =
-    q .p ∷ q .n ∷ q .code ∷ q .s ∷ 1 ∷ r ∷ ((ends ++ replicate (1289 - length ends) 0) ++ (rows ++ replicate (size - 1295 - length rows) 0))
+    q .p ∷ q .n ∷ q .code ∷ q .s ∷ 1 ∷ r ∷ ((ends ++ replicate (1289 - length ends) 0) ++ (rows ++ replicate (size - rows-start - length rows) 0))
 
 -- ## Zeros
 
@@ -36,37 +37,37 @@ paste-behind s w m n at ls lw h =
 -- ## Changed words
 
 module _ (q : Parameters) (size : ℕ) where
-  pub laid-begun : 206095 ≤ size → begun (replicate size 0) q ≡ laid q 0 [] [] size
+  pub laid-begun : state-length ≤ size → begun (replicate size 0) q ≡ laid q 0 [] [] size
   laid-begun h =
-      let e : size ≡ suc (suc (suc (suc (suc (suc (size - 6)))))) = omega arith in
-      let z : 1289 - 0 + (size - 1295 - 0) ≡ size - 6 = omega arith in
-      ap (λ n. begun (replicate n 0) q) e ∙ ap (λ l. q .p ∷ q .n ∷ q .code ∷ q .s ∷ 1 ∷ 0 ∷ l) (sym (zeros-meet (1289 - 0) (size - 1295 - 0) (size - 6) z))
+      let e : size ≡ suc (suc (suc (suc (suc (suc (size - ends-start)))))) = omega arith in
+      let z : 1289 - 0 + (size - rows-start - 0) ≡ size - ends-start = omega arith in
+      ap (λ n. begun (replicate n 0) q) e ∙ ap (λ l. q .p ∷ q .n ∷ q .code ∷ q .s ∷ 1 ∷ 0 ∷ l) (sym (zeros-meet (1289 - 0) (size - rows-start - 0) (size - ends-start) z))
 
-  module _ (r : ℕ) (ends rows : Words) (room : length ends ≤ 128) where
+  module _ (r : ℕ) (ends rows : Words) (room : length ends ≤ most-vectors) where
     front : Words
     front = q .p ∷ q .n ∷ q .code ∷ q .s ∷ 1 ∷ r ∷ (ends ++ replicate (1289 - length ends) 0)
 
-    length-front : length front ≡ 1295
+    length-front : length front ≡ rows-start
     unfolding front
     length-front = omega (arith, length-append ends (replicate (1289 - length ends) 0), length-replicate {A = ℕ} (1289 - length ends) 0)
 
     -- a row more
-    pub laid-row : (w : Words) (at : ℕ) → length w ≡ 10 → at ≡ 1295 + length rows → at + 10 ≤ size → paste (laid q r ends rows size) at w 10 ≡ laid q r ends (rows ++ w) size
+    pub laid-row : (w : Words) (at : ℕ) → length w ≡ row-length → at ≡ rows-start + length rows → at + row-length ≤ size → paste (laid q r ends rows size) at w row-length ≡ laid q r ends (rows ++ w) size
     unfolding front
     laid-row w at lw e h =
-        let m : ℕ = size - 1295 - length rows in
-        let n : size - 1295 - length rows - 10 ≡ size - 1295 - length (rows ++ w) = omega (arith, length-append rows w) in
+        let m : ℕ = size - rows-start - length rows in
+        let n : size - rows-start - length rows - row-length ≡ size - rows-start - length (rows ++ w) = omega (arith, length-append rows w) in
         let ls : length (front ++ rows) ≡ at = length-append front rows ∙ omega (arith, length-front) in
-        ap (λ s. paste s at w 10) (sym (append-assoc front rows (replicate (size - 1295 - length rows) 0)))
-        ∙ paste-behind (front ++ rows) w (size - 1295 - length rows) 10 at ls lw (omega arith)
-        ∙ append-assoc front rows (w ++ replicate (size - 1295 - length rows - 10) 0)
-        ∙ ap (λ l. front ++ l) (sym (append-assoc rows w (replicate (size - 1295 - length rows - 10) 0)) ∙ ap (λ k. (rows ++ w) ++ replicate k 0) n)
+        ap (λ s. paste s at w row-length) (sym (append-assoc front rows (replicate (size - rows-start - length rows) 0)))
+        ∙ paste-behind (front ++ rows) w (size - rows-start - length rows) row-length at ls lw (omega arith)
+        ∙ append-assoc front rows (w ++ replicate (size - rows-start - length rows - row-length) 0)
+        ∙ ap (λ l. front ++ l) (sym (append-assoc rows w (replicate (size - rows-start - length rows - row-length) 0)) ∙ ap (λ k. (rows ++ w) ++ replicate k 0) n)
 
     -- the end of the last element, or of a new one
-    pub laid-end : (e x : ℕ) → 1 ≤ e → e - 1 ≤ length ends → length ends ≤ e → e ≤ 128
-        → set (laid q r ends rows size) (5 + e) x ≡ laid q r (take (e - 1) ends ++ x ∷ []) rows size
+    pub laid-end : (e x : ℕ) → 1 ≤ e → e - 1 ≤ length ends → length ends ≤ e → e ≤ most-vectors
+        → set (laid q r ends rows size) (header-length + e) x ≡ laid q r (take (e - 1) ends ++ x ∷ []) rows size
     laid-end e x one low high few =
-        let c : 5 + e ≡ suc (suc (suc (suc (suc (suc (e - 1)))))) = omega arith in
+        let c : header-length + e ≡ suc (suc (suc (suc (suc (suc (e - 1)))))) = omega arith in
         ap (λ k. set (laid q r ends rows size) k x) c
         ∙ ap (λ l. q .p ∷ q .n ∷ q .code ∷ q .s ∷ 1 ∷ r ∷ l)
         (set-append-left (ends ++ zeros) behind (e - 1) x (omega (arith, length-append ends zeros, length-replicate {A = ℕ} (1289 - length ends) 0))
@@ -76,7 +77,7 @@ module _ (q : Parameters) (size : ℕ) where
         zeros = replicate (1289 - length ends) 0
 
         behind : Words
-        behind = rows ++ replicate (size - 1295 - length rows) 0
+        behind = rows ++ replicate (size - rows-start - length rows) 0
 
         kept : length (take (e - 1) ends) ≡ e - 1
         kept = length-take-le (e - 1) ends low
@@ -98,18 +99,18 @@ module _ (q : Parameters) (size : ℕ) where
             ∙ zeros-drop (e - length ends) (1289 - e) ∙ ap (λ k. replicate (1289 - k) 0) (sym count)
 
 -- no more than ten words are pasted
-ten-words : (s : Words) (at : ℕ) (w : Words) → paste s at w 10 ≡ paste s at (take 10 w) 10
-ten-words s at w = ap (λ z. (take at s ++ z) ++ drop (at + 10) s) (sym (take-take 10 10 w (omega arith)))
+ten-words : (s : Words) (at : ℕ) (w : Words) → paste s at w row-length ≡ paste s at (take row-length w) row-length
+ten-words s at w = ap (λ z. (take at s ++ z) ++ drop (at + row-length) s) (sym (take-take row-length row-length w (omega arith)))
 
 -- a term stored: a row more, the end of its element, the count of elements
-pub laid-stored : (q : Parameters) (size r : ℕ) (ends rows : Words) (count : ℕ) (w : Words) → 206095 ≤ size → length ends ≤ 128 → length w ≡ 16 → length rows ≡ count * 10 → count < 2048
-    → 1 ≤ getD w 0 0 → getD w 0 0 - 1 ≤ length ends → length ends ≤ getD w 0 0 → getD w 0 0 ≤ 128
-    → stored (laid q r ends rows size) count w ≡ laid q (getD w 0 0) (take (getD w 0 0 - 1) ends ++ (count + 1) ∷ []) (rows ++ take 10 (drop 1 w)) size
+pub laid-stored : (q : Parameters) (size r : ℕ) (ends rows : Words) (count : ℕ) (w : Words) → state-length ≤ size → length ends ≤ most-vectors → length w ≡ 16 → length rows ≡ count * row-length → count < most-rows
+    → 1 ≤ getD w 0 0 → getD w 0 0 - 1 ≤ length ends → length ends ≤ getD w 0 0 → getD w 0 0 ≤ most-vectors
+    → stored (laid q r ends rows size) count w ≡ laid q (getD w 0 0) (take (getD w 0 0 - 1) ends ++ (count + 1) ∷ []) (rows ++ take row-length (drop 1 w)) size
 laid-stored q size r ends rows count w h room lw lr few one low high most =
-    ap (λ s. set (set s (5 + getD w 0 0) (count + 1)) 5 (getD w 0 0))
-    (ten-words (laid q r ends rows size) (1295 + count * 10) (drop 1 w)
-    ∙ laid-row q size r ends rows room (take 10 (drop 1 w)) (1295 + count * 10) (length-take-le 10 (drop 1 w) (omega (arith, length-drop 1 w))) (omega arith) (omega arith))
-    ∙ ap (λ s. set s 5 (getD w 0 0)) (laid-end q size r ends (rows ++ take 10 (drop 1 w)) room (getD w 0 0) (count + 1) one low high most)
+    ap (λ s. set (set s (header-length + getD w 0 0) (count + 1)) header-length (getD w 0 0))
+    (ten-words (laid q r ends rows size) (rows-start + count * row-length) (drop 1 w)
+    ∙ laid-row q size r ends rows room (take row-length (drop 1 w)) (rows-start + count * row-length) (length-take-le row-length (drop 1 w) (omega (arith, length-drop 1 w))) (omega arith) (omega arith))
+    ∙ ap (λ s. set s header-length (getD w 0 0)) (laid-end q size r ends (rows ++ take row-length (drop 1 w)) room (getD w 0 0) (count + 1) one low high most)
 
 -- ## The definitions' words
 
@@ -126,11 +127,11 @@ flat ends rows a b c d m n e k =
     ∙ (λ i. (append-assoc ends (replicate a 0) (replicate b 0) ∙ ap (λ l. ends ++ l) (zeros-meet a b m e)) i
     ++ (append-assoc rows (replicate c 0) (replicate d 0) ∙ ap (λ l. rows ++ l) (zeros-meet c d n k)) i)
 
-pub words-laid : (q : Parameters) (f : Level) (size : ℕ) → 206095 ≤ size → length (ends-from 0 f) ≤ 128 → length (rows-of (joined f)) ≤ 20480 → words-read size (q, f) ≡ laid-level q f size
+pub words-laid : (q : Parameters) (f : Level) (size : ℕ) → state-length ≤ size → length (ends-from 0 f) ≤ most-vectors → length (rows-of (joined f)) ≤ level-length → words-read size (q, f) ≡ laid-level q f size
 words-laid q f size h le lr =
     ap (λ l. q .p ∷ q .n ∷ q .code ∷ q .s ∷ 1 ∷ length f ∷ l)
-    (flat ends rows (128 - length ends) (1295 - length header) (20480 - length rows) (size - length (padded 1295 header ++ all-rows document-01 (f ∷ []))) (1289 - length ends) (size - 1295 - length rows)
-    (omega (arith, header-length)) (omega (arith, all-length)))
+    (flat ends rows (most-vectors - length ends) (rows-start - length header) (level-length - length rows) (size - length (padded rows-start header ++ all-rows document-01 (f ∷ []))) (1289 - length ends) (size - rows-start - length rows)
+    (omega (arith, header-long)) (omega (arith, all-length)))
   where
     ends : Words
     ends = ends-from 0 f
@@ -141,12 +142,12 @@ words-laid q f size h le lr =
     header : Words
     header = header-of document-01 (state-read (q, f))
 
-    header-length : length header ≡ 134
-    header-length =
-        let n : length ((ends ++ replicate (128 - length ends) 0) ++ []) ≡ 128 = ap length (append-nil (ends ++ replicate (128 - length ends) 0)) ∙ length-padded 128 ends le in
+    header-long : length header ≡ header-length + counts-length
+    header-long =
+        let n : length ((ends ++ replicate (most-vectors - length ends) 0) ++ []) ≡ most-vectors = ap length (append-nil (ends ++ replicate (most-vectors - length ends) 0)) ∙ length-padded most-vectors ends le in
         omega arith
 
-    all-length : length (padded 1295 header ++ all-rows document-01 (f ∷ [])) ≡ 21775
+    all-length : length (padded rows-start header ++ all-rows document-01 (f ∷ [])) ≡ 21775
     all-length =
-        let n : length ((rows ++ replicate (20480 - length rows) 0) ++ []) ≡ 20480 = ap length (append-nil (rows ++ replicate (20480 - length rows) 0)) ∙ length-padded 20480 rows lr in
-        length-append (padded 1295 header) (all-rows document-01 (f ∷ [])) ∙ omega (arith, length-padded 1295 header (omega (arith, header-length)))
+        let n : length ((rows ++ replicate (level-length - length rows) 0) ++ []) ≡ level-length = ap length (append-nil (rows ++ replicate (level-length - length rows) 0)) ∙ length-padded level-length rows lr in
+        length-append (padded rows-start header) (all-rows document-01 (f ∷ [])) ∙ omega (arith, length-padded rows-start header (omega (arith, header-long)))

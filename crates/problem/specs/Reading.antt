@@ -10,6 +10,7 @@ use Rattle.definitions.specs.Problem as definition
 use Rattle.definitions.specs.Problem.{Bytes, lines}
 use Rattle.definitions.specs.State.{State}
 use Rattle.definitions.specs.Layout.{Words, encode}
+use Rattle.definitions.specs.Places.{row-length, header-length, rows-start}
 use Rattle.problem.specs.declared.Outcome.{Outcome}
 use Rattle.problem.specs.declared.Outcome.the-variants.{Done, Refused}
 use Rattle.problem.specs.declared.Reading.{Reading}
@@ -37,7 +38,7 @@ problem-words size file = definition.problem document-01 file >>= λ f. done (wo
 
 -- the words after a term was stored behind so many: its row, the end of its element, the count of elements
 abbrev pub stored : Words → ℕ → Words → Words
-stored s count w = set (set (paste s (1295 + count * 10) (drop 1 w) 10) (5 + getD w 0 0) (count + 1)) 5 (getD w 0 0)
+stored s count w = set (set (paste s (rows-start + count * row-length) (drop 1 w) row-length) (header-length + getD w 0 0) (count + 1)) header-length (getD w 0 0)
 
 -- the words of a state with no element yet, from zeros
 abbrev pub begun : Words → definition.Parameters → Words

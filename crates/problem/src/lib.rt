@@ -7,6 +7,7 @@ ghost use lib.ListN.{length, getD, drop, replicate};
 ghost use lib.Seq.{paste};
 ghost use Rattle.definitions.specs.Limits.{document-01};
 ghost use Rattle.definitions.specs.Problem.{problem as problem-definition};
+ghost use Rattle.definitions.specs.Places.{most-elements, most-rows, row-length, state-length};
 ghost use Rattle.lines.specs.Tests.{parameters-of};
 ghost use Rattle.problem.specs.Reading.{body-words, problem-words, read-as, stored, begun, outcome-as, answer-as};
 use lines::Parameters;
@@ -26,29 +27,29 @@ pub struct Reading {
 
 // A row: coefficient, component, eight exponents.
 fn store_row(state: &mut [u16], at: usize, w: [u16; 16])
-    requires { ⌜ at + 10 ≤ length (now state) ⌝ }
-    ensures { λ _. ⌜ now (state .exit) ≡ paste (now (state .entry)) at (drop 1 w) 10 ⌝ }
+    requires { ⌜ at + row-length ≤ length (now state) ⌝ }
+    ensures { λ _. ⌜ now (state .exit) ≡ paste (now (state .entry)) at (drop 1 w) row-length ⌝ }
 {
     let mut j = 0;
-    while j < 10 {
+    while j < words::ROW_LENGTH {
         state[at + j] = w[j + 1];
         j += 1;
     }
 }
 
 fn store(state: &mut [u16], count: usize, w: [u16; 16])
-    requires { ⌜ (206095 ≤ length (now state)) × (count < 2048) × (getD w 0 0 ≤ 64) ⌝ }
+    requires { ⌜ (state-length ≤ length (now state)) × (count < most-rows) × (getD w 0 0 ≤ most-elements) ⌝ }
     ensures { λ _. ⌜ (now (state .exit) ≡ stored (now (state .entry)) count w) × (length w ≡ 16) ⌝ }
 {
-    store_row(state, 1295 + count * 10, w);
+    store_row(state, words::ROWS_START + count * words::ROW_LENGTH, w);
     let element = w[0];
     let e = lines::size_of(element);
-    state[5 + e] = (count + 1) as u16;
-    state[5] = element;
+    state[words::HEADER_LENGTH + e] = (count + 1) as u16;
+    state[words::HEADER_LENGTH] = element;
 }
 
 fn begin(state: &mut [u16], q: Parameters)
-    requires { ⌜ 206095 ≤ length (now state) ⌝ }
+    requires { ⌜ state-length ≤ length (now state) ⌝ }
     ensures { λ _. ⌜ now (state .exit) ≡ begun (now (state .entry)) (parameters-of q) ⌝ }
 {
     let p = q.p;
@@ -64,7 +65,7 @@ fn begin(state: &mut [u16], q: Parameters)
 
 // The lines behind R's, into a state with no element yet.
 fn body(file: &[u8], from: usize, q: Parameters, state: &mut [u16]) -> Outcome
-    requires { ⌜ (q .n ≤ 8) × (206095 ≤ length (now state)) × (now state ≡ begun (replicate (length (now state)) 0) (parameters-of q)) ⌝ }
+    requires { ⌜ (q .n ≤ 8) × (state-length ≤ length (now state)) × (now state ≡ begun (replicate (length (now state)) 0) (parameters-of q)) ⌝ }
     ensures { λ r. ⌜ outcome-as r (now (state .exit)) ≡ body-words (length (now (state .entry))) (parameters-of q) (drop from (now (file .entry))) ⌝ }
 {
     let mut at = from;
@@ -91,10 +92,10 @@ fn body(file: &[u8], from: usize, q: Parameters, state: &mut [u16]) -> Outcome
 
 // The file, into a state of zeros; what a refused one leaves there is to be zeroed.
 fn read_lines(file: &[u8], state: &mut [u16]) -> Outcome
-    requires { ⌜ (206095 ≤ length (now state)) × (now state ≡ replicate (length (now state)) 0) ⌝ }
+    requires { ⌜ (state-length ≤ length (now state)) × (now state ≡ replicate (length (now state)) 0) ⌝ }
     ensures { λ r. ⌜ outcome-as r (now (state .exit)) ≡ problem-words (length (now (state .entry))) (now (file .entry)) ⌝ }
 {
-    if 65536 < file.len() {
+    if words::FILE_LENGTH < file.len() {
         return Outcome::Refused(1, 0);
     }
     let first = lines::first_line(file);
@@ -111,7 +112,7 @@ fn read_lines(file: &[u8], state: &mut [u16]) -> Outcome
 
 // Reads a file. Read, not accepted: the state's words are those of its elements as level 0, which acceptance has still to divide; refused, they are zeros.
 pub fn read(file: &[u8], state: &mut [u16]) -> Reading
-    requires { ⌜ 206095 ≤ length (now state) ⌝ }
+    requires { ⌜ state-length ≤ length (now state) ⌝ }
     ensures { λ r. ⌜ answer-as r (now (state .exit)) ≡ read-as (length (now (state .entry))) (problem-definition document-01 (now (file .entry))) ⌝ }
 {
     terms::clear(state, 0);

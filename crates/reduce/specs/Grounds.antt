@@ -12,6 +12,7 @@ use Rattle.definitions.specs.Stage.{Reduction, Stage}
 use Rattle.definitions.specs.Run as definition
 use Rattle.definitions.specs.Run.{Run, by-code}
 use Rattle.definitions.specs.Layout.{Words, rows, vectors-at}
+use Rattle.definitions.specs.Places.{most-exponent, row-length, ends-start, table-length, tables-ends, tables-below, tables-above, tables-length}
 use Rattle.orders.specs.Images.{table-of, table-order, Tabled}
 use Rattle.reducers.specs.Search.{Small, Spanned}
 use Rattle.reduce.specs.declared.Ground.{Ground}
@@ -25,7 +26,7 @@ limits-of g = record {
   variables = document-01 .variables;
   components = document-01 .components;
   elements = document-01 .elements;
-  exponent = 255;
+  exponent = most-exponent;
   t-lines = document-01 .t-lines;
   file = document-01 .file;
   field = document-01 .field;
@@ -41,19 +42,19 @@ limits-of g = record {
 -- ## The tables of a lifting in one slice, one after the other: rows of 128 heads, their spans, the ends of the level's vectors, the images below and above
 
 abbrev pub spans-start : ℕ
-spans-start = 1280
+spans-start = table-length
 
 abbrev pub ends-start : ℕ
-ends-start = 1538
+ends-start = tables-ends
 
 abbrev pub below-start : ℕ
-below-start = 1666
+below-start = tables-below
 
 abbrev pub above-start : ℕ
-above-start = 2946
+above-start = tables-above
 
 abbrev pub tables-length : ℕ
-tables-length = 4226
+tables-length = tables-length
 
 -- the words from place a on
 abbrev pub part : ℕ → Words → Words
@@ -84,7 +85,7 @@ pub record Tables (g : Ground) (tables : Words) : Type 0 where
   pub prime : 0 < g .p
   pub few : g .r < 65536
   pub long : tables-length ≤ length tables
-  pub heads-fit : g .r * 10 ≤ length tables
+  pub heads-fit : g .r * row-length ≤ length tables
   pub spans-fit : g .components * 2 ≤ length (spans-in tables)
   pub small : Small (g .r) tables
   pub spanned : Spanned (g .components) (g .r) (spans-in tables) tables
@@ -104,7 +105,7 @@ Within limit (Refused number) = Unit {0}
 -- every vector ends within the rows
 pub record Family (g : Ground) (level ends : Words) : Type 0 where
   pub ends-fit : g .r ≤ length ends
-  pub rows-fit : (j : ℕ) → j < g .r → getD ends j 0 * 10 ≤ length level
+  pub rows-fit : (j : ℕ) → j < g .r → getD ends j 0 * row-length ≤ length level
 
 -- the first row of vector j, counted from 1: the end of the one before it
 abbrev pub first-row : Words → ℕ → ℕ

@@ -10,6 +10,7 @@ ghost use Rattle.definitions.specs.Vectors.{store};
 ghost use Rattle.definitions.specs.Reducer.{answer};
 ghost use Rattle.definitions.specs.Run.{add-term, unless-dropped, dropped?, add-products, multiple, by-code, greatest as greatest-definition};
 ghost use Rattle.definitions.specs.Layout.{row-at, rows};
+ghost use Rattle.definitions.specs.Places.{row-length};
 ghost use Rattle.orders.specs.Images.{key, key-of, table-of, table-order, Tabled};
 ghost use Rattle.reducers.specs.Search.{answer-of};
 ghost use Rattle.terms.specs.Rows.{term-of};
@@ -36,13 +37,13 @@ pub struct Ground {
 }
 
 // Where the tables of a lifting stand in the one slice that has them: 128 heads first, then their spans, the ends of the level's vectors, the images below and above.
-pub const SPANS: usize = 1280;
+pub const SPANS: usize = words::TABLES_SPANS;
 
-pub const ENDS: usize = 1538;
+pub const ENDS: usize = words::TABLES_ENDS;
 
-pub const BELOW: usize = 1666;
+pub const BELOW: usize = words::TABLES_BELOW;
 
-pub const ABOVE: usize = 2946;
+pub const ABOVE: usize = words::TABLES_ABOVE;
 
 // The rows that a value has now, or a refusal's number.
 pub enum Added {
@@ -52,7 +53,7 @@ pub enum Added {
 
 // A term into a sum in the order of arrival: 14 where it is full.
 pub fn store_term(s: &mut [u16], n: usize, limit: usize, p: u16, t: Term) -> Added
-    requires { ⌜ (0 < p) × (n ≤ limit) × (limit * 10 ≤ length (now s)) ⌝ }
+    requires { ⌜ (0 < p) × (n ≤ limit) × (limit * row-length ≤ length (now s)) ⌝ }
     ensures { λ x. ⌜ (added-of x (now (s .exit)) ≡ store limit p (term-of t) (rows (now (s .entry)) 0 n)) × Within limit x ⌝ }
 {
     match sums::store(s, n, limit, p, t) {
@@ -70,7 +71,7 @@ fn add_fitting(
     g: Ground,
     drops: bool,
 ) -> Added
-    requires { ⌜ Tables g (now tables) × (n ≤ g .working) × (g .working * 10 ≤ length (now value)) ⌝ }
+    requires { ⌜ Tables g (now tables) × (n ≤ g .working) × (g .working * row-length ≤ length (now value)) ⌝ }
     ensures { λ x. ⌜ (added-of x (now (value .exit)) ≡ unless-dropped (dropped? (reduction-of g (now (tables .entry))) drops (term-of t .1)) (reduction-of g (now (tables .entry))) (term-of t) (rows (now (value .entry)) 0 n)) × Within (g .working) x ⌝ }
 {
     if drops {
@@ -91,12 +92,12 @@ fn add_product(
     level: &[u16],
     i: usize,
     c: u16,
-    q: [u8; 8],
+    q: [u8; words::EXPONENTS_LENGTH],
     tables: &[u16],
     g: Ground,
     drops: bool,
 ) -> Added
-    requires { ⌜ Tables g (now tables) × (n ≤ g .working) × (g .working * 10 ≤ length (now value)) × (i * 10 + 10 ≤ length (now level)) ⌝ }
+    requires { ⌜ Tables g (now tables) × (n ≤ g .working) × (g .working * row-length ≤ length (now value)) × (i * row-length + row-length ≤ length (now level)) ⌝ }
     ensures { λ x. ⌜ (added-of x (now (value .exit)) ≡ add-term (reduction-of g (now (tables .entry))) drops (multiple (g .p) c q (row-at (now (level .entry)) i)) (rows (now (value .entry)) 0 n)) × Within (g .working) x ⌝ }
 {
     let x = reducers::multiplied(level, i, c, q, g.p);
@@ -116,12 +117,12 @@ pub fn add_all(
     from: usize,
     to: usize,
     c: u16,
-    q: [u8; 8],
+    q: [u8; words::EXPONENTS_LENGTH],
     tables: &[u16],
     g: Ground,
     drops: bool,
 ) -> Added
-    requires { ⌜ Tables g (now tables) × (n ≤ g .working) × (g .working * 10 ≤ length (now value)) × (to * 10 ≤ length (now level)) ⌝ }
+    requires { ⌜ Tables g (now tables) × (n ≤ g .working) × (g .working * row-length ≤ length (now value)) × (to * row-length ≤ length (now level)) ⌝ }
     ensures { λ x. ⌜ (added-of x (now (value .exit)) ≡ add-products (reduction-of g (now (tables .entry))) drops c q (rows (now (level .entry)) from (to - from)) (rows (now (value .entry)) 0 n)) × Within (g .working) x ⌝ }
 {
     let mut k = n;
@@ -138,12 +139,6 @@ pub fn add_all(
     Added::Rows(k)
 }
 
-fn place(x: u16) -> usize
-    ensures { λ r. ⌜ r ≡ x ⌝ }
-{
-    x as usize
-}
-
 // The first row of vector j.
 fn first_of(ends: &[u16], j: usize) -> usize
     requires { ⌜ (1 ≤ j) × (j ≤ length (now ends)) ⌝ }
@@ -152,7 +147,7 @@ fn first_of(ends: &[u16], j: usize) -> usize
     if j == 1 {
         return 0;
     }
-    place(ends[j - 2])
+    words::place(ends[j - 2])
 }
 
 // The products of c·q and the terms of f_j.
@@ -163,21 +158,21 @@ pub fn add_multiple(
     tables: &[u16],
     j: usize,
     c: u16,
-    q: [u8; 8],
+    q: [u8; words::EXPONENTS_LENGTH],
     g: Ground,
     drops: bool,
 ) -> Added
-    requires { ⌜ Tables g (now tables) × Family g (now level) (ends-in (now tables)) × (n ≤ g .working) × (g .working * 10 ≤ length (now value)) × (1 ≤ j) × (j ≤ g .r) ⌝ }
+    requires { ⌜ Tables g (now tables) × Family g (now level) (ends-in (now tables)) × (n ≤ g .working) × (g .working * row-length ≤ length (now value)) × (1 ≤ j) × (j ≤ g .r) ⌝ }
     ensures { λ x. ⌜ (added-of x (now (value .exit)) ≡ add-products (reduction-of g (now (tables .entry))) drops c q (vector-of (family-of g (now (level .entry)) (ends-in (now (tables .entry)))) j) (rows (now (value .entry)) 0 n)) × Within (g .working) x ⌝ }
 {
     let ends = &tables[ENDS..];
     let from = first_of(ends, j);
-    let to = place(ends[j - 1]);
+    let to = words::place(ends[j - 1]);
     add_all(value, n, level, from, to, c, q, tables, g, drops)
 }
 
 fn image_at(value: &[u16], i: usize, below: &[u16], images: usize) -> Image
-    requires { ⌜ (i * 10 + 10 ≤ length (now value)) × (images * 10 ≤ length (now below)) × Tabled images (now below) ⌝ }
+    requires { ⌜ (i * row-length + row-length ≤ length (now value)) × (images * row-length ≤ length (now below)) × Tabled images (now below) ⌝ }
     ensures { λ k. ⌜ key-of k ≡ key (table-of images (now (below .entry))) (row-at (now (value .entry)) i .1) ⌝ }
 {
     let t = terms::row(value, i);
@@ -187,7 +182,7 @@ fn image_at(value: &[u16], i: usize, below: &[u16], images: usize) -> Image
 
 // The place of the greatest of n terms: from each best so far, its image beside it, a walk to the next.
 pub fn greatest(value: &[u16], n: usize, code: u16, below: &[u16], images: usize) -> usize
-    requires { ⌜ (0 < n) × (n * 10 ≤ length (now value)) × (images * 10 ≤ length (now below)) × Tabled images (now below) ⌝ }
+    requires { ⌜ (0 < n) × (n * row-length ≤ length (now value)) × (images * row-length ≤ length (now below)) × Tabled images (now below) ⌝ }
     ensures { λ r. ⌜ some r ≡ greatest-definition (table-order code (table-of images (now (below .entry)))) (rows (now (value .entry)) 0 n) ⌝ }
 {
     let image = image_at(value, 0, below, images);
@@ -211,7 +206,7 @@ pub fn greatest(value: &[u16], n: usize, code: u16, below: &[u16], images: usize
 
 // The place that the pick code says, of n terms.
 pub fn pick(value: &[u16], n: usize, pick: u16, tables: &[u16], g: Ground) -> usize
-    requires { ⌜ (0 < n) × (n * 10 ≤ length (now value)) × (below-start ≤ length (now tables)) × (g .images * 10 ≤ length (below-in (now tables))) × Tabled (g .images) (below-in (now tables)) ⌝ }
+    requires { ⌜ (0 < n) × (n * row-length ≤ length (now value)) × (below-start ≤ length (now tables)) × (g .images * row-length ≤ length (below-in (now tables))) × Tabled (g .images) (below-in (now tables)) ⌝ }
     ensures { λ r. ⌜ some r ≡ by-code (table-order (g .code) (table-of (g .images) (below-in (now (tables .entry))))) pick (rows (now (value .entry)) 0 n) ⌝ }
 {
     match pick {

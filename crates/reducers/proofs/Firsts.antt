@@ -12,6 +12,7 @@ use Rattle.definitions.specs.Lists.{_and_, choose}
 use Rattle.definitions.specs.Monomial.{Exponents, Monomial, Term, Vector, divides?, divides-monomial?, no-term}
 use Rattle.definitions.specs.Layout.{Words, byte, exponents-at, row-at, rows}
 use Rattle.definitions.proofs.Rows.{byte-small, getD-rows, length-rows}
+use Rattle.definitions.specs.Places.{row-length, component-offset, exponents-offset}
 use Rattle.orders.specs.Images.{exponents-raw}
 use Rattle.terms.proofs.Stored.{row-is}
 use Rattle.reducers.specs.Search.{head-raw, Small, Spanned, span-at, first-from, first-dividing}
@@ -79,12 +80,12 @@ raw-is s a h = λ i.
 pub head-is : (s : Words) (r i : ℕ) → Small r s → i < r → getD (rows s 0 r) i no-term .1 ≡ head-raw s i
 head-is s r i h l =
     let z : 0 + i ≡ i = omega arith in
-    ap (λ (t : Term). t .1) (getD-rows s 0 r i no-term l ∙ ap (row-at s) z ∙ row-is s i) ∙ (λ j. (sym (raw-is s (i * 10 + 2) (h i l)) j, getD s (i * 10 + 1) 0))
+    ap (λ (t : Term). t .1) (getD-rows s 0 r i no-term l ∙ ap (row-at s) z ∙ row-is s i) ∙ (λ j. (sym (raw-is s (i * row-length + exponents-offset) (h i l)) j, getD s (i * row-length + component-offset) 0))
 
 -- the span's part holds every row with the component
 pub record Holds (s : ℕ × ℕ) (r i : ℕ) (heads : Words) : Type 0 where
   pub ends : s .1 ≤ r
-  pub inside : (j : ℕ) → j < r → getD heads (j * 10 + 1) 0 ≡ i → (s .0 ≤ j) × (j < s .1)
+  pub inside : (j : ℕ) → j < r → getD heads (j * row-length + component-offset) 0 ≡ i → (s .0 ≤ j) × (j < s .1)
 
 pub span-holds : (k r : ℕ) (spans heads : Words) (i : ℕ) → Spanned k r spans heads → Holds (span-at k r spans i) r i heads
 span-holds k r spans heads i h = go (leb k i) refl
@@ -96,7 +97,7 @@ span-holds k r spans heads i h = go (leb k i) refl
 -- a row outside it has another component
 outside : (s : ℕ × ℕ) (r : ℕ) (heads : Words) (m : Monomial) (k : ℕ) → Small r heads → Holds s r (m .1) heads → k < r → ((s .0 ≤ k) → (k < s .1) → ⊥) → divides-monomial? (getD (rows heads 0 r) k no-term .1) m ≡ false
 outside s r heads m k small h l n =
-    ap (λ x. divides-monomial? x m) (head-is heads r k small l) ∙ ap (λ b. b and divides? (exponents-raw heads (k * 10 + 2)) (m .0)) (ne-eqb (getD heads (k * 10 + 1) 0) (m .1) (λ q. n (h .inside k l q .0) (h .inside k l q .1)))
+    ap (λ x. divides-monomial? x m) (head-is heads r k small l) ∙ ap (λ b. b and divides? (exponents-raw heads (k * row-length + exponents-offset)) (m .0)) (ne-eqb (getD heads (k * row-length + component-offset) 0) (m .1) (λ q. n (h .inside k l q .0) (h .inside k l q .1)))
 
 -- what the search in the span's part found is the first of all; none found: there is none
 pub first-spanned : (s : ℕ × ℕ) (r : ℕ) (heads : Words) (m : Monomial) (j : ℕ) → Small r heads → Holds s r (m .1) heads → j ≡ first-from (λ i. divides-monomial? (head-raw heads i) m) (s .1 - s .0) (s .0) → j < s .1 → j ≡ first-dividing m (rows heads 0 r) 0

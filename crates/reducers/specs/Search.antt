@@ -11,6 +11,7 @@ use Rattle.definitions.specs.Monomial.{Exponents, Monomial, Term, Vector, divid
 use Rattle.definitions.specs.Reducer as definition
 use Rattle.definitions.specs.Reducer.{reducer, lower-order}
 use Rattle.definitions.specs.Layout.{Words}
+use Rattle.definitions.specs.Places.{most-exponent, row-length, component-offset, exponents-offset}
 use Rattle.orders.specs.Images.{exponents-raw}
 use Rattle.terms.specs.Rows.{term-of}
 use Rattle.reducers.specs.declared.Answer.{Answer}
@@ -21,11 +22,11 @@ use Rattle.reducers.specs.declared.Multiple.{Multiple}
 
 -- row i's monomial, its words as they stand
 abbrev pub head-raw : Words → ℕ → Monomial
-head-raw s i = (exponents-raw s (i * 10 + 2), getD s (i * 10 + 1) 0)
+head-raw s i = (exponents-raw s (i * row-length + exponents-offset), getD s (i * row-length + component-offset) 0)
 
 -- every exponent's word is a byte, so that words can be compared as they stand
 abbrev pub Small : ℕ → Words → Type 0
-Small r s = (i : ℕ) → i < r → (j : ℕ) → j < 8 → getD s (i * 10 + 2 + j) 0 < 256
+Small r s = (i : ℕ) → i < r → (j : ℕ) → j < 8 → getD s (i * row-length + exponents-offset + j) 0 < 256
 
 -- the first of n numbers from i on that passes the test; the number behind them if none does
 abbrev pub first-from : (ℕ → Bool) → ℕ → ℕ → ℕ
@@ -47,7 +48,7 @@ span-of x = (x .from, x .to)
 
 -- a component's rows are nowhere else
 abbrev pub Spanned : ℕ → ℕ → Words → Words → Type 0
-Spanned k r spans heads = (i : ℕ) → i < k → (getD spans (i * 2 + 1) 0 ≤ r) × ((j : ℕ) → j < r → getD heads (j * 10 + 1) 0 ≡ i → (getD spans (i * 2) 0 ≤ j) × (j < getD spans (i * 2 + 1) 0))
+Spanned k r spans heads = (i : ℕ) → i < k → (getD spans (i * 2 + 1) 0 ≤ r) × ((j : ℕ) → j < r → getD heads (j * row-length + component-offset) 0 ≡ i → (getD spans (i * 2) 0 ≤ j) × (j < getD spans (i * 2 + 1) 0))
 
 -- ## Answers
 
@@ -67,7 +68,7 @@ answer-of x = answered (x .answer) (x .quotient)
 
 -- 13's test: a product, or none where an exponent is above 255
 abbrev pub formed-term : Term → Option Term
-formed-term t = choose (fits? 255 (t .1 .0)) (some t) none
+formed-term t = choose (fits? most-exponent (t .1 .0)) (some t) none
 
 abbrev pub multiple-of : Multiple → Option Term
 multiple-of x = choose (x .fits) (some (term-of (x .term))) none

@@ -8,6 +8,7 @@ ghost use Rattle.definitions.specs.Monomial.{divides?, divides-monomial?};
 ghost use Rattle.definitions.specs.Reducer.{answer as answer-definition};
 ghost use Rattle.definitions.specs.Run.{multiple as multiple-definition};
 ghost use Rattle.definitions.specs.Layout.{row-at, rows};
+ghost use Rattle.definitions.specs.Places.{row-length};
 ghost use Rattle.monomial.specs.Values.{monomial-of};
 ghost use Rattle.orders.specs.Images.{exponents-raw};
 ghost use Rattle.terms.specs.Rows.{term-of};
@@ -23,7 +24,7 @@ pub enum Answer {
 
 pub struct Found {
     pub answer: Answer,
-    pub quotient: [u8; 8],
+    pub quotient: [u8; words::EXPONENTS_LENGTH],
 }
 
 pub struct Span {
@@ -37,33 +38,39 @@ pub struct Multiple {
 }
 
 // Whether the eight words from at on divide w.
-fn head_divides(heads: &[u16], at: usize, w: [u16; 8]) -> bool
+fn head_divides(heads: &[u16], at: usize, w: [u16; words::EXPONENTS_LENGTH]) -> bool
     requires { ⌜ at + 8 ≤ length (now heads) ⌝ }
     ensures { λ r. ⌜ r ≡ divides? (exponents-raw (now (heads .entry)) at) w ⌝ }
 {
     let mut mark: u16 = 0;
     let mut j = 0;
-    while j < 8 {
+    while j < words::EXPONENTS_LENGTH {
         mark = monomial::mark_above(mark, heads[at + j], w[j]);
         j += 1;
     }
     mark == 0
 }
 
-fn row_divides(heads: &[u16], i: usize, component: u16, w: [u16; 8]) -> bool
-    requires { ⌜ i * 10 + 10 ≤ length (now heads) ⌝ }
+fn row_divides(heads: &[u16], i: usize, component: u16, w: [u16; words::EXPONENTS_LENGTH]) -> bool
+    requires { ⌜ i * row-length + row-length ≤ length (now heads) ⌝ }
     ensures { λ r. ⌜ r ≡ divides-monomial? (head-raw (now (heads .entry)) i) (w, component) ⌝ }
 {
-    let at = i * 10;
-    if heads[at + 1] != component {
+    let at = i * words::ROW_LENGTH;
+    if heads[at + words::COMPONENT_OFFSET] != component {
         return false;
     }
-    head_divides(heads, at + 2, w)
+    head_divides(heads, at + words::EXPONENTS_OFFSET, w)
 }
 
 // The first row that divides, of those from row `from` up to row `to`; `to` if there is none.
-fn first_in(heads: &[u16], from: usize, to: usize, component: u16, w: [u16; 8]) -> usize
-    requires { ⌜ to * 10 ≤ length (now heads) ⌝ }
+fn first_in(
+    heads: &[u16],
+    from: usize,
+    to: usize,
+    component: u16,
+    w: [u16; words::EXPONENTS_LENGTH],
+) -> usize
+    requires { ⌜ to * row-length ≤ length (now heads) ⌝ }
     ensures { λ r. ⌜ r ≡ first-from (λ j. divides-monomial? (head-raw (now (heads .entry)) j) (w, component)) (to - from) from ⌝ }
 {
     let mut i = from;
@@ -76,12 +83,6 @@ fn first_in(heads: &[u16], from: usize, to: usize, component: u16, w: [u16; 8]) 
     i
 }
 
-fn place(x: u16) -> usize
-    ensures { λ r. ⌜ r ≡ x ⌝ }
-{
-    x as usize
-}
-
 // The part of the table for a component: all of it if the spans have none.
 fn span_for(spans: &[u16], k: usize, r: usize, component: u16) -> Span
     requires { ⌜ k * 2 ≤ length (now spans) ⌝ }
@@ -92,14 +93,14 @@ fn span_for(spans: &[u16], k: usize, r: usize, component: u16) -> Span
         return Span { from: 0, to: r };
     }
     Span {
-        from: place(spans[i * 2]),
-        to: place(spans[i * 2 + 1]),
+        from: words::place(spans[i * 2]),
+        to: words::place(spans[i * 2 + 1]),
     }
 }
 
 // The lowest row of the table, from 0, that divides the monomial; r if none does.
 pub fn lowest(heads: &[u16], r: usize, spans: &[u16], k: usize, m: Monomial) -> usize
-    requires { ⌜ (r * 10 ≤ length (now heads)) × (k * 2 ≤ length (now spans)) × Small r (now heads) × Spanned k r (now spans) (now heads) ⌝ }
+    requires { ⌜ (r * row-length ≤ length (now heads)) × (k * 2 ≤ length (now spans)) × Small r (now heads) × Spanned k r (now spans) (now heads) ⌝ }
     ensures { λ x. ⌜ x ≡ first-dividing (monomial-of m) (rows (now (heads .entry)) 0 r) 0 ⌝ }
 {
     let component = m.component;
@@ -115,19 +116,19 @@ pub fn lowest(heads: &[u16], r: usize, spans: &[u16], k: usize, m: Monomial) -> 
 
 // The lowest element whose leading monomial divides, with its row's coefficient.
 pub fn search(heads: &[u16], r: usize, spans: &[u16], k: usize, m: Monomial) -> Answer
-    requires { ⌜ (r * 10 ≤ length (now heads)) × (k * 2 ≤ length (now spans)) × Small r (now heads) × Spanned k r (now spans) (now heads) ⌝ }
+    requires { ⌜ (r * row-length ≤ length (now heads)) × (k * 2 ≤ length (now spans)) × Small r (now heads) × Spanned k r (now spans) (now heads) ⌝ }
     ensures { λ x. ⌜ x ≡ searched (rows (now (heads .entry)) 0 r) (monomial-of m) ⌝ }
 {
     let j = lowest(heads, r, spans, k, m);
     if j == r {
         return Answer::LowerOrder;
     }
-    Answer::Reducer(j + 1, heads[j * 10])
+    Answer::Reducer(j + 1, heads[j * words::ROW_LENGTH])
 }
 
 // The reducer rule.
 pub fn reducer_of(heads: &[u16], r: usize, spans: &[u16], k: usize, p: u16, t: Term) -> Found
-    requires { ⌜ (0 < p) × (r * 10 ≤ length (now heads)) × (k * 2 ≤ length (now spans)) × Small r (now heads) × Spanned k r (now spans) (now heads) ⌝ }
+    requires { ⌜ (0 < p) × (r * row-length ≤ length (now heads)) × (k * 2 ≤ length (now spans)) × Small r (now heads) × Spanned k r (now spans) (now heads) ⌝ }
     ensures { λ x. ⌜ answer-of x ≡ answer-definition p (rows (now (heads .entry)) 0 r) (term-of t) ⌝ }
 {
     let m = t.monomial;
@@ -151,8 +152,8 @@ pub fn reducer_of(heads: &[u16], r: usize, spans: &[u16], k: usize, p: u16, t: T
 }
 
 // Row i times c and q, with 13's test.
-pub fn multiplied(s: &[u16], i: usize, c: u16, q: [u8; 8], p: u16) -> Multiple
-    requires { ⌜ (0 < p) × (i * 10 + 10 ≤ length (now s)) ⌝ }
+pub fn multiplied(s: &[u16], i: usize, c: u16, q: [u8; words::EXPONENTS_LENGTH], p: u16) -> Multiple
+    requires { ⌜ (0 < p) × (i * row-length + row-length ≤ length (now s)) ⌝ }
     ensures { λ x. ⌜ multiple-of x ≡ formed-term (multiple-definition p c q (row-at (now (s .entry)) i)) ⌝ }
 {
     let t = terms::row(s, i);

@@ -19,6 +19,7 @@ use Rattle.definitions.specs.Layout.{Words, rows}
 use Rattle.terms.proofs.Stored.{rows-closed}
 use Rattle.ending.proofs.Picking.{picks-by-code}
 use Rattle.definitions.proofs.Rows.{length-rows}
+use Rattle.definitions.specs.Places.{row-length}
 use Rattle.reduce.specs.declared.Ground.{Ground}
 use Rattle.runs.specs.Stages.{run-of, reduced-by, without-step, without-words, step-of, Room, Rooms}
 
@@ -45,7 +46,7 @@ module _ (R : Reduction) (f : Level) (drops : Bool) (r : Run) (j c : ℕ) (q : E
 
 -- ## The part without one
 
-module _ (S : Stage) (value : Words) (n : ℕ) (vector : Words) (v i : ℕ) (l : i < n) (fits : n * 10 ≤ length value) where
+module _ (S : Stage) (value : Words) (n : ℕ) (vector : Words) (v i : ℕ) (l : i < n) (fits : n * row-length ≤ length value) where
   pub left-out : (stops : Bool)
       → step-of (S .below) (S .reduction .p) (without-step stops n v) (without-words stops value n i) vector ≡ without-reducer stops S (run-of value n vector v) i
   left-out true = refl

@@ -10,6 +10,7 @@ use Rattle.definitions.specs.Stage.{Reduction, Stage}
 use Rattle.definitions.specs.Run as definition
 use Rattle.definitions.specs.Run.{Run, by-code, add-products, on}
 use Rattle.definitions.specs.Layout.{Words, rows}
+use Rattle.definitions.specs.Places.{row-length}
 use Rattle.orders.specs.Images.{table-of, table-order, Tabled}
 use Rattle.terms.specs.Rows.{closed}
 use Rattle.reduce.specs.Grounds.{reduction-of, family-of, ends-in, below-in}
@@ -35,15 +36,15 @@ run-of value n vector v = record { value = rows value 0 n; vector = rows vector 
 
 -- a table of images
 pub record Images (n : ℕ) (table : Words) : Type 0 where
-  pub fits : n * 10 ≤ length table
+  pub fits : n * row-length ≤ length table
   pub tabled : Tabled n table
 
 -- each slice has room for the value and for the vector: a finished vector is sorted where the value was, a value without a reducer where the vector was
 pub record Rooms (g : Ground) (value vector : Words) : Type 0 where
-  pub value-fits : g .working * 10 ≤ length value
-  pub vector-fits : g .vector * 10 ≤ length vector
-  pub sorted-fits : g .vector * 10 ≤ length value
-  pub left-fits : g .working * 10 ≤ length vector
+  pub value-fits : g .working * row-length ≤ length value
+  pub vector-fits : g .vector * row-length ≤ length vector
+  pub sorted-fits : g .vector * row-length ≤ length value
+  pub left-fits : g .working * row-length ≤ length vector
 
 -- ## A step
 
@@ -61,7 +62,7 @@ without-step false n v = On (n - 1) v
 
 abbrev pub without-words : Bool → Words → ℕ → ℕ → Words
 without-words true s n i = s
-without-words false s n i = closed s (i * 10) (n * 10 - 10)
+without-words false s n i = closed s (i * row-length) (n * row-length - row-length)
 
 abbrev pub step-of : (Monomial → Monomial → Comparison) → ℕ → Step → Words → Words → Result definition.Step
 step-of order p (On n v) value vector = done (on (run-of value n vector v))

@@ -10,6 +10,7 @@ ghost use Rattle.definitions.specs.Monomial as definition;
 ghost use Rattle.definitions.specs.Order.{Comparison};
 ghost use Rattle.definitions.specs.Run.{step as step-definition, runs, run as run-definition, add-products};
 ghost use Rattle.definitions.specs.Layout.{rows};
+ghost use Rattle.definitions.specs.Places.{row-length};
 ghost use Rattle.ending.specs.Good.{good?};
 ghost use Rattle.ending.specs.Well.{Well};
 ghost use Rattle.monomial.specs.Values.{monomial-of};
@@ -55,7 +56,7 @@ fn reduced(
     drops: bool,
     j: usize,
     c: u16,
-    q: [u8; 8],
+    q: [u8; words::EXPONENTS_LENGTH],
 ) -> Step
     requires { ⌜ Tables g (now tables) × Family g (now level) (ends-in (now tables)) × Rooms g (now value) (now vector) × (n ≤ g .working) × (v ≤ g .vector) × (1 ≤ j) × (j ≤ g .r) ⌝ }
     ensures { λ x. ⌜ ((order : definition.Monomial → definition.Monomial → Comparison) → step-of order (g .p) x (now (value .exit)) (now (vector .exit)) ≡ reduced-by (reduction-of g (now (tables .entry))) (family-of g (now (level .entry)) (ends-in (now (tables .entry)))) drops (run-of (now (value .entry)) n (now (vector .entry)) v) j c q) × Room g x ⌝ }
@@ -79,7 +80,7 @@ fn reduced(
 
 // The picked term, at place i, has no reducer: the run stops, or drops it.
 fn without_reducer(value: &mut [u16], n: usize, v: usize, i: usize, stops: bool) -> Step
-    requires { ⌜ (i < n) × (n * 10 ≤ length (now value)) ⌝ }
+    requires { ⌜ (i < n) × (n * row-length ≤ length (now value)) ⌝ }
     ensures { λ x. ⌜ x ≡ without-step stops n v × (now (value .exit) ≡ without-words stops (now (value .entry)) n i) ⌝ }
 {
     if stops {
@@ -179,7 +180,7 @@ fn started(
     drops: bool,
     m: Monomial,
 ) -> Added
-    requires { ⌜ Tables g (now tables) × Family g (now level) (ends-in (now tables)) × (g .working * 10 ≤ length (now value)) × (1 ≤ monomial-of m .1) × (monomial-of m .1 ≤ g .r) ⌝ }
+    requires { ⌜ Tables g (now tables) × Family g (now level) (ends-in (now tables)) × (g .working * row-length ≤ length (now value)) × (1 ≤ monomial-of m .1) × (monomial-of m .1 ≤ g .r) ⌝ }
     ensures { λ x. ⌜ (added-of x (now (value .exit)) ≡ add-products (reduction-of g (now (tables .entry))) drops 1 (monomial-of m .0) (definition.vector-of (family-of g (now (level .entry)) (ends-in (now (tables .entry)))) (monomial-of m .1)) []) × Within (g .working) x ⌝ }
 {
     let q = m.exponents;

@@ -13,6 +13,7 @@ use Rattle.definitions.specs.Lists.{_and_, _then_, choose}
 use Rattle.definitions.specs.Problem.{Bytes}
 use Rattle.definitions.specs.Layout.{Words, padded, zeros}
 use Rattle.definitions.specs.Sheet.{sheet}
+use Rattle.definitions.specs.Places.{state-length, value-length, sheet-length}
 use Rattle.terms.specs.Rows.{cleared}
 use Rattle.all_levels.proofs.Lifting.{emptied}
 use Rattle.printing.specs.Lines.{Printed}
@@ -30,24 +31,24 @@ module _ (file : Bytes) (state work : Words) (out : Bytes) where
   abbrev pub Called : ℕ → ℕ → Words → Words → Bytes → Type 0
   Called number size s w o = (n : ℕ) × (_≡_ {A = Option Told} (some (number, size, s, w, o)) (called n file state work out))
 
-  pub short-state : length state < 206095 → Called 16 0 state work out
-  short-state h = (0, sym (ap (λ a. by-tests 0 a (leb 5120 (length work)) (leb 1400000 (length out))) (lt-leb 206095 (length state) h)))
+  pub short-state : length state < state-length → Called 16 0 state work out
+  short-state h = (0, sym (ap (λ a. by-tests 0 a (leb value-length (length work)) (leb sheet-length (length out))) (lt-leb state-length (length state) h)))
 
-  module _ (long : 206095 ≤ length state) where
-    pub short-work : length work < 5120 → Called 16 0 state work out
-    short-work h = (0, sym (λ i. by-tests 0 (le-leb 206095 (length state) long i) (lt-leb 5120 (length work) h i) (leb 1400000 (length out))))
+  module _ (long : state-length ≤ length state) where
+    pub short-work : length work < value-length → Called 16 0 state work out
+    short-work h = (0, sym (λ i. by-tests 0 (le-leb state-length (length state) long i) (lt-leb value-length (length work) h i) (leb sheet-length (length out))))
 
-    module _ (wide : 5120 ≤ length work) where
-      pub short-out : length out < 1400000 → Called 16 0 state work out
-      short-out h = (0, sym (λ i. by-tests 0 (le-leb 206095 (length state) long i) (le-leb 5120 (length work) wide i) (lt-leb 1400000 (length out) h i)))
+    module _ (wide : value-length ≤ length work) where
+      pub short-out : length out < sheet-length → Called 16 0 state work out
+      short-out h = (0, sym (λ i. by-tests 0 (le-leb state-length (length state) long i) (le-leb value-length (length work) wide i) (lt-leb sheet-length (length out) h i)))
 
-      pub whole-sheet : 1400000 ≤ length out → (n : ℕ) (bytes : Bytes) → some bytes ≡ sheet document-01 n file → (r : ℕ) (s w : Words) (o : Bytes) → Printed out o 0 r bytes
+      pub whole-sheet : sheet-length ≤ length out → (n : ℕ) (bytes : Bytes) → some bytes ≡ sheet document-01 n file → (r : ℕ) (s w : Words) (o : Bytes) → Printed out o 0 r bytes
           → length s ≡ length state → length w ≡ length work → length o ≡ length out → Called 0 r (cleared s 0) (cleared w 0) (cleared o r)
       whole-sheet h n bytes e r s w o p ls lw lo = (
         n,
         (λ i. some (0, sum-none i, emptied (length state) s ls i, emptied (length work) w lw i, behind out o r bytes p lo i))
             ∙ ap (λ x. x then λ bs. some (0, length bs, zeros state, zeros work, padded (length out) bs)) e
-            ∙ sym (λ i. by-tests n (le-leb 206095 (length state) long i) (le-leb 5120 (length work) wide i) (le-leb 1400000 (length out) h i)),
+            ∙ sym (λ i. by-tests n (le-leb state-length (length state) long i) (le-leb value-length (length work) wide i) (le-leb sheet-length (length out) h i)),
       )
         where
           sum-none : r ≡ length bytes

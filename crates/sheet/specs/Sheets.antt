@@ -8,6 +8,7 @@ use Rattle.definitions.specs.Lists.{_and_, _then_, choose}
 use Rattle.definitions.specs.Problem.{Bytes}
 use Rattle.definitions.specs.Layout.{Words, padded, zeros}
 use Rattle.definitions.specs.Sheet.{sheet}
+use Rattle.definitions.specs.Places.{state-length, value-length, sheet-length}
 use Rattle.sheet.specs.declared.Answer.{Answer}
 
 -- number, how many bytes; the words of the state and of the work area, the buffer's bytes
@@ -20,5 +21,5 @@ told r state work out = some (r .number, r .length, state, work, out)
 -- 16: "a lent buffer is shorter than its limit"; else the sheet, zeros after it and in the other buffers
 abbrev pub called : ℕ → Bytes → Words → Words → Bytes → Option Told
 called n file state work out =
-    choose (leb 206_095 (length state) and leb 5_120 (length work) and leb 1_400_000 (length out))
+    choose (leb state-length (length state) and leb value-length (length work) and leb sheet-length (length out))
     (sheet document-01 n file then λ bytes. some (0, length bytes, zeros state, zeros work, padded (length out) bytes)) (some (16, 0, state, work, out))

@@ -27,19 +27,19 @@ fn clear(out: &mut [u8], from: usize)
 pub fn sheet(file: &[u8], state: &mut [u16], work: &mut [u16], out: &mut [u8]) -> Answer
     ensures { λ r. ⌜ ((n : ℕ) × (told r (now (state .exit)) (now (work .exit)) (now (out .exit)) ≡ called n (now (file .entry)) (now (state .entry)) (now (work .entry)) (now (out .entry)))) ⌝ }
 {
-    if state.len() < 206095 {
+    if state.len() < words::STATE_LENGTH {
         return Answer {
             number: 16,
             length: 0,
         };
     }
-    if work.len() < 5120 {
+    if work.len() < words::VALUE_LENGTH {
         return Answer {
             number: 16,
             length: 0,
         };
     }
-    if out.len() < 1400000 {
+    if out.len() < words::SHEET_LENGTH {
         return Answer {
             number: 16,
             length: 0,

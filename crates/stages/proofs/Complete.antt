@@ -14,6 +14,7 @@ use Rattle.definitions.specs.Stage.{highest}
 use Rattle.definitions.specs.State.{State, empty, sound?, up-to}
 use Rattle.definitions.specs.Layout.{Words, level-at, levels-at, decode, words-sound?, all-words-sound?, holds-state?, meant}
 use Rattle.definitions.proofs.Tests.{and-left, and-right}
+use Rattle.definitions.specs.Places.{all-levels, state-length}
 use Rattle.orders.specs.Images.{table-of, table-order}
 use Rattle.orders.proofs.Induced.{All-led, no-levels, table-order-is, sound-led}
 use Rattle.levels.specs.Places.{parameters-at, count-at, count-below}
@@ -54,9 +55,9 @@ meant-is s t = go (holds-state? document-01 s) t
 pub holds-sound : (s : Words) → T (holds-state? document-01 s) → T (sound? document-01 (decode document-01 s))
 holds-sound s t =
     and-right (all-words-sound? document-01 s (getD s 4 0)) (sound? document-01 (decode document-01 s))
-    (and-right (leb (getD s 4 0) 10) (all-words-sound? document-01 s (getD s 4 0) and sound? document-01 (decode document-01 s)) t)
+    (and-right (leb (getD s 4 0) all-levels) (all-words-sound? document-01 s (getD s 4 0) and sound? document-01 (decode document-01 s)) t)
 
-module _ (s : Words) (long : 206095 ≤ length s) (t : T (holds-state? document-01 s)) where
+module _ (s : Words) (long : state-length ≤ length s) (t : T (holds-state? document-01 s)) where
   -- how many vectors a complete level has
   pub complete-count : (k : ℕ) → k < getD s 4 0 → length (level-at document-01 s k) ≡ count-at s k
   complete-count k h = level-count s long k (omega (arith, height s long t)) (complete-cut s long t k h .0)
@@ -65,7 +66,7 @@ module _ (s : Words) (long : 206095 ≤ length s) (t : T (holds-state? document-
   pub words-below : (k : ℕ) → k ≤ getD s 4 0 → T (all-words-sound? document-01 s k)
   words-below k h =
       go (getD s 4 0) k h
-      (and-left (all-words-sound? document-01 s (getD s 4 0)) (sound? document-01 (decode document-01 s)) (and-right (leb (getD s 4 0) 10) (all-words-sound? document-01 s (getD s 4 0) and sound? document-01 (decode document-01 s)) t))
+      (and-left (all-words-sound? document-01 s (getD s 4 0)) (sound? document-01 (decode document-01 s)) (and-right (leb (getD s 4 0) all-levels) (all-words-sound? document-01 s (getD s 4 0) and sound? document-01 (decode document-01 s)) t))
     where
       go : (h k : ℕ) → k ≤ h → T (all-words-sound? document-01 s h) → T (all-words-sound? document-01 s k)
       go zero k l u = let z : 0 ≡ k = omega arith in subst (λ n. T (all-words-sound? document-01 s n)) z u

@@ -7,11 +7,12 @@ ghost use lib.Dec.{T};
 ghost use lib.ListN.{length, getD};
 ghost use Rattle.definitions.specs.Limits.{document-01};
 ghost use Rattle.definitions.specs.Layout.{holds-state?};
+ghost use Rattle.definitions.specs.Places.{all-levels, state-length, table-length, spans-length};
 ghost use Rattle.stages.specs.Prepared.{components-at, Ready-pair, Led};
 
 // The tables of images over levels 0 to k − 1, above, and over levels 0 to k − 2, below.
 pub fn fill_tables(below: &mut [u16], above: &mut [u16], state: &[u16], k: usize)
-    requires { ⌜ (206095 ≤ length (now state)) × T (holds-state? document-01 (now state)) × (k ≤ getD (now state) 4 0) × (1280 ≤ length (now below)) × (1280 ≤ length (now above)) ⌝ }
+    requires { ⌜ (state-length ≤ length (now state)) × T (holds-state? document-01 (now state)) × (k ≤ getD (now state) 4 0) × (table-length ≤ length (now below)) × (table-length ≤ length (now above)) ⌝ }
     ensures { λ _. ⌜ Ready-pair (now (state .entry)) k (now (below .exit)) (now (above .exit)) ⌝ }
 {
     let mut j: usize = 0;
@@ -23,23 +24,23 @@ pub fn fill_tables(below: &mut [u16], above: &mut [u16], state: &[u16], k: usize
 
 // How many components level k's module has.
 pub fn components_of(state: &[u16], k: usize) -> usize
-    requires { ⌜ (206095 ≤ length (now state)) × (k ≤ 10) ⌝ }
+    requires { ⌜ (state-length ≤ length (now state)) × (k ≤ all-levels) ⌝ }
     ensures { λ r. ⌜ r ≡ components-at (now (state .entry)) k ⌝ }
 {
     if k == 0 {
-        return levels::place(state[3]);
+        return words::place(state[3]);
     }
-    levels::place(state[5 + (k - 1) * 129])
+    words::place(state[words::HEADER_LENGTH + (k - 1) * words::COUNTS_LENGTH])
 }
 
 // The leading rows of level k and the spans of its components.
 pub fn fill_leads(heads: &mut [u16], spans: &mut [u16], state: &[u16], k: usize)
-    requires { ⌜ (206095 ≤ length (now state)) × T (holds-state? document-01 (now state)) × (k < getD (now state) 4 0) × (1280 ≤ length (now heads)) × (258 ≤ length (now spans)) ⌝ }
+    requires { ⌜ (state-length ≤ length (now state)) × T (holds-state? document-01 (now state)) × (k < getD (now state) 4 0) × (table-length ≤ length (now heads)) × (spans-length ≤ length (now spans)) ⌝ }
     ensures { λ _. ⌜ Led (now (state .entry)) k (now (heads .exit)) (now (spans .exit)) ⌝ }
 {
     let r = levels::count_of(state, k);
-    let start = 1295 + k * 20480;
-    let ends = 6 + k * 129;
+    let start = words::ROWS_START + k * words::LEVEL_LENGTH;
+    let ends = words::ENDS_START + k * words::COUNTS_LENGTH;
     let p = state[0];
     tables::fill_heads(heads, &state[start..], &state[ends..], r, p);
     let c = components_of(state, k);

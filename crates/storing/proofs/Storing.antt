@@ -9,6 +9,7 @@ use lib.Seq.{getD-drop}
 use Rattle.definitions.specs.Limits.{document-01}
 use Rattle.definitions.specs.Layout.{Words, rows, encode, decode, all-words-sound?}
 use Rattle.definitions.proofs.Rows.{rows-same}
+use Rattle.definitions.specs.Places.{all-levels, row-length, state-length, count-offset, ends-length}
 use Rattle.terms.proofs.Stored.{same-row}
 use Rattle.tables.specs.Cuts.{start-of}
 use Rattle.tables.proofs.Cutting.{cut-more}
@@ -20,23 +21,23 @@ use Rattle.lift.specs.Vectors.{lifted-vectors}
 use Rattle.storing.specs.Stored.{Kept-apart, with-level, Appended, Added}
 
 -- rows from row used on, of a slice that begins there
-rows-there : (out : Words) (used n : ℕ) → rows (drop 128 out) used n ≡ rows (drop (128 + used * 10) out) 0 n
+rows-there : (out : Words) (used n : ℕ) → rows (drop ends-length out) used n ≡ rows (drop (ends-length + used * row-length) out) 0 n
 rows-there out used n =
-    sym (rows-same (drop 128 out) (drop (128 + used * 10) out) used 0 n λ k h.
-    same-row (drop 128 out) (drop (128 + used * 10) out) (used + k) (0 + k) λ j l.
-    let e : 128 + used * 10 + ((0 + k) * 10 + j) ≡ 128 + ((used + k) * 10 + j) = omega arith in
-    getD-drop (128 + used * 10) out ((0 + k) * 10 + j) 0 ∙ ap (λ i. getD out i 0) e ∙ sym (getD-drop 128 out ((used + k) * 10 + j) 0))
+    sym (rows-same (drop ends-length out) (drop (ends-length + used * row-length) out) used 0 n λ k h.
+    same-row (drop ends-length out) (drop (ends-length + used * row-length) out) (used + k) (0 + k) λ j l.
+    let e : ends-length + used * row-length + ((0 + k) * row-length + j) ≡ ends-length + ((used + k) * row-length + j) = omega arith in
+    getD-drop (ends-length + used * row-length) out ((0 + k) * row-length + j) 0 ∙ ap (λ i. getD out i 0) e ∙ sym (getD-drop ends-length out ((used + k) * row-length + j) 0))
 
-module _ (s out : Words) (k count : ℕ) (long : 206095 ≤ length s) (inside : k < 10) (a : Kept-apart count out) where
+module _ (s out : Words) (k count : ℕ) (long : state-length ≤ length s) (inside : k < all-levels) (a : Kept-apart count out) where
   -- what the loop has come to
   abbrev pub Storing : Words → ℕ → ℕ → Type 0
   Storing z i used = (i ≤ count) × (used ≡ start-of out i) × Grown s z k i used (lifted-vectors out i)
 
   pub storing-on : (z : Words) (i used end : ℕ) (part z′ : Words) → i < count → Storing z i used → end ≡ getD out i 0
-      → part ≡ drop (128 + used * 10) out → z′ ≡ appended z k i used (rows part 0 (end - used)) (end - used) → Storing z′ (i + 1) end
+      → part ≡ drop (ends-length + used * row-length) out → z′ ≡ appended z k i used (rows part 0 (end - used)) (end - used) → Storing z′ (i + 1) end
   storing-on z i used end part z′ h (m, u, g) e p w =
       let more : lifted-vectors out (i + 1) ≡ lifted-vectors out i ++ rows part 0 (end - used) ∷ [] =
-      cut-more i (drop 128 out) out (omega (arith, a .few, a .long)) ∙ (λ j. lifted-vectors out i ++ rows (drop 128 out) (u′ j) (e′ j - u′ j) ∷ [])
+      cut-more i (drop ends-length out) out (omega (arith, a .few, a .long)) ∙ (λ j. lifted-vectors out i ++ rows (drop ends-length out) (u′ j) (e′ j - u′ j) ∷ [])
       ∙ ap (λ v. lifted-vectors out i ++ v ∷ []) (rows-there out used (end - used) ∙ ap (λ d. rows d 0 (end - used)) (sym p)) in
       let full : used + (end - used) ≡ end = omega (arith, fill, e′′) in
       let next : end ≡ start-of out (i + 1) = e ∙ ap (start-of out) one in (
@@ -75,11 +76,11 @@ module _ (s z out : Words) (k count : ℕ) (A : Appended s z k count out) where
   pub stored-whole : encode document-01 (length z) (finished z k count) ≡ encode document-01 (length s) (with-level s k count out)
   stored-whole = λ j. encode document-01 (A .1 .long j) (state-is j)
 
-  pub added : 206095 ≤ length s → k < 10 → (t : Words) → t ≡ set (set z (5 + k * 129) count) 4 (k + 1) → Added s t k count out
+  pub added : state-length ≤ length s → k < all-levels → (t : Words) → t ≡ set (set z (count-offset k) count) 4 (k + 1) → Added s t k count out
   added long inside t e =
-      let l : 206095 ≤ length z = omega (arith, long, A .1 .long) in
-      let n = length-set z (5 + k * 129) count in
-      let m = length-set (set z (5 + k * 129) count) 4 (k + 1) in
+      let l : state-length ≤ length z = omega (arith, long, A .1 .long) in
+      let n = length-set z (count-offset k) count in
+      let m = length-set (set z (count-offset k) count) 4 (k + 1) in
       record {
         long = ap length e ∙ m ∙ n ∙ A .1 .long;
         height = ap (λ y. getD y 4 0) e ∙ new-height z k count l inside (A .1 .words-below) (A .1 .words);

@@ -19,6 +19,7 @@ use Rattle.definitions.specs.Tree as definition
 use Rattle.definitions.specs.Tree.{Cache, Lift-term, finish, cached, if-product-fits, lift-product, lift-list, lift-term, open-subtree, or-open, lift-by}
 use Rattle.definitions.specs.Layout.{Words, row-at, rows}
 use Rattle.definitions.proofs.Rows.{Eight, length-rows, rows-first}
+use Rattle.definitions.specs.Places.{row-length}
 use Rattle.terms.specs.Rows.{written}
 use Rattle.terms.proofs.Stored.{written-here, written-other}
 use Rattle.reduce.specs.Grounds.{first-row, Family, family-of}
@@ -131,12 +132,12 @@ module _ (S : Stage) (room left others : ℕ) (k : Cache) (m : Monomial) where
 -- ## The parts of an opened subtree
 
 -- its first term, stored
-pub first-stored : (s z : Words) (a : ℕ) (t : Term) → z ≡ written s a t → Eight (t .1 .0) → a * 10 + 10 ≤ length s → rows z a 1 ≡ t ∷ []
+pub first-stored : (s z : Words) (a : ℕ) (t : Term) → z ≡ written s a t → Eight (t .1 .0) → a * row-length + row-length ≤ length s → rows z a 1 ≡ t ∷ []
 first-stored s z a t e h l =
     let y : suc 0 ≡ 1 = omega arith in
     rows-first z a 0 ∙ (λ i. (ap (λ x. row-at x a) e ∙ written-here s a t l h) i ∷ rows-none z (suc a) i)
 
-pub stored-keeps : (s z : Words) (a : ℕ) (t : Term) → z ≡ written s a t → Eight (t .1 .0) → a * 10 + 10 ≤ length s → Keeps a s z
+pub stored-keeps : (s z : Words) (a : ℕ) (t : Term) → z ≡ written s a t → Eight (t .1 .0) → a * row-length + row-length ≤ length s → Keeps a s z
 stored-keeps s z a t e h l k m = ap (λ x. row-at x k) e ∙ written-other s a t k l h (λ q. omega arith)
 
 rest-rows : (s : Words) (a e : ℕ) → rest (rows s a (e - a)) ≡ rows s (a + 1) (e - (a + 1))

@@ -8,6 +8,7 @@ use Rattle.definitions.specs.Stage.{Stage}
 use Rattle.definitions.specs.Tree as definition
 use Rattle.definitions.specs.Tree.{Lift-list, add-result, lift-list, lift-term}
 use Rattle.definitions.specs.Layout.{Words, rows}
+use Rattle.definitions.specs.Places.{row-length}
 use Rattle.sums.specs.declared.Stored.{Stored}
 use Rattle.sums.specs.declared.Stored.the-variants.{Rows as Stored-rows, Full}
 use Rattle.reduce.specs.Grounds.{ends-in, above-in, Tables, Family}
@@ -22,8 +23,8 @@ use Rattle.subtrees.specs.declared.Sum.the-variants.{Rows, Refused}
 -- the tables, the level below, the work area and the cache, of which so many rows are used
 pub record Lent (g : Ground) (used room : ℕ) (cache work level tables-at : Words) : Type 0 where
   pub used-fits : used ≤ room
-  pub room-fits : room * 10 ≤ length cache
-  pub tree-fits : g .tree * 10 ≤ length work
+  pub room-fits : room * row-length ≤ length cache
+  pub tree-fits : g .tree * row-length ≤ length work
   pub tree-small : g .tree < 65536
   pub tables : Tables g tables-at
   pub family : Family g level (ends-in tables-at)

@@ -8,6 +8,7 @@ ghost use lib.ListN.{length, getD};
 ghost use Rattle.definitions.specs.Field.{minus};
 ghost use Rattle.definitions.specs.Layout.{rows};
 ghost use Rattle.definitions.specs.Tree.{lift-term as term-definition, lift-list as list-definition, open-subtree as open-definition};
+ghost use Rattle.definitions.specs.Places.{row-length, ends-start};
 ghost use Rattle.monomial.specs.Values.{monomial-of};
 ghost use Rattle.orders.specs.Images.{table-of, table-order};
 ghost use Rattle.reduce.specs.Grounds.{ends-start, first-row, ends-in, above-in, Tables};
@@ -35,12 +36,6 @@ pub struct Span {
     pub to: usize,
 }
 
-fn place(x: u16) -> usize
-    ensures { λ r. ⌜ (r ≡ x) × (r < 65536) ⌝ }
-{
-    x as usize
-}
-
 fn first_of(ends: &[u16], j: usize) -> usize
     requires { ⌜ (1 ≤ j) × (j ≤ length (now ends)) ⌝ }
     ensures { λ r. ⌜ (r ≡ first-row (now (ends .entry)) j) × (r < 65536) ⌝ }
@@ -48,7 +43,7 @@ fn first_of(ends: &[u16], j: usize) -> usize
     if j == 1 {
         return 0;
     }
-    place(ends[j - 2])
+    words::place(ends[j - 2])
 }
 
 // The rows of f_j, all of them.
@@ -58,7 +53,7 @@ pub fn rows_of(tables: &[u16], j: usize) -> Span
 {
     let ends = &tables[reduce::ENDS..];
     let from = first_of(ends, j);
-    let to = place(ends[j - 1]);
+    let to = words::place(ends[j - 1]);
     Span { from, to }
 }
 
@@ -94,7 +89,7 @@ fn add_subtree(
     tables: &[u16],
     g: Ground,
 ) -> Sum
-    requires { ⌜ Tables g (now tables) × (a + n ≤ g .tree) × (g .tree * 10 ≤ length (now work)) × (room * 10 ≤ length (now cache)) × Sized (a + n) (g .tree) room s × Images (g .r) (above-in (now tables)) ⌝ }
+    requires { ⌜ Tables g (now tables) × (a + n ≤ g .tree) × (g .tree * row-length ≤ length (now work)) × (room * row-length ≤ length (now cache)) × Sized (a + n) (g .tree) room s × Images (g .r) (above-in (now tables)) ⌝ }
     ensures { λ z. ⌜ (sum-of a z (now (cache .entry)) (now (work .exit)) ≡ added-to (table-order (g .code) (table-of (g .r) (above-in (now (tables .entry))))) (g .p) (g .tree) a c (rows (now (work .entry)) a n) (subtree-of (g .tree) s (now (cache .entry)) (now (work .entry)))) × Fits a (g .tree) room z × Keeps a (now (work .entry)) (now (work .exit)) ⌝ }
 {
     let above = &tables[reduce::ABOVE..];
@@ -201,7 +196,7 @@ fn open_subtree(
     m: Monomial,
     j: usize,
     c: u16,
-    q: [u8; 8],
+    q: [u8; words::EXPONENTS_LENGTH],
     level: &[u16],
     tables: &[u16],
     g: Ground,
@@ -263,7 +258,7 @@ fn lift_list(
     a: usize,
     n: usize,
     c: u16,
-    q: [u8; 8],
+    q: [u8; words::EXPONENTS_LENGTH],
     from: usize,
     to: usize,
     level: &[u16],
@@ -271,7 +266,7 @@ fn lift_list(
     g: Ground,
     left: usize,
 ) -> Sum
-    requires { ⌜ Lent g used room (now cache) (now work) (now level) (now tables) × (a + n ≤ g .tree) × (to * 10 ≤ length (now level)) × (to < 65536) ⌝ }
+    requires { ⌜ Lent g used room (now cache) (now work) (now level) (now tables) × (a + n ≤ g .tree) × (to * row-length ≤ length (now level)) × (to < 65536) ⌝ }
     ensures { λ z. ⌜ (sum-of a z (now (cache .exit)) (now (work .exit)) ≡ list-definition (stage-of g (now (level .entry)) (now (tables .entry)) (table-order (g .code) (table-of (g .r) (above-in (now (tables .entry)))))) (term-definition (stage-of g (now (level .entry)) (now (tables .entry)) (table-order (g .code) (table-of (g .r) (above-in (now (tables .entry)))))) room left) a c q (rows (now (level .entry)) from (to - from)) (rows (now (work .entry)) a n, cache-of used (now (cache .entry)))) × Fits a (g .tree) room z × Keeps a (now (work .entry)) (now (work .exit)) ⌝ }
 {
     let mut k = n;

@@ -14,6 +14,7 @@ use Rattle.definitions.specs.Problem.{Bytes}
 use Rattle.definitions.specs.Layout.{Words, padded, zeros}
 use Rattle.definitions.specs.Sheet.{sheet}
 use Rattle.definitions.proofs.Steady.{answered?}
+use Rattle.definitions.specs.Places.{state-length, value-length, sheet-length}
 use Rattle.demands.proofs.Results.{some-is}
 use Rattle.io.specs.Counts.{Counts}
 use Rattle.sheet.specs.Sheets.{Told, called}
@@ -31,8 +32,8 @@ module _ (state work : Words) (out : Bytes) (number size : ℕ) (s w : Words) (o
       let fits : size ≤ length o = omega (arith, l, ap length p, length-append bytes (replicate (length out - length bytes) 0)) in
       ((fits, sym (length-take-le size o fits)), ap some ((λ i. take (l i) (p i)) ∙ take-append-seam bytes (replicate (length out - length bytes) 0)))
 
-  module _ (n : ℕ) (file : Bytes) (a : 206095 ≤ length state) (b : 5120 ≤ length work) (c : 1400000 ≤ length out) where
+  module _ (n : ℕ) (file : Bytes) (a : state-length ≤ length state) (b : value-length ≤ length work) (c : sheet-length ≤ length out) where
     pub sheet-in-front : _≡_ {A = Option Told} (some (number, size, s, w, o)) (called n file state work out) → Counts size o × (some (take size o) ≡ sheet document-01 n file)
     sheet-in-front e =
         from-bytes (sheet document-01 n file)
-        (e ∙ (λ i. choose (le-leb 206095 (length state) a i and le-leb 5120 (length work) b i and le-leb 1400000 (length out) c i) (left (sheet document-01 n file)) (some (16, 0, state, work, out))))
+        (e ∙ (λ i. choose (le-leb state-length (length state) a i and le-leb value-length (length work) b i and le-leb sheet-length (length out) c i) (left (sheet document-01 n file)) (some (16, 0, state, work, out))))

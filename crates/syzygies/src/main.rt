@@ -7,6 +7,7 @@ ghost use Prim.Native.Nat.{ℕ, _≤_};
 ghost use lib.ListN.{length, take};
 ghost use Rattle.definitions.specs.Limits.{document-01};
 ghost use Rattle.definitions.specs.Sheet.{sheet as sheet-definition};
+ghost use Rattle.definitions.specs.Places.{state-length, value-length, vector-length, read-length, sheet-length};
 ghost use Rattle.io.specs.Counts.{Counts};
 use libc::STDERR_FILENO;
 use libc::STDIN_FILENO;
@@ -14,7 +15,7 @@ use libc::STDOUT_FILENO;
 
 // The sheet of the bytes that were read stands in front of out: how many bytes it has.
 fn answer(file: &[u8], state: &mut [u16], work: &mut [u16], out: &mut [u8]) -> usize
-    requires { ⌜ (206095 ≤ length (now state)) × (5120 ≤ length (now work)) × (1400000 ≤ length (now out)) ⌝ }
+    requires { ⌜ (state-length ≤ length (now state)) × (value-length ≤ length (now work)) × (sheet-length ≤ length (now out)) ⌝ }
     ensures { λ r. ⌜ Counts r (now (out .exit)) ⌝ }
     ensures { λ r. ⌜ ((n : ℕ) × (some (take r (now (out .exit))) ≡ sheet-definition document-01 n (now (file .entry)))) ⌝ }
 {
@@ -23,29 +24,29 @@ fn answer(file: &[u8], state: &mut [u16], work: &mut [u16], out: &mut [u8]) -> u
 }
 
 // One byte more than the longest file: with it a longer one is told from it.
-fn file_bytes() -> [u8; 65537]
-    ensures { λ r. ⌜ 65537 ≡ length r ⌝ }
+fn file_bytes() -> [u8; words::READ_LENGTH]
+    ensures { λ r. ⌜ read-length ≡ length r ⌝ }
 {
-    [0; 65537]
+    [0; words::READ_LENGTH]
 }
 
 // Of the buffers only the lengths matter; as functions they are kept out of main's proof.
-fn state_words() -> [u16; 206095]
-    ensures { λ r. ⌜ 206095 ≡ length r ⌝ }
+fn state_words() -> [u16; words::STATE_LENGTH]
+    ensures { λ r. ⌜ state-length ≡ length r ⌝ }
 {
-    [0; 206095]
+    [0; words::STATE_LENGTH]
 }
 
-fn work_words() -> [u16; 5120]
-    ensures { λ r. ⌜ 5120 ≡ length r ⌝ }
+fn work_words() -> [u16; words::VALUE_LENGTH]
+    ensures { λ r. ⌜ vector-length ≡ length r ⌝ }
 {
-    [0; 5120]
+    [0; words::VECTOR_LENGTH]
 }
 
-fn out_bytes() -> [u8; 1400000]
-    ensures { λ r. ⌜ 1400000 ≡ length r ⌝ }
+fn out_bytes() -> [u8; words::SHEET_LENGTH]
+    ensures { λ r. ⌜ sheet-length ≡ length r ⌝ }
 {
-    [0; 1400000]
+    [0; words::SHEET_LENGTH]
 }
 
 fn main() {
@@ -56,7 +57,7 @@ fn main() {
     let n = io::read_full(STDIN_FILENO, &mut file);
     // read_full stops at the input's end and where a read fails: what came before a failure is not the file
     let mut more = [0u8; 1];
-    if n < 65537 && libc::read(STDIN_FILENO, &mut more) != 0 {
+    if n < words::READ_LENGTH && libc::read(STDIN_FILENO, &mut more) != 0 {
         io::write_all(
             STDERR_FILENO,
             &[b'n', b'o', b't', b' ', b'r', b'e', b'a', b'd', b'\n'],

@@ -6,6 +6,7 @@ use Rattle.definitions.specs.Lists.{choose}
 use Rattle.definitions.specs.Field.{inverse}
 use Rattle.definitions.specs.Monomial.{Term, Level}
 use Rattle.definitions.specs.Layout.{Words, vectors-at}
+use Rattle.definitions.specs.Places.{row-length}
 
 -- the first row of vector j, counted from 0: the end of the one before it
 abbrev pub start-of : Words → ℕ → ℕ
@@ -15,7 +16,7 @@ start-of ends (suc j) = getD ends j 0
 -- r vectors that are not empty and lie inside the level
 pub record Cut (r : ℕ) (level ends : Words) : Type 0 where
   pub ends-fit : r ≤ length ends
-  pub rows-fit : (j : ℕ) → j < r → getD ends j 0 * 10 ≤ length level
+  pub rows-fit : (j : ℕ) → j < r → getD ends j 0 * row-length ≤ length level
   pub filled : (j : ℕ) → j < r → start-of ends j < getD ends j 0
 
 abbrev pub cut-level : ℕ → Words → Words → Level

@@ -8,6 +8,7 @@ use native.Mathlib.Numerals.{add-one}
 use lib.ListN.{length, take, drop, getD, set, replicate, length-drop, length-replicate, getD-replicate, List·getD-append, drop-of-length-le}
 use lib.Seq.{paste, paste-zero, paste-suc, length-paste, length-paste-head, take-suc, drop-cons, set-at, getD-append-add, getD-take, getD-drop, length-take-le, take-all}
 use Rattle.definitions.specs.Layout.{Words}
+use Rattle.definitions.specs.Places.{row-length}
 use Rattle.terms.specs.Rows.{closed, opened, cleared}
 
 -- ## What stands where in a list into which another was pasted
@@ -35,54 +36,54 @@ module _ {A : Type 0} where
 
 -- ## Moved down by ten
 
-pub length-closed : (s : Words) (a end : ℕ) → a ≤ end → end + 10 ≤ length s → length (closed s a end) ≡ length s
-length-closed s a end h k = length-paste s a (drop (a + 10) s) (end - a) (omega arith) (omega (arith, length-drop (a + 10) s))
+pub length-closed : (s : Words) (a end : ℕ) → a ≤ end → end + row-length ≤ length s → length (closed s a end) ≡ length s
+length-closed s a end h k = length-paste s a (drop (a + row-length) s) (end - a) (omega arith) (omega (arith, length-drop (a + row-length) s))
 
 pub closed-none : (s : Words) (a : ℕ) → s ≡ closed s a a
-closed-none s a = let z : a - a ≡ 0 = omega arith in rw z (paste-zero s a (drop (a + 10) s))
+closed-none s a = let z : a - a ≡ 0 = omega arith in rw z (paste-zero s a (drop (a + row-length) s))
 
 -- the word to move has not been overwritten
-pub closed-ahead : (s : Words) (a k : ℕ) → a ≤ k → k + 10 < length s → getD (closed s a k) (k + 10) 0 ≡ getD s (k + 10) 0
-closed-ahead s a k h l = getD-paste-above s a (drop (a + 10) s) (k - a) (k + 10) 0 (omega arith) (omega (arith, length-drop (a + 10) s)) (omega arith)
+pub closed-ahead : (s : Words) (a k : ℕ) → a ≤ k → k + row-length < length s → getD (closed s a k) (k + row-length) 0 ≡ getD s (k + row-length) 0
+closed-ahead s a k h l = getD-paste-above s a (drop (a + row-length) s) (k - a) (k + row-length) 0 (omega arith) (omega (arith, length-drop (a + row-length) s)) (omega arith)
 
-pub closed-more : (s : Words) (a k : ℕ) → a ≤ k → k + 10 < length s → set (closed s a k) k (getD s (k + 10) 0) ≡ closed s a (k + 1)
+pub closed-more : (s : Words) (a k : ℕ) → a ≤ k → k + row-length < length s → set (closed s a k) k (getD s (k + row-length) 0) ≡ closed s a (k + 1)
 closed-more s a k h l =
     let e : a + (k - a) ≡ k = omega arith in
     let f : suc (k - a) ≡ k + 1 - a = omega arith in
-    let g : a + 10 + (k - a) ≡ k + 10 = omega arith in
+    let g : a + row-length + (k - a) ≡ k + row-length = omega arith in
     (λ i. set (closed s a k) (sym e i) (getD s (sym g i) 0))
-    ∙ ap (set (closed s a k) (a + (k - a))) (sym (getD-drop (a + 10) s (k - a) 0))
-    ∙ paste-suc s a (drop (a + 10) s) (k - a) 0 (omega arith) (omega (arith, length-drop (a + 10) s))
-    ∙ ap (paste s a (drop (a + 10) s)) f
+    ∙ ap (set (closed s a k) (a + (k - a))) (sym (getD-drop (a + row-length) s (k - a) 0))
+    ∙ paste-suc s a (drop (a + row-length) s) (k - a) 0 (omega arith) (omega (arith, length-drop (a + row-length) s))
+    ∙ ap (paste s a (drop (a + row-length) s)) f
 
 -- ## Moved up by ten
 
-pub length-opened : (s : Words) (a end : ℕ) → a ≤ end → end + 10 ≤ length s → length (opened s a end) ≡ length s
-length-opened s a end h k = length-paste s (a + 10) (drop a s) (end - a) (omega arith) (omega (arith, length-drop a s))
+pub length-opened : (s : Words) (a end : ℕ) → a ≤ end → end + row-length ≤ length s → length (opened s a end) ≡ length s
+length-opened s a end h k = length-paste s (a + row-length) (drop a s) (end - a) (omega arith) (omega (arith, length-drop a s))
 
 pub opened-none : (s : Words) (end : ℕ) → s ≡ opened s end end
-opened-none s end = let z : end - end ≡ 0 = omega arith in rw z (paste-zero s (end + 10) (drop end s))
+opened-none s end = let z : end - end ≡ 0 = omega arith in rw z (paste-zero s (end + row-length) (drop end s))
 
 -- the word to move has not been overwritten
-pub opened-below : (s : Words) (a end m : ℕ) → a ≤ end → end + 10 ≤ length s → m < a + 10 → getD (opened s a end) m 0 ≡ getD s m 0
-opened-below s a end m h k l = getD-paste-below s (a + 10) (drop a s) (end - a) m 0 (omega arith) l
+pub opened-below : (s : Words) (a end m : ℕ) → a ≤ end → end + row-length ≤ length s → m < a + row-length → getD (opened s a end) m 0 ≡ getD s m 0
+opened-below s a end m h k l = getD-paste-below s (a + row-length) (drop a s) (end - a) m 0 (omega arith) l
 
-pub opened-more : (s : Words) (m end : ℕ) → m < end → end + 10 ≤ length s → set (opened s (m + 1) end) (m + 10) (getD s m 0) ≡ opened s m end
+pub opened-more : (s : Words) (m end : ℕ) → m < end → end + row-length ≤ length s → set (opened s (m + 1) end) (m + row-length) (getD s m 0) ≡ opened s m end
 opened-more s m end h k =
-    let e₁ : m + 1 + 10 ≡ suc (m + 10) = omega arith in
+    let e₁ : m + 1 + row-length ≡ suc (m + row-length) = omega arith in
     let e₂ : end - m ≡ suc (end - (m + 1)) = omega arith in
-    let e₃ : m + 10 + (end - m) ≡ m + 1 + 10 + (end - (m + 1)) = omega arith in
-    let l₁ : m + 10 < length s = omega arith in
+    let e₃ : m + row-length + (end - m) ≡ m + 1 + row-length + (end - (m + 1)) = omega arith in
+    let l₁ : m + row-length < length s = omega arith in
     let l₂ : m < length s = omega arith in
-    let p : Words = take (m + 10) s in
+    let p : Words = take (m + row-length) s in
     let q : Words = take (end - (m + 1)) (drop (m + 1) s) in
-    let z : Words = drop (m + 1 + 10 + (end - (m + 1))) s in
-    let lp : length p ≡ m + 10 = length-take-le (m + 10) s (omega arith) in
-    let a : take (m + 1 + 10) s ≡ p ++ (getD s (m + 10) 0 ∷ []) = rw e₁ (take-suc s (m + 10) 0 l₁) in
+    let z : Words = drop (m + 1 + row-length + (end - (m + 1))) s in
+    let lp : length p ≡ m + row-length = length-take-le (m + row-length) s (omega arith) in
+    let a : take (m + 1 + row-length) s ≡ p ++ (getD s (m + row-length) 0 ∷ []) = rw e₁ (take-suc s (m + row-length) 0 l₁) in
     let b : take (end - m) (drop m s) ≡ getD s m 0 ∷ q = rw (e₂, drop-cons s m 0 l₂, add-one) in
-    let x : opened s (m + 1) end ≡ p ++ getD s (m + 10) 0 ∷ (q ++ z) = simp (a, append-assoc) in
+    let x : opened s (m + 1) end ≡ p ++ getD s (m + row-length) 0 ∷ (q ++ z) = simp (a, append-assoc) in
     let y : opened s m end ≡ p ++ getD s m 0 ∷ (q ++ z) = simp (b, e₃, append-assoc) in
-    ap (λ u. set u (m + 10) (getD s m 0)) x ∙ set-at p (getD s (m + 10) 0) (q ++ z) (getD s m 0) (m + 10) lp ∙ sym y
+    ap (λ u. set u (m + row-length) (getD s m 0)) x ∙ set-at p (getD s (m + row-length) 0) (q ++ z) (getD s m 0) (m + row-length) lp ∙ sym y
 
 -- ## Cleared
 

@@ -12,6 +12,7 @@ use borrow.Author.Tests.{le-leb}
 use Rattle.definitions.specs.Lists.{_and_}
 use Rattle.definitions.specs.Monomial.{Exponents, same-exponents?, fits?}
 use Rattle.definitions.proofs.Rows.{Eight}
+use Rattle.definitions.specs.Places.{most-exponent}
 use Rattle.lists.specs.Marking.{Marked, unmarked, marked-at}
 
 equal-here : (b : Bool) → not b ≡ false → b ≡ true
@@ -49,9 +50,9 @@ same-marked a b mark la lb m = go mark m
     go zero m = sym (same-all a b (lb ∙ sym la) (λ k h. unmarked f 8 0 m refl k (omega arith)))
     go (suc n) m = let s = marked-at f 8 (suc n) m (λ e. omega arith) in eqb·suc-zero n ∙ sym (same-none a b (s .0) (lb ∙ sym la) (omega (arith, s .1)) (s .2))
 
-fits-255 : (e : Exponents) → ((k : ℕ) → k < length e → getD e k 0 < 256) → fits? 255 e ≡ true
+fits-255 : (e : Exponents) → ((k : ℕ) → k < length e → getD e k 0 < 256) → fits? most-exponent e ≡ true
 fits-255 [] h = refl
-fits-255 (x ∷ e) h = let y : x < 256 = h 0 (omega arith) in (λ i. le-leb x 255 (omega arith) i and fits? 255 e) ∙ fits-255 e (λ k l. h (suc k) (omega arith))
+fits-255 (x ∷ e) h = let y : x < 256 = h 0 (omega arith) in (λ i. le-leb x most-exponent (omega arith) i and fits? most-exponent e) ∙ fits-255 e (λ k l. h (suc k) (omega arith))
 
 pub eight-small : (e : Exponents) → length e ≡ 8 → ((k : ℕ) → k < 8 → getD e k 0 < 256) → Eight e
 eight-small e l h = record { eight = l; small = subst T (sym (fits-255 e (λ k m. h k (omega arith)))) tt }

@@ -12,58 +12,59 @@ use Rattle.definitions.specs.Lists.{without}
 use Rattle.definitions.specs.Monomial.{Term, Vector}
 use Rattle.definitions.specs.Layout.{Words, byte, exponents-at, row-at, rows, row-of}
 use Rattle.definitions.proofs.Rows.{Eight, row-spelled, length-row, exponents-are, getD-exponents, length-rows, getD-rows, rows-same, rows-last}
+use Rattle.definitions.specs.Places.{row-length, component-offset, exponents-offset}
 use Rattle.terms.specs.Rows.{written, closed, opened, let-in}
 use Rattle.terms.proofs.Moving.{getD-paste-in, getD-paste-below, getD-paste-above, length-opened}
 
 -- ## One row
 
-pub row-is : (s : Words) (i : ℕ) → row-at s i ≡ (getD s (i * 10) 0, (exponents-at s (i * 10 + 2), getD s (i * 10 + 1) 0))
+pub row-is : (s : Words) (i : ℕ) → row-at s i ≡ (getD s (i * row-length) 0, (exponents-at s (i * row-length + exponents-offset), getD s (i * row-length + component-offset) 0))
 unfolding row-at
 row-is s i = refl
 
 -- rows whose words are the same
-pub same-row : (s z : Words) (i k : ℕ) → ((j : ℕ) → j < 10 → getD z (k * 10 + j) 0 ≡ getD s (i * 10 + j) 0) → row-at z k ≡ row-at s i
+pub same-row : (s z : Words) (i k : ℕ) → ((j : ℕ) → j < row-length → getD z (k * row-length + j) 0 ≡ getD s (i * row-length + j) 0) → row-at z k ≡ row-at s i
 unfolding row-at
 same-row s z i k w = λ x. (first x, (rest x, second x))
   where
-    first : getD z (k * 10) 0 ≡ getD s (i * 10) 0
+    first : getD z (k * row-length) 0 ≡ getD s (i * row-length) 0
     first =
-        let p : k * 10 ≡ k * 10 + 0 = omega arith in
-        let q : i * 10 + 0 ≡ i * 10 = omega arith in
+        let p : k * row-length ≡ k * row-length + 0 = omega arith in
+        let q : i * row-length + 0 ≡ i * row-length = omega arith in
         ap (λ n. getD z n 0) p ∙ w 0 (omega arith) ∙ ap (λ n. getD s n 0) q
 
-    second : getD z (k * 10 + 1) 0 ≡ getD s (i * 10 + 1) 0
+    second : getD z (k * row-length + component-offset) 0 ≡ getD s (i * row-length + component-offset) 0
     second = w 1 (omega arith)
 
-    rest : exponents-at z (k * 10 + 2) ≡ exponents-at s (i * 10 + 2)
-    rest = exponents-are z (k * 10 + 2) (exponents-at s (i * 10 + 2)) refl one
+    rest : exponents-at z (k * row-length + exponents-offset) ≡ exponents-at s (i * row-length + exponents-offset)
+    rest = exponents-are z (k * row-length + exponents-offset) (exponents-at s (i * row-length + exponents-offset)) refl one
       where
-        one : (j : ℕ) → j < 8 → byte (getD z (k * 10 + 2 + j) 0) ≡ getD (exponents-at s (i * 10 + 2)) j 0
+        one : (j : ℕ) → j < 8 → byte (getD z (k * row-length + exponents-offset + j) 0) ≡ getD (exponents-at s (i * row-length + exponents-offset)) j 0
         one j h =
-            let p : k * 10 + 2 + j ≡ k * 10 + (2 + j) = omega arith in
-            let q : i * 10 + (2 + j) ≡ i * 10 + 2 + j = omega arith in
-            ap byte (ap (λ n. getD z n 0) p ∙ w (2 + j) (omega arith) ∙ ap (λ n. getD s n 0) q) ∙ sym (getD-exponents s (i * 10 + 2) j h)
+            let p : k * row-length + exponents-offset + j ≡ k * row-length + (2 + j) = omega arith in
+            let q : i * row-length + (2 + j) ≡ i * row-length + exponents-offset + j = omega arith in
+            ap byte (ap (λ n. getD z n 0) p ∙ w (2 + j) (omega arith) ∙ ap (λ n. getD s n 0) q) ∙ sym (getD-exponents s (i * row-length + exponents-offset) j h)
 
-pub written-here : (s : Words) (i : ℕ) (t : Term) → i * 10 + 10 ≤ length s → Eight (t .1 .0) → row-at (written s i t) i ≡ t
+pub written-here : (s : Words) (i : ℕ) (t : Term) → i * row-length + row-length ≤ length s → Eight (t .1 .0) → row-at (written s i t) i ≡ t
 written-here s i t h e = same-row (row-of t) (written s i t) 0 i word ∙ row-spelled (row-of t) 0 t [] e (sym (append-nil (row-of t)))
   where
-    word : (j : ℕ) → j < 10 → getD (written s i t) (i * 10 + j) 0 ≡ getD (row-of t) (0 * 10 + j) 0
-    word j l = let q : j ≡ 0 * 10 + j = omega arith in getD-paste-in s (i * 10) (row-of t) 10 j 0 h (omega (arith, length-row t e)) l ∙ ap (λ n. getD (row-of t) n 0) q
+    word : (j : ℕ) → j < row-length → getD (written s i t) (i * row-length + j) 0 ≡ getD (row-of t) (0 * row-length + j) 0
+    word j l = let q : j ≡ 0 * row-length + j = omega arith in getD-paste-in s (i * row-length) (row-of t) row-length j 0 h (omega (arith, length-row t e)) l ∙ ap (λ n. getD (row-of t) n 0) q
 
-pub written-other : (s : Words) (i : ℕ) (t : Term) (k : ℕ) → i * 10 + 10 ≤ length s → Eight (t .1 .0) → (k ≡ i → ⊥) → row-at (written s i t) k ≡ row-at s k
+pub written-other : (s : Words) (i : ℕ) (t : Term) (k : ℕ) → i * row-length + row-length ≤ length s → Eight (t .1 .0) → (k ≡ i → ⊥) → row-at (written s i t) k ≡ row-at s k
 written-other s i t k h e d = same-row s (written s i t) k k (λ j l. go j l (ltb k i) (ltb→lt k i) (nltb→le k i))
   where
-    go : (j : ℕ) → j < 10 → (b : Bool) → (T b → k < i) → (T (not b) → i ≤ k) → getD (written s i t) (k * 10 + j) 0 ≡ getD s (k * 10 + j) 0
-    go j l true f g = let u : k < i = f tt in getD-paste-below s (i * 10) (row-of t) 10 (k * 10 + j) 0 (omega arith) (omega arith)
-    go j l false f g = let u : i ≤ k = g tt in let n : k ≡ i → ⊥ = d in getD-paste-above s (i * 10) (row-of t) 10 (k * 10 + j) 0 h (omega (arith, length-row t e)) (omega arith)
+    go : (j : ℕ) → j < row-length → (b : Bool) → (T b → k < i) → (T (not b) → i ≤ k) → getD (written s i t) (k * row-length + j) 0 ≡ getD s (k * row-length + j) 0
+    go j l true f g = let u : k < i = f tt in getD-paste-below s (i * row-length) (row-of t) row-length (k * row-length + j) 0 (omega arith) (omega arith)
+    go j l false f g = let u : i ≤ k = g tt in let n : k ≡ i → ⊥ = d in getD-paste-above s (i * row-length) (row-of t) row-length (k * row-length + j) 0 h (omega (arith, length-row t e)) (omega arith)
 
-pub length-written : (s : Words) (i : ℕ) (t : Term) → i * 10 + 10 ≤ length s → Eight (t .1 .0) → length (written s i t) ≡ length s
-length-written s i t h e = length-paste s (i * 10) (row-of t) 10 h (omega (arith, length-row t e))
+pub length-written : (s : Words) (i : ℕ) (t : Term) → i * row-length + row-length ≤ length s → Eight (t .1 .0) → length (written s i t) ≡ length s
+length-written s i t h e = length-paste s (i * row-length) (row-of t) row-length h (omega (arith, length-row t e))
 
 -- ## The first n rows
 
 -- one of them stored anew
-pub rows-written : (s : Words) (n i : ℕ) (t : Term) → i * 10 + 10 ≤ length s → Eight (t .1 .0) → rows (written s i t) 0 n ≡ set (rows s 0 n) i t
+pub rows-written : (s : Words) (n i : ℕ) (t : Term) → i * row-length + row-length ≤ length s → Eight (t .1 .0) → rows (written s i t) 0 n ≡ set (rows s 0 n) i t
 rows-written s n i t h e = ext-getD t (rows (written s i t) 0 n) (set (rows s 0 n) i t) (length-rows (written s i t) 0 n ∙ sym (length-set (rows s 0 n) i t ∙ length-rows s 0 n)) at
   where
     at : (k : ℕ) → k < length (rows (written s i t) 0 n) → getD (rows (written s i t) 0 n) k t ≡ getD (set (rows s 0 n) i t) k t
@@ -78,26 +79,26 @@ rows-written s n i t h e = ext-getD t (rows (written s i t) 0 n) (set (rows s 0 
             written-other s i t (0 + k) h e d ∙ sym (getD-set-other (rows s 0 n) i k t t ne ∙ getD-rows s 0 n k t m)
 
 -- one stored behind them
-pub rows-appended : (s : Words) (n : ℕ) (t : Term) → n * 10 + 10 ≤ length s → Eight (t .1 .0) → rows (written s n t) 0 (n + 1) ≡ rows s 0 n ++ t ∷ []
+pub rows-appended : (s : Words) (n : ℕ) (t : Term) → n * row-length + row-length ≤ length s → Eight (t .1 .0) → rows (written s n t) 0 (n + 1) ≡ rows s 0 n ++ t ∷ []
 rows-appended s n t h e =
     let z : 0 + n ≡ n = omega arith in
     rows-last (written s n t) 0 n
     ∙ (λ i. rows-same s (written s n t) 0 0 n (λ k l. written-other s n t (0 + k) h e (λ q. omega arith)) i ++ (ap (row-at (written s n t)) z ∙ written-here s n t h e) i ∷ [])
 
 -- one taken out, those above it moved down
-closed-row : (s : Words) (n i k : ℕ) → i < n → n * 10 ≤ length s → i ≤ k → k + 1 < n → row-at (closed s (i * 10) (n * 10 - 10)) k ≡ row-at s (k + 1)
-closed-row s n i k h l m o = same-row s (closed s (i * 10) (n * 10 - 10)) (k + 1) k word
+closed-row : (s : Words) (n i k : ℕ) → i < n → n * row-length ≤ length s → i ≤ k → k + 1 < n → row-at (closed s (i * row-length) (n * row-length - row-length)) k ≡ row-at s (k + 1)
+closed-row s n i k h l m o = same-row s (closed s (i * row-length) (n * row-length - row-length)) (k + 1) k word
   where
-    word : (j : ℕ) → j < 10 → getD (closed s (i * 10) (n * 10 - 10)) (k * 10 + j) 0 ≡ getD s ((k + 1) * 10 + j) 0
+    word : (j : ℕ) → j < row-length → getD (closed s (i * row-length) (n * row-length - row-length)) (k * row-length + j) 0 ≡ getD s ((k + 1) * row-length + j) 0
     word j q =
-        let e : k * 10 + j ≡ i * 10 + ((k - i) * 10 + j) = omega arith in
-        let f : i * 10 + 10 + ((k - i) * 10 + j) ≡ (k + 1) * 10 + j = omega arith in
-        ap (λ x. getD (closed s (i * 10) (n * 10 - 10)) x 0) e
-        ∙ getD-paste-in s (i * 10) (drop (i * 10 + 10) s) (n * 10 - 10 - i * 10) ((k - i) * 10 + j) 0 (omega arith) (omega (arith, length-drop (i * 10 + 10) s)) (omega arith)
-        ∙ getD-drop (i * 10 + 10) s ((k - i) * 10 + j) 0 ∙ ap (λ x. getD s x 0) f
+        let e : k * row-length + j ≡ i * row-length + ((k - i) * row-length + j) = omega arith in
+        let f : i * row-length + row-length + ((k - i) * row-length + j) ≡ (k + 1) * row-length + j = omega arith in
+        ap (λ x. getD (closed s (i * row-length) (n * row-length - row-length)) x 0) e
+        ∙ getD-paste-in s (i * row-length) (drop (i * row-length + row-length) s) (n * row-length - row-length - i * row-length) ((k - i) * row-length + j) 0 (omega arith) (omega (arith, length-drop (i * row-length + row-length) s)) (omega arith)
+        ∙ getD-drop (i * row-length + row-length) s ((k - i) * row-length + j) 0 ∙ ap (λ x. getD s x 0) f
 
-closed-under : (s : Words) (n i k : ℕ) → i < n → n * 10 ≤ length s → k < i → row-at (closed s (i * 10) (n * 10 - 10)) k ≡ row-at s k
-closed-under s n i k h l m = same-row s (closed s (i * 10) (n * 10 - 10)) k k (λ j q. getD-paste-below s (i * 10) (drop (i * 10 + 10) s) (n * 10 - 10 - i * 10) (k * 10 + j) 0 (omega arith) (omega arith))
+closed-under : (s : Words) (n i k : ℕ) → i < n → n * row-length ≤ length s → k < i → row-at (closed s (i * row-length) (n * row-length - row-length)) k ≡ row-at s k
+closed-under s n i k h l m = same-row s (closed s (i * row-length) (n * row-length - row-length)) k k (λ j q. getD-paste-below s (i * row-length) (drop (i * row-length + row-length) s) (n * row-length - row-length - i * row-length) (k * row-length + j) 0 (omega arith) (omega arith))
 
 -- what stands where without member i
 getD-without-under : (v : Vector) (i k : ℕ) (d : Term) → i < length v → k < i → getD (without i v) k d ≡ getD v k d
@@ -113,74 +114,74 @@ getD-without-over v i k d h l =
 pub length-without : (v : Vector) (i : ℕ) → i < length v → length (without i v) ≡ length v - 1
 length-without v i h = length-append (take i v) (drop (suc i) v) ∙ omega (arith, length-take-le i v (omega arith), length-drop (suc i) v)
 
-pub rows-closed : (s : Words) (n i : ℕ) → i < n → n * 10 ≤ length s → rows (closed s (i * 10) (n * 10 - 10)) 0 (n - 1) ≡ without i (rows s 0 n)
+pub rows-closed : (s : Words) (n i : ℕ) → i < n → n * row-length ≤ length s → rows (closed s (i * row-length) (n * row-length - row-length)) 0 (n - 1) ≡ without i (rows s 0 n)
 rows-closed s n i h l = ext-getD (row-at s 0) left (without i (rows s 0 n)) same at
   where
     left : Vector
-    left = rows (closed s (i * 10) (n * 10 - 10)) 0 (n - 1)
+    left = rows (closed s (i * row-length) (n * row-length - row-length)) 0 (n - 1)
 
     inside : i < length (rows s 0 n)
     inside = omega (arith, length-rows s 0 n)
 
     same : length left ≡ length (without i (rows s 0 n))
-    same = length-rows (closed s (i * 10) (n * 10 - 10)) 0 (n - 1) ∙ sym (length-without (rows s 0 n) i inside ∙ ap (λ x. x - 1) (length-rows s 0 n))
+    same = length-rows (closed s (i * row-length) (n * row-length - row-length)) 0 (n - 1) ∙ sym (length-without (rows s 0 n) i inside ∙ ap (λ x. x - 1) (length-rows s 0 n))
 
     at : (k : ℕ) → k < length left → getD left k (row-at s 0) ≡ getD (without i (rows s 0 n)) k (row-at s 0)
-    at k m = let o : k < n - 1 = omega (arith, length-rows (closed s (i * 10) (n * 10 - 10)) 0 (n - 1)) in getD-rows (closed s (i * 10) (n * 10 - 10)) 0 (n - 1) k (row-at s 0) o ∙ go o (ltb k i) (ltb→lt k i) (nltb→le k i)
+    at k m = let o : k < n - 1 = omega (arith, length-rows (closed s (i * row-length) (n * row-length - row-length)) 0 (n - 1)) in getD-rows (closed s (i * row-length) (n * row-length - row-length)) 0 (n - 1) k (row-at s 0) o ∙ go o (ltb k i) (ltb→lt k i) (nltb→le k i)
       where
         z : 0 + k ≡ k
         z = omega arith
 
-        go : k < n - 1 → (b : Bool) → (T b → k < i) → (T (not b) → i ≤ k) → row-at (closed s (i * 10) (n * 10 - 10)) (0 + k) ≡ getD (without i (rows s 0 n)) k (row-at s 0)
+        go : k < n - 1 → (b : Bool) → (T b → k < i) → (T (not b) → i ≤ k) → row-at (closed s (i * row-length) (n * row-length - row-length)) (0 + k) ≡ getD (without i (rows s 0 n)) k (row-at s 0)
         go o true f g =
-            ap (row-at (closed s (i * 10) (n * 10 - 10))) z ∙ closed-under s n i k h l (f tt)
+            ap (row-at (closed s (i * row-length) (n * row-length - row-length))) z ∙ closed-under s n i k h l (f tt)
             ∙ sym (getD-without-under (rows s 0 n) i k (row-at s 0) inside (f tt) ∙ getD-rows s 0 n k (row-at s 0) (omega arith) ∙ ap (row-at s) z)
         go o false f g =
             let y : 0 + (k + 1) ≡ k + 1 = omega arith in
-            ap (row-at (closed s (i * 10) (n * 10 - 10))) z ∙ closed-row s n i k h l (g tt) (omega arith)
+            ap (row-at (closed s (i * row-length) (n * row-length - row-length))) z ∙ closed-row s n i k h l (g tt) (omega arith)
             ∙ sym (getD-without-over (rows s 0 n) i k (row-at s 0) inside (g tt) ∙ getD-rows s 0 n (k + 1) (row-at s 0) (omega arith) ∙ ap (row-at s) y)
 
 -- a coefficient changed in place
-pub rows-coefficient : (s : Words) (n i c : ℕ) → i < n → n * 10 ≤ length s → rows (set s (i * 10) c) 0 n ≡ set (rows s 0 n) i (c, row-at s i .1)
+pub rows-coefficient : (s : Words) (n i c : ℕ) → i < n → n * row-length ≤ length s → rows (set s (i * row-length) c) 0 n ≡ set (rows s 0 n) i (c, row-at s i .1)
 unfolding row-at
-rows-coefficient s n i c h l = ext-getD (row-at s 0) (rows (set s (i * 10) c) 0 n) (set (rows s 0 n) i new) (length-rows (set s (i * 10) c) 0 n ∙ sym (length-set (rows s 0 n) i new ∙ length-rows s 0 n)) at
+rows-coefficient s n i c h l = ext-getD (row-at s 0) (rows (set s (i * row-length) c) 0 n) (set (rows s 0 n) i new) (length-rows (set s (i * row-length) c) 0 n ∙ sym (length-set (rows s 0 n) i new ∙ length-rows s 0 n)) at
   where
     new : Term
     new = (c, row-at s i .1)
 
-    here : row-at (set s (i * 10) c) i ≡ (c, row-at s i .1)
-    here = λ x. (getD-set-same s (i * 10) c 0 (omega arith) x, (exps x, getD-set-other s (i * 10) (i * 10 + 1) c 0 (λ e. omega arith) x))
+    here : row-at (set s (i * row-length) c) i ≡ (c, row-at s i .1)
+    here = λ x. (getD-set-same s (i * row-length) c 0 (omega arith) x, (exps x, getD-set-other s (i * row-length) (i * row-length + component-offset) c 0 (λ e. omega arith) x))
       where
-        exps : exponents-at (set s (i * 10) c) (i * 10 + 2) ≡ exponents-at s (i * 10 + 2)
-        exps = exponents-are (set s (i * 10) c) (i * 10 + 2) (exponents-at s (i * 10 + 2)) refl (λ j q. ap byte (getD-set-other s (i * 10) (i * 10 + 2 + j) c 0 (λ e. omega arith)) ∙ sym (getD-exponents s (i * 10 + 2) j q))
+        exps : exponents-at (set s (i * row-length) c) (i * row-length + exponents-offset) ≡ exponents-at s (i * row-length + exponents-offset)
+        exps = exponents-are (set s (i * row-length) c) (i * row-length + exponents-offset) (exponents-at s (i * row-length + exponents-offset)) refl (λ j q. ap byte (getD-set-other s (i * row-length) (i * row-length + exponents-offset + j) c 0 (λ e. omega arith)) ∙ sym (getD-exponents s (i * row-length + exponents-offset) j q))
 
-    other : (k : ℕ) → (k ≡ i → ⊥) → row-at (set s (i * 10) c) k ≡ row-at s k
-    other k d = same-row s (set s (i * 10) c) k k (λ j q. getD-set-other s (i * 10) (k * 10 + j) c 0 (λ e. d (omega arith)))
+    other : (k : ℕ) → (k ≡ i → ⊥) → row-at (set s (i * row-length) c) k ≡ row-at s k
+    other k d = same-row s (set s (i * row-length) c) k k (λ j q. getD-set-other s (i * row-length) (k * row-length + j) c 0 (λ e. d (omega arith)))
 
-    at : (k : ℕ) → k < length (rows (set s (i * 10) c) 0 n) → getD (rows (set s (i * 10) c) 0 n) k (row-at s 0) ≡ getD (set (rows s 0 n) i new) k (row-at s 0)
-    at k m = let o : k < n = omega (arith, length-rows (set s (i * 10) c) 0 n) in getD-rows (set s (i * 10) c) 0 n k (row-at s 0) o ∙ go o (ℕ-discrete k i)
+    at : (k : ℕ) → k < length (rows (set s (i * row-length) c) 0 n) → getD (rows (set s (i * row-length) c) 0 n) k (row-at s 0) ≡ getD (set (rows s 0 n) i new) k (row-at s 0)
+    at k m = let o : k < n = omega (arith, length-rows (set s (i * row-length) c) 0 n) in getD-rows (set s (i * row-length) c) 0 n k (row-at s 0) o ∙ go o (ℕ-discrete k i)
       where
-        go : k < n → Dec (k ≡ i) → row-at (set s (i * 10) c) (0 + k) ≡ getD (set (rows s 0 n) i new) k (row-at s 0)
+        go : k < n → Dec (k ≡ i) → row-at (set s (i * row-length) c) (0 + k) ≡ getD (set (rows s 0 n) i new) k (row-at s 0)
         go o (yes q) =
             let z : 0 + k ≡ i = omega arith in
-            ap (row-at (set s (i * 10) c)) z ∙ here ∙ sym (ap (λ j. getD (set (rows s 0 n) i new) j (row-at s 0)) q ∙ getD-set-same (rows s 0 n) i new (row-at s 0) (omega (arith, length-rows s 0 n)))
+            ap (row-at (set s (i * row-length) c)) z ∙ here ∙ sym (ap (λ j. getD (set (rows s 0 n) i new) j (row-at s 0)) q ∙ getD-set-same (rows s 0 n) i new (row-at s 0) (omega (arith, length-rows s 0 n)))
         go o (no ne) = other (0 + k) (λ q. ne (omega arith)) ∙ sym (getD-set-other (rows s 0 n) i k new (row-at s 0) ne ∙ getD-rows s 0 n k (row-at s 0) o)
 
 -- ## One let in, those from it on moved up
 
-opened-under : (s : Words) (n i k : ℕ) → i ≤ n → n * 10 + 10 ≤ length s → k < i → row-at (opened s (i * 10) (n * 10)) k ≡ row-at s k
-opened-under s n i k h l m = same-row s (opened s (i * 10) (n * 10)) k k (λ j q. getD-paste-below s (i * 10 + 10) (drop (i * 10) s) (n * 10 - i * 10) (k * 10 + j) 0 (omega arith) (omega arith))
+opened-under : (s : Words) (n i k : ℕ) → i ≤ n → n * row-length + row-length ≤ length s → k < i → row-at (opened s (i * row-length) (n * row-length)) k ≡ row-at s k
+opened-under s n i k h l m = same-row s (opened s (i * row-length) (n * row-length)) k k (λ j q. getD-paste-below s (i * row-length + row-length) (drop (i * row-length) s) (n * row-length - i * row-length) (k * row-length + j) 0 (omega arith) (omega arith))
 
-opened-row : (s : Words) (n i k : ℕ) → i ≤ n → n * 10 + 10 ≤ length s → i ≤ k → k < n → row-at (opened s (i * 10) (n * 10)) (k + 1) ≡ row-at s k
-opened-row s n i k h l m o = same-row s (opened s (i * 10) (n * 10)) k (k + 1) word
+opened-row : (s : Words) (n i k : ℕ) → i ≤ n → n * row-length + row-length ≤ length s → i ≤ k → k < n → row-at (opened s (i * row-length) (n * row-length)) (k + 1) ≡ row-at s k
+opened-row s n i k h l m o = same-row s (opened s (i * row-length) (n * row-length)) k (k + 1) word
   where
-    word : (j : ℕ) → j < 10 → getD (opened s (i * 10) (n * 10)) ((k + 1) * 10 + j) 0 ≡ getD s (k * 10 + j) 0
+    word : (j : ℕ) → j < row-length → getD (opened s (i * row-length) (n * row-length)) ((k + 1) * row-length + j) 0 ≡ getD s (k * row-length + j) 0
     word j q =
-        let e : (k + 1) * 10 + j ≡ i * 10 + 10 + ((k - i) * 10 + j) = omega arith in
-        let f : i * 10 + ((k - i) * 10 + j) ≡ k * 10 + j = omega arith in
-        ap (λ x. getD (opened s (i * 10) (n * 10)) x 0) e
-        ∙ getD-paste-in s (i * 10 + 10) (drop (i * 10) s) (n * 10 - i * 10) ((k - i) * 10 + j) 0 (omega arith) (omega (arith, length-drop (i * 10) s)) (omega arith)
-        ∙ getD-drop (i * 10) s ((k - i) * 10 + j) 0 ∙ ap (λ x. getD s x 0) f
+        let e : (k + 1) * row-length + j ≡ i * row-length + row-length + ((k - i) * row-length + j) = omega arith in
+        let f : i * row-length + ((k - i) * row-length + j) ≡ k * row-length + j = omega arith in
+        ap (λ x. getD (opened s (i * row-length) (n * row-length)) x 0) e
+        ∙ getD-paste-in s (i * row-length + row-length) (drop (i * row-length) s) (n * row-length - i * row-length) ((k - i) * row-length + j) 0 (omega arith) (omega (arith, length-drop (i * row-length) s)) (omega arith)
+        ∙ getD-drop (i * row-length) s ((k - i) * row-length + j) 0 ∙ ap (λ x. getD s x 0) f
 
 -- what stands where with a term let in at i
 getD-let-in-under : (v : Vector) (i : ℕ) (t : Term) (k : ℕ) (d : Term) → i ≤ length v → k < i → getD (let-in i t v) k d ≡ getD v k d
@@ -198,14 +199,14 @@ getD-let-in-over v i t k d h l =
 pub length-let-in : (v : Vector) (i : ℕ) (t : Term) → i ≤ length v → length (let-in i t v) ≡ length v + 1
 length-let-in v i t h = length-append (take i v) (t ∷ drop i v) ∙ omega (arith, length-take-le i v h, length-drop i v)
 
-pub rows-let-in : (s : Words) (n i : ℕ) (t : Term) → i ≤ n → n * 10 + 10 ≤ length s → Eight (t .1 .0) → rows (written (opened s (i * 10) (n * 10)) i t) 0 (n + 1) ≡ let-in i t (rows s 0 n)
+pub rows-let-in : (s : Words) (n i : ℕ) (t : Term) → i ≤ n → n * row-length + row-length ≤ length s → Eight (t .1 .0) → rows (written (opened s (i * row-length) (n * row-length)) i t) 0 (n + 1) ≡ let-in i t (rows s 0 n)
 rows-let-in s n i t h l e = ext-getD t (rows (written o i t) 0 (n + 1)) (let-in i t (rows s 0 n)) (length-rows (written o i t) 0 (n + 1) ∙ sym (length-let-in (rows s 0 n) i t inside ∙ ap (λ x. x + 1) (length-rows s 0 n))) at
   where
     o : Words
-    o = opened s (i * 10) (n * 10)
+    o = opened s (i * row-length) (n * row-length)
 
-    room : i * 10 + 10 ≤ length o
-    room = omega (arith, length-opened s (i * 10) (n * 10) (omega arith) l)
+    room : i * row-length + row-length ≤ length o
+    room = omega (arith, length-opened s (i * row-length) (n * row-length) (omega arith) l)
 
     inside : i ≤ length (rows s 0 n)
     inside = omega (arith, length-rows s 0 n)

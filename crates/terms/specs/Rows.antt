@@ -5,6 +5,7 @@ use lib.ListN.{length, take, drop, replicate}
 use lib.Seq.{paste}
 use Rattle.definitions.specs.Monomial as definition
 use Rattle.definitions.specs.Layout.{Words, row-of}
+use Rattle.definitions.specs.Places.{row-length}
 use Rattle.monomial.specs.Values.{monomial-of}
 use Rattle.terms.specs.declared.Term.{Term}
 
@@ -13,15 +14,15 @@ term-of t = (t .coefficient, monomial-of (t .monomial))
 
 -- the term in row i
 abbrev pub written : Words → ℕ → definition.Term → Words
-written s i t = paste s (i * 10) (row-of t) 10
+written s i t = paste s (i * row-length) (row-of t) row-length
 
 -- the words from a + 10 on, up to end + 10, stand from a on
 abbrev pub closed : Words → ℕ → ℕ → Words
-closed s a end = paste s a (drop (a + 10) s) (end - a)
+closed s a end = paste s a (drop (a + row-length) s) (end - a)
 
 -- the words from a on, up to end, stand from a + 10 on
 abbrev pub opened : Words → ℕ → ℕ → Words
-opened s a end = paste s (a + 10) (drop a s) (end - a)
+opened s a end = paste s (a + row-length) (drop a s) (end - a)
 
 -- zeros from a on
 abbrev pub cleared : Words → ℕ → Words

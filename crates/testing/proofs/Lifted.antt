@@ -16,6 +16,7 @@ use Rattle.definitions.specs.Layout.{Words, Way, lifting-by, work-words, rows, 
 use Rattle.definitions.proofs.Tests.{and-left, and-right}
 use Rattle.definitions.proofs.Numbers as numbers
 use Rattle.definitions.proofs.Numbers.{limit-number?, Numbered, lift-level-number}
+use Rattle.definitions.specs.Places.{most-rows, most-terms, most-tree-terms, state-length, grown-length}
 use Rattle.lift.specs.Vectors.{lifted-vectors}
 use Rattle.lifting.specs.Stages.{Within, limits-with, leveled-of, Stored-as}
 use Rattle.lifting.specs.declared.Bounds.{Bounds}
@@ -27,29 +28,29 @@ use Rattle.testing.specs.Lifts.{within?, fits?, lifted-within, number-of
 -- ## Not 16
 
 pub record Fits (s w o : Words) (way : Way) (b : Bounds) : Type 0 where
-  pub state : 206095 ≤ length s
+  pub state : state-length ≤ length s
   pub work : work-words document-01 way ≤ length w
-  pub out : 25728 ≤ length o
+  pub out : grown-length ≤ length o
   pub within : Within b
 
 pub fits-says : (s work out : Words) (way : Way) (b : Bounds) → T (fits? s work out way b) → Fits s work out way b
 fits-says s work out way b t =
-    let t1 = and-right (leb 206095 (length s)) (leb (work-words document-01 way) (length work) and leb 25728 (length out) and within? b) t in
-    let t2 = and-right (leb (work-words document-01 way) (length work)) (leb 25728 (length out) and within? b) t1 in
-    let t3 = and-right (leb 25728 (length out)) (within? b) t2 in
-    let t4 = and-right (leb (b .working) 512) (leb (b .vector) 512 and leb 1 (b .vector) and leb (b .tree) 4096 and leb (b .room) 2048) t3 in
-    let t5 = and-right (leb (b .vector) 512) (leb 1 (b .vector) and leb (b .tree) 4096 and leb (b .room) 2048) t4 in
-    let t6 = and-right (leb 1 (b .vector)) (leb (b .tree) 4096 and leb (b .room) 2048) t5 in
+    let t1 = and-right (leb state-length (length s)) (leb (work-words document-01 way) (length work) and leb grown-length (length out) and within? b) t in
+    let t2 = and-right (leb (work-words document-01 way) (length work)) (leb grown-length (length out) and within? b) t1 in
+    let t3 = and-right (leb grown-length (length out)) (within? b) t2 in
+    let t4 = and-right (leb (b .working) most-terms) (leb (b .vector) most-terms and leb 1 (b .vector) and leb (b .tree) most-tree-terms and leb (b .room) most-rows) t3 in
+    let t5 = and-right (leb (b .vector) most-terms) (leb 1 (b .vector) and leb (b .tree) most-tree-terms and leb (b .room) most-rows) t4 in
+    let t6 = and-right (leb 1 (b .vector)) (leb (b .tree) most-tree-terms and leb (b .room) most-rows) t5 in
     record {
-      state = leb→le 206095 (length s) (and-left (leb 206095 (length s)) (leb (work-words document-01 way) (length work) and leb 25728 (length out) and within? b) t);
-      work = leb→le (work-words document-01 way) (length work) (and-left (leb (work-words document-01 way) (length work)) (leb 25728 (length out) and within? b) t1);
-      out = leb→le 25728 (length out) (and-left (leb 25728 (length out)) (within? b) t2);
+      state = leb→le state-length (length s) (and-left (leb state-length (length s)) (leb (work-words document-01 way) (length work) and leb grown-length (length out) and within? b) t);
+      work = leb→le (work-words document-01 way) (length work) (and-left (leb (work-words document-01 way) (length work)) (leb grown-length (length out) and within? b) t1);
+      out = leb→le grown-length (length out) (and-left (leb grown-length (length out)) (within? b) t2);
       within = record {
-        working = leb→le (b .working) 512 (and-left (leb (b .working) 512) (leb (b .vector) 512 and leb 1 (b .vector) and leb (b .tree) 4096 and leb (b .room) 2048) t3);
-        vector = leb→le (b .vector) 512 (and-left (leb (b .vector) 512) (leb 1 (b .vector) and leb (b .tree) 4096 and leb (b .room) 2048) t4);
-        filled = leb→le 1 (b .vector) (and-left (leb 1 (b .vector)) (leb (b .tree) 4096 and leb (b .room) 2048) t5);
-        tree = leb→le (b .tree) 4096 (and-left (leb (b .tree) 4096) (leb (b .room) 2048) t6);
-        room = leb→le (b .room) 2048 (and-right (leb (b .tree) 4096) (leb (b .room) 2048) t6);
+        working = leb→le (b .working) most-terms (and-left (leb (b .working) most-terms) (leb (b .vector) most-terms and leb 1 (b .vector) and leb (b .tree) most-tree-terms and leb (b .room) most-rows) t3);
+        vector = leb→le (b .vector) most-terms (and-left (leb (b .vector) most-terms) (leb 1 (b .vector) and leb (b .tree) most-tree-terms and leb (b .room) most-rows) t4);
+        filled = leb→le 1 (b .vector) (and-left (leb 1 (b .vector)) (leb (b .tree) most-tree-terms and leb (b .room) most-rows) t5);
+        tree = leb→le (b .tree) most-tree-terms (and-left (leb (b .tree) most-tree-terms) (leb (b .room) most-rows) t6);
+        room = leb→le (b .room) most-rows (and-right (leb (b .tree) most-tree-terms) (leb (b .room) most-rows) t6);
       };
     }
 

@@ -13,6 +13,7 @@ use Rattle.definitions.specs.Lists.{choose}
 use Rattle.definitions.specs.Monomial.{Exponents, Monomial, Term, unit}
 use Rattle.definitions.specs.Order.{Comparison, greater, equal, smaller, compare-over}
 use Rattle.definitions.specs.Layout.{Words, row-at, rows, holds-state?}
+use Rattle.definitions.specs.Places.{all-levels, row-length, state-length}
 use Rattle.monomial.specs.Values.{formed}
 use Rattle.terms.specs.Rows.{written}
 use Rattle.orders.specs.Images.{Tabled}
@@ -75,14 +76,14 @@ module _ (s d : Words) (n : ℕ) where
   abbrev or-as-it-is : Bool → Bool → Words
   or-as-it-is a b = choose a d (choose b d (filled (product-at s) d n))
 
-  pub no-row-behind : length s / 10 ≤ n → d ≡ products s d n
-  no-row-behind h = sym (λ i. or-as-it-is (le-leb (length s / 10) n h i) (ltb (length d / 10) n))
+  pub no-row-behind : length s / row-length ≤ n → d ≡ products s d n
+  no-row-behind h = sym (λ i. or-as-it-is (le-leb (length s / row-length) n h i) (ltb (length d / row-length) n))
 
-  pub no-room : n < length s / 10 → length d / 10 < n → d ≡ products s d n
-  no-room h g = sym (λ i. or-as-it-is (lt-leb (length s / 10) n h i) (lt-ltb (length d / 10) n g i))
+  pub no-room : n < length s / row-length → length d / row-length < n → d ≡ products s d n
+  no-room h g = sym (λ i. or-as-it-is (lt-leb (length s / row-length) n h i) (lt-ltb (length d / row-length) n g i))
 
-  pub with-room : n < length s / 10 → n ≤ length d / 10 → filled (product-at s) d n ≡ products s d n
-  with-room h g = sym (λ i. or-as-it-is (lt-leb (length s / 10) n h i) (le-ltb (length d / 10) n g i))
+  pub with-room : n < length s / row-length → n ≤ length d / row-length → filled (product-at s) d n ≡ products s d n
+  with-room h g = sym (λ i. or-as-it-is (lt-leb (length s / row-length) n h i) (le-ltb (length d / row-length) n g i))
 
 -- ## A state's test
 
@@ -90,23 +91,23 @@ module _ (state : Words) (k : ℕ) (s : Words) (n : ℕ) where
   abbrev by : Bool → Bool → Bool → Bool
   by a b c = choose a false (choose b false (choose c false (holds-state? document-01 state)))
 
-  pub short-state : length state < 206095 → false ≡ ready? state k s n
-  short-state h = sym (λ i. by (lt-ltb (length state) 206095 h i) (ltb (length s / 10) n) (leb (getD state 4 0) k))
+  pub short-state : length state < state-length → false ≡ ready? state k s n
+  short-state h = sym (λ i. by (lt-ltb (length state) state-length h i) (ltb (length s / row-length) n) (leb (getD state 4 0) k))
 
-  pub few-rows : 206095 ≤ length state → length s / 10 < n → false ≡ ready? state k s n
-  few-rows h g = sym (λ i. by (le-ltb (length state) 206095 h i) (lt-ltb (length s / 10) n g i) (leb (getD state 4 0) k))
+  pub few-rows : state-length ≤ length state → length s / row-length < n → false ≡ ready? state k s n
+  few-rows h g = sym (λ i. by (le-ltb (length state) state-length h i) (lt-ltb (length s / row-length) n g i) (leb (getD state 4 0) k))
 
-  pub no-level : 206095 ≤ length state → n ≤ length s / 10 → getD state 4 0 ≤ k → false ≡ ready? state k s n
-  no-level h g f = sym (λ i. by (le-ltb (length state) 206095 h i) (le-ltb (length s / 10) n g i) (le-leb (getD state 4 0) k f i))
+  pub no-level : state-length ≤ length state → n ≤ length s / row-length → getD state 4 0 ≤ k → false ≡ ready? state k s n
+  no-level h g f = sym (λ i. by (le-ltb (length state) state-length h i) (le-ltb (length s / row-length) n g i) (le-leb (getD state 4 0) k f i))
 
-  pub has-level : 206095 ≤ length state → n ≤ length s / 10 → k < getD state 4 0 → holds-state? document-01 state ≡ ready? state k s n
-  has-level h g f = sym (λ i. by (le-ltb (length state) 206095 h i) (le-ltb (length s / 10) n g i) (lt-leb (getD state 4 0) k f i))
+  pub has-level : state-length ≤ length state → n ≤ length s / row-length → k < getD state 4 0 → holds-state? document-01 state ≡ ready? state k s n
+  has-level h g f = sym (λ i. by (le-ltb (length state) state-length h i) (le-ltb (length s / row-length) n g i) (lt-leb (getD state 4 0) k f i))
 
 -- ## A test that was passed
 
 pub record Is-ready (state : Words) (k : ℕ) (s : Words) (n : ℕ) : Type 0 where
-  pub long : 206095 ≤ length state
-  pub enough : n ≤ length s / 10
+  pub long : state-length ≤ length state
+  pub enough : n ≤ length s / row-length
   pub level : k < getD state 4 0
   pub sound : T (holds-state? document-01 state)
 
@@ -116,12 +117,12 @@ passed false b e = (refl, e)
 
 pub ready-said : (state : Words) (k : ℕ) (s : Words) (n : ℕ) → ready? state k s n ≡ true → Is-ready state k s n
 ready-said state k s n e =
-    let a = passed (ltb (length state) 206095) (choose (ltb (length s / 10) n) false (choose (leb (getD state 4 0) k) false (holds-state? document-01 state))) e in
-    let b = passed (ltb (length s / 10) n) (choose (leb (getD state 4 0) k) false (holds-state? document-01 state)) (a .1) in
+    let a = passed (ltb (length state) state-length) (choose (ltb (length s / row-length) n) false (choose (leb (getD state 4 0) k) false (holds-state? document-01 state))) e in
+    let b = passed (ltb (length s / row-length) n) (choose (leb (getD state 4 0) k) false (holds-state? document-01 state)) (a .1) in
     let c = passed (leb (getD state 4 0) k) (holds-state? document-01 state) (b .1) in
     record {
-      long = ltb-false (length state) 206095 (a .0);
-      enough = ltb-false (length s / 10) n (b .0);
+      long = ltb-false (length state) state-length (a .0);
+      enough = ltb-false (length s / row-length) n (b .0);
       level = leb-false (getD state 4 0) k (c .0);
       sound = subst T (sym (c .1)) tt;
     }
@@ -136,5 +137,5 @@ led-spans state k r c leads spans er ec l =
 pub table-ready : (state : Words) (k : ℕ) (below above : Words) → Ready-pair state (k + 1) below above → Ready state (suc k) above
 table-ready state k below above e = let z : k + 1 ≡ suc k = omega arith in subst (λ m. Ready state m above) z (pair-above state (k + 1) below above e)
 
-pub table-bounded : (state : Words) (k r : ℕ) (above : Words) → k < 10 → r ≡ count-at state k → Ready state (suc k) above → Tabled r above
+pub table-bounded : (state : Words) (k r : ℕ) (above : Words) → k < all-levels → r ≡ count-at state k → Ready state (suc k) above → Tabled r above
 table-bounded state k r above h e l = subst (λ m. Tabled m above) (sym e) (ready-tabled state (suc k) above h l)

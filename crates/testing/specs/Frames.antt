@@ -9,6 +9,7 @@ use Rattle.definitions.specs.Result.{Result, done, refusal}
 use Rattle.definitions.specs.Frame.{frame}
 use Rattle.definitions.specs.Lifting.{if-few}
 use Rattle.definitions.specs.Layout.{Words, rows}
+use Rattle.definitions.specs.Places.{row-length}
 use Rattle.sums.specs.declared.Stored.{Stored}
 use Rattle.sums.specs.declared.Stored.the-variants.{Rows, Full}
 use Rattle.frame.specs.Generators.{monomials-of}
@@ -29,6 +30,6 @@ formed limit code ms = if-few (leb (length (frame code ms)) limit) (frame code m
 abbrev pub called : Words → ℕ → Words → Words → ℕ → ℕ → Result (List Monomial)
 called d limit c heads r code =
     choose (ltb 65535 r) (refusal 16)
-    (choose (ltb (length d / 10) limit) (refusal 16)
-    (choose (ltb (length c / 10) r) (refusal 16)
-    (choose (ltb (length heads / 10) r) (refusal 16) (formed limit code (monomials-of (rows heads 0 r))))))
+    (choose (ltb (length d / row-length) limit) (refusal 16)
+    (choose (ltb (length c / row-length) r) (refusal 16)
+    (choose (ltb (length heads / row-length) r) (refusal 16) (formed limit code (monomials-of (rows heads 0 r))))))

@@ -12,6 +12,7 @@ use Rattle.definitions.specs.Order.{Comparison, greater, equal, smaller, compar
 use Rattle.definitions.specs.Reducer.{heads}
 use Rattle.definitions.specs.Vectors.{descending}
 use Rattle.definitions.specs.Layout.{Words, row-at, rows, holds-state?, level-at, levels-at}
+use Rattle.definitions.specs.Places.{row-length, state-length}
 use Rattle.monomial.specs.Values.{formed}
 use Rattle.orders.specs.Images.{table-order}
 use Rattle.orders.specs.Levels.{images}
@@ -37,7 +38,7 @@ abbrev pub descent : ℕ → Words → ℕ → ℕ
 descent code s i = greater-mark (compare-over code [] (row-at s i .1) (row-at s (i + 1) .1))
 
 abbrev pub descents : ℕ → Words → ℕ → ℕ
-descents code s n = choose (leb (length s / 10) n) 0 (counted (descent code s) n)
+descents code s n = choose (leb (length s / row-length) n) 0 (counted (descent code s) n)
 
 -- ## Product
 
@@ -56,13 +57,13 @@ filled f d zero = d
 filled f d (suc n) = written (filled f d n) n (f n)
 
 abbrev pub products : Words → Words → ℕ → Words
-products s d n = choose (leb (length s / 10) n) d (choose (ltb (length d / 10) n) d (filled (product-at s) d n))
+products s d n = choose (leb (length s / row-length) n) d (choose (ltb (length d / row-length) n) d (filled (product-at s) d n))
 
 -- ## A state's level
 
 -- the state is sound and has level k; there are n rows
 abbrev pub ready? : Words → ℕ → Words → ℕ → Bool
-ready? state k s n = choose (ltb (length state) 206095) false (choose (ltb (length s / 10) n) false (choose (leb (getD state 4 0) k) false (holds-state? document-01 state)))
+ready? state k s n = choose (ltb (length state) state-length) false (choose (ltb (length s / row-length) n) false (choose (leb (getD state 4 0) k) false (holds-state? document-01 state)))
 
 abbrev pub lower-mark : Answer → ℕ
 lower-mark (Reducer j c) = 0

@@ -11,6 +11,7 @@ use Rattle.definitions.specs.Monomial.{Vector, Level}
 use Rattle.definitions.specs.Result.{Result, done, refused}
 use Rattle.definitions.specs.Lifting.{lift-level}
 use Rattle.definitions.specs.Layout.{Words, Way, lifting-by, work-words, levels-at}
+use Rattle.definitions.specs.Places.{most-rows, most-terms, most-tree-terms, state-length, grown-length}
 use Rattle.lift.specs.Vectors.{lifted-vectors, Kept}
 use Rattle.lifting.specs.Stages.{limits-with}
 use Rattle.lifting.specs.declared.Bounds.{Bounds}
@@ -23,10 +24,10 @@ bounds-by working vector tree room = record { working = working; vector = vector
 
 -- at most document 01's limits; a vector has room for its frame term
 abbrev pub within? : Bounds → Bool
-within? b = leb (b .working) 512 and leb (b .vector) 512 and leb 1 (b .vector) and leb (b .tree) 4_096 and leb (b .room) 2_048
+within? b = leb (b .working) most-terms and leb (b .vector) most-terms and leb 1 (b .vector) and leb (b .tree) most-tree-terms and leb (b .room) most-rows
 
 abbrev pub fits? : Words → Words → Words → Way → Bounds → Bool
-fits? s work out way b = leb 206_095 (length s) and leb (work-words document-01 way) (length work) and leb 25_728 (length out) and within? b
+fits? s work out way b = leb state-length (length s) and leb (work-words document-01 way) (length work) and leb grown-length (length out) and within? b
 
 -- level k over the levels below it in the state that the words hold
 abbrev pub lifted-within : Bounds → Words → ℕ → Way → Words → ℕ → Result Level

@@ -6,7 +6,8 @@ use Rattle.definitions.specs.Limits.{document-01}
 use Rattle.definitions.specs.Lists.{choose}
 use Rattle.definitions.specs.Problem.{Bytes, problem}
 use Rattle.definitions.specs.Layout.{Words}
+use Rattle.definitions.specs.Places.{state-length}
 use Rattle.problem.specs.Reading.{read-as}
 
 abbrev pub called : Bytes → Words → ℕ × ℕ × Words
-called file state = choose (ltb (length state) 206095) (16, 0, state) (read-as (length state) (problem document-01 file))
+called file state = choose (ltb (length state) state-length) (16, 0, state) (read-as (length state) (problem document-01 file))

@@ -38,15 +38,15 @@ pub extern "C" fn frames_form(
         *count = 0;
         return 16;
     }
-    if d.len() / 10 < limit {
+    if d.len() / words::ROW_LENGTH < limit {
         *count = 0;
         return 16;
     }
-    if c.len() / 10 < r {
+    if c.len() / words::ROW_LENGTH < r {
         *count = 0;
         return 16;
     }
-    if heads.len() / 10 < r {
+    if heads.len() / words::ROW_LENGTH < r {
         *count = 0;
         return 16;
     }

@@ -8,6 +8,7 @@ ghost use lib.Dec.{ltb};
 ghost use lib.ListN.{length};
 ghost use Rattle.definitions.specs.Lists.{choose};
 ghost use Rattle.definitions.specs.Layout.{row-at, rows};
+ghost use Rattle.definitions.specs.Places.{row-length};
 ghost use Rattle.monomial.specs.Values.{product-of};
 ghost use Rattle.orders.specs.Images.{comparison-of};
 ghost use Rattle.reducers.specs.Search.{Small, Spanned, searched};
@@ -33,7 +34,7 @@ fn greater(c: Comparison) -> usize
 
 // 1 where row i is greater than the row behind it.
 fn descent_at(s: &[u16], i: usize, code: u16) -> usize
-    requires { ⌜ i * 10 + 20 ≤ length (now s) ⌝ }
+    requires { ⌜ i * row-length + 20 ≤ length (now s) ⌝ }
     ensures { λ r. ⌜ (r ≡ descent code (now (s .entry)) i) × (r ≤ 1) ⌝ }
 {
     let a = terms::row(s, i);
@@ -48,7 +49,7 @@ fn descent_at(s: &[u16], i: usize, code: u16) -> usize
 pub extern "C" fn leaves_descents(s: &[u16], n: usize, code: u16) -> usize
     ensures { λ r. ⌜ r ≡ descents code (now (s .entry)) n ⌝ }
 {
-    if s.len() / 10 <= n {
+    if s.len() / words::ROW_LENGTH <= n {
         return 0;
     }
     let mut k: usize = 0;
@@ -82,7 +83,7 @@ fn row_of(x: Product) -> Term
 
 // Row i times the exponents of the row behind it.
 fn product_at(s: &[u16], i: usize) -> Term
-    requires { ⌜ i * 10 + 20 ≤ length (now s) ⌝ }
+    requires { ⌜ i * row-length + 20 ≤ length (now s) ⌝ }
     ensures { λ r. ⌜ term-of r ≡ product-at-definition (now (s .entry)) i ⌝ }
 {
     let a = terms::row(s, i);
@@ -94,7 +95,7 @@ fn product_at(s: &[u16], i: usize) -> Term
 }
 
 fn fill_products(d: &mut [u16], s: &[u16], n: usize)
-    requires { ⌜ (n * 10 + 10 ≤ length (now s)) × (n * 10 ≤ length (now d)) ⌝ }
+    requires { ⌜ (n * row-length + row-length ≤ length (now s)) × (n * row-length ≤ length (now d)) ⌝ }
     ensures { λ _. ⌜ now (d .exit) ≡ filled (product-at-definition (now (s .entry))) (now (d .entry)) n ⌝ }
 {
     let mut i: usize = 0;
@@ -110,10 +111,10 @@ fn fill_products(d: &mut [u16], s: &[u16], n: usize)
 pub extern "C" fn leaves_products(d: &mut [u16], s: &[u16], n: usize)
     ensures { λ _. ⌜ now (d .exit) ≡ products (now (s .entry)) (now (d .entry)) n ⌝ }
 {
-    if s.len() / 10 <= n {
+    if s.len() / words::ROW_LENGTH <= n {
         return;
     }
-    if d.len() / 10 < n {
+    if d.len() / words::ROW_LENGTH < n {
         return;
     }
     fill_products(d, s, n);
@@ -125,13 +126,13 @@ pub extern "C" fn leaves_products(d: &mut [u16], s: &[u16], n: usize)
 fn ready(state: &[u16], k: usize, s: &[u16], n: usize) -> bool
     ensures { λ r. ⌜ r ≡ ready? (now (state .entry)) k (now (s .entry)) n ⌝ }
 {
-    if state.len() < 206095 {
+    if state.len() < words::STATE_LENGTH {
         return false;
     }
-    if s.len() / 10 < n {
+    if s.len() / words::ROW_LENGTH < n {
         return false;
     }
-    if levels::place(state[4]) <= k {
+    if words::place(state[4]) <= k {
         return false;
     }
     levels::sound(state)
@@ -148,7 +149,7 @@ fn mark_lower(a: Answer) -> usize
 
 // How many of n rows none of the heads divides.
 fn count_lower(heads: &[u16], r: usize, spans: &[u16], k: usize, s: &[u16], n: usize) -> usize
-    requires { ⌜ (r * 10 ≤ length (now heads)) × (k * 2 ≤ length (now spans)) × Small r (now heads) × Spanned k r (now spans) (now heads) × (n * 10 ≤ length (now s)) ⌝ }
+    requires { ⌜ (r * row-length ≤ length (now heads)) × (k * 2 ≤ length (now spans)) × Small r (now heads) × Spanned k r (now spans) (now heads) × (n * row-length ≤ length (now s)) ⌝ }
     ensures { λ x. ⌜ x ≡ counted (λ i. lower-mark (searched (rows (now (heads .entry)) 0 r) (row-at (now (s .entry)) i .1))) n ⌝ }
 {
     let mut x: usize = 0;
@@ -168,8 +169,8 @@ pub extern "C" fn leaves_lower(state: &[u16], k: usize, s: &[u16], n: usize) -> 
     ensures { λ x. ⌜ x ≡ lower (now (state .entry)) k (now (s .entry)) n ⌝ }
 {
     if ready(state, k, s, n) {
-        let mut heads = [0u16; 1280];
-        let mut spans = [0u16; 258];
+        let mut heads = [0u16; words::TABLE_LENGTH];
+        let mut spans = [0u16; words::SPANS_LENGTH];
         stages::fill_leads(&mut heads, &mut spans, state, k);
         let r = levels::count_of(state, k);
         let c = stages::components_of(state, k) + 1;
@@ -183,14 +184,14 @@ pub extern "C" fn leaves_lower(state: &[u16], k: usize, s: &[u16], n: usize) -> 
 // The terms of n rows one by one into an empty sum that descends in the order of the module over level k; the number of its rows, none where the state or the rows are not as they must be.
 #[no_mangle]
 pub extern "C" fn leaves_sort(d: &mut [u16], s: &[u16], n: usize, state: &[u16], k: usize) -> usize
-    ensures { λ x. ⌜ rows (now (d .exit)) 0 x ≡ choose (ltb (length (now (d .entry)) / 10) n) [] (sorted (now (state .entry)) k (now (s .entry)) n) ⌝ }
+    ensures { λ x. ⌜ rows (now (d .exit)) 0 x ≡ choose (ltb (length (now (d .entry)) / row-length) n) [] (sorted (now (state .entry)) k (now (s .entry)) n) ⌝ }
 {
-    if d.len() / 10 < n {
+    if d.len() / words::ROW_LENGTH < n {
         return 0;
     }
     if ready(state, k, s, n) {
-        let mut below = [0u16; 1280];
-        let mut above = [0u16; 1280];
+        let mut below = [0u16; words::TABLE_LENGTH];
+        let mut above = [0u16; words::TABLE_LENGTH];
         stages::fill_tables(&mut below, &mut above, state, k + 1);
         let r = levels::count_of(state, k);
         let code = state[2];

@@ -7,6 +7,7 @@ ghost use lib.ListN.{length};
 ghost use Rattle.definitions.specs.Limits.{document-01};
 ghost use Rattle.definitions.specs.Monomial.{Vector};
 ghost use Rattle.definitions.specs.Layout.{Words, work-words};
+ghost use Rattle.definitions.specs.Places.{most-levels, grown-length};
 ghost use Rattle.lifting.specs.Stages.{Base, Within, leveled-of, Stored-as};
 ghost use Rattle.ways.specs.Ways.{way-of};
 ghost use Rattle.engine_lift.specs.Codes.{coded-way};
@@ -20,19 +21,19 @@ use ways::Way;
 fn within(b: Bounds) -> bool
     ensures { λ r. ⌜ r ≡ within? b ⌝ }
 {
-    if 512 < b.working {
+    if words::MOST_TERMS < b.working {
         return false;
     }
-    if 512 < b.vector {
+    if words::MOST_TERMS < b.vector {
         return false;
     }
     if b.vector == 0 {
         return false;
     }
-    if 4096 < b.tree {
+    if words::MOST_TREE_TERMS < b.tree {
         return false;
     }
-    b.room <= 2048
+    b.room <= words::MOST_ROWS
 }
 
 // Every test is passed.
@@ -45,7 +46,7 @@ fn lift_by(
     way: Way,
     b: Bounds,
 ) -> Leveled
-    requires { ⌜ Base (now state) (k - 1) × (1 ≤ k) × (k ≤ 9) × (25728 ≤ length (now out)) × (work-words document-01 (way-of way) ≤ length (now work)) × Within b ⌝ }
+    requires { ⌜ Base (now state) (k - 1) × (1 ≤ k) × (k ≤ most-levels) × (grown-length ≤ length (now out)) × (work-words document-01 (way-of way) ≤ length (now work)) × Within b ⌝ }
     ensures { λ x. ⌜ ((n : ℕ) × (v : Words) × (leveled-of x (now (out .exit)) v ≡ lifted-within b (now (state .entry)) k (way-of way) (now (cache .entry)) n)) × Stored-as x (now (out .exit)) ⌝ }
 {
     match way {
@@ -73,13 +74,13 @@ fn lift_by(
 fn fits(state: &[u16], work: &[u16], out: &[u16], way: Way, b: Bounds) -> bool
     ensures { λ r. ⌜ r ≡ fits? (now (state .entry)) (now (work .entry)) (now (out .entry)) (way-of way) b ⌝ }
 {
-    if state.len() < 206095 {
+    if state.len() < words::STATE_LENGTH {
         return false;
     }
     if work.len() < engine_lift::work_length(way) {
         return false;
     }
-    if out.len() < 25728 {
+    if out.len() < words::GROWN_LENGTH {
         return false;
     }
     within(b)

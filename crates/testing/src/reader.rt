@@ -9,7 +9,7 @@ ghost use Rattle.testing.specs.Reader.{called};
 pub extern "C" fn reader_read(file: &[u8], state: &mut [u16], place: &mut usize) -> u16
     ensures { λ r. ⌜ (r, now (place .exit), now (state .exit)) ≡ called (now (file .entry)) (now (state .entry)) ⌝ }
 {
-    if state.len() < 206095 {
+    if state.len() < words::STATE_LENGTH {
         *place = 0;
         return 16;
     }

@@ -9,7 +9,7 @@ ghost use Rattle.testing.specs.Soundness.{number-of};
 pub extern "C" fn soundness_number(state: &[u16]) -> u16
     ensures { λ r. ⌜ r ≡ number-of (now (state .entry)) ⌝ }
 {
-    if state.len() < 206095 {
+    if state.len() < words::STATE_LENGTH {
         return 16;
     }
     if levels::sound(state) {

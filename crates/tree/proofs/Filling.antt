@@ -13,6 +13,7 @@ use Rattle.definitions.specs.Tree as definition
 use Rattle.definitions.specs.Tree.{Cache, Lift-term, add-result, if-vector-product-fits, lift-vector-product, lift-vector}
 use Rattle.definitions.specs.Layout.{Words, row-at, rows}
 use Rattle.definitions.proofs.Rows.{rows-first}
+use Rattle.definitions.specs.Places.{row-length}
 use Rattle.sums.specs.declared.Stored.{Stored}
 use Rattle.sums.specs.declared.Stored.the-variants.{Rows as Stored-rows, Full}
 use Rattle.reduce.specs.Grounds.{first-row, Family, family-of}
@@ -37,18 +38,18 @@ joined-is used c z Full = refl
 
 module _ (O : Monomial → Monomial → Comparison) (p limit b tree : ℕ) (total : Vector) (c w z : Words) where
   -- the part that was handed on is the rows of the slice that holds it
-  pub cached-fills : (from n used : ℕ) (x : Stored) (s : Subtree) (r : Sum) (part : Words) → s ≡ Cached from n used → r ≡ joined-as x used → part ≡ take (n * 10) (drop (from * 10) c)
+  pub cached-fills : (from n used : ℕ) (x : Stored) (s : Subtree) (r : Sum) (part : Words) → s ≡ Cached from n used → r ≡ joined-as x used → part ≡ take (n * row-length) (drop (from * row-length) c)
       → grown-of 0 x z ≡ add-result O p limit 0 b (rows part 0 n) total → sum-of 0 r c z ≡ added-vector O p limit b total (subtree-of tree s c w)
   cached-fills from n used x s r part e q h m =
       ap (λ y. sum-of 0 y c z) q ∙ joined-is used c z x
-      ∙ ap (λ (y : Result Vector). y >>= λ v. done (v, cache-of used c)) (m ∙ ap (λ v. add-result O p limit 0 b v total) (ap (λ y. rows y 0 n) h ∙ part-rows c from (n * 10) n (omega arith)))
+      ∙ ap (λ (y : Result Vector). y >>= λ v. done (v, cache-of used c)) (m ∙ ap (λ v. add-result O p limit 0 b v total) (ap (λ y. rows y 0 n) h ∙ part-rows c from (n * row-length) n (omega arith)))
       ∙ ap (λ y. added-vector O p limit b total (subtree-of tree y c w)) (sym e)
 
-  pub waiting-fills : (n used : ℕ) (x : Stored) (s : Subtree) (r : Sum) (part : Words) → s ≡ Waiting n used → r ≡ joined-as x used → part ≡ take (n * 10) (drop ((tree - n) * 10) w)
+  pub waiting-fills : (n used : ℕ) (x : Stored) (s : Subtree) (r : Sum) (part : Words) → s ≡ Waiting n used → r ≡ joined-as x used → part ≡ take (n * row-length) (drop ((tree - n) * row-length) w)
       → grown-of 0 x z ≡ add-result O p limit 0 b (rows part 0 n) total → sum-of 0 r c z ≡ added-vector O p limit b total (subtree-of tree s c w)
   waiting-fills n used x s r part e q h m =
       ap (λ y. sum-of 0 y c z) q ∙ joined-is used c z x
-      ∙ ap (λ (y : Result Vector). y >>= λ v. done (v, cache-of used c)) (m ∙ ap (λ v. add-result O p limit 0 b v total) (ap (λ y. rows y 0 n) h ∙ part-rows w (tree - n) (n * 10) n (omega arith)))
+      ∙ ap (λ (y : Result Vector). y >>= λ v. done (v, cache-of used c)) (m ∙ ap (λ v. add-result O p limit 0 b v total) (ap (λ y. rows y 0 n) h ∙ part-rows w (tree - n) (n * row-length) n (omega arith)))
       ∙ ap (λ y. added-vector O p limit b total (subtree-of tree y c w)) (sym e)
 
   pub refusal-fills : (number : ℕ) (s : Subtree) → s ≡ Subtree-refused number → sum-of 0 (Refused number) c z ≡ added-vector O p limit b total (subtree-of tree s c w)

@@ -14,6 +14,7 @@ use Rattle.definitions.specs.Tree.{Cache, Sum, tree}
 use Rattle.definitions.specs.Lifting.{Lifted, with-vector, lift-all}
 use Rattle.definitions.specs.Layout.{Words, row-at, rows, vectors-at}
 use Rattle.definitions.proofs.Rows.{length-rows}
+use Rattle.definitions.specs.Places.{most-vectors, row-length, ends-length}
 use Rattle.terms.proofs.Stored.{same-row}
 use Rattle.terms.proofs.Moving.{getD-paste-in, getD-paste-below, getD-paste-above}
 use Rattle.lift.specs.Vectors.{lifted-vectors, end-of, Kept, frame-terms}
@@ -51,41 +52,41 @@ module _ (out p : Words) (start end : ℕ) (order : start ≤ end) (room : end �
 
 -- ## One vector more
 
-module _ (out p : Words) (i used v end : ℕ) (order : used * 10 + 128 ≤ end) (room : end ≤ length out) (long : length p ≡ end - (used * 10 + 128)) (small : i < 128) (has : v * 10 ≤ length p) (kept : Kept i used out) where
+module _ (out p : Words) (i used v end : ℕ) (order : used * row-length + ends-length ≤ end) (room : end ≤ length out) (long : length p ≡ end - (used * row-length + ends-length)) (small : i < most-vectors) (has : v * row-length ≤ length p) (kept : Kept i used out) where
   abbrev z : Words
-  z = made out p (used * 10 + 128) end order room long
+  z = made out p (used * row-length + ends-length) end order room long
 
-  below : (x : ℕ) → x < used * 10 + 128 → getD z x 0 ≡ getD out x 0
-  below = made-below out p (used * 10 + 128) end order room long
+  below : (x : ℕ) → x < used * row-length + ends-length → getD z x 0 ≡ getD out x 0
+  below = made-below out p (used * row-length + ends-length) end order room long
 
   as-long : length z ≡ length out
-  as-long = length-made out p (used * 10 + 128) end order room long
+  as-long = length-made out p (used * row-length + ends-length) end order room long
 
   -- what would be copied stands there already
-  stands : paste z (used * 10 + 128) p (v * 10) ≡ z
-  stands = ext-getD 0 (paste z (used * 10 + 128) p (v * 10)) z same at
+  stands : paste z (used * row-length + ends-length) p (v * row-length) ≡ z
+  stands = ext-getD 0 (paste z (used * row-length + ends-length) p (v * row-length)) z same at
     where
-      fits : used * 10 + 128 + v * 10 ≤ length z
+      fits : used * row-length + ends-length + v * row-length ≤ length z
       fits = omega (arith, as-long)
 
-      same : length (paste z (used * 10 + 128) p (v * 10)) ≡ length z
-      same = length-paste z (used * 10 + 128) p (v * 10) fits has
+      same : length (paste z (used * row-length + ends-length) p (v * row-length)) ≡ length z
+      same = length-paste z (used * row-length + ends-length) p (v * row-length) fits has
 
-      at : (x : ℕ) → x < length (paste z (used * 10 + 128) p (v * 10)) → getD (paste z (used * 10 + 128) p (v * 10)) x 0 ≡ getD z x 0
-      at x h = go (ltb x (used * 10 + 128)) (ltb→lt x (used * 10 + 128)) (nltb→le x (used * 10 + 128)) (ltb x (used * 10 + 128 + v * 10)) (ltb→lt x (used * 10 + 128 + v * 10)) (nltb→le x (used * 10 + 128 + v * 10))
+      at : (x : ℕ) → x < length (paste z (used * row-length + ends-length) p (v * row-length)) → getD (paste z (used * row-length + ends-length) p (v * row-length)) x 0 ≡ getD z x 0
+      at x h = go (ltb x (used * row-length + ends-length)) (ltb→lt x (used * row-length + ends-length)) (nltb→le x (used * row-length + ends-length)) (ltb x (used * row-length + ends-length + v * row-length)) (ltb→lt x (used * row-length + ends-length + v * row-length)) (nltb→le x (used * row-length + ends-length + v * row-length))
         where
-          go : (b : Bool) → (T b → x < used * 10 + 128) → (T (not b) → used * 10 + 128 ≤ x) → (d : Bool) → (T d → x < used * 10 + 128 + v * 10) → (T (not d) → used * 10 + 128 + v * 10 ≤ x)
-              → getD (paste z (used * 10 + 128) p (v * 10)) x 0 ≡ getD z x 0
-          go true f g d f′ g′ = getD-paste-below z (used * 10 + 128) p (v * 10) x 0 (omega (arith, as-long)) (f tt)
+          go : (b : Bool) → (T b → x < used * row-length + ends-length) → (T (not b) → used * row-length + ends-length ≤ x) → (d : Bool) → (T d → x < used * row-length + ends-length + v * row-length) → (T (not d) → used * row-length + ends-length + v * row-length ≤ x)
+              → getD (paste z (used * row-length + ends-length) p (v * row-length)) x 0 ≡ getD z x 0
+          go true f g d f′ g′ = getD-paste-below z (used * row-length + ends-length) p (v * row-length) x 0 (omega (arith, as-long)) (f tt)
           go false f g true f′ g′ =
-              let l : used * 10 + 128 ≤ x = g tt in
-              let m : x < used * 10 + 128 + v * 10 = f′ tt in
-              let e : x ≡ used * 10 + 128 + (x - (used * 10 + 128)) = omega arith in
-              ap (λ y. getD (paste z (used * 10 + 128) p (v * 10)) y 0) e ∙ getD-paste-in z (used * 10 + 128) p (v * 10) (x - (used * 10 + 128)) 0 fits has (omega arith)
-              ∙ sym (ap (λ y. getD z y 0) e ∙ made-inside out p (used * 10 + 128) end order room long (x - (used * 10 + 128)) (omega arith))
-          go false f g false f′ g′ = getD-paste-above z (used * 10 + 128) p (v * 10) x 0 fits has (g′ tt)
+              let l : used * row-length + ends-length ≤ x = g tt in
+              let m : x < used * row-length + ends-length + v * row-length = f′ tt in
+              let e : x ≡ used * row-length + ends-length + (x - (used * row-length + ends-length)) = omega arith in
+              ap (λ y. getD (paste z (used * row-length + ends-length) p (v * row-length)) y 0) e ∙ getD-paste-in z (used * row-length + ends-length) p (v * row-length) (x - (used * row-length + ends-length)) 0 fits has (omega arith)
+              ∙ sym (ap (λ y. getD z y 0) e ∙ made-inside out p (used * row-length + ends-length) end order room long (x - (used * row-length + ends-length)) (omega arith))
+          go false f g false f′ g′ = getD-paste-above z (used * row-length + ends-length) p (v * row-length) x 0 fits has (g′ tt)
 
-  ends-same : (n : ℕ) → n ≤ 128 → end-of n z ≡ end-of n out
+  ends-same : (n : ℕ) → n ≤ most-vectors → end-of n z ≡ end-of n out
   ends-same zero h = refl
   ends-same (suc n) h = below n (omega arith)
 
@@ -100,13 +101,13 @@ module _ (out p : Words) (i used v end : ℕ) (order : used * 10 + 128 ≤ end) 
 
   same-vectors : lifted-vectors z i ≡ lifted-vectors out i
   same-vectors =
-      ap (vectors-at (drop 128 z) 0) first-words
-      ∙ vectors-same (drop 128 out) (drop 128 z) used
-      (λ k h. same-row (drop 128 out) (drop 128 z) k k (λ j l. getD-drop 128 z (k * 10 + j) 0 ∙ below (128 + (k * 10 + j)) (omega arith) ∙ sym (getD-drop 128 out (k * 10 + j) 0)))
+      ap (vectors-at (drop ends-length z) 0) first-words
+      ∙ vectors-same (drop ends-length out) (drop ends-length z) used
+      (λ k h. same-row (drop ends-length out) (drop ends-length z) k k (λ j l. getD-drop ends-length z (k * row-length + j) 0 ∙ below (ends-length + (k * row-length + j)) (omega arith) ∙ sym (getD-drop ends-length out (k * row-length + j) 0)))
       0 (take i out)
       (λ j h. omega (arith, kept .inside j (omega (arith, length-take-le i out (omega arith))), getD-take i out j 0 (omega (arith, length-take-le i out (omega arith)))))
 
-  behind : (used + v) * 10 + 128 ≤ length z
+  behind : (used + v) * row-length + ends-length ≤ length z
   behind = omega (arith, as-long)
 
   pub vectors-made : lifted-vectors (set z i (used + v)) (i + 1) ≡ lifted-vectors out i ++ rows p 0 v ∷ []

@@ -8,6 +8,7 @@ ghost use lib.ListN.{length};
 ghost use Rattle.definitions.specs.Layout.{row-at, rows};
 ghost use Rattle.definitions.specs.Tree.{lift-term, lift-vector as vector-definition, tree as tree-definition};
 ghost use Rattle.definitions.specs.Lifting.{lift-all as lift-all-definition};
+ghost use Rattle.definitions.specs.Places.{row-length, ends-length};
 ghost use Rattle.monomial.specs.Values.{monomial-of};
 ghost use Rattle.orders.specs.Images.{table-of, table-order};
 ghost use Rattle.reduce.specs.Grounds.{ends-in, above-in, Tables, Family};
@@ -29,12 +30,6 @@ pub enum One {
     Refused(u16),
 }
 
-fn place(x: u16) -> usize
-    ensures { λ r. ⌜ r ≡ x ⌝ }
-{
-    x as usize
-}
-
 // A finished subtree, times c, into the vector: the frame term's own sum counts only there.
 fn add_result<'a>(
     vector: &mut [u16],
@@ -47,7 +42,7 @@ fn add_result<'a>(
     tables: &[u16],
     g: Ground,
 ) -> Sum
-    requires { ⌜ Tables g (now tables) × (n ≤ g .vector) × (g .vector * 10 ≤ length (now vector)) × (g .tree * 10 ≤ length (now work)) × (room * 10 ≤ length (now cache)) × Sized 0 (g .tree) room s × Images (g .r) (above-in (now tables)) ⌝ }
+    requires { ⌜ Tables g (now tables) × (n ≤ g .vector) × (g .vector * row-length ≤ length (now vector)) × (g .tree * row-length ≤ length (now work)) × (room * row-length ≤ length (now cache)) × Sized 0 (g .tree) room s × Images (g .r) (above-in (now tables)) ⌝ }
     ensures { λ z. ⌜ (sum-of 0 z (now (cache .entry)) (now (vector .exit)) ≡ added-vector (table-order (g .code) (table-of (g .r) (above-in (now (tables .entry))))) (g .p) (g .vector) c (rows (now (vector .entry)) 0 n) (subtree-of (g .tree) s (now (cache .entry)) (now (work .entry)))) × Fits 0 (g .vector) room z ⌝ }
 {
     let above = &tables[reduce::ABOVE..];
@@ -74,14 +69,14 @@ fn lift_vector(
     used: usize,
     room: usize,
     work: &mut [u16],
-    q: [u8; 8],
+    q: [u8; words::EXPONENTS_LENGTH],
     from: usize,
     to: usize,
     level: &[u16],
     tables: &[u16],
     g: Ground,
 ) -> Sum
-    requires { ⌜ Lent g used room (now cache) (now work) (now level) (now tables) × (n ≤ g .vector) × (g .vector * 10 ≤ length (now vector)) × (to * 10 ≤ length (now level)) × (to < 65536) ⌝ }
+    requires { ⌜ Lent g used room (now cache) (now work) (now level) (now tables) × (n ≤ g .vector) × (g .vector * row-length ≤ length (now vector)) × (to * row-length ≤ length (now level)) × (to < 65536) ⌝ }
     ensures { λ z. ⌜ (sum-of 0 z (now (cache .exit)) (now (vector .exit)) ≡ vector-definition (stage-of g (now (level .entry)) (now (tables .entry)) (table-order (g .code) (table-of (g .r) (above-in (now (tables .entry)))))) (lift-term (stage-of g (now (level .entry)) (now (tables .entry)) (table-order (g .code) (table-of (g .r) (above-in (now (tables .entry)))))) room (g .tree)) 1 q (rows (now (level .entry)) from (to - from)) (rows (now (vector .entry)) 0 n, cache-of used (now (cache .entry)))) × Fits 0 (g .vector) room z ⌝ }
 {
     let mut k = n;
@@ -130,7 +125,7 @@ fn lift_frame_term(
     tables: &[u16],
     g: Ground,
 ) -> Sum
-    requires { ⌜ Lent g used room (now cache) (now work) (now level) (now tables) × (1 ≤ g .vector) × (g .vector * 10 ≤ length (now vector)) × (1 ≤ m .component) × (m .component ≤ g .r) ⌝ }
+    requires { ⌜ Lent g used room (now cache) (now work) (now level) (now tables) × (1 ≤ g .vector) × (g .vector * row-length ≤ length (now vector)) × (1 ≤ m .component) × (m .component ≤ g .r) ⌝ }
     ensures { λ z. ⌜ (sum-of 0 z (now (cache .exit)) (now (vector .exit)) ≡ tree-definition (stage-of g (now (level .entry)) (now (tables .entry)) (table-order (g .code) (table-of (g .r) (above-in (now (tables .entry)))))) room (cache-of used (now (cache .entry))) (monomial-of m)) × Fits 0 (g .vector) room z ⌝ }
 {
     terms::put(
@@ -142,7 +137,7 @@ fn lift_frame_term(
         },
     );
     let component = m.component;
-    let part = subtrees::rows_of(tables, place(component));
+    let part = subtrees::rows_of(tables, words::place(component));
     let from = part.from;
     let to = part.to;
     let q = m.exponents;
@@ -177,13 +172,13 @@ fn lift_one(
     tables: &[u16],
     g: Ground,
 ) -> One
-    requires { ⌜ Lent g u room (now cache) (now work) (now level) (now tables) × (1 ≤ g .vector) × Framed g count (now frame) × (i < count) × ((g .room + g .vector) * 10 + 128 ≤ length (now out)) × (g .room < 65536) × (used ≤ g .room) × Kept i used (now out) ⌝ }
+    requires { ⌜ Lent g u room (now cache) (now work) (now level) (now tables) × (1 ≤ g .vector) × Framed g count (now frame) × (i < count) × ((g .room + g .vector) * row-length + ends-length ≤ length (now out)) × (g .room < 65536) × (used ≤ g .room) × Kept i used (now out) ⌝ }
     ensures { λ x. ⌜ (one-of x i (now (out .exit)) (now (cache .exit)) ≡ lifted-one (stage-of g (now (level .entry)) (now (tables .entry)) (table-order (g .code) (table-of (g .r) (above-in (now (tables .entry)))))) room (lifted-vectors (now (out .entry)) i, used) (cache-of u (now (cache .entry))) (row-at (now (frame .entry)) i .1)) × After g i room x (now (out .exit)) ⌝ }
 {
     let t = terms::row(frame, i);
     let m = t.monomial;
-    let start = used * 10 + 128;
-    let end = start + g.vector * 10;
+    let start = used * words::ROW_LENGTH + words::ENDS_LENGTH;
+    let end = start + g.vector * words::ROW_LENGTH;
     let s = lift_frame_term(
         &mut out[start..end],
         cache,
@@ -218,10 +213,10 @@ pub fn lift_all(
     tables: &[u16],
     g: Ground,
 ) -> Lifted
-    requires { ⌜ Tables g (now tables) × Family g (now level) (ends-in (now tables)) × Images (g .r) (above-in (now tables)) × Framed g count (now frame) × (g .tree * 10 ≤ length (now work)) × (g .tree < 65536) × (1 ≤ g .vector) × ((g .room + g .vector) * 10 + 128 ≤ length (now out)) × (g .room < 65536) ⌝ }
-    ensures { λ x. ⌜ (lifted-of x count (now (out .exit)) [] ≡ lift-all-definition (stage-of g (now (level .entry)) (now (tables .entry)) (table-order (g .code) (table-of (g .r) (above-in (now (tables .entry)))))) (tree-definition (stage-of g (now (level .entry)) (now (tables .entry)) (table-order (g .code) (table-of (g .r) (above-in (now (tables .entry)))))) (length (now (cache .entry)) / 10)) ([], 0) [] (frame-terms (now (frame .entry)) count)) × Whole g count x (now (out .exit)) × Unstopped x ⌝ }
+    requires { ⌜ Tables g (now tables) × Family g (now level) (ends-in (now tables)) × Images (g .r) (above-in (now tables)) × Framed g count (now frame) × (g .tree * row-length ≤ length (now work)) × (g .tree < 65536) × (1 ≤ g .vector) × ((g .room + g .vector) * row-length + ends-length ≤ length (now out)) × (g .room < 65536) ⌝ }
+    ensures { λ x. ⌜ (lifted-of x count (now (out .exit)) [] ≡ lift-all-definition (stage-of g (now (level .entry)) (now (tables .entry)) (table-order (g .code) (table-of (g .r) (above-in (now (tables .entry)))))) (tree-definition (stage-of g (now (level .entry)) (now (tables .entry)) (table-order (g .code) (table-of (g .r) (above-in (now (tables .entry)))))) (length (now (cache .entry)) / row-length)) ([], 0) [] (frame-terms (now (frame .entry)) count)) × Whole g count x (now (out .exit)) × Unstopped x ⌝ }
 {
-    let room = cache.len() / 10;
+    let room = cache.len() / words::ROW_LENGTH;
     let mut used: usize = 0;
     let mut u: usize = 0;
     let mut i: usize = 0;

@@ -7,6 +7,7 @@ ghost use Prim.Native.Nat.{_/_, _≤_};
 ghost use lib.ListN.{length};
 ghost use Rattle.lifting.specs.Stages.{Base, Within, Tables-at, Framed-by, leveled-of, Stored-as};
 ghost use Rattle.tree_level.specs.Over.{framed-over, tree-over};
+ghost use Rattle.definitions.specs.Places.{row-length, tree-length, grown-length};
 use lift::Lifted;
 use lifting::Bounds;
 use lifting::Leveled;
@@ -24,11 +25,11 @@ fn lift_frame(
     tables: &[u16],
     b: Bounds,
 ) -> Lifted
-    requires { ⌜ Base (now state) j × Tables-at (now state) j (now tables) × Framed-by (now state) j count (now frame) × (25728 ≤ length (now out)) × (40960 ≤ length (now work)) × Within b ⌝ }
-    ensures { λ x. ⌜ framed-over b (now (state .entry)) j (length (now (cache .entry)) / 10) count (now (frame .entry)) x (now (out .exit)) ⌝ }
+    requires { ⌜ Base (now state) j × Tables-at (now state) j (now tables) × Framed-by (now state) j count (now frame) × (grown-length ≤ length (now out)) × (tree-length ≤ length (now work)) × Within b ⌝ }
+    ensures { λ x. ⌜ framed-over b (now (state .entry)) j (length (now (cache .entry)) / row-length) count (now (frame .entry)) x (now (out .exit)) ⌝ }
 {
     let g = lifting::ground_of(state, j, b);
-    let start = 1295 + j * 20480;
+    let start = words::ROWS_START + j * words::LEVEL_LENGTH;
     tree::lift_all(out, cache, work, frame, count, &state[start..], tables, g)
 }
 
@@ -42,14 +43,14 @@ fn lift_with(
     tables: &[u16],
     b: Bounds,
 ) -> Leveled
-    requires { ⌜ Base (now state) j × Tables-at (now state) j (now tables) × (25728 ≤ length (now out)) × (40960 ≤ length (now work)) × Within b ⌝ }
-    ensures { λ x. ⌜ (leveled-of x (now (out .exit)) [] ≡ tree-over b (now (state .entry)) j (length (now (cache .entry)) / 10)) × Stored-as x (now (out .exit)) ⌝ }
+    requires { ⌜ Base (now state) j × Tables-at (now state) j (now tables) × (grown-length ≤ length (now out)) × (tree-length ≤ length (now work)) × Within b ⌝ }
+    ensures { λ x. ⌜ (leveled-of x (now (out .exit)) [] ≡ tree-over b (now (state .entry)) j (length (now (cache .entry)) / row-length)) × Stored-as x (now (out .exit)) ⌝ }
 {
-    let mut framed = [0u16; 1280];
-    let mut gens = [0u16; 1280];
+    let mut framed = [0u16; words::TABLE_LENGTH];
+    let mut gens = [0u16; words::TABLE_LENGTH];
     let r = levels::count_of(state, j);
     // numbered by code 1, the lexicographic order, whatever the file's (A10)
-    match frame::form(&mut framed, 128, &mut gens, tables, r, 1) {
+    match frame::form(&mut framed, words::MOST_VECTORS, &mut gens, tables, r, 1) {
         Stored::Full => Leveled::Refused(15),
         Stored::Rows(n) => match lift_frame(out, cache, work, state, j, &framed, n, tables, b) {
             Lifted::Rows(used) => Leveled::Vectors(n, used),
@@ -68,10 +69,10 @@ pub fn lift_level(
     j: usize,
     b: Bounds,
 ) -> Leveled
-    requires { ⌜ Base (now state) j × (25728 ≤ length (now out)) × (40960 ≤ length (now work)) × Within b ⌝ }
-    ensures { λ x. ⌜ (leveled-of x (now (out .exit)) [] ≡ tree-over b (now (state .entry)) j (length (now (cache .entry)) / 10)) × Stored-as x (now (out .exit)) ⌝ }
+    requires { ⌜ Base (now state) j × (grown-length ≤ length (now out)) × (tree-length ≤ length (now work)) × Within b ⌝ }
+    ensures { λ x. ⌜ (leveled-of x (now (out .exit)) [] ≡ tree-over b (now (state .entry)) j (length (now (cache .entry)) / row-length)) × Stored-as x (now (out .exit)) ⌝ }
 {
-    let mut tables = [0u16; 4226];
+    let mut tables = [0u16; words::TABLES_LENGTH];
     lifting::make_tables(&mut tables, state, j);
     lift_with(out, cache, work, state, j, &tables, b)
 }

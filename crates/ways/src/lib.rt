@@ -5,6 +5,7 @@ ghost use lib.ListN.{length};
 ghost use Rattle.definitions.specs.Limits.{document-01};
 ghost use Rattle.definitions.specs.Lifting.{by-tree};
 ghost use Rattle.definitions.specs.Layout.{work-words, lifting-by};
+ghost use Rattle.definitions.specs.Places.{row-length, tree-length};
 ghost use Rattle.all_levels.specs.Level.{Liftable, Lifted-by};
 ghost use Rattle.ways.specs.Ways.{way-of};
 use runs::Strategy;
@@ -18,10 +19,10 @@ pub enum Way {
 
 // Level k by the tree.
 fn lift_tree(state: &mut [u16], work: &mut [u16], cache: &mut [u16], k: usize) -> u16
-    requires { ⌜ Liftable (now state) k × (40960 ≤ length (now work)) ⌝ }
-    ensures { λ r. ⌜ Lifted-by (now (state .entry)) k (by-tree (length (now (cache .entry)) / 10)) r (now (state .exit)) ⌝ }
+    requires { ⌜ Liftable (now state) k × (tree-length ≤ length (now work)) ⌝ }
+    ensures { λ r. ⌜ Lifted-by (now (state .entry)) k (by-tree (length (now (cache .entry)) / row-length)) r (now (state .exit)) ⌝ }
 {
-    let mut out = [0u16; 25728];
+    let mut out = [0u16; words::GROWN_LENGTH];
     let b = lifting::usual();
     let x = tree_level::lift_level(&mut out, cache, work, state, k - 1, b);
     all_levels::store(state, k, x, &out)

@@ -11,6 +11,7 @@ use Rattle.definitions.specs.Limits.{document-01}
 use Rattle.definitions.specs.Monomial.{Level}
 use Rattle.definitions.specs.Layout.{Words, rows-of, padded, joined, counts-of, all-counts, all-rows, encode, decode, ends-at, level-at, levels-at, words-sound?, all-words-sound?}
 use Rattle.definitions.proofs.RoundTrip.{length-padded}
+use Rattle.definitions.specs.Places.{most-vectors, all-levels, row-length, header-length, counts-length, rows-start, level-length, state-length, count-offset, rows-offset}
 use Rattle.terms.specs.Rows.{cleared}
 use Rattle.tables.proofs.Spanning.{zero-everywhere}
 use Rattle.levels.specs.Places.{count-at, rows-from, ends-from}
@@ -52,52 +53,52 @@ zeros-rest z a h f =
 
 -- ## The words of one level
 
-module _ (s z : Words) (long : 206095 ≤ length s) (same-long : length z ≡ length s) (j : ℕ) (inside : j < 10) (w : T (words-sound? document-01 s j)) (t : Tidy s z j) where
+module _ (s z : Words) (long : state-length ≤ length s) (same-long : length z ≡ length s) (j : ℕ) (inside : j < all-levels) (w : T (words-sound? document-01 s j)) (t : Tidy s z j) where
   sized : Sized s j
   sized = sound-sized s long j inside w
 
-  counts-block : take 129 (drop (5 + j * 129) z) ≡ counts-of document-01 (level-at document-01 s j)
+  counts-block : take counts-length (drop (count-offset j) z) ≡ counts-of document-01 (level-at document-01 s j)
   counts-block =
-      part-is z (count-at s j ∷ padded 128 (ends-at document-01 s j)) (5 + j * 129) 129 (omega arith) (ap suc (length-padded 128 (ends-at document-01 s j) (omega (arith, n, sized .0)))) word
-      ∙ sym (λ i. level-count s long j inside (sized .0) i ∷ padded 128 (level-ends s long j inside w i))
+      part-is z (count-at s j ∷ padded most-vectors (ends-at document-01 s j)) (count-offset j) counts-length (omega arith) (ap suc (length-padded most-vectors (ends-at document-01 s j) (omega (arith, n, sized .0)))) word
+      ∙ sym (λ i. level-count s long j inside (sized .0) i ∷ padded most-vectors (level-ends s long j inside w i))
     where
       n : length (ends-at document-01 s j) ≡ count-at s j
-      n = length-take-le (count-at s j) (ends-from s j) (omega (arith, sized .0, length-drop (suc (5 + j * 129)) s))
+      n = length-take-le (count-at s j) (ends-from s j) (omega (arith, sized .0, length-drop (suc (count-offset j)) s))
 
-      end : (i : ℕ) → i < 128 → (b : Bool) → (T b → i < count-at s j) → (T (not b) → count-at s j ≤ i) → getD z (5 + j * 129 + suc i) 0 ≡ getD (ends-at document-01 s j) i 0
+      end : (i : ℕ) → i < most-vectors → (b : Bool) → (T b → i < count-at s j) → (T (not b) → count-at s j ≤ i) → getD z (count-offset j + suc i) 0 ≡ getD (ends-at document-01 s j) i 0
       end i l true f g =
           let m : i < count-at s j = f tt in
-          let y : 5 + j * 129 + suc i ≡ suc (5 + j * 129) + i = omega arith in
-          t .counts (5 + j * 129 + suc i) (omega arith) (omega arith) ∙ ap (λ k. getD s k 0) y ∙ sym (getD-take (count-at s j) (ends-from s j) i 0 m ∙ getD-drop (suc (5 + j * 129)) s i 0)
+          let y : count-offset j + suc i ≡ suc (count-offset j) + i = omega arith in
+          t .counts (count-offset j + suc i) (omega arith) (omega arith) ∙ ap (λ k. getD s k 0) y ∙ sym (getD-take (count-at s j) (ends-from s j) i 0 m ∙ getD-drop (suc (count-offset j)) s i 0)
       end i l false f g =
           let m : count-at s j ≤ i = g tt in
-          t .no-counts (5 + j * 129 + suc i) (omega arith) (omega arith) ∙ sym (getD-taken (count-at s j) (ends-from s j) i (omega (arith, sized .0, length-drop (suc (5 + j * 129)) s)) (λ q. omega arith))
+          t .no-counts (count-offset j + suc i) (omega arith) (omega arith) ∙ sym (getD-taken (count-at s j) (ends-from s j) i (omega (arith, sized .0, length-drop (suc (count-offset j)) s)) (λ q. omega arith))
 
-      word : (i : ℕ) → i < 129 → getD z (5 + j * 129 + i) 0 ≡ getD (count-at s j ∷ padded 128 (ends-at document-01 s j)) i 0
-      word zero l = let y : 5 + j * 129 + 0 ≡ 5 + j * 129 = omega arith in t .counts (5 + j * 129 + 0) (omega arith) (omega arith) ∙ ap (λ k. getD s k 0) y
-      word (suc i) l = end i (omega arith) (ltb i (count-at s j)) (ltb→lt i (count-at s j)) (nltb→le i (count-at s j)) ∙ sym (getD-padded 128 (ends-at document-01 s j) i)
+      word : (i : ℕ) → i < counts-length → getD z (count-offset j + i) 0 ≡ getD (count-at s j ∷ padded most-vectors (ends-at document-01 s j)) i 0
+      word zero l = let y : count-offset j + 0 ≡ count-offset j = omega arith in t .counts (count-offset j + 0) (omega arith) (omega arith) ∙ ap (λ k. getD s k 0) y
+      word (suc i) l = end i (omega arith) (ltb i (count-at s j)) (ltb→lt i (count-at s j)) (nltb→le i (count-at s j)) ∙ sym (getD-padded most-vectors (ends-at document-01 s j) i)
 
-  rows-block : take 20480 (drop (1295 + j * 20480) z) ≡ padded 20480 (rows-of (joined (level-at document-01 s j)))
+  rows-block : take level-length (drop (rows-offset j) z) ≡ padded level-length (rows-of (joined (level-at document-01 s j)))
   rows-block =
-      part-is z (padded 20480 (take (used-at s j * 10) (rows-from s j))) (1295 + j * 20480) 20480 (omega arith) (length-padded 20480 (take (used-at s j * 10) (rows-from s j)) (omega (arith, n, sized .1))) word
-      ∙ sym (ap (padded 20480) (level-rows-back s long j inside w))
+      part-is z (padded level-length (take (used-at s j * row-length) (rows-from s j))) (rows-offset j) level-length (omega arith) (length-padded level-length (take (used-at s j * row-length) (rows-from s j)) (omega (arith, n, sized .1))) word
+      ∙ sym (ap (padded level-length) (level-rows-back s long j inside w))
     where
-      room : used-at s j * 10 ≤ length (rows-from s j)
-      room = omega (arith, sized .1, length-drop (1295 + j * 20480) s)
+      room : used-at s j * row-length ≤ length (rows-from s j)
+      room = omega (arith, sized .1, length-drop (rows-offset j) s)
 
-      n : length (take (used-at s j * 10) (rows-from s j)) ≡ used-at s j * 10
-      n = length-take-le (used-at s j * 10) (rows-from s j) room
+      n : length (take (used-at s j * row-length) (rows-from s j)) ≡ used-at s j * row-length
+      n = length-take-le (used-at s j * row-length) (rows-from s j) room
 
-      term : (i : ℕ) → i < 20480 → (b : Bool) → (T b → i < used-at s j * 10) → (T (not b) → used-at s j * 10 ≤ i) → getD z (1295 + j * 20480 + i) 0 ≡ getD (take (used-at s j * 10) (rows-from s j)) i 0
+      term : (i : ℕ) → i < level-length → (b : Bool) → (T b → i < used-at s j * row-length) → (T (not b) → used-at s j * row-length ≤ i) → getD z (rows-offset j + i) 0 ≡ getD (take (used-at s j * row-length) (rows-from s j)) i 0
       term i l true f g =
-          let m : i < used-at s j * 10 = f tt in
-          t .terms (1295 + j * 20480 + i) (omega arith) (omega arith) ∙ sym (getD-take (used-at s j * 10) (rows-from s j) i 0 m ∙ getD-drop (1295 + j * 20480) s i 0)
+          let m : i < used-at s j * row-length = f tt in
+          t .terms (rows-offset j + i) (omega arith) (omega arith) ∙ sym (getD-take (used-at s j * row-length) (rows-from s j) i 0 m ∙ getD-drop (rows-offset j) s i 0)
       term i l false f g =
-          let m : used-at s j * 10 ≤ i = g tt in
-          t .no-terms (1295 + j * 20480 + i) (omega arith) (omega arith) ∙ sym (getD-taken (used-at s j * 10) (rows-from s j) i room (λ q. omega arith))
+          let m : used-at s j * row-length ≤ i = g tt in
+          t .no-terms (rows-offset j + i) (omega arith) (omega arith) ∙ sym (getD-taken (used-at s j * row-length) (rows-from s j) i room (λ q. omega arith))
 
-      word : (i : ℕ) → i < 20480 → getD z (1295 + j * 20480 + i) 0 ≡ getD (padded 20480 (take (used-at s j * 10) (rows-from s j))) i 0
-      word i l = term i l (ltb i (used-at s j * 10)) (ltb→lt i (used-at s j * 10)) (nltb→le i (used-at s j * 10)) ∙ sym (getD-padded 20480 (take (used-at s j * 10) (rows-from s j)) i)
+      word : (i : ℕ) → i < level-length → getD z (rows-offset j + i) 0 ≡ getD (padded level-length (take (used-at s j * row-length) (rows-from s j))) i 0
+      word i l = term i l (ltb i (used-at s j * row-length)) (ltb→lt i (used-at s j * row-length)) (nltb→le i (used-at s j * row-length)) ∙ sym (getD-padded level-length (take (used-at s j * row-length) (rows-from s j)) i)
 
 -- ## All levels, one behind the other
 
@@ -105,28 +106,28 @@ counts-last : (ls : List Level) (f : Level) → all-counts document-01 (ls ++ f 
 counts-last [] f = append-nil (counts-of document-01 f)
 counts-last (g ∷ ls) f = ap (λ l. counts-of document-01 g ++ l) (counts-last ls f) ∙ sym (append-assoc (counts-of document-01 g) (all-counts document-01 ls) (counts-of document-01 f))
 
-rows-last : (ls : List Level) (f : Level) → all-rows document-01 (ls ++ f ∷ []) ≡ all-rows document-01 ls ++ padded 20480 (rows-of (joined f))
-rows-last [] f = append-nil (padded 20480 (rows-of (joined f)))
+rows-last : (ls : List Level) (f : Level) → all-rows document-01 (ls ++ f ∷ []) ≡ all-rows document-01 ls ++ padded level-length (rows-of (joined f))
+rows-last [] f = append-nil (padded level-length (rows-of (joined f)))
 rows-last (g ∷ ls) f =
-    ap (λ l. padded 20480 (rows-of (joined g)) ++ l) (rows-last ls f) ∙ sym (append-assoc (padded 20480 (rows-of (joined g))) (all-rows document-01 ls) (padded 20480 (rows-of (joined f))))
+    ap (λ l. padded level-length (rows-of (joined g)) ++ l) (rows-last ls f) ∙ sym (append-assoc (padded level-length (rows-of (joined g))) (all-rows document-01 ls) (padded level-length (rows-of (joined f))))
 
-module _ (s z : Words) (long : 206095 ≤ length s) (same-long : length z ≡ length s) where
-  counts-blocks : (h : ℕ) → h ≤ 10 → T (all-words-sound? document-01 s h) → ((j : ℕ) → j < h → Tidy s z j) → take (h * 129) (drop 5 z) ≡ all-counts document-01 (reverse (levels-at document-01 s h))
+module _ (s z : Words) (long : state-length ≤ length s) (same-long : length z ≡ length s) where
+  counts-blocks : (h : ℕ) → h ≤ all-levels → T (all-words-sound? document-01 s h) → ((j : ℕ) → j < h → Tidy s z j) → take (h * counts-length) (drop header-length z) ≡ all-counts document-01 (reverse (levels-at document-01 s h))
   counts-blocks zero l t f = refl
   counts-blocks (suc h) l t f =
-      let y : suc h * 129 ≡ h * 129 + 129 = omega arith in
-      ap (λ n. take n (drop 5 z)) y ∙ take-add (h * 129) 129 (drop 5 z)
+      let y : suc h * counts-length ≡ h * counts-length + counts-length = omega arith in
+      ap (λ n. take n (drop header-length z)) y ∙ take-add (h * counts-length) counts-length (drop header-length z)
       ∙ (λ i. counts-blocks h (omega arith) (Rattle.definitions.proofs.Tests.and-right (words-sound? document-01 s h) (all-words-sound? document-01 s h) t) (λ j m. f j (omega arith)) i
-      ++ (ap (take 129) (drop-drop (h * 129) 5 z) ∙ counts-block s z long same-long h l (all-sound-at s (suc h) t h (omega arith)) (f h (omega arith))) i)
+      ++ (ap (take counts-length) (drop-drop (h * counts-length) header-length z) ∙ counts-block s z long same-long h l (all-sound-at s (suc h) t h (omega arith)) (f h (omega arith))) i)
       ∙ sym (ap (all-counts document-01) (reverse-cons (level-at document-01 s h) (levels-at document-01 s h)) ∙ counts-last (reverse (levels-at document-01 s h)) (level-at document-01 s h))
 
-  rows-blocks : (h : ℕ) → h ≤ 10 → T (all-words-sound? document-01 s h) → ((j : ℕ) → j < h → Tidy s z j) → take (h * 20480) (drop 1295 z) ≡ all-rows document-01 (reverse (levels-at document-01 s h))
+  rows-blocks : (h : ℕ) → h ≤ all-levels → T (all-words-sound? document-01 s h) → ((j : ℕ) → j < h → Tidy s z j) → take (h * level-length) (drop rows-start z) ≡ all-rows document-01 (reverse (levels-at document-01 s h))
   rows-blocks zero l t f = refl
   rows-blocks (suc h) l t f =
-      let y : suc h * 20480 ≡ h * 20480 + 20480 = omega arith in
-      ap (λ n. take n (drop 1295 z)) y ∙ take-add (h * 20480) 20480 (drop 1295 z)
+      let y : suc h * level-length ≡ h * level-length + level-length = omega arith in
+      ap (λ n. take n (drop rows-start z)) y ∙ take-add (h * level-length) level-length (drop rows-start z)
       ∙ (λ i. rows-blocks h (omega arith) (Rattle.definitions.proofs.Tests.and-right (words-sound? document-01 s h) (all-words-sound? document-01 s h) t) (λ j m. f j (omega arith)) i
-      ++ (ap (take 20480) (drop-drop (h * 20480) 1295 z) ∙ rows-block s z long same-long h l (all-sound-at s (suc h) t h (omega arith)) (f h (omega arith))) i)
+      ++ (ap (take level-length) (drop-drop (h * level-length) rows-start z) ∙ rows-block s z long same-long h l (all-sound-at s (suc h) t h (omega arith)) (f h (omega arith))) i)
       ∙ sym (ap (all-rows document-01) (reverse-cons (level-at document-01 s h) (levels-at document-01 s h)) ∙ rows-last (reverse (levels-at document-01 s h)) (level-at document-01 s h))
 
 length-levels : (s : Words) (k : ℕ) → length (levels-at document-01 s k) ≡ k
@@ -135,18 +136,18 @@ length-levels s (suc k) = ap suc (length-levels s k)
 
 -- ## The whole
 
-module _ (s z : Words) (h : ℕ) (long : 206095 ≤ length s) (same-long : length z ≡ length s) (l : h ≤ 10) (e : getD s 4 0 ≡ h) (t : T (all-words-sound? document-01 s h))
-    (front : Same z s 0 5) (made : (j : ℕ) → j < h → Tidy s z j) (no-counts : Zero z (5 + h * 129) 1295) (no-terms : Zero z (1295 + h * 20480) (length s)) where
+module _ (s z : Words) (h : ℕ) (long : state-length ≤ length s) (same-long : length z ≡ length s) (l : h ≤ all-levels) (e : getD s 4 0 ≡ h) (t : T (all-words-sound? document-01 s h))
+    (front : Same z s 0 header-length) (made : (j : ℕ) → j < h → Tidy s z j) (no-counts : Zero z (count-offset h) rows-start) (no-terms : Zero z (rows-offset h) (length s)) where
   abbrev ls : List Level
   ls = levels-at document-01 s h
 
   abbrev five : Words
   five = getD s 0 0 ∷ getD s 1 0 ∷ getD s 2 0 ∷ getD s 3 0 ∷ length (levels-at document-01 s h) ∷ []
 
-  first-five : take 5 z ≡ five
-  first-five = part-is z five 0 5 (omega arith) refl word
+  first-five : take header-length z ≡ five
+  first-five = part-is z five 0 header-length (omega arith) refl word
     where
-      word : (i : ℕ) → i < 5 → getD z (0 + i) 0 ≡ getD (getD s 0 0 ∷ getD s 1 0 ∷ getD s 2 0 ∷ getD s 3 0 ∷ length (levels-at document-01 s h) ∷ []) i 0
+      word : (i : ℕ) → i < header-length → getD z (0 + i) 0 ≡ getD (getD s 0 0 ∷ getD s 1 0 ∷ getD s 2 0 ∷ getD s 3 0 ∷ length (levels-at document-01 s h) ∷ []) i 0
       word zero m = front 0 (omega arith) (omega arith)
       word (suc zero) m = front 1 (omega arith) (omega arith)
       word (suc (suc zero)) m = front 2 (omega arith) (omega arith)
@@ -157,38 +158,38 @@ module _ (s z : Words) (h : ℕ) (long : 206095 ≤ length s) (same-long : lengt
   abbrev header : Words
   header = five ++ all-counts document-01 (reverse ls)
 
-  head-is : take (5 + h * 129) z ≡ header
-  head-is = take-add 5 (h * 129) z ∙ (λ i. first-five i ++ counts-blocks s z long same-long h l t made i)
+  head-is : take (count-offset h) z ≡ header
+  head-is = take-add header-length (h * counts-length) z ∙ (λ i. first-five i ++ counts-blocks s z long same-long h l t made i)
 
-  head-long : length header ≡ 5 + h * 129
-  head-long = sym (ap length head-is) ∙ length-take-le (5 + h * 129) z (omega arith)
+  head-long : length header ≡ count-offset h
+  head-long = sym (ap length head-is) ∙ length-take-le (count-offset h) z (omega arith)
 
-  low-is : take 1295 z ≡ padded 1295 header
+  low-is : take rows-start z ≡ padded rows-start header
   low-is =
-      let y : 1295 ≡ 5 + h * 129 + (1295 - (5 + h * 129)) = omega arith in
-      let n : 1295 - (5 + h * 129) ≡ 1295 - length header = omega (arith, head-long) in
-      ap (λ k. take k z) y ∙ take-add (5 + h * 129) (1295 - (5 + h * 129)) z
-      ∙ (λ i. head-is i ++ zeros-are z (5 + h * 129) (1295 - (5 + h * 129)) (omega arith) (λ j a b. no-counts j a (omega arith)) i) ∙ ap (λ k. header ++ replicate k 0) n
+      let y : rows-start ≡ count-offset h + (rows-start - (count-offset h)) = omega arith in
+      let n : rows-start - (count-offset h) ≡ rows-start - length header = omega (arith, head-long) in
+      ap (λ k. take k z) y ∙ take-add (count-offset h) (rows-start - (count-offset h)) z
+      ∙ (λ i. head-is i ++ zeros-are z (count-offset h) (rows-start - (count-offset h)) (omega arith) (λ j a b. no-counts j a (omega arith)) i) ∙ ap (λ k. header ++ replicate k 0) n
 
   abbrev tail : Words
   tail = all-rows document-01 (reverse ls)
 
-  tail-long : length tail ≡ h * 20480
-  tail-long = sym (ap length (rows-blocks s z long same-long h l t made)) ∙ length-take-le (h * 20480) (drop 1295 z) (omega (arith, length-drop 1295 z))
+  tail-long : length tail ≡ h * level-length
+  tail-long = sym (ap length (rows-blocks s z long same-long h l t made)) ∙ length-take-le (h * level-length) (drop rows-start z) (omega (arith, length-drop rows-start z))
 
-  high-is : drop 1295 z ≡ tail ++ replicate (length s - (1295 + h * 20480)) 0
+  high-is : drop rows-start z ≡ tail ++ replicate (length s - (rows-offset h)) 0
   high-is =
-      sym (take-append-drop (h * 20480) (drop 1295 z))
-      ∙ (λ i. rows-blocks s z long same-long h l t made i ++ (drop-drop (h * 20480) 1295 z ∙ zeros-rest z (1295 + h * 20480) (omega arith) (λ j a b. no-terms j a (omega arith)) ∙ ap (λ k. replicate (k - (1295 + h * 20480)) 0) same-long) i)
+      sym (take-append-drop (h * level-length) (drop rows-start z))
+      ∙ (λ i. rows-blocks s z long same-long h l t made i ++ (drop-drop (h * level-length) rows-start z ∙ zeros-rest z (rows-offset h) (omega arith) (λ j a b. no-terms j a (omega arith)) ∙ ap (λ k. replicate (k - (rows-offset h)) 0) same-long) i)
 
   pub settled-encodes : z ≡ encode document-01 (length s) (record { parameters = Rattle.levels.specs.Places.parameters-at s; levels = levels-at document-01 s h })
   settled-encodes =
-      let n : length s - (1295 + h * 20480) ≡ length s - length (padded 1295 header ++ tail) = omega (arith, length-append (padded 1295 header) tail, length-padded 1295 header (omega (arith, head-long)), tail-long) in
-      sym (take-append-drop 1295 z) ∙ (λ i. low-is i ++ high-is i) ∙ sym (append-assoc (padded 1295 header) tail (replicate (length s - (1295 + h * 20480)) 0)) ∙ ap (λ k. (padded 1295 header ++ tail) ++ replicate k 0) n
+      let n : length s - (rows-offset h) ≡ length s - length (padded rows-start header ++ tail) = omega (arith, length-append (padded rows-start header) tail, length-padded rows-start header (omega (arith, head-long)), tail-long) in
+      sym (take-append-drop rows-start z) ∙ (λ i. low-is i ++ high-is i) ∙ sym (append-assoc (padded rows-start header) tail (replicate (length s - (rows-offset h)) 0)) ∙ ap (λ k. (padded rows-start header ++ tail) ++ replicate k 0) n
 
 -- what clearing the words behind the counts and behind the rows of tidied levels leaves
-pub settled-by : (s z : Words) (h : ℕ) → 206095 ≤ length s → h ≤ 10 → getD s 4 0 ≡ h → T (all-words-sound? document-01 s h) → Tidied-to s z h
-    → cleared (block-cleared (5 + h * 129) (1295 - (5 + h * 129)) 0 z) (1295 + h * 20480) ≡ encode document-01 (length s) (decode document-01 s)
+pub settled-by : (s z : Words) (h : ℕ) → state-length ≤ length s → h ≤ all-levels → getD s 4 0 ≡ h → T (all-words-sound? document-01 s h) → Tidied-to s z h
+    → cleared (block-cleared (count-offset h) (rows-start - (count-offset h)) 0 z) (rows-offset h) ≡ encode document-01 (length s) (decode document-01 s)
 settled-by s z h long l e t d =
     settled-encodes s out h long (out-long ∙ mid-long ∙ d .long) l e t
     (λ i a b. under i (omega arith) ∙ mid-under i (omega arith) ∙ d .front i a b)
@@ -198,42 +199,42 @@ settled-by s z h long l e t d =
     ∙ (λ i. encode document-01 (length s) (record { parameters = Rattle.levels.specs.Places.parameters-at s; levels = levels-at document-01 s (sym e i) }))
   where
     A : ℕ
-    A = 5 + h * 129
+    A = count-offset h
 
     N : ℕ
-    N = 1295 - (5 + h * 129)
+    N = rows-start - (count-offset h)
 
     B : ℕ
-    B = 1295 + h * 20480
+    B = rows-offset h
 
     mid : Words
-    mid = block-cleared (5 + h * 129) (1295 - (5 + h * 129)) 0 z
+    mid = block-cleared (count-offset h) (rows-start - (count-offset h)) 0 z
 
     out : Words
-    out = cleared (block-cleared (5 + h * 129) (1295 - (5 + h * 129)) 0 z) (1295 + h * 20480)
+    out = cleared (block-cleared (count-offset h) (rows-start - (count-offset h)) 0 z) (rows-offset h)
 
-    fit : 5 + h * 129 + (1295 - (5 + h * 129)) ≤ length z
+    fit : count-offset h + (rows-start - (count-offset h)) ≤ length z
     fit = omega (arith, d .long)
 
-    mid-long : length (block-cleared (5 + h * 129) (1295 - (5 + h * 129)) 0 z) ≡ length z
+    mid-long : length (block-cleared (count-offset h) (rows-start - (count-offset h)) 0 z) ≡ length z
     mid-long = length-block A N 0 z fit (omega arith)
 
-    wide : 1295 + h * 20480 ≤ length (block-cleared (5 + h * 129) (1295 - (5 + h * 129)) 0 z)
+    wide : rows-offset h ≤ length (block-cleared (count-offset h) (rows-start - (count-offset h)) 0 z)
     wide = omega (arith, mid-long, d .long)
 
-    out-long : length (cleared (block-cleared (5 + h * 129) (1295 - (5 + h * 129)) 0 z) (1295 + h * 20480)) ≡ length (block-cleared (5 + h * 129) (1295 - (5 + h * 129)) 0 z)
+    out-long : length (cleared (block-cleared (count-offset h) (rows-start - (count-offset h)) 0 z) (rows-offset h)) ≡ length (block-cleared (count-offset h) (rows-start - (count-offset h)) 0 z)
     out-long = length-cleared mid B wide
 
-    under : (i : ℕ) → i < 1295 + h * 20480 → getD (cleared (block-cleared (5 + h * 129) (1295 - (5 + h * 129)) 0 z) (1295 + h * 20480)) i 0 ≡ getD (block-cleared (5 + h * 129) (1295 - (5 + h * 129)) 0 z) i 0
+    under : (i : ℕ) → i < rows-offset h → getD (cleared (block-cleared (count-offset h) (rows-start - (count-offset h)) 0 z) (rows-offset h)) i 0 ≡ getD (block-cleared (count-offset h) (rows-start - (count-offset h)) 0 z) i 0
     under i a = cleared-under mid B wide i a
 
-    mid-under : (i : ℕ) → i < 5 + h * 129 → getD (block-cleared (5 + h * 129) (1295 - (5 + h * 129)) 0 z) i 0 ≡ getD z i 0
+    mid-under : (i : ℕ) → i < count-offset h → getD (block-cleared (count-offset h) (rows-start - (count-offset h)) 0 z) i 0 ≡ getD z i 0
     mid-under i a = block-under A N 0 z fit (omega arith) i (omega arith)
 
-    mid-over : (i : ℕ) → 1295 ≤ i → getD (block-cleared (5 + h * 129) (1295 - (5 + h * 129)) 0 z) i 0 ≡ getD z i 0
+    mid-over : (i : ℕ) → rows-start ≤ i → getD (block-cleared (count-offset h) (rows-start - (count-offset h)) 0 z) i 0 ≡ getD z i 0
     mid-over i a = block-over A N 0 z fit (omega arith) i (omega arith)
 
-    made : (j : ℕ) → j < h → Tidy s (cleared (block-cleared (5 + h * 129) (1295 - (5 + h * 129)) 0 z) (1295 + h * 20480)) j
+    made : (j : ℕ) → j < h → Tidy s (cleared (block-cleared (count-offset h) (rows-start - (count-offset h)) 0 z) (rows-offset h)) j
     made j m =
         let o = d .made j m in
         let c = sound-sized s long j (omega arith) (all-sound-at s h t j m) in

@@ -9,6 +9,7 @@ use lib.Dec.{T, ltb, ltb→lt, nltb→le}
 use lib.ListN.{length, take, drop, getD, replicate, length-append, length-drop, length-replicate, List·getD-append}
 use lib.Seq.{getD-append-add, getD-take, getD-drop, length-take-le}
 use Rattle.definitions.specs.Layout.{Words}
+use Rattle.definitions.specs.Places.{most-vectors, most-rows, all-levels, row-length, counts-length, level-length, state-length, count-offset, ends-offset, rows-offset}
 use Rattle.terms.specs.Rows.{cleared}
 use Rattle.tables.specs.Cuts.{start-of}
 use Rattle.tables.proofs.Spanning.{zero-everywhere}
@@ -87,67 +88,67 @@ module _ (a n u : ℕ) (s : Words) (fit : a + n ≤ length s) (low : u ≤ n) wh
 -- ## One level more
 
 -- the last end is read from the level's own words
-pub used-same : (s z : Words) (k : ℕ) → count-at z k ≡ count-at s k → Same z s (5 + k * 129) (6 + k * 129 + count-at s k) → used-at z k ≡ used-at s k
+pub used-same : (s z : Words) (k : ℕ) → count-at z k ≡ count-at s k → Same z s (count-offset k) (ends-offset k + count-at s k) → used-at z k ≡ used-at s k
 used-same s z k e f = ap (start-of (ends-from z k)) e ∙ go (ℕ-discrete (count-at s k) 0)
   where
     go : Dec (count-at s k ≡ 0) → start-of (ends-from z k) (count-at s k) ≡ start-of (ends-from s k) (count-at s k)
     go (yes q) = sym (end-none z k (count-at s k) q) ∙ end-none s k (count-at s k) q
-    go (no q) = sym (end-at z k (count-at s k) q) ∙ f (5 + k * 129 + count-at s k) (omega arith) (omega arith) ∙ end-at s k (count-at s k) q
+    go (no q) = sym (end-at z k (count-at s k) q) ∙ f (count-offset k + count-at s k) (omega arith) (omega arith) ∙ end-at s k (count-at s k) q
 
 -- a level that its places can hold
 abbrev pub Sized : Words → ℕ → Type 0
-Sized s j = (count-at s j ≤ 128) × (used-at s j ≤ 2048)
+Sized s j = (count-at s j ≤ most-vectors) × (used-at s j ≤ most-rows)
 
-module _ (s z : Words) (k : ℕ) (long : 206095 ≤ length s) (inside : k < 10) (sized : (j : ℕ) → j ≤ k → Sized s j) (t : Tidied-to s z k) where
-  few : count-at s k ≤ 128
+module _ (s z : Words) (k : ℕ) (long : state-length ≤ length s) (inside : k < all-levels) (sized : (j : ℕ) → j ≤ k → Sized s j) (t : Tidied-to s z k) where
+  few : count-at s k ≤ most-vectors
   few = sized k (omega arith) .0
 
-  short : used-at s k ≤ 2048
+  short : used-at s k ≤ most-rows
   short = sized k (omega arith) .1
 
   same-count : count-at z k ≡ count-at s k
-  same-count = t .counts-left (5 + k * 129) (omega arith) (omega arith)
+  same-count = t .counts-left (count-offset k) (omega arith) (omega arith)
 
   same-used : used-at z k ≡ used-at s k
   same-used = used-same s z k same-count (λ i h l. t .counts-left i h (omega (arith, few)))
 
   abbrev mid : Words
-  mid = block-cleared (5 + k * 129) 129 (1 + count-at z k) z
+  mid = block-cleared (count-offset k) counts-length (1 + count-at z k) z
 
   abbrev out : Words
   out = tidied z k
 
-  fit₁ : 5 + k * 129 + 129 ≤ length z
+  fit₁ : count-offset k + counts-length ≤ length z
   fit₁ = omega (arith, t .long)
 
-  low₁ : 1 + count-at z k ≤ 129
+  low₁ : 1 + count-at z k ≤ counts-length
   low₁ = omega (arith, same-count, few)
 
-  mid-long : length (block-cleared (5 + k * 129) 129 (1 + count-at z k) z) ≡ length z
-  mid-long = length-block (5 + k * 129) 129 (1 + count-at z k) z fit₁ low₁
+  mid-long : length (block-cleared (count-offset k) counts-length (1 + count-at z k) z) ≡ length z
+  mid-long = length-block (count-offset k) counts-length (1 + count-at z k) z fit₁ low₁
 
-  fit₂ : 1295 + k * 20480 + 20480 ≤ length (block-cleared (5 + k * 129) 129 (1 + count-at z k) z)
+  fit₂ : rows-offset k + level-length ≤ length (block-cleared (count-offset k) counts-length (1 + count-at z k) z)
   fit₂ = omega (arith, t .long, mid-long)
 
-  low₂ : used-at z k * 10 ≤ 20480
+  low₂ : used-at z k * row-length ≤ level-length
   low₂ = omega (arith, same-used, short)
 
   -- words outside both blocks
-  kept : (i : ℕ) → i < 5 + k * 129 → getD (tidied z k) i 0 ≡ getD z i 0
-  kept i h = block-under (1295 + k * 20480) 20480 (used-at z k * 10) mid fit₂ low₂ i (omega arith) ∙ block-under (5 + k * 129) 129 (1 + count-at z k) z fit₁ low₁ i (omega arith)
+  kept : (i : ℕ) → i < count-offset k → getD (tidied z k) i 0 ≡ getD z i 0
+  kept i h = block-under (rows-offset k) level-length (used-at z k * row-length) mid fit₂ low₂ i (omega arith) ∙ block-under (count-offset k) counts-length (1 + count-at z k) z fit₁ low₁ i (omega arith)
 
-  kept-between : (i : ℕ) → 5 + k * 129 + 129 ≤ i → i < 1295 + k * 20480 + used-at z k * 10 → getD (tidied z k) i 0 ≡ getD z i 0
-  kept-between i h m = block-under (1295 + k * 20480) 20480 (used-at z k * 10) mid fit₂ low₂ i m ∙ block-over (5 + k * 129) 129 (1 + count-at z k) z fit₁ low₁ i h
+  kept-between : (i : ℕ) → count-offset k + counts-length ≤ i → i < rows-offset k + used-at z k * row-length → getD (tidied z k) i 0 ≡ getD z i 0
+  kept-between i h m = block-under (rows-offset k) level-length (used-at z k * row-length) mid fit₂ low₂ i m ∙ block-over (count-offset k) counts-length (1 + count-at z k) z fit₁ low₁ i h
 
-  kept-over : (i : ℕ) → 1295 + k * 20480 + 20480 ≤ i → getD (tidied z k) i 0 ≡ getD z i 0
-  kept-over i h = block-over (1295 + k * 20480) 20480 (used-at z k * 10) mid fit₂ low₂ i h ∙ block-over (5 + k * 129) 129 (1 + count-at z k) z fit₁ low₁ i (omega arith)
+  kept-over : (i : ℕ) → rows-offset k + level-length ≤ i → getD (tidied z k) i 0 ≡ getD z i 0
+  kept-over i h = block-over (rows-offset k) level-length (used-at z k * row-length) mid fit₂ low₂ i h ∙ block-over (count-offset k) counts-length (1 + count-at z k) z fit₁ low₁ i (omega arith)
 
   here : Tidy s (tidied z k) k
   here = record {
-    counts = λ i h m. block-under (1295 + k * 20480) 20480 (used-at z k * 10) mid fit₂ low₂ i (omega (arith, few)) ∙ block-under (5 + k * 129) 129 (1 + count-at z k) z fit₁ low₁ i (omega (arith, same-count)) ∙ t .counts-left i h (omega (arith, few));
-    no-counts = λ i h m. block-under (1295 + k * 20480) 20480 (used-at z k * 10) mid fit₂ low₂ i (omega (arith, few)) ∙ block-zero (5 + k * 129) 129 (1 + count-at z k) z fit₁ low₁ i (omega (arith, same-count)) (omega arith);
+    counts = λ i h m. block-under (rows-offset k) level-length (used-at z k * row-length) mid fit₂ low₂ i (omega (arith, few)) ∙ block-under (count-offset k) counts-length (1 + count-at z k) z fit₁ low₁ i (omega (arith, same-count)) ∙ t .counts-left i h (omega (arith, few));
+    no-counts = λ i h m. block-under (rows-offset k) level-length (used-at z k * row-length) mid fit₂ low₂ i (omega (arith, few)) ∙ block-zero (count-offset k) counts-length (1 + count-at z k) z fit₁ low₁ i (omega (arith, same-count)) (omega arith);
     terms = λ i h m. kept-between i (omega arith) (omega (arith, same-used)) ∙ t .terms-left i h (omega (arith, short));
-    no-terms = λ i h m. block-zero (1295 + k * 20480) 20480 (used-at z k * 10) mid fit₂ low₂ i (omega (arith, same-used)) (omega arith);
+    no-terms = λ i h m. block-zero (rows-offset k) level-length (used-at z k * row-length) mid fit₂ low₂ i (omega (arith, same-used)) (omega arith);
   }
 
   older : (j : ℕ) → j < k → Tidy s (tidied z k) j
@@ -163,7 +164,7 @@ module _ (s z : Words) (k : ℕ) (long : 206095 ≤ length s) (inside : k < 10) 
 
   pub tidied-more : Tidied-to s (tidied z k) (k + 1)
   tidied-more = record {
-    long = length-block (1295 + k * 20480) 20480 (used-at z k * 10) mid fit₂ low₂ ∙ mid-long ∙ t .long;
+    long = length-block (rows-offset k) level-length (used-at z k * row-length) mid fit₂ low₂ ∙ mid-long ∙ t .long;
     front = λ i h l. kept i (omega arith) ∙ t .front i h l;
     made = λ j h. go j h (ℕ-discrete j k);
     counts-left = λ i h l. kept-between i (omega arith) (omega arith) ∙ t .counts-left i (omega arith) l;

@@ -8,6 +8,7 @@ use lib.Seq.{paste, take-paste, drop-paste, drop-drop, take-all, getD-drop}
 use Rattle.definitions.specs.Monomial.{Term, Vector}
 use Rattle.definitions.specs.Layout.{Words, row-at, rows, row-of, rows-of}
 use Rattle.definitions.proofs.Rows.{Eight, Eights, no-terms, one-more, length-rows, length-rows-of, rows-of-append, rows-last, getD-exponents, length-row}
+use Rattle.definitions.specs.Places.{row-length, exponents-offset, count-offset}
 use Rattle.terms.specs.Rows.{written}
 use Rattle.terms.proofs.Stored.{row-is}
 use Rattle.terms.proofs.Spelling.{eight-small}
@@ -28,7 +29,7 @@ paste-joined d u w a n m p q h =
 -- ## Rows as they are read have eight exponents in range
 
 pub eight-row : (s : Words) (i : ℕ) → Eight (row-at s i .1 .0)
-eight-row s i = eight-small (row-at s i .1 .0) (ap (λ t. length (t .1 .0)) (row-is s i)) (λ k h. omega (arith, ap (λ t. getD (t .1 .0) k 0) (row-is s i), getD-exponents s (i * 10 + 2) k h, byte-bound (getD s (i * 10 + 2 + k) 0)))
+eight-row s i = eight-small (row-at s i .1 .0) (ap (λ t. length (t .1 .0)) (row-is s i)) (λ k h. omega (arith, ap (λ t. getD (t .1 .0) k 0) (row-is s i), getD-exponents s (i * row-length + exponents-offset) k h, byte-bound (getD s (i * row-length + exponents-offset + k) 0)))
 
 pub eights-rows : (s : Words) (a n : ℕ) → Eights (rows s a n)
 unfolding rows
@@ -39,31 +40,31 @@ eights-rows s a (suc n) = more (rows s a n) (eights-rows s a n)
     more v no-terms = one-more (eight-row s (a + n)) no-terms
     more v (one-more {t} {v = w} h hs) = one-more h (more w hs)
 
-pub length-spelled : (s : Words) (a n : ℕ) → length (rows-of (rows s a n)) ≡ n * 10
-length-spelled s a n = length-rows-of (rows s a n) (eights-rows s a n) ∙ ap (λ k. k * 10) (length-rows s a n)
+pub length-spelled : (s : Words) (a n : ℕ) → length (rows-of (rows s a n)) ≡ n * row-length
+length-spelled s a n = length-rows-of (rows s a n) (eights-rows s a n) ∙ ap (λ k. k * row-length) (length-rows s a n)
 
-pub copied-none : (d value : Words) (used : ℕ) → d ≡ paste d (used * 10) (rows-of (rows value 0 0)) (0 * 10)
-copied-none d value used = lib.Seq.paste-zero d (used * 10) (rows-of (rows value 0 0))
+pub copied-none : (d value : Words) (used : ℕ) → d ≡ paste d (used * row-length) (rows-of (rows value 0 0)) (0 * row-length)
+copied-none d value used = lib.Seq.paste-zero d (used * row-length) (rows-of (rows value 0 0))
 
 -- one row more
-pub copied-more : (d value : Words) (used j : ℕ) (t : Term) → used * 10 + (j * 10 + 10) ≤ length d → t ≡ row-at value j
-    → written (paste d (used * 10) (rows-of (rows value 0 j)) (j * 10)) (used + j) t ≡ paste d (used * 10) (rows-of (rows value 0 (j + 1))) ((j + 1) * 10)
+pub copied-more : (d value : Words) (used j : ℕ) (t : Term) → used * row-length + (j * row-length + row-length) ≤ length d → t ≡ row-at value j
+    → written (paste d (used * row-length) (rows-of (rows value 0 j)) (j * row-length)) (used + j) t ≡ paste d (used * row-length) (rows-of (rows value 0 (j + 1))) ((j + 1) * row-length)
 copied-more d value used j t h e =
-    let y : (used + j) * 10 ≡ used * 10 + j * 10 = omega arith in
-    let z : j * 10 + 10 ≡ (j + 1) * 10 = omega arith in
+    let y : (used + j) * row-length ≡ used * row-length + j * row-length = omega arith in
+    let z : j * row-length + row-length ≡ (j + 1) * row-length = omega arith in
     let x : 0 + j ≡ j = omega arith in
-    let old : Words = paste d (used * 10) (rows-of (rows value 0 j)) (j * 10) in
+    let old : Words = paste d (used * row-length) (rows-of (rows value 0 j)) (j * row-length) in
     let r : rows-of (rows value 0 (j + 1)) ≡ rows-of (rows value 0 j) ++ row-of (row-at value j) =
     ap rows-of (rows-last value 0 j ∙ ap (λ i. rows value 0 j ++ row-at value i ∷ []) x) ∙ rows-of-append (rows value 0 j) (row-at value j ∷ []) ∙ ap (λ w. rows-of (rows value 0 j) ++ w) (append-nil (row-of (row-at value j))) in
-    (λ i. paste old (y i) (row-of (e i)) 10)
-    ∙ paste-joined d (rows-of (rows value 0 j)) (row-of (row-at value j)) (used * 10) (j * 10) 10 (length-spelled value 0 j) (length-row (row-at value j) (eight-row value j)) h
-    ∙ (λ i. paste d (used * 10) (sym r i) (z i))
+    (λ i. paste old (y i) (row-of (e i)) row-length)
+    ∙ paste-joined d (rows-of (rows value 0 j)) (row-of (row-at value j)) (used * row-length) (j * row-length) row-length (length-spelled value 0 j) (length-row (row-at value j) (eight-row value j)) h
+    ∙ (λ i. paste d (used * row-length) (sym r i) (z i))
 
 -- ## The last end
 
-pub end-at : (s : Words) (k r : ℕ) → (r ≡ 0 → ⊥) → getD s (5 + k * 129 + r) 0 ≡ start-of (ends-from s k) r
+pub end-at : (s : Words) (k r : ℕ) → (r ≡ 0 → ⊥) → getD s (count-offset k + r) 0 ≡ start-of (ends-from s k) r
 end-at s k zero n = absurd (n refl)
-end-at s k (suc r) n = let z : 5 + k * 129 + suc r ≡ suc (5 + k * 129) + r = omega arith in ap (λ i. getD s i 0) z ∙ sym (getD-drop (suc (5 + k * 129)) s r 0)
+end-at s k (suc r) n = let z : count-offset k + suc r ≡ suc (count-offset k) + r = omega arith in ap (λ i. getD s i 0) z ∙ sym (getD-drop (suc (count-offset k)) s r 0)
 
 pub end-none : (s : Words) (k r : ℕ) → r ≡ 0 → 0 ≡ start-of (ends-from s k) r
 end-none s k r e = ap (start-of (ends-from s k)) (sym e)

@@ -14,6 +14,7 @@ use Rattle.definitions.specs.Order.{Comparison}
 use Rattle.definitions.specs.State.{sound?}
 use Rattle.definitions.specs.Layout.{Words, rows, rows-of, padded, vectors-at, ascending?, ends-at, level-at, levels-at, decode, words-sound?, all-words-sound?, holds-state?}
 use Rattle.definitions.proofs.Tests.{and-left, and-right}
+use Rattle.definitions.specs.Places.{most-vectors, most-rows, most-terms, all-levels, row-length, state-length, rows-offset}
 use Rattle.orders.specs.Images.{table-order}
 use Rattle.orders.specs.Levels.{images}
 use Rattle.terms.specs.Rows.{cleared}
@@ -53,36 +54,36 @@ each-end limit a (e ∷ es) t zero h =
     (leb→le e limit (and-left (leb e limit) (ascending? limit e es) u), ascends-past limit e es (and-right (leb e limit) (ascending? limit e es) u))
 each-end limit a (e ∷ es) t (suc i) h = each-end limit e es (and-right (leb e limit) (ascending? limit e es) (and-right (ltb a e) (leb e limit and ascending? limit e es) t)) i (le-of-suc-le-suc h)
 
-module _ (s : Words) (long : 206095 ≤ length s) (t : T (holds-state? document-01 s)) where
+module _ (s : Words) (long : state-length ≤ length s) (t : T (holds-state? document-01 s)) where
   pub complete-words : (k : ℕ) → k < getD s 4 0 → T (words-sound? document-01 s k)
   complete-words k h =
       all-sound-at s (getD s 4 0) (and-left (all-words-sound? document-01 s (getD s 4 0)) (sound? document-01 (decode document-01 s))
-      (and-right (leb (getD s 4 0) 10) (all-words-sound? document-01 s (getD s 4 0) and sound? document-01 (decode document-01 s)) t)) k h
+      (and-right (leb (getD s 4 0) all-levels) (all-words-sound? document-01 s (getD s 4 0) and sound? document-01 (decode document-01 s)) t)) k h
 
   module _ (k : ℕ) (high : k < getD s 4 0) (j : ℕ) (inside : j < count-at s k) where
     abbrev ends : Words
     ends = ends-from s k
 
-    low : k < 10
+    low : k < all-levels
     low = omega (arith, height s long t, high)
 
     cut : Cut (count-at s k) (rows-from s k) (ends-from s k)
     cut = complete-cut s long t k high .1
 
-    vector-short : 1 ≤ k → getD (ends-from s k) j 0 - start-of (ends-from s k) j ≤ 512
+    vector-short : 1 ≤ k → getD (ends-from s k) j 0 - start-of (ends-from s k) j ≤ most-terms
     vector-short l = go k l (complete-test s long t k high) (complete-cut s long t k high .1 .ends-fit) inside
       where
-        go : (k : ℕ) → 1 ≤ k → T (own-test? s k) → count-at s k ≤ length (ends-from s k) → j < count-at s k → getD (ends-from s k) j 0 - start-of (ends-from s k) j ≤ 512
+        go : (k : ℕ) → 1 ≤ k → T (own-test? s k) → count-at s k ≤ length (ends-from s k) → j < count-at s k → getD (ends-from s k) j 0 - start-of (ends-from s k) j ≤ most-terms
         go zero l u f i = absurd (omega arith)
         go (suc k) l u f i =
             let es = ends-at document-01 s (suc k) in
             let O = table-order (getD s 2 0) (images (levels-at document-01 s (suc k))) in
             let b = bounds-of (getD s 0 0) (getD s 1 0) (count-at s k) in
             let n : length es ≡ count-at s (suc k) = length-take-le (count-at s (suc k)) (ends-from s (suc k)) f in
-            let x = vectors-short b 512 O (rows-from s (suc k)) 0 es (and-right (between 0 (count-at s (suc k)) 128) (vectors-hold? b 512 O (rows-from s (suc k)) 0 es) u) j (omega arith) in
-            subst (λ c. c ≤ 512) (λ i′. getD-take (count-at s (suc k)) (ends-from s (suc k)) j 0 i i′ - begin-taken (ends-from s (suc k)) (count-at s (suc k)) j i i′) x
+            let x = vectors-short b most-terms O (rows-from s (suc k)) 0 es (and-right (between 0 (count-at s (suc k)) most-vectors) (vectors-hold? b most-terms O (rows-from s (suc k)) 0 es) u) j (omega arith) in
+            subst (λ c. c ≤ most-terms) (λ i′. getD-take (count-at s (suc k)) (ends-from s (suc k)) j 0 i i′ - begin-taken (ends-from s (suc k)) (count-at s (suc k)) j i i′) x
 
-    parts : (count-at s k ≤ 128) × T (ascending? 2048 0 (ends-at document-01 s k)) × All-fit (rows-from s k) 0 (end-of 0 (ends-at document-01 s k))
+    parts : (count-at s k ≤ most-vectors) × T (ascending? most-rows 0 (ends-at document-01 s k)) × All-fit (rows-from s k) 0 (end-of 0 (ends-at document-01 s k))
     parts = words-parts s long k (complete-words k high)
 
     many : length (ends-at document-01 s k) ≡ count-at s k
@@ -91,14 +92,14 @@ module _ (s : Words) (long : 206095 ≤ length s) (t : T (holds-state? document-
     taken : getD (ends-at document-01 s k) j 0 ≡ getD (ends-from s k) j 0
     taken = getD-take (count-at s k) (ends-from s k) j 0 inside
 
-    pub vector-bounds : 1 ≤ k → (start-of (ends-from s k) j < getD (ends-from s k) j 0) × (getD (ends-from s k) j 0 ≤ 2048) × (getD (ends-from s k) j 0 - start-of (ends-from s k) j ≤ 512)
-    vector-bounds l = (cut .filled j inside, omega (arith, taken, each-end 2048 0 (ends-at document-01 s k) (parts .1) j (omega (arith, many, inside)) .0), vector-short l)
+    pub vector-bounds : 1 ≤ k → (start-of (ends-from s k) j < getD (ends-from s k) j 0) × (getD (ends-from s k) j 0 ≤ most-rows) × (getD (ends-from s k) j 0 - start-of (ends-from s k) j ≤ most-terms)
+    vector-bounds l = (cut .filled j inside, omega (arith, taken, each-end most-rows 0 (ends-at document-01 s k) (parts .1) j (omega (arith, many, inside)) .0), vector-short l)
 
-    pub vector-words : rows-of (vector-of (level-at document-01 s k) (suc j)) ≡ take ((getD (ends-from s k) j 0 - start-of (ends-from s k) j) * 10) (drop (1295 + k * 20480 + start-of (ends-from s k) j * 10) s)
+    pub vector-words : rows-of (vector-of (level-at document-01 s k) (suc j)) ≡ take ((getD (ends-from s k) j 0 - start-of (ends-from s k) j) * row-length) (drop (rows-offset k + start-of (ends-from s k) j * row-length) s)
     vector-words =
         ap rows-of (vector-from R 0 es j (omega (arith, many, inside)) ∙ (λ i. rows R (begin-taken ends (count-at s k) j inside i) (taken i - begin-taken ends (count-at s k) j inside i)))
         ∙ rows-back R from (to - from) (omega (arith, e .0, room)) (λ i a b. parts .2 i (omega arith) (omega (arith, e .1, taken)))
-        ∙ ap (take ((to - from) * 10)) (drop-drop (from * 10) (1295 + k * 20480) s)
+        ∙ ap (take ((to - from) * row-length)) (drop-drop (from * row-length) (rows-offset k) s)
       where
         R : Words
         R = rows-from s k
@@ -115,11 +116,11 @@ module _ (s : Words) (long : 206095 ≤ length s) (t : T (holds-state? document-
         f : start-of (ends-from s k) j < getD (ends-from s k) j 0
         f = cut .filled j inside
 
-        e : (getD (ends-at document-01 s k) j 0 ≤ 2048) × (getD (ends-at document-01 s k) j 0 ≤ end-of 0 (ends-at document-01 s k))
-        e = each-end 2048 0 (ends-at document-01 s k) (parts .1) j (omega (arith, many, inside))
+        e : (getD (ends-at document-01 s k) j 0 ≤ most-rows) × (getD (ends-at document-01 s k) j 0 ≤ end-of 0 (ends-at document-01 s k))
+        e = each-end most-rows 0 (ends-at document-01 s k) (parts .1) j (omega (arith, many, inside))
 
-        room : (start-of (ends-from s k) j + (getD (ends-from s k) j 0 - start-of (ends-from s k) j)) * 10 ≤ length (rows-from s k)
-        room = omega (arith, f, e .0, taken, low, length-drop (1295 + k * 20480) s)
+        room : (start-of (ends-from s k) j + (getD (ends-from s k) j 0 - start-of (ends-from s k) j)) * row-length ≤ length (rows-from s k)
+        room = omega (arith, f, e .0, taken, low, length-drop (rows-offset k) s)
 
 -- ## The buffer
 
@@ -133,14 +134,14 @@ padded-out out w p n h l e =
 -- ## Vector v, counted from 1
 
 pub record Fetchable (s : Words) (k v : ℕ) : Type 0 where
-  pub inside : k < 10
-  pub few : v ≤ 128
+  pub inside : k < all-levels
+  pub few : v ≤ most-vectors
   pub filled : start-of (ends-from s k) (v - 1) < start-of (ends-from s k) v
-  pub within : start-of (ends-from s k) v ≤ 2048
-  pub short : start-of (ends-from s k) v - start-of (ends-from s k) (v - 1) ≤ 512
-  pub words : rows-of (vector-of (level-at document-01 s k) v) ≡ take ((start-of (ends-from s k) v - start-of (ends-from s k) (v - 1)) * 10) (drop (1295 + k * 20480 + start-of (ends-from s k) (v - 1) * 10) s)
+  pub within : start-of (ends-from s k) v ≤ most-rows
+  pub short : start-of (ends-from s k) v - start-of (ends-from s k) (v - 1) ≤ most-terms
+  pub words : rows-of (vector-of (level-at document-01 s k) v) ≡ take ((start-of (ends-from s k) v - start-of (ends-from s k) (v - 1)) * row-length) (drop (rows-offset k + start-of (ends-from s k) (v - 1) * row-length) s)
 
-pub fetchable : (s : Words) (long : 206095 ≤ length s) (t : T (holds-state? document-01 s)) (k v : ℕ) → 1 ≤ k → k < getD s 4 0 → 1 ≤ v → v ≤ count-at s k → Fetchable s k v
+pub fetchable : (s : Words) (long : state-length ≤ length s) (t : T (holds-state? document-01 s)) (k v : ℕ) → 1 ≤ k → k < getD s 4 0 → 1 ≤ v → v ≤ count-at s k → Fetchable s k v
 fetchable s long t k zero a b c d = absurd (omega arith)
 fetchable s long t k (suc j) a b c d =
     let z : j ≡ suc j - 1 = omega arith in
@@ -150,6 +151,6 @@ fetchable s long t k (suc j) a b c d =
       few = omega (arith, complete-cut s long t k b .0);
       filled = subst (λ n. start-of (ends-from s k) n < getD (ends-from s k) j 0) z (x .0);
       within = x .1;
-      short = subst (λ n. getD (ends-from s k) j 0 - start-of (ends-from s k) n ≤ 512) z (x .2);
-      words = subst (λ n. rows-of (vector-of (level-at document-01 s k) (suc j)) ≡ take ((getD (ends-from s k) j 0 - start-of (ends-from s k) n) * 10) (drop (1295 + k * 20480 + start-of (ends-from s k) n * 10) s)) z (vector-words s long t k b j d);
+      short = subst (λ n. getD (ends-from s k) j 0 - start-of (ends-from s k) n ≤ most-terms) z (x .2);
+      words = subst (λ n. rows-of (vector-of (level-at document-01 s k) (suc j)) ≡ take ((getD (ends-from s k) j 0 - start-of (ends-from s k) n) * row-length) (drop (rows-offset k + start-of (ends-from s k) n * row-length) s)) z (vector-words s long t k b j d);
     }

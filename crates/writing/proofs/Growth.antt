@@ -10,6 +10,7 @@ use Rattle.definitions.specs.Monomial.{Level}
 use Rattle.definitions.specs.State.{empty}
 use Rattle.definitions.specs.Layout.{Words, rows, levels-at, all-words-sound?, encode}
 use Rattle.definitions.proofs.Rows.{length-rows}
+use Rattle.definitions.specs.Places.{most-vectors, most-rows, all-levels, header-length, rows-start, state-length}
 use Rattle.terms.specs.Rows.{cleared}
 use Rattle.levels.specs.Places.{parameters-at}
 use Rattle.writing.specs.Growing.{appended, finished}
@@ -22,10 +23,10 @@ pub grown-none : (s : Words) (k : ℕ) → T (all-words-sound? document-01 s k) 
 grown-none s k t = record { long = refl; front = λ i a b. refl; below = refl; words-below = t; words = tt; level = refl; used-is = refl }
 
 -- the rows of a value as one vector more
-pub grown-more : (s z : Words) (k count used : ℕ) (f : Level) (value : Words) (n : ℕ) → 206095 ≤ length s → k < 10 → count < 128 → used + n ≤ 2048 → 1 ≤ n → Grown s z k count used f
+pub grown-more : (s z : Words) (k count used : ℕ) (f : Level) (value : Words) (n : ℕ) → state-length ≤ length s → k < all-levels → count < most-vectors → used + n ≤ most-rows → 1 ≤ n → Grown s z k count used f
     → Grown s (appended z k count used (rows value 0 n) n) k (count + 1) (used + n) (f ++ rows value 0 n ∷ [])
 grown-more s z k count used f value n long inside few room filled g =
-    let l : 206095 ≤ length z = omega (arith, g .long) in
+    let l : state-length ≤ length z = omega (arith, g .long) in
     let v = rows value 0 n in
     let e = eights-rows value 0 n in
     let m = length-rows value 0 n in
@@ -49,15 +50,15 @@ grown-finished s z k count used f g = λ i. record {
 
 -- ## The empty state
 
-pub encode-empty : (size : ℕ) → 1295 ≤ size → encode document-01 size empty ≡ replicate size 0
+pub encode-empty : (size : ℕ) → rows-start ≤ size → encode document-01 size empty ≡ replicate size 0
 encode-empty size h =
-    let x : replicate {A = ℕ} 5 0 ++ replicate 1290 0 ≡ replicate 1295 0 = replicate-append-replicate 5 1290 0 in
-    let y : size - length (replicate {A = ℕ} 1295 0 ++ []) ≡ size - 1295 = omega (arith, ap length (append-nil (replicate {A = ℕ} 1295 0)), length-replicate {A = ℕ} 1295 0) in
-    let z : 1295 + (size - 1295) ≡ size = omega arith in
+    let x : replicate {A = ℕ} header-length 0 ++ replicate (rows-start - header-length) 0 ≡ replicate rows-start 0 = replicate-append-replicate header-length (rows-start - header-length) 0 in
+    let y : size - length (replicate {A = ℕ} rows-start 0 ++ []) ≡ size - rows-start = omega (arith, ap length (append-nil (replicate {A = ℕ} rows-start 0)), length-replicate {A = ℕ} rows-start 0) in
+    let z : rows-start + (size - rows-start) ≡ size = omega arith in
     ap (λ w. (w ++ []) ++ replicate (size - length (w ++ [])) 0) x
-    ∙ (λ i. append-nil (replicate {A = ℕ} 1295 0) i ++ replicate (y i) 0)
-    ∙ replicate-append-replicate 1295 (size - 1295) 0 ∙ ap (λ n. replicate n 0) z
+    ∙ (λ i. append-nil (replicate {A = ℕ} rows-start 0) i ++ replicate (y i) 0)
+    ∙ replicate-append-replicate rows-start (size - rows-start) 0 ∙ ap (λ n. replicate n 0) z
 
 -- what clearing the whole buffer leaves
-pub cleared-empties : (s : Words) → 206095 ≤ length s → cleared s 0 ≡ encode document-01 (length s) empty
+pub cleared-empties : (s : Words) → state-length ≤ length s → cleared s 0 ≡ encode document-01 (length s) empty
 cleared-empties s h = let z : length s - 0 ≡ length s = omega arith in ap (λ n. replicate n 0) z ∙ sym (encode-empty (length s) (omega arith))

@@ -6,6 +6,7 @@ use lib.ListN.{length}
 use Rattle.definitions.specs.Limits.{document-01}
 use Rattle.definitions.specs.Monomial.{Level}
 use Rattle.definitions.specs.Layout.{Words, levels-at, all-words-sound?}
+use Rattle.definitions.specs.Places.{header-length}
 use Rattle.tables.specs.Cuts.{start-of}
 use Rattle.levels.specs.Places.{ends-from}
 use Rattle.writing.specs.Growing.{level-so-far, words-so-far?}
@@ -14,7 +15,7 @@ use Rattle.writing.specs.Settled.{Same}
 -- z has the parameters and the levels below level k of s, and of level k so far the vectors f, which use so many rows
 pub record Grown (s z : Words) (k count used : ℕ) (f : Level) : Type 0 where
   pub long : length z ≡ length s
-  pub front : Same z s 0 5
+  pub front : Same z s 0 header-length
   pub below : levels-at document-01 z k ≡ levels-at document-01 s k
   pub words-below : T (all-words-sound? document-01 z k)
   pub words : T (words-so-far? z k count)

@@ -5,6 +5,7 @@ use native.Mathlib.Nat.{not-suc-le-zero}
 use lib.ListN.{length}
 use Rattle.definitions.specs.Limits.{document-01}
 use Rattle.definitions.specs.Layout.{level-at}
+use Rattle.definitions.specs.Places.{all-levels}
 use Rattle.stages.proofs.Complete.{complete-count}
 use Rattle.lifting.specs.Stages.{Base}
 use Rattle.all_levels.specs.Level.{Liftable}
@@ -15,10 +16,10 @@ use Rattle.all_levels.proofs.lift_levels.Tie as tie
 
 abbrev Inv-loop : tie.InvT-loop
 Inv-loop state₀ work₀ k₀ state work k =
-    (1 ≤ k) × (k ≤ 10) × Base state (k - 1) × Going state₀ state k × (length state ≡ length state₀) × (length work ≡ length work₀)
+    (1 ≤ k) × (k ≤ all-levels) × Base state (k - 1) × Going state₀ state k × (length state ≡ length state₀) × (length work ≡ length work₀)
 
 abbrev μ-loop : tie.MeasureT-loop
-μ-loop state₀ work₀ k₀ state work k = 10 - k
+μ-loop state₀ work₀ k₀ state work k = all-levels - k
 
 loop-holds : tie.Need-loop-holds Inv-loop μ-loop
 loop-holds c = (omega arith, omega arith, c .before .before .pre .0, going-first (c .before .before .args .state .now), refl, refl)

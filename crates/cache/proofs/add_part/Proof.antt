@@ -9,6 +9,7 @@ use Rattle.definitions.specs.Monomial.{Term}
 use Rattle.definitions.specs.Tree.{add-result}
 use Rattle.definitions.specs.Layout.{Words, row-at, rows}
 use Rattle.definitions.specs.Lists.{choose}
+use Rattle.definitions.specs.Places.{row-length}
 use Rattle.cache.proofs.Growing.{scaled, adding-from, adding-start, adding-on, adding-stops, adding-ends, held-row, held-length}
 use Rattle.cache.proofs.Parts.{part-row, length-part}
 use Rattle.cache.specs.Area.{Keeps, Leaves, Room}
@@ -45,7 +46,7 @@ row-requires c κs =
     let l = c .before .before .before .loop in
     let O = table-order (a .code) (table-of (a .r) (a .table .now)) in
     let H : Words = choose (a .in-cache) (a .cache .now) (a .work .now) in
-    omega (arith, P .5, held-length (a .in-cache) (a .cache .now) (a .work .now) (l .work) (l .inv .2), ap length (c .held .ensures), length-part (choose (a .in-cache) (a .cache .now) (l .work)) (a .from * 10) (a .len * 10) (omega (arith, P .5, held-length (a .in-cache) (a .cache .now) (a .work .now) (l .work) (l .inv .2))), c .before .before .loop-test .taken)
+    omega (arith, P .5, held-length (a .in-cache) (a .cache .now) (a .work .now) (l .work) (l .inv .2), ap length (c .held .ensures), length-part (choose (a .in-cache) (a .cache .now) (l .work)) (a .from * row-length) (a .len * row-length) (omega (arith, P .5, held-length (a .in-cache) (a .cache .now) (a .work .now) (l .work) (l .inv .2))), c .before .before .loop-test .taken)
 
 times-requires : tie.Need-times-requires Inv-loop μ-loop
 times-requires c κs = c .before .before .before .before .before .before .before .before .pre .0
@@ -76,7 +77,7 @@ returns c =
     let O = table-order (a .code) (table-of (a .r) (a .table .now)) in
     let H : Words = choose (a .in-cache) (a .cache .now) (a .work .now) in
     let ins = c .before .before .before .before .insert-row in
-    let E : term-of (c .before .before .before .before .before .before .before .before .row .result) ≡ row-at H (a .from + l .i) = c .before .before .before .before .before .before .before .before .row .ensures ∙ ap (λ w. row-at w (l .i)) (c .before .before .before .before .before .before .before .before .before .held .ensures) ∙ part-row (choose (a .in-cache) (a .cache .now) (l .work)) (a .from) (a .len * 10) (l .i) (omega (arith, c .before .before .before .before .before .before .before .before .before .before .before .loop-test .taken)) ∙ held-row (a .in-cache) (a .cache .now) (a .work .now) (l .work) (a .top) (a .from + l .i) (l .inv .4) (λ q. omega (arith, P .6 q)) in
+    let E : term-of (c .before .before .before .before .before .before .before .before .row .result) ≡ row-at H (a .from + l .i) = c .before .before .before .before .before .before .before .before .row .ensures ∙ ap (λ w. row-at w (l .i)) (c .before .before .before .before .before .before .before .before .before .held .ensures) ∙ part-row (choose (a .in-cache) (a .cache .now) (l .work)) (a .from) (a .len * row-length) (l .i) (omega (arith, c .before .before .before .before .before .before .before .before .before .before .before .loop-test .taken)) ∙ held-row (a .in-cache) (a .cache .now) (a .work .now) (l .work) (a .top) (a .from + l .i) (l .inv .4) (λ q. omega (arith, P .6 q)) in
     let u : Term = (c .before .before .before .before .before .before .before .times .result, monomial-of (c .before .before .before .before .before .before .before .before .row .result .monomial)) in
     let S = scaled (a .p) (a .c) (c .before .before .before .before .before .before .before .times .result) (c .before .before .before .before .before .before .before .before .row .result .coefficient) (monomial-of (c .before .before .before .before .before .before .before .before .row .result .monomial)) (row-at H (a .from + l .i)) (c .before .before .before .before .before .before .before .times .ensures) E in
     (sym (l .inv .5 ∙ adding-stops O (a .p) (a .top) (a .a) (a .c) H (a .from) (a .len) (l .i) (rows (l .work) (a .a) (l .k)) (omega (arith, c .before .before .before .before .before .before .before .before .before .before .before .loop-test .taken)) u (ins .result) (ins .last .0) S (ins .ensures .0) (c .enum-told .given .1)), tt, (λ k h. ins .ensures .2 k h ∙ l .inv .3 k h))
@@ -95,7 +96,7 @@ loop-again c =
     let O = table-order (a .code) (table-of (a .r) (a .table .now)) in
     let H : Words = choose (a .in-cache) (a .cache .now) (a .work .now) in
     let ins = c .before .before .before .before .before .insert-row in
-    let E : term-of (c .before .before .before .before .before .before .before .before .before .row .result) ≡ row-at H (a .from + l .i) = c .before .before .before .before .before .before .before .before .before .row .ensures ∙ ap (λ w. row-at w (l .i)) (c .before .before .before .before .before .before .before .before .before .before .held .ensures) ∙ part-row (choose (a .in-cache) (a .cache .now) (l .work)) (a .from) (a .len * 10) (l .i) (omega (arith, c .before .before .before .before .before .before .before .before .before .before .before .before .loop-test .taken)) ∙ held-row (a .in-cache) (a .cache .now) (a .work .now) (l .work) (a .top) (a .from + l .i) (l .inv .4) (λ q. omega (arith, P .6 q)) in
+    let E : term-of (c .before .before .before .before .before .before .before .before .before .row .result) ≡ row-at H (a .from + l .i) = c .before .before .before .before .before .before .before .before .before .row .ensures ∙ ap (λ w. row-at w (l .i)) (c .before .before .before .before .before .before .before .before .before .before .held .ensures) ∙ part-row (choose (a .in-cache) (a .cache .now) (l .work)) (a .from) (a .len * row-length) (l .i) (omega (arith, c .before .before .before .before .before .before .before .before .before .before .before .before .loop-test .taken)) ∙ held-row (a .in-cache) (a .cache .now) (a .work .now) (l .work) (a .top) (a .from + l .i) (l .inv .4) (λ q. omega (arith, P .6 q)) in
     let u : Term = (c .before .before .before .before .before .before .before .before .times .result, monomial-of (c .before .before .before .before .before .before .before .before .before .row .result .monomial)) in
     let S = scaled (a .p) (a .c) (c .before .before .before .before .before .before .before .before .times .result) (c .before .before .before .before .before .before .before .before .before .row .result .coefficient) (monomial-of (c .before .before .before .before .before .before .before .before .before .row .result .monomial)) (row-at H (a .from + l .i)) (c .before .before .before .before .before .before .before .before .times .ensures) E in
     (omega (arith, c .before .before .before .before .before .before .before .before .before .before .before .before .loop-test .taken), subst (Room (a .a) (a .top)) (c .before .x .given .1) (ins .ensures .1), omega (arith, ins .kept .0, l .inv .2), (λ k h. ins .ensures .2 k h ∙ l .inv .3 k h), (λ k h. ins .ensures .3 k h ∙ l .inv .4 k h), l .inv .5 ∙ adding-on O (a .p) (a .top) (a .a) (a .c) H (a .from) (a .len) (l .i) (rows (l .work) (a .a) (l .k)) (omega (arith, c .before .before .before .before .before .before .before .before .before .before .before .before .loop-test .taken)) u (ins .result) (ins .last .0) S (ins .ensures .0) (c .before .x .given .0 .0) (c .before .x .given .1))

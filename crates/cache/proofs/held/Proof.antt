@@ -4,6 +4,7 @@ use mathlib.Core.Path.{_≡_}
 use Prim.Native.Nat.{_+_, _-_, _*_}
 use Rattle.cache.proofs.held.Statement.{statement}
 use Rattle.cache.proofs.held.Tie as tie
+use Rattle.definitions.specs.Places.{row-length}
 
 mul-result : tie.Need-mul-result
 mul-result c = let h = rw (c .if1 .taken) at (c .before .pre) in omega arith
@@ -50,13 +51,13 @@ part-result-end-2 c = let h = rw (c .if1 .left) at (c .before .pre) in omega ari
 returns : tie.Need-returns
 returns c =
     let a = c .before .before .args in
-    let e : (a .from + a .n) * 10 - a .from * 10 ≡ a .n * 10 = omega arith in
+    let e : (a .from + a .n) * row-length - a .from * row-length ≡ a .n * row-length = omega arith in
     rw (c .before .if1 .taken, e)
 
 returns-2 : tie.Need-returns-2
 returns-2 c =
     let a = c .before .before .args in
-    let e : (a .from + a .n) * 10 - a .from * 10 ≡ a .n * 10 = omega arith in
+    let e : (a .from + a .n) * row-length - a .from * row-length ≡ a .n * row-length = omega arith in
     rw (c .before .if1 .left, e)
 
 pub held-spec : {M : Type 1} → statement M

@@ -7,6 +7,7 @@ use Rattle.sums.specs.Places.{inserted-within}
 use Rattle.terms.specs.Rows.{term-of}
 use Rattle.orders.specs.Images.{table-of, table-order}
 use Rattle.definitions.specs.Layout.{rows}
+use Rattle.definitions.specs.Places.{row-length}
 use Rattle.cache.proofs.Growing.{grown-in}
 use Rattle.cache.proofs.Parts.{part-rows, length-part, back, back-inside, back-keeps, back-leaves}
 use Rattle.cache.proofs.insert_row.Statement.{statement}
@@ -46,12 +47,12 @@ returns c =
     let x = c .before .before .insert in
     let O = table-order (a .code) (table-of (a .r) (a .table .now)) in
     let W = a .work .now in
-    let N = a .top * 10 - a .a * 10 in
+    let N = a .top * row-length - a .a * row-length in
     let under : a .a ≤ a .top = omega (arith, P .1) in
-    let long : length (x .last .0) ≡ a .top * 10 - a .a * 10 = x .kept .0 ∙ length-part W (a .a * 10) (a .top * 10 - a .a * 10) (omega (arith, P .2)) in
+    let long : length (x .last .0) ≡ a .top * row-length - a .a * row-length = x .kept .0 ∙ length-part W (a .a * row-length) (a .top * row-length - a .a * row-length) (omega (arith, P .2)) in
     let g = grown-in O (a .p) (a .a) (a .top) (term-of (a .t)) (rows W (a .a) (a .n)) under (x .last .0) (back W (x .last .0) (a .a) (a .top) (P .2) under long) (x .result)
     (back-inside W (x .last .0) (a .a) (a .top) (P .2) under long)
-    (x .ensures ∙ ap (inserted-within O (a .p) (a .top - a .a) (term-of (a .t))) (part-rows W (a .a) (a .top * 10 - a .a * 10) (a .n) (omega (arith, P .1)))) in
+    (x .ensures ∙ ap (inserted-within O (a .p) (a .top - a .a) (term-of (a .t))) (part-rows W (a .a) (a .top * row-length - a .a * row-length) (a .n) (omega (arith, P .1)))) in
     (g .0, g .1, back-keeps W (x .last .0) (a .a) (a .top) (P .2) under long, back-leaves W (x .last .0) (a .a) (a .top) (P .2) under long)
 
 pub insert-row-spec : {M : Type 1} → statement M

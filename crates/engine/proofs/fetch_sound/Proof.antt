@@ -3,6 +3,7 @@ use native.Mathlib.Omega.{arith}
 use mathlib.Core.Path.{sym, _∙_}
 use Rattle.engine.proofs.Fetched.{not-complete, no-such-level}
 use Rattle.definitions.proofs.Tests.{is-true, between-low, between-high}
+use Rattle.definitions.specs.Places.{most-levels}
 use Rattle.engine.proofs.fetch_sound.Statement.{statement}
 use Rattle.engine.proofs.fetch_sound.Tie as tie
 
@@ -19,14 +20,14 @@ returns : tie.Need-returns
 returns c =
     let a = c .before .before .before .before .before .before .before .args in
     let P = c .before .before .before .before .before .before .before .pre in
-    not-complete (a .state .now) (a .out .now) (a .k) (a .v) (P .0) (P .2) (P .1) (sym (c .before .before .before .if1 .taken) ∙ c .before .before .before .before .level-number .ensures) (omega (arith, c .before .place .ensures))
+    not-complete (a .state .now) (a .out .now) (a .k) (a .v) (P .0) (P .2) (P .1) (sym (c .before .before .before .if1 .taken) ∙ c .before .before .before .before .level-number .ensures) (omega (arith, c .before .place .ensures .0))
 
 fetch-level-requires : tie.Need-fetch-level-requires
 fetch-level-requires c κs =
     let a = c .before .before .before .before .before .before .before .before .args in
     let P = c .before .before .before .before .before .before .before .before .pre in
     let t = is-true (sym (c .before .before .before .before .before .level-number .ensures) ∙ c .before .before .before .before .if1 .taken) in
-    (P .0, P .1, between-low 1 (a .k) 9 t, between-high 1 (a .k) 9 t, omega (arith, c .before .before .place .ensures), P .2)
+    (P .0, P .1, between-low 1 (a .k) most-levels t, between-high 1 (a .k) most-levels t, omega (arith, c .before .before .place .ensures .0), P .2)
 
 same-length : tie.Need-same-length
 same-length c = search needs

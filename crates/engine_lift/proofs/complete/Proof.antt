@@ -8,6 +8,7 @@ use lib.Dec.{leb}
 use Rattle.ways.specs.Ways.{way-of}
 use Rattle.engine_lift.specs.Lifts.{own-pick?}
 use Rattle.definitions.specs.Lists.{choose, between}
+use Rattle.definitions.specs.Places.{most-levels}
 use Rattle.engine_lift.proofs.complete.Statement.{statement}
 use Rattle.engine_lift.proofs.complete.Tie as tie
 
@@ -27,7 +28,7 @@ returns : tie.Need-returns
 returns c =
     let a = c .before .before .before .before .before .before .before .before .args in
     let s = a .state .now in
-    sym (λ i. choose ((sym (c .before .before .before .before .before .before .sound .ensures) ∙ c .before .before .before .before .before .if1 .taken) i) (choose ((sym (c .before .before .before .before .level-number .ensures) ∙ c .before .before .before .if2 .taken) i) (choose (lt-leb (a .k) (getD s 4 0) (omega (arith, c .before .place .ensures)) i) (choose (own-pick? (way-of (a .way))) 0 12) 11) 12) 11)
+    sym (λ i. choose ((sym (c .before .before .before .before .before .before .sound .ensures) ∙ c .before .before .before .before .before .if1 .taken) i) (choose ((sym (c .before .before .before .before .level-number .ensures) ∙ c .before .before .before .if2 .taken) i) (choose (lt-leb (a .k) (getD s 4 0) (omega (arith, c .before .place .ensures .0)) i) (choose (own-pick? (way-of (a .way))) 0 12) 11) 12) 11)
 
 own-pick-requires : tie.Need-own-pick-requires
 own-pick-requires c κs = search needs
@@ -36,13 +37,13 @@ returns-2 : tie.Need-returns-2
 returns-2 c =
     let a = c .before .before .before .before .before .before .before .before .before .before .args in
     let s = a .state .now in
-    sym (λ i. choose ((sym (c .before .before .before .before .before .before .before .before .sound .ensures) ∙ c .before .before .before .before .before .before .before .if1 .taken) i) (choose ((sym (c .before .before .before .before .before .before .level-number .ensures) ∙ c .before .before .before .before .before .if2 .taken) i) (choose (le-leb (a .k) (getD s 4 0) (omega (arith, c .before .before .before .place .ensures)) i) (choose ((sym (c .before .own-pick .ensures) ∙ c .if4 .taken) i) 0 12) 11) 12) 11)
+    sym (λ i. choose ((sym (c .before .before .before .before .before .before .before .before .sound .ensures) ∙ c .before .before .before .before .before .before .before .if1 .taken) i) (choose ((sym (c .before .before .before .before .before .before .level-number .ensures) ∙ c .before .before .before .before .before .if2 .taken) i) (choose (le-leb (a .k) (getD s 4 0) (omega (arith, c .before .before .before .place .ensures .0)) i) (choose ((sym (c .before .own-pick .ensures) ∙ c .if4 .taken) i) 0 12) 11) 12) 11)
 
 returns-3 : tie.Need-returns-3
 returns-3 c =
     let a = c .before .before .before .before .before .before .before .before .before .before .args in
     let s = a .state .now in
-    sym (λ i. choose ((sym (c .before .before .before .before .before .before .before .before .sound .ensures) ∙ c .before .before .before .before .before .before .before .if1 .taken) i) (choose ((sym (c .before .before .before .before .before .before .level-number .ensures) ∙ c .before .before .before .before .before .if2 .taken) i) (choose (le-leb (a .k) (getD s 4 0) (omega (arith, c .before .before .before .place .ensures)) i) (choose ((sym (c .before .own-pick .ensures) ∙ c .if4 .left) i) 0 12) 11) 12) 11)
+    sym (λ i. choose ((sym (c .before .before .before .before .before .before .before .before .sound .ensures) ∙ c .before .before .before .before .before .before .before .if1 .taken) i) (choose ((sym (c .before .before .before .before .before .before .level-number .ensures) ∙ c .before .before .before .before .before .if2 .taken) i) (choose (le-leb (a .k) (getD s 4 0) (omega (arith, c .before .before .before .place .ensures .0)) i) (choose ((sym (c .before .own-pick .ensures) ∙ c .if4 .left) i) 0 12) 11) 12) 11)
 
 returns-4 : tie.Need-returns-4
 returns-4 c =
@@ -54,7 +55,7 @@ returns-5 : tie.Need-returns-5
 returns-5 c =
     let a = c .before .before .before .args in
     let s = a .state .now in
-    sym (λ i. choose ((sym (c .before .sound .ensures) ∙ c .if1 .left) i) (choose (between 1 (a .k) 9) (choose (leb (a .k) (getD s 4 0)) (choose (own-pick? (way-of (a .way))) 0 12) 11) 12) 11)
+    sym (λ i. choose ((sym (c .before .sound .ensures) ∙ c .if1 .left) i) (choose (between 1 (a .k) most-levels) (choose (leb (a .k) (getD s 4 0)) (choose (own-pick? (way-of (a .way))) 0 12) 11) 12) 11)
 
 pub complete-spec : {M : Type 1} → statement M
 complete-spec =

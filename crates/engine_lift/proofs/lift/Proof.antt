@@ -7,6 +7,7 @@ use Prim.Native.Nat.{_-_, _≤_}
 use lib.ListN.{length}
 use Rattle.definitions.specs.Limits.{document-01}
 use Rattle.definitions.specs.Layout.{work-words}
+use Rattle.definitions.specs.Places.{state-length}
 use Rattle.ways.specs.Ways.{way-of}
 use Rattle.engine_lift.proofs.Called.{short-state, short-work, left-is, passed, refused-early}
 use Rattle.engine_lift.proofs.lift.Statement.{statement}
@@ -54,7 +55,7 @@ returns-3 c =
     let m = l .before .before .before .before .before in
     let a = m .before .before .before .before .before .before .before .before .args in
     let s = a .state .now in
-    let long : 206095 ≤ length s = omega arith in
+    let long : state-length ≤ length s = omega arith in
     let wide : work-words document-01 (way-of (a .way)) ≤ length (a .work .now) = omega (arith, m .before .before .before .work-length .ensures) in
     let P = passed s (a .k) (way-of (a .way)) long (sym (m .complete .ensures) ∙ (omega arith)) in
     let b = P .liftable .base in

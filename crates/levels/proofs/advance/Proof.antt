@@ -4,6 +4,7 @@ use Prim.Native.Nat.{_≤_}
 use Rattle.levels.proofs.Advancing.{cut-parts, advanced, copied-tabled}
 use Rattle.levels.proofs.advance.Statement.{statement}
 use Rattle.levels.proofs.advance.Tie as tie
+use Rattle.definitions.specs.Places.{most-vectors}
 
 count-under-requires : tie.Need-count-under-requires
 count-under-requires c κs = search needs
@@ -69,7 +70,7 @@ same-length-2 c = search needs
 returns : tie.Need-returns
 returns c =
     let a = c .before .before .before .before .before .before .before .before .before .before .before .before .before .before .before .before .before .args in
-    let n : c .before .before .before .before .before .before .before .before .before .before .before .before .before .count-under .result ≤ 128 = omega (arith, c .before .before .before .before .before .before .before .before .before .before .before .before .before .count-under .ensures, c .before .before .before .before .before .before .before .before .before .before .before .before .before .before .before .before .before .pre .4) in
+    let n : c .before .before .before .before .before .before .before .before .before .before .before .before .before .count-under .result ≤ most-vectors = omega (arith, c .before .before .before .before .before .before .before .before .before .before .before .before .before .count-under .ensures, c .before .before .before .before .before .before .before .before .before .before .before .before .before .before .before .before .before .pre .4) in
     advanced (a .state .now) (a .k) (c .before .before .before .before .before .before .before .before .before .before .before .before .before .count-under .result) (c .before .before .before .before .before .before .before .count-of .result) (a .below .now) (a .above .now) (c .before .before .before .before .before .before .before .before .before .before .copy .last .0) (c .before .before .fill-images .last .0) (c .before .before .before .before .before .before .before .before .before .before .before .before .before .count-under .ensures) (c .before .before .before .before .before .before .before .count-of .ensures) (omega (arith, c .before .before .before .before .before .before .before .before .before .before .before .before .before .before .before .before .before .pre .2)) (omega (arith, c .before .before .before .before .before .before .before .before .before .before .before .before .before .before .before .before .before .pre .3)) (c .before .before .before .before .before .before .before .before .before .before .copy .ensures) (c .before .before .fill-images .ensures .0) (c .before .before .fill-images .ensures .1)
 
 pub advance-spec : {M : Type 1} → statement M

@@ -13,6 +13,7 @@ use Rattle.levels.specs.Places.{rows-from}
 use Rattle.levels.specs.Holding.{vectors-hold?}
 use mathlib.Core.Bool.{true}
 use Rattle.definitions.proofs.Tests.{is-true, between-high}
+use Rattle.definitions.specs.Places.{count-offset, rows-offset}
 use Rattle.levels.proofs.Walking.{whole-part, length-part}
 use Rattle.levels.proofs.level_holds.Statement.{statement}
 use Rattle.levels.proofs.level_holds.Tie as tie
@@ -82,8 +83,8 @@ vectors-hold-requires c κs =
     let a = c .before .before .before .before .before .before .before .before .before .args in
     let s = a .state .now in
     let e : c .before .before .before .before .before .between .result ≡ true = not-false (c .before .before .before .before .before .between .result) (sym (c .before .before .before .before .fails .ensures) ∙ c .before .before .before .if1 .left) in
-    let r : c .before .before .place .result ≤ a .high = omega (arith, c .before .before .place .ensures, between-high (a .low) (getD s (5 + a .k * 129) 0) (a .high) (is-true (sym (c .before .before .before .before .before .between .ensures) ∙ e))) in
-    (omega (arith, length-part (5 + a .k * 129 + 1) s), omega (arith, length-part (1295 + a .k * 20480) s), omega arith, c .before .before .before .before .before .before .before .before .before .pre .4)
+    let r : c .before .before .place .result ≤ a .high = omega (arith, c .before .before .place .ensures .0, between-high (a .low) (getD s (count-offset (a .k)) 0) (a .high) (is-true (sym (c .before .before .before .before .before .between .ensures) ∙ e))) in
+    (omega (arith, length-part (count-offset (a .k) + 1) s), omega (arith, length-part (rows-offset (a .k)) s), omega arith, c .before .before .before .before .before .before .before .before .before .pre .4)
 
 returns-2 : tie.Need-returns-2
 returns-2 c =
@@ -91,9 +92,9 @@ returns-2 c =
     let s = a .state .now in
     let O = table-order (a .code) (table-of (a .n) (a .table .now)) in
     let e : c .before .before .before .before .before .before .between .result ≡ true = not-false (c .before .before .before .before .before .before .between .result) (sym (c .before .before .before .before .before .fails .ensures) ∙ c .before .before .before .before .if1 .left) in
-    let z : 5 + a .k * 129 + 1 ≡ suc (5 + a .k * 129) = omega arith in
-    let es : take (c .before .before .before .place .result) (take (length s - (5 + a .k * 129 + 1)) (drop (5 + a .k * 129 + 1) s)) ≡ ends-at document-01 s (a .k) = (λ i. take (c .before .before .before .place .ensures i) ((whole-part (5 + a .k * 129 + 1) s ∙ ap (λ n. drop n s) z) i)) in
-    c .vectors-hold .ensures ∙ (λ i. vectors-hold? (a .b) (a .most) O (whole-part (1295 + a .k * 20480) s i) 0 (es i)) ∙ (λ i. (sym e ∙ c .before .before .before .before .before .before .between .ensures) i and vectors-hold? (a .b) (a .most) O (rows-from s (a .k)) 0 (ends-at document-01 s (a .k)))
+    let z : count-offset (a .k) + 1 ≡ suc (count-offset (a .k)) = omega arith in
+    let es : take (c .before .before .before .place .result) (take (length s - (count-offset (a .k) + 1)) (drop (count-offset (a .k) + 1) s)) ≡ ends-at document-01 s (a .k) = (λ i. take (c .before .before .before .place .ensures .0 i) ((whole-part (count-offset (a .k) + 1) s ∙ ap (λ n. drop n s) z) i)) in
+    c .vectors-hold .ensures ∙ (λ i. vectors-hold? (a .b) (a .most) O (whole-part (rows-offset (a .k)) s i) 0 (es i)) ∙ (λ i. (sym e ∙ c .before .before .before .before .before .before .between .ensures) i and vectors-hold? (a .b) (a .most) O (rows-from s (a .k)) 0 (ends-at document-01 s (a .k)))
 
 pub level-holds-spec : {M : Type 1} → statement M
 level-holds-spec =

@@ -7,6 +7,7 @@ use Rattle.levels.specs.Holding.{level-holds?}
 use Rattle.levels.proofs.Walking.{test-basis, test-above}
 use Rattle.levels.proofs.level_test.Statement.{statement}
 use Rattle.levels.proofs.level_test.Tie as tie
+use Rattle.definitions.specs.Places.{most-elements, most-vectors, most-rows, most-terms}
 
 shared-slice-read-p : tie.Need-shared-slice-read-p
 shared-slice-read-p c = search needs
@@ -31,7 +32,7 @@ returns c =
     let a = c .before .before .before .before .before .before .before .before .before .args in
     let s = a .state .now in
     let T = table-of (a .n) (a .table .now) in
-    c .level-holds .ensures ∙ ap (λ b. level-holds? 1 64 2048 b (table-order (getD s 2 0) T) s (a .k)) (c .before .row-bounds .ensures) ∙ test-basis s (a .k) T (c .before .before .before .if1 .taken)
+    c .level-holds .ensures ∙ ap (λ b. level-holds? 1 most-elements most-rows b (table-order (getD s 2 0) T) s (a .k)) (c .before .row-bounds .ensures) ∙ test-basis s (a .k) T (c .before .before .before .if1 .taken)
 
 sub-row-bounds : tie.Need-sub-row-bounds
 sub-row-bounds c = search needs
@@ -59,7 +60,7 @@ returns-2 c =
     let a = c .before .before .before .before .before .before .before .before .before .args in
     let s = a .state .now in
     let T = table-of (a .n) (a .table .now) in
-    c .level-holds2 .ensures ∙ ap (λ b. level-holds? 0 128 512 b (table-order (getD s 2 0) T) s (a .k)) (c .before .row-bounds2 .ensures) ∙ test-above s (a .k) T (c .before .before .before .if1 .left)
+    c .level-holds2 .ensures ∙ ap (λ b. level-holds? 0 most-vectors most-terms b (table-order (getD s 2 0) T) s (a .k)) (c .before .row-bounds2 .ensures) ∙ test-above s (a .k) T (c .before .before .before .if1 .left)
 
 pub level-test-spec : {M : Type 1} → statement M
 level-test-spec =

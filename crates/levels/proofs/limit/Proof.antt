@@ -3,6 +3,7 @@ use native.Mathlib.Omega.{arith}
 use mathlib.Core.Path.{sym, ap}
 use borrow.Author.Tests.{lt-ltb, le-ltb}
 use Rattle.definitions.specs.Lists.{choose}
+use Rattle.definitions.specs.Places.{most-exponent}
 use Rattle.levels.proofs.limit.Statement.{statement}
 use Rattle.levels.proofs.limit.Tie as tie
 
@@ -10,10 +11,10 @@ place-requires : tie.Need-place-requires
 place-requires c κs = search needs
 
 returns : tie.Need-returns
-returns c = sym (ap (λ b. choose b 255 0) (lt-ltb (c .before .before .args .j) (c .before .before .args .n) (omega arith)))
+returns c = sym (ap (λ b. choose b most-exponent 0) (lt-ltb (c .before .before .args .j) (c .before .before .args .n) (omega arith)))
 
 returns-2 : tie.Need-returns-2
-returns-2 c = sym (ap (λ b. choose b 255 0) (le-ltb (c .before .before .args .j) (c .before .before .args .n) (omega arith)))
+returns-2 c = sym (ap (λ b. choose b most-exponent 0) (le-ltb (c .before .before .args .j) (c .before .before .args .n) (omega arith)))
 
 pub limit-spec : {M : Type 1} → statement M
 limit-spec = tie.close (tie.spec place-requires returns returns-2)

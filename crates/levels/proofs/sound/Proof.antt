@@ -10,6 +10,7 @@ use Rattle.definitions.proofs.Tests.{is-true, false-is, and-left, and-right, an
 use Rattle.definitions.specs.Limits.{document-01}
 use Rattle.definitions.specs.Problem.{Parameters, prime-in-range?, in-ranges?}
 use Rattle.definitions.specs.Layout.{holds-state?}
+use Rattle.definitions.specs.Places.{all-levels}
 use Rattle.levels.specs.Places.{parameters-at}
 use Rattle.levels.specs.Holding.{levels-hold?}
 use Rattle.levels.proofs.Pointwise.{same-test}
@@ -24,10 +25,10 @@ place-requires : tie.Need-place-requires
 place-requires c κs = search needs
 
 returns : tie.Need-returns
-returns c = let s = c .before .before .before .before .args .state .now in sym (false-is (holds-state? document-01 s) (λ t. let x = holds-said s (c .before .before .before .before .pre) t in omega (arith, c .before .place .ensures, c .if1 .taken)))
+returns c = let s = c .before .before .before .before .args .state .now in sym (false-is (holds-state? document-01 s) (λ t. let x = holds-said s (c .before .before .before .before .pre) t in omega (arith, c .before .place .ensures .0, c .if1 .taken)))
 
 returns-2 : tie.Need-returns-2
-returns-2 c = let s = c .before .before .before .before .before .args .state .now in sym (false-is (holds-state? document-01 s) (λ t. let x = holds-said s (c .before .before .before .before .before .pre) t in omega (arith, c .before .before .place .ensures, c .if2 .taken)))
+returns-2 c = let s = c .before .before .before .before .before .args .state .now in sym (false-is (holds-state? document-01 s) (λ t. let x = holds-said s (c .before .before .before .before .before .pre) t in omega (arith, c .before .before .place .ensures .0, c .if2 .taken)))
 
 read-parameters-requires : tie.Need-read-parameters-requires
 read-parameters-requires c κs = search needs
@@ -70,11 +71,11 @@ returns-4 c =
     let u : T (prime-in-range? document-01 (getD s 0 0) and in-ranges? document-01 (parameters-at s)) = is-true (sym r ∙ not-false (c .before .before .before .before .before .before .before .both .result) (sym (c .before .before .before .before .before .before .fails .ensures) ∙ c .before .before .before .before .before .if3 .left)) in
     let h = c .before .before .before .before .before .before .before .before .before .before .before .before .before .place .result in
     let l : 1 ≤ h = omega (arith, c .before .before .before .before .before .before .before .before .before .before .before .before .if1 .left) in
-    let m : h ≤ 10 = c .before .before .before .before .before .before .before .before .before .before .before .if2 .left in
+    let m : h ≤ all-levels = c .before .before .before .before .before .before .before .before .before .before .before .if2 .left in
     c .before .before .levels-hold .ensures
     ∙ same-test (levels-hold? s h) (holds-state? document-01 s)
-    (λ t. holds-shown s (c .before .before .before .before .before .before .before .before .before .before .before .before .before .before .before .before .pre) h (sym (c .before .before .before .before .before .before .before .before .before .before .before .before .before .place .ensures)) l m (and-left (prime-in-range? document-01 (getD s 0 0)) (in-ranges? document-01 (parameters-at s)) u) (and-right (prime-in-range? document-01 (getD s 0 0)) (in-ranges? document-01 (parameters-at s)) u) t)
-    (λ t. subst (λ n. T (levels-hold? s n)) (sym (c .before .before .before .before .before .before .before .before .before .before .before .before .before .place .ensures)) (holds-said s (c .before .before .before .before .before .before .before .before .before .before .before .before .before .before .before .before .pre) t .4))
+    (λ t. holds-shown s (c .before .before .before .before .before .before .before .before .before .before .before .before .before .before .before .before .pre) h (sym (c .before .before .before .before .before .before .before .before .before .before .before .before .before .place .ensures .0)) l m (and-left (prime-in-range? document-01 (getD s 0 0)) (in-ranges? document-01 (parameters-at s)) u) (and-right (prime-in-range? document-01 (getD s 0 0)) (in-ranges? document-01 (parameters-at s)) u) t)
+    (λ t. subst (λ n. T (levels-hold? s n)) (sym (c .before .before .before .before .before .before .before .before .before .before .before .before .before .place .ensures .0)) (holds-said s (c .before .before .before .before .before .before .before .before .before .before .before .before .before .before .before .before .pre) t .4))
 
 pub sound-spec : {M : Type 1} → statement M
 sound-spec =

@@ -41,7 +41,7 @@ returns c =
     let O = table-order (a .code) (table-of (a .n) (a .table .now)) in
     let es = take (a .r) (a .ends .now) in
     let n : length es ≡ a .r = length-take-le (a .r) (a .ends .now) (omega arith) in
-    let q : getD es (l .j) 0 ≡ c .before .before .before .place .result = getD-take (a .r) (a .ends .now) (l .j) 0 (omega arith) ∙ sym (c .before .before .before .place .ensures) in
+    let q : getD es (l .j) 0 ≡ c .before .before .before .place .result = getD-take (a .r) (a .ends .now) (l .j) 0 (omega arith) ∙ sym (c .before .before .before .place .ensures .0) in
     sym (l .inv .1 ∙ vectors-stop (a .b) (a .most) O (a .level .now) es (l .j) (l .from) (c .before .before .before .place .result) (omega arith) q (sym (c .before .before .vector-holds .ensures) ∙ not-true (c .before .before .vector-holds .result) (sym (c .before .fails .ensures) ∙ c .if1 .taken)))
 
 add-j : tie.Need-add-j Inv-loop μ-loop
@@ -57,7 +57,7 @@ loop-again c =
     let O = table-order (a .code) (table-of (a .n) (a .table .now)) in
     let es = take (a .r) (a .ends .now) in
     let n : length es ≡ a .r = length-take-le (a .r) (a .ends .now) (omega arith) in
-    let q : getD es (l .j) 0 ≡ c .before .before .before .place .result = getD-take (a .r) (a .ends .now) (l .j) 0 (omega arith) ∙ sym (c .before .before .before .place .ensures) in
+    let q : getD es (l .j) 0 ≡ c .before .before .before .place .result = getD-take (a .r) (a .ends .now) (l .j) 0 (omega arith) ∙ sym (c .before .before .before .place .ensures .0) in
     (omega arith, l .inv .1 ∙ vectors-on (a .b) (a .most) O (a .level .now) es (l .j) (l .from) (c .before .before .before .place .result) (omega arith) q (sym (c .before .before .vector-holds .ensures) ∙ not-false (c .before .before .vector-holds .result) (sym (c .before .fails .ensures) ∙ c .if1 .left)))
 
 returns-2 : tie.Need-returns-2 Inv-loop μ-loop

@@ -16,6 +16,7 @@ use Rattle.definitions.specs.Lifting.{with-vector}
 use Rattle.definitions.specs.Run.{run}
 use Rattle.definitions.specs.Result.{done, _>>=_}
 use Rattle.definitions.specs.Lifting.{Lifted, with-vector}
+use Rattle.definitions.specs.Places.{row-length}
 use Rattle.lift.proofs.lift_one.Statement.{statement}
 use Rattle.lift.proofs.lift_one.Tie as tie
 
@@ -95,7 +96,7 @@ returns-2 c =
     let v = c .before .before .before .before .before .before .before .before .v .given .0 .0 in
     let P = c .before .before .before .before .before .before .before .before .before .before .before .before .before .before .before .before .before .before .before .before .before .before .before .before .before .pre in
     let room : a .used + v ≤ g .room = omega (arith, P .11) in
-    let has : v * 10 ≤ length (r .last .0) = omega (arith, subst (Ended g) (c .before .before .before .before .before .before .before .before .v .given .1) (r .ensures .1), P .4 .sorted-fits) in
+    let has : v * row-length ≤ length (r .last .0) = omega (arith, subst (Ended g) (c .before .before .before .before .before .before .before .before .v .given .1) (r .ensures .1), P .4 .sorted-fits) in
     let o = c .before .before .append in (
       (
         came .0,

@@ -10,6 +10,7 @@ use Rattle.levels.proofs.Walking.{whole-part}
 use Rattle.lifting.specs.Stages.{usual, ground-at}
 use Rattle.lifting.proofs.accept_frame.Statement.{statement}
 use Rattle.lifting.proofs.accept_frame.Tie as tie
+use Rattle.definitions.specs.Places.{rows-start}
 
 usual-requires : tie.Need-usual-requires
 usual-requires c κs = search needs
@@ -35,7 +36,7 @@ accept-all-requires c κs =
     let s = a .state .now in
     let P = c .before .before .before .before .before .before .before .before .before .pre in
     let ask = asked s 0 (P .0) (a .tables .now) (P .1) usual (c .before .before .before .ground-of .result)
-    (take (length s - 1295) (drop 1295 s)) (c .before .before .before .ground-of .ensures ∙ ap (λ b. ground-at b s 0) (c .before .before .before .before .usual .ensures)) (whole-part 1295 s) (a .count) (a .frame .now) (P .2) in
+    (take (length s - rows-start) (drop rows-start s)) (c .before .before .before .ground-of .ensures ∙ ap (λ b. ground-at b s 0) (c .before .before .before .before .usual .ensures)) (whole-part rows-start s) (a .count) (a .frame .now) (P .2) in
     let w = ask .6 in
     let v = ask .7 in
     (ask .0, ask .1, ask .2, ask .3, record { value-fits = omega (arith, w, P .3); vector-fits = omega (arith, v); sorted-fits = omega (arith, v, P .3); left-fits = omega (arith, w) }, omega (arith, v), ask .4, ask .5)
@@ -59,7 +60,7 @@ returns c =
     let x = c .before .before .before .before .before .before .before .before .accept-all in
     let y = c .before .before .settle in
     let told = accepted-same s 0 (P .0) (a .tables .now) (P .1) usual (c .before .before .before .before .before .before .before .before .before .before .before .before .ground-of .result)
-    (take (length s - 1295) (drop 1295 s)) (c .before .before .before .before .before .before .before .before .before .before .before .before .ground-of .ensures ∙ ap (λ b. ground-at b s 0) (c .before .before .before .before .before .before .before .before .before .before .before .before .before .usual .ensures)) (whole-part 1295 s)
+    (take (length s - rows-start) (drop rows-start s)) (c .before .before .before .before .before .before .before .before .before .before .before .before .ground-of .ensures ∙ ap (λ b. ground-at b s 0) (c .before .before .before .before .before .before .before .before .before .before .before .before .before .usual .ensures)) (whole-part rows-start s)
     (x .ensures .0 .0) (frame-terms (a .frame .now) (a .count)) (accepted-of (x .result) (x .last .1 .0)) (x .ensures .0 .1) in
     (x .ensures .0 .0, value-in (x .result) (x .last .1 .0), ap (λ z. accepted-with z (value-in (x .result) (x .last .1 .0))) (y .ensures .0) ∙ answer-same (x .result) (x .last .1 .0) ∙ told, y .ensures .1)
 

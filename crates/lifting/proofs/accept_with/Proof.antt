@@ -17,6 +17,7 @@ use Rattle.definitions.specs.Frame.{frame}
 use Rattle.definitions.specs.Result.{done}
 use Rattle.definitions.specs.Monomial.{leading-monomials}
 use Rattle.definitions.specs.Limits.{document-01}
+use Rattle.definitions.specs.Places.{most-vectors}
 use lib.Dec.{leb}
 use Rattle.lifting.proofs.accept_with.Statement.{statement}
 use Rattle.lifting.proofs.accept_with.Tie as tie
@@ -50,9 +51,9 @@ accept-frame-requires c κs =
     let n = c .before .before .before .n .given .0 .0 in
     let r : c .before .before .before .before .before .before .before .before .before .before .count-of .result ≡ count-at s 0 = c .before .before .before .before .before .before .before .before .before .before .count-of .ensures in
     let lead : monomials-of (rows (a .tables .now) 0 (c .before .before .before .before .before .before .before .before .before .before .count-of .result)) ≡ leading-monomials (level-at document-01 s 0) = ap (λ k. monomials-of (rows (a .tables .now) 0 k)) r ∙ leading-at s 0 (c .before .before .before .before .before .before .before .before .before .before .before .before .before .before .pre .0) (a .tables .now) (spans-in (a .tables .now)) (c .before .before .before .before .before .before .before .before .before .before .before .before .before .before .pre .1 .led) in
-    let told : done (monomials-of (rows (F .last .0) 0 n)) ≡ if-few (leb (length (frame 1 (monomials-of (rows (a .tables .now) 0 (c .before .before .before .before .before .before .before .before .before .before .count-of .result))))) 128) (frame 1 (monomials-of (rows (a .tables .now) 0 (c .before .before .before .before .before .before .before .before .before .before .count-of .result)))) =
+    let told : done (monomials-of (rows (F .last .0) 0 n)) ≡ if-few (leb (length (frame 1 (monomials-of (rows (a .tables .now) 0 (c .before .before .before .before .before .before .before .before .before .before .count-of .result))))) most-vectors) (frame 1 (monomials-of (rows (a .tables .now) 0 (c .before .before .before .before .before .before .before .before .before .before .count-of .result)))) =
     sym (ap (λ y. framed-of y (F .last .0)) (c .before .before .before .n .given .1)) ∙ F .ensures .0 in
-    let m : n ≤ 128 = subst (few 128) (c .before .before .before .n .given .1) (F .ensures .1) in
+    let m : n ≤ most-vectors = subst (few most-vectors) (c .before .before .before .n .given .1) (F .ensures .1) in
     let P = c .before .before .before .before .before .before .before .before .before .before .before .before .before .before .pre in
     (P .0, P .1, record { few = m; fits = omega (arith, m); terms = whole-frame 1 (monomials-of (rows (a .tables .now) 0 (c .before .before .before .before .before .before .before .before .before .before .count-of .result))) (leading-monomials (level-at document-01 s 0)) (frame-terms (F .last .0) n) lead told }, P .2)
 
@@ -80,7 +81,7 @@ returns-2 c =
     let n = c .before .before .before .before .before .before .n .given .0 .0 in
     let r : c .before .before .before .before .before .before .before .before .before .before .before .before .before .count-of .result ≡ count-at s 0 = c .before .before .before .before .before .before .before .before .before .before .before .before .before .count-of .ensures in
     let lead : monomials-of (rows (a .tables .now) 0 (c .before .before .before .before .before .before .before .before .before .before .before .before .before .count-of .result)) ≡ leading-monomials (level-at document-01 s 0) = ap (λ k. monomials-of (rows (a .tables .now) 0 k)) r ∙ leading-at s 0 (c .before .before .before .before .before .before .before .before .before .before .before .before .before .before .before .before .before .pre .0) (a .tables .now) (spans-in (a .tables .now)) (c .before .before .before .before .before .before .before .before .before .before .before .before .before .before .before .before .before .pre .1 .led) in
-    let told : done (monomials-of (rows (F .last .0) 0 n)) ≡ if-few (leb (length (frame 1 (monomials-of (rows (a .tables .now) 0 (c .before .before .before .before .before .before .before .before .before .before .before .before .before .count-of .result))))) 128) (frame 1 (monomials-of (rows (a .tables .now) 0 (c .before .before .before .before .before .before .before .before .before .before .before .before .before .count-of .result)))) =
+    let told : done (monomials-of (rows (F .last .0) 0 n)) ≡ if-few (leb (length (frame 1 (monomials-of (rows (a .tables .now) 0 (c .before .before .before .before .before .before .before .before .before .before .before .before .before .count-of .result))))) most-vectors) (frame 1 (monomials-of (rows (a .tables .now) 0 (c .before .before .before .before .before .before .before .before .before .before .before .before .before .count-of .result)))) =
     sym (ap (λ y. framed-of y (F .last .0)) (c .before .before .before .before .before .before .n .given .1)) ∙ F .ensures .0 in
     let L = c .before .before .accept-frame in
     (L .ensures .0, L .ensures .1, L .ensures .2 ∙ few-enough (getD s 2 0) (level-at document-01 s 0) (monomials-of (rows (a .tables .now) 0 (c .before .before .before .before .before .before .before .before .before .before .before .before .before .count-of .result))) (frame-terms (F .last .0) n) (λ ms. accept-from (stage-at usual s 0) (L .ensures .0) 1 ms) lead told, L .ensures .3)

@@ -4,6 +4,7 @@ use lib.Seq.{paste}
 use Rattle.reduce.specs.Grounds.{ends-start, below-start, above-start}
 use Rattle.lifting.proofs.join_tables.Statement.{statement}
 use Rattle.lifting.proofs.join_tables.Tie as tie
+use Rattle.definitions.specs.Places.{most-vectors, ends-start, table-length}
 
 copy-requires : tie.Need-copy-requires
 copy-requires c κs = search needs
@@ -24,9 +25,9 @@ returns : tie.Need-returns
 returns c =
     let a = c .before .before .before .before .before .before .before .before .before .before .before .before .before .before .before .before .before .before .before .before .before .args in
     c .before .before .copy4 .ensures
-    ∙ ap (λ z. paste z above-start (a .above .now) 1280) (
-      c .before .before .before .before .before .before .copy3 .ensures
-      ∙ ap (λ z. paste z below-start (a .below .now) 1280) (c .before .before .before .before .before .before .before .before .before .before .copy2 .ensures ∙ ap (λ z. paste z ends-start (a .ends .now) 128) (c .before .before .before .before .before .before .before .before .before .before .before .before .before .before .copy .ensures))
+    ∙ ap (λ z. paste z above-start (a .above .now) table-length) (
+    c .before .before .before .before .before .before .copy3 .ensures
+    ∙ ap (λ z. paste z below-start (a .below .now) table-length) (c .before .before .before .before .before .before .before .before .before .before .copy2 .ensures ∙ ap (λ z. paste z ends-start (a .ends .now) most-vectors) (c .before .before .before .before .before .before .before .before .before .before .before .before .before .before .copy .ensures))
     )
 
 pub join-tables-spec : {M : Type 1} → statement M

@@ -8,6 +8,7 @@ use Rattle.lift.specs.Vectors.{frame-terms, lifted-of, Whole}
 use Rattle.levels.proofs.Walking.{whole-part}
 use Rattle.lifting.proofs.lift_frame.Statement.{statement}
 use Rattle.lifting.proofs.lift_frame.Tie as tie
+use Rattle.definitions.specs.Places.{rows-offset}
 
 ground-of-requires : tie.Need-ground-of-requires
 ground-of-requires c κs = search needs
@@ -39,8 +40,8 @@ lift-all-requires c κs =
     let s = a .state .now in
     let P = c .before .before .before .before .before .before .before .before .before .before .pre in
     let ask = asked s (a .j) (P .0) (a .tables .now) (P .1) (a .b) (c .before .before .before .before .ground-of .result)
-    (take (length s - (1295 + a .j * 20480)) (drop (1295 + a .j * 20480) s))
-    (c .before .before .before .before .ground-of .ensures) (whole-part (1295 + a .j * 20480) s) (a .count) (a .frame .now) (P .2) in
+    (take (length s - (rows-offset (a .j))) (drop (rows-offset (a .j)) s))
+    (c .before .before .before .before .ground-of .ensures) (whole-part (rows-offset (a .j)) s) (a .count) (a .frame .now) (P .2) in
     let w = ask .6 in
     let v = ask .7 in
     let r = ask .8 in
@@ -63,8 +64,8 @@ returns c =
         L .ensures .0 .0,
         L .last .1 .1 .0,
         lifted-same s (a .j) (P .0) (a .tables .now) (P .1) (a .b) (c .before .before .before .before .before .before .before .before .before .before .ground-of .result)
-            (take (length s - (1295 + a .j * 20480)) (drop (1295 + a .j * 20480) s))
-            (c .before .before .before .before .before .before .before .before .before .before .ground-of .ensures) (whole-part (1295 + a .j * 20480) s) (a .w) (L .ensures .0 .0) (frame-terms (a .frame .now) (a .count)) (lifted-of (L .result) (a .count) (L .last .0) (L .last .1 .1 .0)) (L .ensures .0 .1),
+            (take (length s - (rows-offset (a .j))) (drop (rows-offset (a .j)) s))
+            (c .before .before .before .before .before .before .before .before .before .before .ground-of .ensures) (whole-part (rows-offset (a .j)) s) (a .w) (L .ensures .0 .0) (frame-terms (a .frame .now) (a .count)) (lifted-of (L .result) (a .count) (L .last .0) (L .last .1 .1 .0)) (L .ensures .0 .1),
       ),
       subst (λ g. Whole g (a .count) (L .result) (L .last .0)) (c .before .before .before .before .before .before .before .before .before .before .ground-of .ensures) (L .ensures .1),
     )

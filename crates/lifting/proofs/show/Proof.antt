@@ -7,6 +7,7 @@ use Rattle.writing.proofs.Fetching.{padded-out}
 use Rattle.writing.proofs.Copying.{length-spelled}
 use Rattle.terms.specs.Rows.{cleared}
 use Rattle.definitions.specs.Layout.{rows, rows-of}
+use Rattle.definitions.specs.Places.{row-length}
 use lib.Seq.{take-all}
 use Rattle.lifting.proofs.show.Statement.{statement}
 use Rattle.lifting.proofs.show.Tie as tie
@@ -27,8 +28,8 @@ returns : tie.Need-returns
 returns c =
     let a = c .before .before .before .before .before .before .before .before .before .before .args in
     let w = rows-of (rows (a .vector .now) 0 (a .n)) in
-    let n : length w ≡ a .n * 10 = length-spelled (a .vector .now) 0 (a .n) in
-    c .before .before .clear .ensures ∙ ap (λ z. cleared z (a .n * 10)) (c .before .before .before .before .before .before .copy-rows .ensures) ∙ padded-out (a .work .now) w w (a .n * 10) (omega arith) (omega (arith, n)) (sym (take-all (a .n * 10) w (omega (arith, n))))
+    let n : length w ≡ a .n * row-length = length-spelled (a .vector .now) 0 (a .n) in
+    c .before .before .clear .ensures ∙ ap (λ z. cleared z (a .n * row-length)) (c .before .before .before .before .before .before .copy-rows .ensures) ∙ padded-out (a .work .now) w w (a .n * row-length) (omega arith) (omega (arith, n)) (sym (take-all (a .n * row-length) w (omega (arith, n))))
 
 pub show-spec : {M : Type 1} → statement M
 show-spec = tie.close (tie.spec copy-rows-requires mul-clear clear-requires same-length returns)

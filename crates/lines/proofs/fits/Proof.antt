@@ -8,9 +8,10 @@ use Rattle.monomial.proofs.Scans.{fits-marked}
 use mathlib.Core.Bool.{Bool}
 use Rattle.lines.proofs.fits.Statement.{statement}
 use Rattle.lines.proofs.fits.Tie as tie
+use Rattle.definitions.specs.Places.{most-exponent}
 
 abbrev Inv-loop : tie.InvT-loop
-Inv-loop e mark₀ j₀ mark j = (j ≤ 8) × (length e ≡ 8) × Marked (λ k. ltb 255 (getD e k 0)) j mark
+Inv-loop e mark₀ j₀ mark j = (j ≤ 8) × (length e ≡ 8) × Marked (λ k. ltb most-exponent (getD e k 0)) j mark
 
 abbrev μ-loop : tie.MeasureT-loop
 μ-loop e mark₀ j₀ mark j = 8 - j
@@ -35,13 +36,13 @@ loop-less c = omega arith
 
 loop-again : tie.Need-loop-again Inv-loop μ-loop
 loop-again c =
-    let l = c .before .before .loop in let x = c .before .before .before .args .t1 in let f : ℕ → Bool = λ k. ltb 255 (getD x k 0) in
+    let l = c .before .before .loop in let x = c .before .before .before .args .t1 in let f : ℕ → Bool = λ k. ltb most-exponent (getD x k 0) in
     (omega arith, l .inv .1, subst (Marked f (l .j + 1)) (sym (c .mark-above .ensures)) (marked-more f (l .j) (l .mark) _ refl (l .inv .2)))
 
 returns : tie.Need-returns Inv-loop μ-loop
 returns c =
     let l = c .before .loop in let x = c .before .before .args .t1 in let e : l .j ≡ 8 = omega arith in
-    fits-marked 255 x (l .mark) (l .inv .1) (subst (λ n. Marked (λ k. ltb 255 (getD x k 0)) n (l .mark)) e (l .inv .2))
+    fits-marked most-exponent x (l .mark) (l .inv .1) (subst (λ n. Marked (λ k. ltb most-exponent (getD x k 0)) n (l .mark)) e (l .inv .2))
 
 pub fits-spec : {M : Type 1} → statement M
 fits-spec =

@@ -55,7 +55,7 @@ w-lines-requires c κs =
     let n = x .ensures .0 in
     let v = x .ensures .1 in
     let h = subst (λ y. Shown y v (x .last .0)) (c .before .before .before .before .before .before .before .before .before .place .given .1) (x .ensures .3) in
-    (omega (arith, c .before .before .before .before .before .before .place2 .ensures, few-variables s (P .0 .long) (P .0 .holds)), h .2, omega (arith, h .3, c .before .before .before .before .pair-line2 .ensures .1, P .3))
+    (omega (arith, c .before .before .before .before .before .before .place2 .ensures .0, few-variables s (P .0 .long) (P .0 .holds)), h .2, omega (arith, h .3, c .before .before .before .before .pair-line2 .ensures .1, P .3))
 
 same-length : tie.Need-same-length
 same-length c = search needs
@@ -122,7 +122,7 @@ returns-3 c =
     let e = sym (ap (λ y. accepted-with y v) (g .1)) ∙ x .ensures .2 in
     let q = c .before .before .before .before .before .before .before .pair-line2 .ensures in
     let w = c .before .before .w-lines .ensures in
-    let m : c .before .before .before .before .before .before .before .before .before .place2 .result ≡ getD s 1 0 = c .before .before .before .before .before .before .before .before .before .place2 .ensures in
+    let m : c .before .before .before .before .before .before .before .before .before .place2 .result ≡ getD s 1 0 = c .before .before .before .before .before .before .before .before .before .place2 .ensures .0 in
     (record { bound = n; bytes = printed 88 (9 ∷ g .0 .0 ∷ []) ++ w-lines (getD s 1 0) v; gives = accepted-stopped s n (g .0 .0) v e; printed = spelled (λ i. printed 88 (9 ∷ g .0 .0 ∷ []) ++ w-lines (m i) (sym (h .1) i)) (after (q .0) (w .0)) }, omega (arith, q .1, w .1, h .3))
 
 pub accept-spec : {M : Type 1} → statement M

@@ -4,6 +4,7 @@ use mathlib.Core.Path.{_≡_, sym}
 use Prim.Native.Nat.{_+_, _-_, _*_, _≤_}
 use lib.ListN.{getD}
 use Rattle.definitions.specs.Sheet.{level-lines}
+use Rattle.definitions.specs.Places.{most-vectors, rows-offset}
 use Rattle.printing.proofs.Spelling.{spelled}
 use Rattle.printing.specs.Lines.{Short}
 use Rattle.tables.specs.Cuts.{Cut, cut-level}
@@ -72,8 +73,8 @@ level-lines-requires c κs =
     let b = c .before .before .before .before .before .before .before .before .before .pre .0 in
     let h = complete-cut s (b .long) (b .holds) (a .k) (b .has) in
     let e : c .before .before .before .before .before .before .count-of .result ≡ count-at s (a .k) = c .before .before .before .before .before .before .count-of .ensures in
-    let t = subst₃ (λ c l f. (c ≤ 128) × Cut c l f × Short c f) (sym e) (sym (whole-part (1295 + a .k * 20480) s)) (sym (ends-part s (a .k))) (h .0, h .1, short-level s (b .long) (b .holds) (a .k) (b .has) (h .1 .ends-fit)) in
-    (omega (arith, c .before .before .before .before .place .ensures, few-variables s (b .long) (b .holds)), t .0, t .1, t .2, c .before .before .before .before .before .before .before .before .before .pre .1)
+    let t = subst₃ (λ c l f. (c ≤ most-vectors) × Cut c l f × Short c f) (sym e) (sym (whole-part (rows-offset (a .k)) s)) (sym (ends-part s (a .k))) (h .0, h .1, short-level s (b .long) (b .holds) (a .k) (b .has) (h .1 .ends-fit)) in
+    (omega (arith, c .before .before .before .before .place .ensures .0, few-variables s (b .long) (b .holds)), t .0, t .1, t .2, c .before .before .before .before .before .before .before .before .before .pre .1)
 
 same-length : tie.Need-same-length
 same-length c = search needs
@@ -83,9 +84,9 @@ returns c =
     let a = c .before .before .before .before .before .before .before .before .before .before .before .before .args in
     let s = a .state .now in
     let e : c .before .before .before .before .before .before .before .before .before .count-of .result ≡ count-at s (a .k) = c .before .before .before .before .before .before .before .before .before .count-of .ensures in
-    let n : c .before .before .before .before .before .before .before .place .result ≡ getD s 1 0 = c .before .before .before .before .before .before .before .place .ensures in
+    let n : c .before .before .before .before .before .before .before .place .result ≡ getD s 1 0 = c .before .before .before .before .before .before .before .place .ensures .0 in
     let l : c .before .before .before .before .before .before .narrow .result ≡ a .k = c .before .before .before .before .before .before .narrow .ensures in
-    (spelled (λ i. level-lines (n i) (l i) (cut-level (e i) (whole-part (1295 + a .k * 20480) s i) (ends-part s (a .k) i))) (c .before .before .level-lines .ensures .0), c .before .before .level-lines .ensures .1)
+    (spelled (λ i. level-lines (n i) (l i) (cut-level (e i) (whole-part (rows-offset (a .k)) s i) (ends-part s (a .k) i))) (c .before .before .level-lines .ensures .0), c .before .before .level-lines .ensures .1)
 
 pub print-level-spec : {M : Type 1} → statement M
 print-level-spec =

@@ -3,12 +3,13 @@ use mathlib.Core.Path.{_≡_, sym, ap, _∙_}
 use Prim.Native.Nat.{_+_, _-_, _*_, _≤_}
 use lib.ListN.{length, drop}
 use Rattle.definitions.specs.Monomial.{degree}
+use Rattle.definitions.specs.Places.{most-exponent}
 use Rattle.monomial.proofs.Scans.{degree-on, degree-end}
 use Rattle.monomial.proofs.degree_exponents.Statement.{statement}
 use Rattle.monomial.proofs.degree_exponents.Tie as tie
 
 abbrev Inv-loop : tie.InvT-loop
-Inv-loop x d₀ j₀ d j = (j ≤ 8) × (length x ≡ 8) × (d ≤ 255 * j) × (d + degree (drop j x) ≡ degree x)
+Inv-loop x d₀ j₀ d j = (j ≤ 8) × (length x ≡ 8) × (d ≤ most-exponent * j) × (d + degree (drop j x) ≡ degree x)
 
 abbrev μ-loop : tie.MeasureT-loop
 μ-loop x d₀ j₀ d j = 8 - j

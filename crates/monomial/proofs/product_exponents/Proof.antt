@@ -7,6 +7,7 @@ use Rattle.lists.specs.Marking.{Marked, marked-none, marked-more}
 use lib.Dec.{ltb}
 use Prim.Native.Nat.{_%_}
 use Rattle.definitions.specs.Monomial.{product}
+use Rattle.definitions.specs.Places.{most-exponent}
 use Rattle.lists.specs.Filling.{Filled, filled-more}
 use Rattle.monomial.proofs.Places.{getD-product}
 use mathlib.Core.Bool.{Bool}
@@ -15,7 +16,7 @@ use Rattle.monomial.proofs.product_exponents.Statement.{statement}
 use Rattle.monomial.proofs.product_exponents.Tie as tie
 
 abbrev Inv-loop : tie.InvT-loop
-Inv-loop component q e d₀ mark₀ j₀ d mark j = (j ≤ 8) × (length q ≡ 8) × (length e ≡ 8) × (length d ≡ 8) × Marked (λ k. ltb 255 (getD (product q e) k 0)) j mark × Filled (λ k. getD (product q e) k 0 % 256) j d
+Inv-loop component q e d₀ mark₀ j₀ d mark j = (j ≤ 8) × (length q ≡ 8) × (length e ≡ 8) × (length d ≡ 8) × Marked (λ k. ltb most-exponent (getD (product q e) k 0)) j mark × Filled (λ k. getD (product q e) k 0 % 256) j d
 
 abbrev μ-loop : tie.MeasureT-loop
 μ-loop component q e d₀ mark₀ j₀ d mark j = 8 - j
@@ -60,12 +61,12 @@ loop-again c =
     let e = c .before .before .before .before .before .args .t2 in
     let x = c .before .before .wide .result + c .before .wide2 .result in
     let s : x ≡ getD (product q e) (l .j) 0 = (λ i. c .before .before .wide .ensures .0 i + c .before .wide2 .ensures .0 i) ∙ sym (getD-product q e (l .j) (omega arith) (omega arith)) in
-    let f : ℕ → Bool = λ k. ltb 255 (getD (product q e) k 0) in (
+    let f : ℕ → Bool = λ k. ltb most-exponent (getD (product q e) k 0) in (
       omega arith,
       l .inv .1,
       l .inv .2,
       simp length-set (l .inv .3),
-      subst (Marked f (l .j + 1)) (sym (c .mark-above .ensures)) (marked-more f (l .j) (l .mark) _ (ap (ltb 255) s) (l .inv .4)),
+      subst (Marked f (l .j + 1)) (sym (c .mark-above .ensures)) (marked-more f (l .j) (l .mark) _ (ap (ltb most-exponent) s) (l .inv .4)),
       filled-more (λ k. getD (product q e) k 0 % 256) (l .j) (x % 256) (l .d) (omega arith) (ap (λ n. n % 256) s) (l .inv .5),
     )
 

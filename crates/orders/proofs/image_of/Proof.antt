@@ -6,6 +6,7 @@ use Rattle.orders.specs.Images.{Bounded}
 use Rattle.orders.proofs.Tables.{key-at-0, key-beyond, key-inside}
 use Rattle.orders.proofs.image_of.Statement.{statement}
 use Rattle.orders.proofs.image_of.Tie as tie
+use Rattle.definitions.specs.Places.{row-length}
 
 cast-i : tie.Need-cast-i
 cast-i c = search needs
@@ -34,7 +35,7 @@ add-shifted c = search needs
 shifted-requires : tie.Need-shifted-requires
 shifted-requires c κs =
     let a = c .before .before .before .before .args in
-    let b : a .m .component * 10 - 10 ≡ (a .m .component - 1) * 10 = omega arith in
+    let b : a .m .component * row-length - row-length ≡ (a .m .component - 1) * row-length = omega arith in
     (omega (arith, c .before .before .before .before .pre .0), subst (λ n. Bounded (a .table .now) (n + 2)) (sym b) (c .before .before .before .before .pre .1 (a .m .component - 1) (omega arith)))
 
 add-t12 : tie.Need-add-t12

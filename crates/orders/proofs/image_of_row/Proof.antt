@@ -6,6 +6,7 @@ use Rattle.orders.specs.Images.{Bounded}
 use Rattle.orders.proofs.RowImages.{row-key-at-0, row-key-beyond, row-key-inside}
 use Rattle.orders.proofs.image_of_row.Statement.{statement}
 use Rattle.orders.proofs.image_of_row.Tie as tie
+use Rattle.definitions.specs.Places.{row-length}
 
 mul-at : tie.Need-mul-at
 mul-at c = search needs
@@ -48,14 +49,14 @@ tabled-image-requires : tie.Need-tabled-image-requires
 tabled-image-requires c κs =
     let a = c .before .before .before .before .before .before .args in
     let p = c .before .before .place .result in
-    let b : p * 10 - 10 ≡ (p - 1) * 10 = omega arith in
+    let b : p * row-length - row-length ≡ (p - 1) * row-length = omega arith in
     (omega arith, omega arith, subst (λ n. Bounded (a .table .now) (n + 2)) (sym b) (c .before .before .before .before .before .before .pre .2 (p - 1) (omega arith)))
 
 returns-3 : tie.Need-returns-3
 returns-3 c =
     let a = c .before .before .before .before .before .before .before .args in
     let q = c .before .before .before .place .ensures .0 in
-    c .tabled-image .ensures ∙ (row-key-inside (a .r) (a .table .now) (a .s .now) (a .i) (c .before .before .before .place .result * 10 - 10) (λ z. c .before .before .if1 .left (q ∙ z)) (omega (arith, q, c .before .if2 .left)) (ap (λ n. n * 10 - 10) q))
+    c .tabled-image .ensures ∙ (row-key-inside (a .r) (a .table .now) (a .s .now) (a .i) (c .before .before .before .place .result * row-length - row-length) (λ z. c .before .before .if1 .left (q ∙ z)) (omega (arith, q, c .before .if2 .left)) (ap (λ n. n * row-length - row-length) q))
 
 pub image-of-row-spec : {M : Type 1} → statement M
 image-of-row-spec =

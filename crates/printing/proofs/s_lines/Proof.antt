@@ -7,6 +7,7 @@ use Rattle.definitions.proofs.Rows.{rows-last}
 use Rattle.terms.specs.Rows.{term-of}
 use Rattle.definitions.specs.Layout.{row-at, rows}
 use Rattle.definitions.specs.Sheet.{printed, term-fields, letter-S, s-lines}
+use Rattle.definitions.specs.Places.{s-line-length}
 use Rattle.printing.specs.Lines.{Printed}
 use Rattle.printing.proofs.Listing.{s-lines-last}
 use Rattle.printing.proofs.Spelling.{nothing, after, spelled}
@@ -15,7 +16,7 @@ use Rattle.printing.proofs.s_lines.Statement.{statement}
 use Rattle.printing.proofs.s_lines.Tie as tie
 
 abbrev Inv-loop : tie.InvT-loop
-Inv-loop out₀ at level from to n k v a₀ i₀ out a i = (from ≤ i) × (i ≤ to) × (length out ≡ length out₀) × Printed out₀ out at a (s-lines n k v (rows level from (i - from))) × (a ≤ at + (i - from) * 74)
+Inv-loop out₀ at level from to n k v a₀ i₀ out a i = (from ≤ i) × (i ≤ to) × (length out ≡ length out₀) × Printed out₀ out at a (s-lines n k v (rows level from (i - from))) × (a ≤ at + (i - from) * s-line-length)
 
 abbrev μ-loop : tie.MeasureT-loop
 μ-loop out₀ at level from to n k v a₀ i₀ out a i = to - i

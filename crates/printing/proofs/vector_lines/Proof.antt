@@ -6,6 +6,7 @@ use lib.ListN.{length, getD}
 use Rattle.tables.specs.Cuts.{start-of, cut-level}
 use Rattle.definitions.specs.Layout.{rows}
 use Rattle.definitions.specs.Sheet.{s-lines, vector-lines}
+use Rattle.definitions.specs.Places.{most-rows, s-line-length}
 use Rattle.printing.specs.Lines.{Printed}
 use Rattle.printing.proofs.Listing.{vector-more}
 use Rattle.printing.proofs.Spelling.{nothing, after, spelled}
@@ -13,7 +14,7 @@ use Rattle.printing.proofs.vector_lines.Statement.{statement}
 use Rattle.printing.proofs.vector_lines.Tie as tie
 
 abbrev Inv-loop : tie.InvT-loop
-Inv-loop out₀ at level ends count n k a₀ start₀ v₀ j₀ out a start v j = (j ≤ count) × (length out ≡ length out₀) × (start ≡ start-of ends j) × (v ≡ j + 1) × Printed out₀ out at a (vector-lines n k 1 (cut-level j level ends)) × (a ≤ at + start * 74) × (start ≤ 2048)
+Inv-loop out₀ at level ends count n k a₀ start₀ v₀ j₀ out a start v j = (j ≤ count) × (length out ≡ length out₀) × (start ≡ start-of ends j) × (v ≡ j + 1) × Printed out₀ out at a (vector-lines n k 1 (cut-level j level ends)) × (a ≤ at + start * s-line-length) × (start ≤ most-rows)
 
 abbrev μ-loop : tie.MeasureT-loop
 μ-loop out₀ at level ends count n k a₀ start₀ v₀ j₀ out a start v j = count - j
@@ -36,7 +37,7 @@ s-lines-requires : tie.Need-s-lines-requires Inv-loop μ-loop
 s-lines-requires c κs =
     let P = c .before .before .before .before .before .before .before .before .pre in
     let L = c .before .before .before .before .loop in
-    let e = c .before .place .ensures in
+    let e = c .before .place .ensures .0 in
     let f = P .2 .filled (L .j) (omega arith) in
     (P .0, omega (arith, e, f, L .inv .2), omega (arith, e, P .2 .rows-fit (L .j) (omega arith)), omega (arith, e, f, P .3 (L .j) (omega arith), L .inv .2, L .inv .5, L .inv .1, P .4))
 
@@ -54,7 +55,7 @@ loop-again c =
     let P = c .before .before .before .before .before .before .before .before .before .before .before .pre in
     let a = c .before .before .before .before .before .before .before .before .before .before .before .args in
     let L = c .before .before .before .before .before .before .before .loop in
-    let e : c .before .before .before .before .place .result ≡ getD (a .ends .now) (L .j) 0 = c .before .before .before .before .place .ensures in
+    let e : c .before .before .before .before .place .result ≡ getD (a .ends .now) (L .j) 0 = c .before .before .before .before .place .ensures .0 in
     let s : L .start ≡ start-of (a .ends .now) (L .j) = L .inv .2 in
     let w : L .v ≡ L .j + 1 = L .inv .3 in
     let d : suc (L .j) ≡ L .j + 1 = omega arith in

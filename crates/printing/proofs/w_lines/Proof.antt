@@ -6,6 +6,7 @@ use lib.ListN.{length}
 use Rattle.definitions.proofs.Rows.{rows-last}
 use Rattle.definitions.specs.Layout.{row-at, rows}
 use Rattle.definitions.specs.Sheet.{printed, term-fields, letter-W, w-lines}
+use Rattle.definitions.specs.Places.{w-line-length}
 use Rattle.printing.specs.Lines.{Printed}
 use Rattle.printing.proofs.Listing.{w-lines-last}
 use Rattle.printing.proofs.Spelling.{nothing, after, spelled}
@@ -14,7 +15,7 @@ use Rattle.printing.proofs.w_lines.Statement.{statement}
 use Rattle.printing.proofs.w_lines.Tie as tie
 
 abbrev Inv-loop : tie.InvT-loop
-Inv-loop out₀ at s m n a₀ i₀ out a i = (i ≤ m) × (length out ≡ length out₀) × Printed out₀ out at a (w-lines n (rows s 0 i)) × (a ≤ at + i * 62)
+Inv-loop out₀ at s m n a₀ i₀ out a i = (i ≤ m) × (length out ≡ length out₀) × Printed out₀ out at a (w-lines n (rows s 0 i)) × (a ≤ at + i * w-line-length)
 
 abbrev μ-loop : tie.MeasureT-loop
 μ-loop out₀ at s m n a₀ i₀ out a i = m - i

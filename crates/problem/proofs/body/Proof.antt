@@ -18,6 +18,7 @@ use Rattle.lines.specs.Tests.{term-in, begins?}
 use Rattle.definitions.proofs.Results.{if-done-says}
 use Rattle.definitions.specs.Problem.{with-term}
 use Rattle.definitions.specs.Result.{done}
+use Rattle.definitions.specs.Places.{most-rows}
 use borrow.Author.Tests.{ltb-true}
 use lib.ListN.{replicate}
 use mathlib.Core.Option.{some}
@@ -26,10 +27,10 @@ use Rattle.problem.proofs.body.Tie as tie
 
 abbrev Inv-loop : tie.InvT-loop
 Inv-loop file from q state₀ at₀ count₀ elements₀ before₀ state at count elements before =
-    (count ≤ 2048) × (length state ≡ length state₀) × ((f : Level) × So-far (parameters-of q) (length state₀) f count elements before state × (body document-01 (parameters-of q) 2 0 [] (lines (drop from file)) ≡ body document-01 (parameters-of q) (count + 2) count f (lines (drop at file))))
+    (count ≤ most-rows) × (length state ≡ length state₀) × ((f : Level) × So-far (parameters-of q) (length state₀) f count elements before state × (body document-01 (parameters-of q) 2 0 [] (lines (drop from file)) ≡ body document-01 (parameters-of q) (count + 2) count f (lines (drop at file))))
 
 abbrev μ-loop : tie.MeasureT-loop
-μ-loop file from q state₀ at₀ count₀ elements₀ before₀ state at count elements before = 2048 - count
+μ-loop file from q state₀ at₀ count₀ elements₀ before₀ state at count elements before = most-rows - count
 
 loop-holds : tie.Need-loop-holds Inv-loop μ-loop
 loop-holds c = let a = c .before .before .args in (omega arith, refl, ([], none-so-far (parameters-of (a .q)) (length (a .state .now)) (replicate 16 0) (a .state .now) (omega arith) (c .before .before .pre .2), refl))
@@ -46,7 +47,7 @@ store-requires c κs =
     let next = c .before .before .step .given .0 .0 in
     let said : line-first q (l .count) (l .elements) (l .before) (drop (l .at) file) ≡ done (some (w, drop next file)) = sym (c .before .before .before .before .before .next-line .ensures) ∙ ap (λ (x : Step). step-as x w file) (c .before .before .step .given .1) in
     let passed = if-done-says (Passed (l .count) (l .elements)) (line-first q (l .count) (l .elements) (l .before) (drop (l .at) file)) (line-passed q (l .count) (l .elements) (l .before) (drop (l .at) file)) (some (w, drop next file)) said in
-    let room : l .count < 2048 = ltb-true (l .count) 2048 (passed .0) in
+    let room : l .count < most-rows = ltb-true (l .count) most-rows (passed .0) in
     (omega arith, omega arith, follows-says (l .elements) (getD w 0 0) (begins? (l .elements) (getD w 0 0)) refl (passed .1) .2)
 
 array-read-elements : tie.Need-array-read-elements Inv-loop μ-loop
@@ -61,7 +62,7 @@ loop-less c =
     let next = c .before .before .before .before .before .step .given .0 .0 in
     let said : line-first q (l .count) (l .elements) (l .before) (drop (l .at) file) ≡ done (some (w, drop next file)) = sym (c .before .before .before .before .before .before .before .before .next-line .ensures) ∙ ap (λ (x : Step). step-as x w file) (c .before .before .before .before .before .step .given .1) in
     let passed = if-done-says (Passed (l .count) (l .elements)) (line-first q (l .count) (l .elements) (l .before) (drop (l .at) file)) (line-passed q (l .count) (l .elements) (l .before) (drop (l .at) file)) (some (w, drop next file)) said in
-    let room : l .count < 2048 = ltb-true (l .count) 2048 (passed .0) in
+    let room : l .count < most-rows = ltb-true (l .count) most-rows (passed .0) in
     omega arith
 
 loop-again : tie.Need-loop-again Inv-loop μ-loop
@@ -70,7 +71,7 @@ loop-again c =
     let next = c .before .before .before .before .before .step .given .0 .0 in
     let said : line-first q (l .count) (l .elements) (l .before) (drop (l .at) file) ≡ done (some (w, drop next file)) = sym (c .before .before .before .before .before .before .before .before .next-line .ensures) ∙ ap (λ (x : Step). step-as x w file) (c .before .before .before .before .before .step .given .1) in
     let passed = if-done-says (Passed (l .count) (l .elements)) (line-first q (l .count) (l .elements) (l .before) (drop (l .at) file)) (line-passed q (l .count) (l .elements) (l .before) (drop (l .at) file)) (some (w, drop next file)) said in
-    let room : l .count < 2048 = ltb-true (l .count) 2048 (passed .0) in
+    let room : l .count < most-rows = ltb-true (l .count) most-rows (passed .0) in
     let f = l .inv .2 .0 in (
       omega arith,
       omega arith,

@@ -4,6 +4,7 @@ use Prim.Native.Nat.{_+_}
 use lib.ListN.{getD, set, length-set}
 use Rattle.problem.proofs.store.Statement.{statement}
 use Rattle.problem.proofs.store.Tie as tie
+use Rattle.definitions.specs.Places.{header-length}
 
 mul-store-row : tie.Need-mul-store-row
 mul-store-row c = search needs
@@ -42,7 +43,7 @@ same-length : tie.Need-same-length
 same-length c = search needs
 
 returns : tie.Need-returns
-returns c = let a = c .before .before .before .before .before .before .args in ((λ i. set (set (c .before .before .before .store-row .ensures i) (5 + c .size-of .ensures i) (a .count + 1)) 5 (getD (a .t3) 0 0)), omega arith)
+returns c = let a = c .before .before .before .before .before .before .args in ((λ i. set (set (c .before .before .before .store-row .ensures i) (header-length + c .size-of .ensures i) (a .count + 1)) header-length (getD (a .t3) 0 0)), omega arith)
 
 pub store-spec : {M : Type 1} → statement M
 store-spec =

@@ -6,12 +6,13 @@ use lib.ListN.{length-drop}
 use lib.Seq.{paste, paste-zero, paste-suc, getD-drop}
 use Rattle.problem.proofs.store_row.Statement.{statement}
 use Rattle.problem.proofs.store_row.Tie as tie
+use Rattle.definitions.specs.Places.{row-length}
 
 abbrev Inv-loop : tie.InvT-loop
-Inv-loop state₀ at w j₀ state j = (j ≤ 10) × (length w ≡ 16) × (length state ≡ length state₀) × (state ≡ paste state₀ at (drop 1 w) j)
+Inv-loop state₀ at w j₀ state j = (j ≤ row-length) × (length w ≡ 16) × (length state ≡ length state₀) × (state ≡ paste state₀ at (drop 1 w) j)
 
 abbrev μ-loop : tie.MeasureT-loop
-μ-loop state₀ at w j₀ state j = 10 - j
+μ-loop state₀ at w j₀ state j = row-length - j
 
 loop-holds : tie.Need-loop-holds Inv-loop μ-loop
 loop-holds c = (omega arith, omega arith, refl, paste-zero (c .args .state .now) (c .args .at) (drop 1 (c .args .t3)))
@@ -56,7 +57,7 @@ same-length : tie.Need-same-length Inv-loop μ-loop
 same-length c = omega arith
 
 returns : tie.Need-returns Inv-loop μ-loop
-returns c = let l = c .before .loop in let e : l .j ≡ 10 = omega arith in l .inv .3 ∙ ap (paste (c .before .before .args .state .now) (c .before .before .args .at) (drop 1 (c .before .before .args .t3))) e
+returns c = let l = c .before .loop in let e : l .j ≡ row-length = omega arith in l .inv .3 ∙ ap (paste (c .before .before .args .state .now) (c .before .before .args .at) (drop 1 (c .before .before .args .t3))) e
 
 pub store-row-spec : {M : Type 1} → statement M
 store-row-spec =

@@ -7,6 +7,7 @@ use Rattle.definitions.specs.Layout.{row-at, rows}
 use Rattle.terms.specs.Rows.{term-of}
 use Rattle.definitions.specs.Run.{dropped?, unless-dropped, if-fits, multiple}
 use Rattle.definitions.specs.Monomial.{fits?}
+use Rattle.definitions.specs.Places.{most-exponent}
 use mathlib.Core.Bool.{true}
 use Rattle.reduce.proofs.add_product.Statement.{statement}
 use Rattle.reduce.proofs.add_product.Tie as tie
@@ -27,8 +28,8 @@ returns c =
     let x = c .before .before .before .before .before .before .multiplied .result in
     let t = multiple (a .g .p) (a .c) (a .q) (row-at (a .level .now) (a .i)) in
     let v = rows (a .value .now) 0 (a .n) in
-    let u : term-of (x .term) ≡ t = formed-as (x .fits) (fits? 255 (t .1 .0)) (term-of (x .term)) t (c .before .before .before .before .before .before .multiplied .ensures) (c .before .before .before .before .if1 .taken) in
-    let f : fits? 255 (t .1 .0) ≡ true = sym (fits-as (x .fits) (fits? 255 (t .1 .0)) (term-of (x .term)) t (c .before .before .before .before .before .before .multiplied .ensures)) ∙ c .before .before .before .before .if1 .taken in
+    let u : term-of (x .term) ≡ t = formed-as (x .fits) (fits? most-exponent (t .1 .0)) (term-of (x .term)) t (c .before .before .before .before .before .before .multiplied .ensures) (c .before .before .before .before .if1 .taken) in
+    let f : fits? most-exponent (t .1 .0) ≡ true = sym (fits-as (x .fits) (fits? most-exponent (t .1 .0)) (term-of (x .term)) t (c .before .before .before .before .before .before .multiplied .ensures)) ∙ c .before .before .before .before .if1 .taken in
     (c .before .before .add-fitting .ensures .0 ∙ ap (λ w. unless-dropped (dropped? R (a .drops) (w .1)) R w v) u ∙ sym (ap (λ b. if-fits b R (a .drops) t v) f), c .before .before .add-fitting .ensures .1)
 
 returns-2 : tie.Need-returns-2
@@ -38,7 +39,7 @@ returns-2 c =
     let x = c .before .before .multiplied .result in
     let t = multiple (a .g .p) (a .c) (a .q) (row-at (a .level .now) (a .i)) in
     let v = rows (a .value .now) 0 (a .n) in
-    (sym (ap (λ b. if-fits b R (a .drops) t v) (sym (fits-as (x .fits) (fits? 255 (t .1 .0)) (term-of (x .term)) t (c .before .before .multiplied .ensures)) ∙ c .if1 .left)), tt)
+    (sym (ap (λ b. if-fits b R (a .drops) t v) (sym (fits-as (x .fits) (fits? most-exponent (t .1 .0)) (term-of (x .term)) t (c .before .before .multiplied .ensures)) ∙ c .if1 .left)), tt)
 
 pub add-product-spec : {M : Type 1} → statement M
 add-product-spec =

@@ -4,6 +4,7 @@ use lib.ListN.{getD}
 use Rattle.orders.specs.Images.{exponents-raw}
 use Rattle.monomial.proofs.Scans.{components-differ, components-equal}
 use Rattle.definitions.specs.Monomial.{divides?}
+use Rattle.definitions.specs.Places.{row-length, component-offset, exponents-offset}
 use Rattle.reducers.proofs.row_divides.Statement.{statement}
 use Rattle.reducers.proofs.row_divides.Tie as tie
 
@@ -23,7 +24,7 @@ returns : tie.Need-returns
 returns c =
     let a = c .before .before .before .args in
     let s = a .heads .now in
-    components-differ (getD s (a .i * 10 + 1) 0) (a .component) (divides? (exponents-raw s (a .i * 10 + 2)) (a .w)) (c .if1 .taken)
+    components-differ (getD s (a .i * row-length + component-offset) 0) (a .component) (divides? (exponents-raw s (a .i * row-length + exponents-offset)) (a .w)) (c .if1 .taken)
 
 add-head-divides : tie.Need-add-head-divides
 add-head-divides c = search needs
@@ -35,7 +36,7 @@ returns-2 : tie.Need-returns-2
 returns-2 c =
     let a = c .before .before .before .before .args in
     let s = a .heads .now in
-    components-equal (getD s (a .i * 10 + 1) 0) (a .component) (divides? (exponents-raw s (a .i * 10 + 2)) (a .w)) (c .head-divides .result) (c .before .if1 .left) (c .head-divides .ensures)
+    components-equal (getD s (a .i * row-length + component-offset) 0) (a .component) (divides? (exponents-raw s (a .i * row-length + exponents-offset)) (a .w)) (c .head-divides .result) (c .before .if1 .left) (c .head-divides .ensures)
 
 pub row-divides-spec : {M : Type 1} → statement M
 row-divides-spec =

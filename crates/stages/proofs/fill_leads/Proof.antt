@@ -7,35 +7,36 @@ use Rattle.levels.proofs.Sounding.{height, prime-above, complete-cut}
 use Rattle.stages.proofs.Preparing.{components-few, led}
 use Rattle.stages.proofs.fill_leads.Statement.{statement}
 use Rattle.stages.proofs.fill_leads.Tie as tie
+use Rattle.definitions.specs.Places.{all-levels}
 
 count-of-requires : tie.Need-count-of-requires
 count-of-requires c κs =
-    let h : getD (c .before .before .before .args .state .now) 4 0 ≤ 10 = height (c .before .before .before .args .state .now) (c .before .before .before .pre .0) (c .before .before .before .pre .1) in
-    let m : c .before .before .before .args .k < 10 = omega (arith, c .before .before .before .pre .2) in
+    let h : getD (c .before .before .before .args .state .now) 4 0 ≤ all-levels = height (c .before .before .before .args .state .now) (c .before .before .before .pre .0) (c .before .before .before .pre .1) in
+    let m : c .before .before .before .args .k < all-levels = omega (arith, c .before .before .before .pre .2) in
     omega (arith, c .before .before .before .pre .0)
 
 mul-start : tie.Need-mul-start
 mul-start c =
-    let h : getD (c .before .before .before .before .args .state .now) 4 0 ≤ 10 = height (c .before .before .before .before .args .state .now) (c .before .before .before .before .pre .0) (c .before .before .before .before .pre .1) in
-    let m : c .before .before .before .before .args .k < 10 = omega (arith, c .before .before .before .before .pre .2) in
+    let h : getD (c .before .before .before .before .args .state .now) 4 0 ≤ all-levels = height (c .before .before .before .before .args .state .now) (c .before .before .before .before .pre .0) (c .before .before .before .before .pre .1) in
+    let m : c .before .before .before .before .args .k < all-levels = omega (arith, c .before .before .before .before .pre .2) in
     omega (arith, c .before .before .before .before .pre .0)
 
 add-start : tie.Need-add-start
 add-start c =
-    let h : getD (c .before .before .before .before .args .state .now) 4 0 ≤ 10 = height (c .before .before .before .before .args .state .now) (c .before .before .before .before .pre .0) (c .before .before .before .before .pre .1) in
-    let m : c .before .before .before .before .args .k < 10 = omega (arith, c .before .before .before .before .pre .2) in
+    let h : getD (c .before .before .before .before .args .state .now) 4 0 ≤ all-levels = height (c .before .before .before .before .args .state .now) (c .before .before .before .before .pre .0) (c .before .before .before .before .pre .1) in
+    let m : c .before .before .before .before .args .k < all-levels = omega (arith, c .before .before .before .before .pre .2) in
     omega (arith, c .before .before .before .before .pre .0)
 
 mul-ends : tie.Need-mul-ends
 mul-ends c =
-    let h : getD (c .before .before .before .before .args .state .now) 4 0 ≤ 10 = height (c .before .before .before .before .args .state .now) (c .before .before .before .before .pre .0) (c .before .before .before .before .pre .1) in
-    let m : c .before .before .before .before .args .k < 10 = omega (arith, c .before .before .before .before .pre .2) in
+    let h : getD (c .before .before .before .before .args .state .now) 4 0 ≤ all-levels = height (c .before .before .before .before .args .state .now) (c .before .before .before .before .pre .0) (c .before .before .before .before .pre .1) in
+    let m : c .before .before .before .before .args .k < all-levels = omega (arith, c .before .before .before .before .pre .2) in
     omega (arith, c .before .before .before .before .pre .0)
 
 add-ends : tie.Need-add-ends
 add-ends c =
-    let h : getD (c .before .before .before .before .args .state .now) 4 0 ≤ 10 = height (c .before .before .before .before .args .state .now) (c .before .before .before .before .pre .0) (c .before .before .before .before .pre .1) in
-    let m : c .before .before .before .before .args .k < 10 = omega (arith, c .before .before .before .before .pre .2) in
+    let h : getD (c .before .before .before .before .args .state .now) 4 0 ≤ all-levels = height (c .before .before .before .before .args .state .now) (c .before .before .before .before .pre .0) (c .before .before .before .before .pre .1) in
+    let m : c .before .before .before .before .args .k < all-levels = omega (arith, c .before .before .before .before .pre .2) in
     omega (arith, c .before .before .before .before .pre .0)
 
 shared-slice-read-p : tie.Need-shared-slice-read-p
@@ -43,50 +44,50 @@ shared-slice-read-p c = search needs
 
 mul-fill-heads : tie.Need-mul-fill-heads
 mul-fill-heads c =
-    let h : getD (c .before .before .before .before .before .before .args .state .now) 4 0 ≤ 10 = height (c .before .before .before .before .before .before .args .state .now) (c .before .before .before .before .before .before .pre .0) (c .before .before .before .before .before .before .pre .1) in
-    let m : c .before .before .before .before .before .before .args .k < 10 = omega (arith, c .before .before .before .before .before .before .pre .2) in
+    let h : getD (c .before .before .before .before .before .before .args .state .now) 4 0 ≤ all-levels = height (c .before .before .before .before .before .before .args .state .now) (c .before .before .before .before .before .before .pre .0) (c .before .before .before .before .before .before .pre .1) in
+    let m : c .before .before .before .before .before .before .args .k < all-levels = omega (arith, c .before .before .before .before .before .before .pre .2) in
     omega (arith, c .before .before .before .before .before .before .pre .0)
 
 sub-fill-heads : tie.Need-sub-fill-heads
 sub-fill-heads c =
-    let h : getD (c .before .before .before .before .before .before .args .state .now) 4 0 ≤ 10 = height (c .before .before .before .before .before .before .args .state .now) (c .before .before .before .before .before .before .pre .0) (c .before .before .before .before .before .before .pre .1) in
-    let m : c .before .before .before .before .before .before .args .k < 10 = omega (arith, c .before .before .before .before .before .before .pre .2) in
+    let h : getD (c .before .before .before .before .before .before .args .state .now) 4 0 ≤ all-levels = height (c .before .before .before .before .before .before .args .state .now) (c .before .before .before .before .before .before .pre .0) (c .before .before .before .before .before .before .pre .1) in
+    let m : c .before .before .before .before .before .before .args .k < all-levels = omega (arith, c .before .before .before .before .before .before .pre .2) in
     omega (arith, c .before .before .before .before .before .before .pre .0)
 
 part-fill-heads-start : tie.Need-part-fill-heads-start
 part-fill-heads-start c =
-    let h : getD (c .before .before .before .before .before .before .args .state .now) 4 0 ≤ 10 = height (c .before .before .before .before .before .before .args .state .now) (c .before .before .before .before .before .before .pre .0) (c .before .before .before .before .before .before .pre .1) in
-    let m : c .before .before .before .before .before .before .args .k < 10 = omega (arith, c .before .before .before .before .before .before .pre .2) in
+    let h : getD (c .before .before .before .before .before .before .args .state .now) 4 0 ≤ all-levels = height (c .before .before .before .before .before .before .args .state .now) (c .before .before .before .before .before .before .pre .0) (c .before .before .before .before .before .before .pre .1) in
+    let m : c .before .before .before .before .before .before .args .k < all-levels = omega (arith, c .before .before .before .before .before .before .pre .2) in
     omega (arith, c .before .before .before .before .before .before .pre .0)
 
 part-fill-heads-end : tie.Need-part-fill-heads-end
 part-fill-heads-end c =
-    let h : getD (c .before .before .before .before .before .before .args .state .now) 4 0 ≤ 10 = height (c .before .before .before .before .before .before .args .state .now) (c .before .before .before .before .before .before .pre .0) (c .before .before .before .before .before .before .pre .1) in
-    let m : c .before .before .before .before .before .before .args .k < 10 = omega (arith, c .before .before .before .before .before .before .pre .2) in
+    let h : getD (c .before .before .before .before .before .before .args .state .now) 4 0 ≤ all-levels = height (c .before .before .before .before .before .before .args .state .now) (c .before .before .before .before .before .before .pre .0) (c .before .before .before .before .before .before .pre .1) in
+    let m : c .before .before .before .before .before .before .args .k < all-levels = omega (arith, c .before .before .before .before .before .before .pre .2) in
     omega (arith, c .before .before .before .before .before .before .pre .0)
 
 mul-fill-heads-2 : tie.Need-mul-fill-heads-2
 mul-fill-heads-2 c =
-    let h : getD (c .before .before .before .before .before .before .before .args .state .now) 4 0 ≤ 10 = height (c .before .before .before .before .before .before .before .args .state .now) (c .before .before .before .before .before .before .before .pre .0) (c .before .before .before .before .before .before .before .pre .1) in
-    let m : c .before .before .before .before .before .before .before .args .k < 10 = omega (arith, c .before .before .before .before .before .before .before .pre .2) in
+    let h : getD (c .before .before .before .before .before .before .before .args .state .now) 4 0 ≤ all-levels = height (c .before .before .before .before .before .before .before .args .state .now) (c .before .before .before .before .before .before .before .pre .0) (c .before .before .before .before .before .before .before .pre .1) in
+    let m : c .before .before .before .before .before .before .before .args .k < all-levels = omega (arith, c .before .before .before .before .before .before .before .pre .2) in
     omega (arith, c .before .before .before .before .before .before .before .pre .0)
 
 sub-fill-heads-2 : tie.Need-sub-fill-heads-2
 sub-fill-heads-2 c =
-    let h : getD (c .before .before .before .before .before .before .before .args .state .now) 4 0 ≤ 10 = height (c .before .before .before .before .before .before .before .args .state .now) (c .before .before .before .before .before .before .before .pre .0) (c .before .before .before .before .before .before .before .pre .1) in
-    let m : c .before .before .before .before .before .before .before .args .k < 10 = omega (arith, c .before .before .before .before .before .before .before .pre .2) in
+    let h : getD (c .before .before .before .before .before .before .before .args .state .now) 4 0 ≤ all-levels = height (c .before .before .before .before .before .before .before .args .state .now) (c .before .before .before .before .before .before .before .pre .0) (c .before .before .before .before .before .before .before .pre .1) in
+    let m : c .before .before .before .before .before .before .before .args .k < all-levels = omega (arith, c .before .before .before .before .before .before .before .pre .2) in
     omega (arith, c .before .before .before .before .before .before .before .pre .0)
 
 part-fill-heads-start-2 : tie.Need-part-fill-heads-start-2
 part-fill-heads-start-2 c =
-    let h : getD (c .before .before .before .before .before .before .before .args .state .now) 4 0 ≤ 10 = height (c .before .before .before .before .before .before .before .args .state .now) (c .before .before .before .before .before .before .before .pre .0) (c .before .before .before .before .before .before .before .pre .1) in
-    let m : c .before .before .before .before .before .before .before .args .k < 10 = omega (arith, c .before .before .before .before .before .before .before .pre .2) in
+    let h : getD (c .before .before .before .before .before .before .before .args .state .now) 4 0 ≤ all-levels = height (c .before .before .before .before .before .before .before .args .state .now) (c .before .before .before .before .before .before .before .pre .0) (c .before .before .before .before .before .before .before .pre .1) in
+    let m : c .before .before .before .before .before .before .before .args .k < all-levels = omega (arith, c .before .before .before .before .before .before .before .pre .2) in
     omega (arith, c .before .before .before .before .before .before .before .pre .0)
 
 part-fill-heads-end-2 : tie.Need-part-fill-heads-end-2
 part-fill-heads-end-2 c =
-    let h : getD (c .before .before .before .before .before .before .before .args .state .now) 4 0 ≤ 10 = height (c .before .before .before .before .before .before .before .args .state .now) (c .before .before .before .before .before .before .before .pre .0) (c .before .before .before .before .before .before .before .pre .1) in
-    let m : c .before .before .before .before .before .before .before .args .k < 10 = omega (arith, c .before .before .before .before .before .before .before .pre .2) in
+    let h : getD (c .before .before .before .before .before .before .before .args .state .now) 4 0 ≤ all-levels = height (c .before .before .before .before .before .before .before .args .state .now) (c .before .before .before .before .before .before .before .pre .0) (c .before .before .before .before .before .before .before .pre .1) in
+    let m : c .before .before .before .before .before .before .before .args .k < all-levels = omega (arith, c .before .before .before .before .before .before .before .pre .2) in
     omega (arith, c .before .before .before .before .before .before .before .pre .0)
 
 fill-heads-requires : tie.Need-fill-heads-requires
@@ -98,8 +99,8 @@ fill-heads-requires c κs =
 
 components-of-requires : tie.Need-components-of-requires
 components-of-requires c κs =
-    let h : getD (c .before .before .before .before .before .before .before .before .before .before .before .args .state .now) 4 0 ≤ 10 = height (c .before .before .before .before .before .before .before .before .before .before .before .args .state .now) (c .before .before .before .before .before .before .before .before .before .before .before .pre .0) (c .before .before .before .before .before .before .before .before .before .before .before .pre .1) in
-    let m : c .before .before .before .before .before .before .before .before .before .before .before .args .k < 10 = omega (arith, c .before .before .before .before .before .before .before .before .before .before .before .pre .2) in
+    let h : getD (c .before .before .before .before .before .before .before .before .before .before .before .args .state .now) 4 0 ≤ all-levels = height (c .before .before .before .before .before .before .before .before .before .before .before .args .state .now) (c .before .before .before .before .before .before .before .before .before .before .before .pre .0) (c .before .before .before .before .before .before .before .before .before .before .before .pre .1) in
+    let m : c .before .before .before .before .before .before .before .before .before .before .before .args .k < all-levels = omega (arith, c .before .before .before .before .before .before .before .before .before .before .before .pre .2) in
     omega (arith, c .before .before .before .before .before .before .before .before .before .before .before .pre .0)
 
 add-fill-spans : tie.Need-add-fill-spans

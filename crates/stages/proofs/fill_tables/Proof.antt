@@ -8,6 +8,7 @@ use Rattle.levels.proofs.Sounding.{height, complete-cut}
 use Rattle.stages.proofs.Preparing.{pair-above, pair-more}
 use Rattle.stages.proofs.fill_tables.Statement.{statement}
 use Rattle.stages.proofs.fill_tables.Tie as tie
+use Rattle.definitions.specs.Places.{all-levels}
 
 abbrev Inv-loop : tie.InvT-loop
 Inv-loop below₀ above₀ state k j₀ below above j = (j ≤ k) × (length below ≡ length below₀) × (length above ≡ length above₀) × Ready-pair state j below above
@@ -23,7 +24,7 @@ advance-requires c κs =
     let a = c .before .before .before .before .before .before .before .args in
     let l = c .before .before .before .loop in
     let s = a .state .now in
-    let h : getD s 4 0 ≤ 10 = height s (c .before .before .before .before .before .before .before .pre .0) (c .before .before .before .before .before .before .before .pre .1) in
+    let h : getD s 4 0 ≤ all-levels = height s (c .before .before .before .before .before .before .before .pre .0) (c .before .before .before .before .before .before .before .pre .1) in
     let r = pair-above s (l .j) (l .below) (l .above) (l .inv .3) in
     let m : l .j < getD s 4 0 = omega (arith, c .before .before .loop-test .taken, c .before .before .before .before .before .before .before .pre .2) in
     let cut = complete-cut s (c .before .before .before .before .before .before .before .pre .0) (c .before .before .before .before .before .before .before .pre .1) (l .j) m in
@@ -40,7 +41,7 @@ loop-again c =
     let a = c .before .before .before .before .before .before .before .before .before .before .before .before .args in
     let l = c .before .before .before .before .before .before .before .before .loop in
     let s = a .state .now in
-    let h : getD s 4 0 ≤ 10 = height s (c .before .before .before .before .before .before .before .before .before .before .before .before .pre .0) (c .before .before .before .before .before .before .before .before .before .before .before .before .pre .1) in
+    let h : getD s 4 0 ≤ all-levels = height s (c .before .before .before .before .before .before .before .before .before .before .before .before .pre .0) (c .before .before .before .before .before .before .before .before .before .before .before .before .pre .1) in
     let r = pair-above s (l .j) (l .below) (l .above) (l .inv .3) in
     let m : l .j < getD s 4 0 = omega (arith, c .before .before .before .before .before .before .before .loop-test .taken, c .before .before .before .before .before .before .before .before .before .before .before .before .pre .2) in
     let cut = complete-cut s (c .before .before .before .before .before .before .before .before .before .before .before .before .pre .0) (c .before .before .before .before .before .before .before .before .before .before .before .before .pre .1) (l .j) m in

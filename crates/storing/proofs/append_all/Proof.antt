@@ -10,10 +10,11 @@ use Rattle.levels.proofs.Walking.{whole-part, length-part}
 use Rattle.tables.specs.Cuts.{start-of}
 use Rattle.storing.proofs.append_all.Statement.{statement}
 use Rattle.storing.proofs.append_all.Tie as tie
+use Rattle.definitions.specs.Places.{most-rows, row-length, ends-length}
 
 abbrev Inv-loop : tie.InvT-loop
 Inv-loop state₀ k count out used₀ i₀ state used i =
-    ((i ≤ count) × (used ≡ start-of out i) × Grown state₀ state k i used (lifted-vectors out i)) × (used ≤ 2048) × (length state ≡ length state₀)
+    ((i ≤ count) × (used ≡ start-of out i) × Grown state₀ state k i used (lifted-vectors out i)) × (used ≤ most-rows) × (length state ≡ length state₀)
 
 abbrev μ-loop : tie.MeasureT-loop
 μ-loop state₀ k count out used₀ i₀ state used i = count - i
@@ -56,8 +57,8 @@ sub-append-2 c =
     let out = c .before .before .before .before .before .before .before .before .args .out .now in
     let h : l .i < c .before .before .before .before .before .before .before .before .args .count = omega arith in
     let fill : l .used < getD out (l .i) 0 = omega (arith, a .filled (l .i) h, l .inv .0 .1) in
-    let room : getD out (l .i) 0 ≤ 2048 = a .room (l .i) h in
-    omega (arith, fill, c .before .before .place .ensures)
+    let room : getD out (l .i) 0 ≤ most-rows = a .room (l .i) h in
+    omega (arith, fill, c .before .before .place .ensures .0)
 
 append-requires : tie.Need-append-requires Inv-loop μ-loop
 append-requires c κs =
@@ -67,9 +68,9 @@ append-requires c κs =
     let out = c .before .before .before .before .before .before .before .before .args .out .now in
     let h : l .i < c .before .before .before .before .before .before .before .before .args .count = omega arith in
     let fill : l .used < getD out (l .i) 0 = omega (arith, a .filled (l .i) h, l .inv .0 .1) in
-    let room : getD out (l .i) 0 ≤ 2048 = a .room (l .i) h in
-    let n : length (take (length out - (128 + l .used * 10)) (drop (128 + l .used * 10) out)) ≡ length out - (128 + l .used * 10) = length-part (128 + l .used * 10) out in
-    (omega (arith, P .0, l .inv .2), P .1, omega (arith, a .few, h), omega (arith, fill, room, c .before .before .place .ensures), omega (arith, n, a .long, room, fill, c .before .before .place .ensures))
+    let room : getD out (l .i) 0 ≤ most-rows = a .room (l .i) h in
+    let n : length (take (length out - (ends-length + l .used * row-length)) (drop (ends-length + l .used * row-length) out)) ≡ length out - (ends-length + l .used * row-length) = length-part (ends-length + l .used * row-length) out in
+    (omega (arith, P .0, l .inv .2), P .1, omega (arith, a .few, h), omega (arith, fill, room, c .before .before .place .ensures .0), omega (arith, n, a .long, room, fill, c .before .before .place .ensures .0))
 
 add-i : tie.Need-add-i Inv-loop μ-loop
 add-i c = omega (arith, c .before .before .before .before .before .before .before .before .before .before .before .pre .3 .few)
@@ -85,10 +86,10 @@ loop-again c =
     let out = c .before .before .before .before .before .before .before .before .before .before .before .args .out .now in
     let h : l .i < c .before .before .before .before .before .before .before .before .before .before .before .args .count = omega arith in
     let fill : l .used < getD out (l .i) 0 = omega (arith, a .filled (l .i) h, l .inv .0 .1) in
-    let room : getD out (l .i) 0 ≤ 2048 = a .room (l .i) h in
+    let room : getD out (l .i) 0 ≤ most-rows = a .room (l .i) h in
     let s = c .before .before .before .before .before .before .before .before .before .before .before .args .state .now in (
-      storing-on s out (c .before .before .before .before .before .before .before .before .before .before .before .args .k) (c .before .before .before .before .before .before .before .before .before .before .before .args .count) (P .0) (P .1) a (l .state) (l .i) (l .used) (c .before .before .before .before .before .place .result) (take (length out - (128 + l .used * 10)) (drop (128 + l .used * 10) out)) (c .before .before .append .last .0) h (l .inv .0) (c .before .before .before .before .before .place .ensures) (whole-part (128 + l .used * 10) out) (c .before .before .append .ensures),
-      omega (arith, room, c .before .before .before .before .before .place .ensures),
+      storing-on s out (c .before .before .before .before .before .before .before .before .before .before .before .args .k) (c .before .before .before .before .before .before .before .before .before .before .before .args .count) (P .0) (P .1) a (l .state) (l .i) (l .used) (c .before .before .before .before .before .place .result) (take (length out - (ends-length + l .used * row-length)) (drop (ends-length + l .used * row-length) out)) (c .before .before .append .last .0) h (l .inv .0) (c .before .before .before .before .before .place .ensures .0) (whole-part (ends-length + l .used * row-length) out) (c .before .before .append .ensures),
+      omega (arith, room, c .before .before .before .before .before .place .ensures .0),
       omega (arith, l .inv .2),
     )
 

@@ -5,6 +5,7 @@ use Prim.Native.Nat.{_+_, _*_}
 use lib.ListN.{length, set, length-set}
 use Rattle.storing.proofs.complete.Statement.{statement}
 use Rattle.storing.proofs.complete.Tie as tie
+use Rattle.definitions.specs.Places.{count-offset}
 
 cast-r : tie.Need-cast-r
 cast-r c = search needs
@@ -31,7 +32,7 @@ slice-write-state-2 : tie.Need-slice-write-state-2
 slice-write-state-2 c =
     let a = c .args in
     let s = a .state .now in
-    let n : length (set s (5 + a .k * 129) (a .count)) ≡ length s = length-set s (5 + a .k * 129) (a .count) in
+    let n : length (set s (count-offset (a .k)) (a .count)) ≡ length s = length-set s (count-offset (a .k)) (a .count) in
     omega (arith, n, c .pre .0)
 
 same-length : tie.Need-same-length

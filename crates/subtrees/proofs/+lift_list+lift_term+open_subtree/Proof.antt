@@ -12,6 +12,7 @@ use Rattle.definitions.specs.Layout.{row-at, rows}
 use Rattle.definitions.specs.Stage.{Stage}
 use Rattle.definitions.specs.Tree.{Lift-term, finish, lift-term as term-definition, lift-list as list-definition}
 use Rattle.definitions.proofs.Rows.{length-rows}
+use Rattle.definitions.specs.Places.{most-exponent, row-length}
 use Rattle.monomial.specs.Values.{monomial-of}
 use Rattle.orders.specs.Images.{table-of, table-order}
 use Rattle.terms.specs.Rows.{term-of}
@@ -210,10 +211,10 @@ lift-list-returns t c =
     let t = term-of (x .result .term) in
     let p = multiple (g .p) (a .c) (a .q) (row-at (a .level .now) (l .i)) in
     let inside : l .i < a .to = omega (arith, c .before .before .before .before .before .before .before .before .before .before .before .before .before .before .before .before .before .before .loop-test .taken) in
-    let fits : fits? 255 (p .1 .0) ≡ true = sym (fits-as (x .result .fits) (fits? 255 (p .1 .0)) t p (x .ensures)) ∙ c .before .before .before .before .before .before .before .before .before .before .before .before .before .before .before .if1 .taken in
+    let fits : fits? most-exponent (p .1 .0) ≡ true = sym (fits-as (x .result .fits) (fits? most-exponent (p .1 .0)) t p (x .ensures)) ∙ c .before .before .before .before .before .before .before .before .before .before .before .before .before .before .before .if1 .taken in
     let lt = c .before .before .before .before .before .before .before .before .before .before .before .lift-term in
     let ad = c .before .before .before .before .add-subtree in
-    let product : t ≡ p = formed-as (x .result .fits) (fits? 255 (p .1 .0)) t p (x .ensures) (c .before .before .before .before .before .before .before .before .before .before .before .before .before .before .before .if1 .taken) in
+    let product : t ≡ p = formed-as (x .result .fits) (fits? most-exponent (p .1 .0)) t p (x .ensures) (c .before .before .before .before .before .before .before .before .before .before .before .before .before .before .before .if1 .taken) in
     ((sym (l .inv .5 ∙ listing-stops S T (a .a) (a .c) (a .q) (a .level .now) (a .to) (l .i) (l .k) (l .work) (lt .last .1 .1 .1 .0) (ad .last .1 .1 .0) (lt .last .0) (cache-of (l .v) (l .cache)) t (lt .result) (ad .result) inside fits product (lt .ensures .2) (lt .ensures .0) (ad .ensures .0) (c .enum-told .given .0 .0) (c .enum-told .given .1))), ad .ensures .1, (λ k h. ad .ensures .2 k h ∙ lt .ensures .2 k (omega (arith, h)) ∙ l .inv .4 k h))
 
 lift-list-add-i : (t : ℕ) → lift-list-lts.Need-add-i (
@@ -255,10 +256,10 @@ lift-list-loop-again t c =
     let t = term-of (x .result .term) in
     let p = multiple (g .p) (a .c) (a .q) (row-at (a .level .now) (l .i)) in
     let inside : l .i < a .to = omega (arith, c .before .before .before .before .before .before .before .before .before .before .before .before .before .before .before .before .before .before .before .loop-test .taken) in
-    let fits : fits? 255 (p .1 .0) ≡ true = sym (fits-as (x .result .fits) (fits? 255 (p .1 .0)) t p (x .ensures)) ∙ c .before .before .before .before .before .before .before .before .before .before .before .before .before .before .before .before .if1 .taken in
+    let fits : fits? most-exponent (p .1 .0) ≡ true = sym (fits-as (x .result .fits) (fits? most-exponent (p .1 .0)) t p (x .ensures)) ∙ c .before .before .before .before .before .before .before .before .before .before .before .before .before .before .before .before .if1 .taken in
     let lt = c .before .before .before .before .before .before .before .before .before .before .before .before .lift-term in
     let ad = c .before .before .before .before .before .add-subtree in
-    let product : t ≡ p = formed-as (x .result .fits) (fits? 255 (p .1 .0)) t p (x .ensures) (c .before .before .before .before .before .before .before .before .before .before .before .before .before .before .before .before .if1 .taken) in
+    let product : t ≡ p = formed-as (x .result .fits) (fits? most-exponent (p .1 .0)) t p (x .ensures) (c .before .before .before .before .before .before .before .before .before .before .before .before .before .before .before .before .if1 .taken) in
     let b = c .before .y .given .1 in
     let f = subst (Fits (a .a) (g .tree) (a .room)) b (ad .ensures .1) in
     (f .0, f .1, omega (arith, lt .kept .0, l .inv .2), omega (arith, lt .kept .1 .1 .1 .0, l .inv .3, ad .kept .1 .1 .0), (λ k h. ad .ensures .2 k h ∙ lt .ensures .2 k (omega (arith, h)) ∙ l .inv .4 k h), (l .inv .5 ∙ listing-on S T (a .a) (a .c) (a .q) (a .level .now) (a .to) (l .i) (l .k) (l .work) (lt .last .1 .1 .1 .0) (ad .last .1 .1 .0) (lt .last .0) (cache-of (l .v) (l .cache)) t (lt .result) (ad .result) inside fits product (lt .ensures .2) (lt .ensures .0) (ad .ensures .0) (c .before .y .given .0 .0) (c .before .y .given .0 .1 .0) b))
@@ -302,7 +303,7 @@ lift-list-returns-2 t c =
     let t = term-of (x .result .term) in
     let p = multiple (g .p) (a .c) (a .q) (row-at (a .level .now) (l .i)) in
     let inside : l .i < a .to = omega (arith, c .before .before .before .loop-test .taken) in
-    let fits : fits? 255 (p .1 .0) ≡ false = sym (fits-as (x .result .fits) (fits? 255 (p .1 .0)) t p (x .ensures)) ∙ c .if1 .left in
+    let fits : fits? most-exponent (p .1 .0) ≡ false = sym (fits-as (x .result .fits) (fits? most-exponent (p .1 .0)) t p (x .ensures)) ∙ c .if1 .left in
     ((sym (l .inv .5 ∙ listing-unfit S T (a .a) (a .c) (a .q) (a .level .now) (a .to) (l .i) (rows (l .work) (a .a) (l .k), cache-of (l .v) (l .cache)) inside fits)), tt, l .inv .4)
 
 lift-list-same-length-5 : (t : ℕ) → lift-list-lts.Need-same-length-5 (
@@ -789,7 +790,7 @@ open-subtree-returns-3 t c =
     let pt = c .before .before .before .before .before .before .before .before .before .before .before .before .before .put in
     let ne = c .before .before .before .before .before .before .before .before .before .before .before .before .before .before .before .negative in
     let t : Term = (ne .result, (a .q, a .j)) in
-    let fits : a .a * 10 + 10 ≤ length W = omega (arith, c .before .before .before .before .before .before .before .before .before .before .before .before .before .before .before .before .before .if1 .left, P .0 .tree-fits) in
+    let fits : a .a * row-length + row-length ≤ length W = omega (arith, c .before .before .before .before .before .before .before .before .before .before .before .before .before .before .before .before .before .if1 .left, P .0 .tree-fits) in
     let stays = stored-keeps W (pt .last .0) (a .a) t (pt .ensures .0) (pt .ensures .1) fits in
     let b = c .before .enum-told .given .1 in
     let pa = c .passed in
@@ -877,7 +878,7 @@ open-subtree-returns-4 t c =
     let pt = c .before .before .before .before .before .before .before .before .before .before .before .before .before .before .before .before .before .before .before .before .put in
     let ne = c .before .before .before .before .before .before .before .before .before .before .before .before .before .before .before .before .before .before .before .before .before .before .negative in
     let t : Term = (ne .result, (a .q, a .j)) in
-    let fits : a .a * 10 + 10 ≤ length W = omega (arith, c .before .before .before .before .before .before .before .before .before .before .before .before .before .before .before .before .before .before .before .before .before .before .before .before .if1 .left, P .0 .tree-fits) in
+    let fits : a .a * row-length + row-length ≤ length W = omega (arith, c .before .before .before .before .before .before .before .before .before .before .before .before .before .before .before .before .before .before .before .before .before .before .before .before .if1 .left, P .0 .tree-fits) in
     let stays = stored-keeps W (pt .last .0) (a .a) t (pt .ensures .0) (pt .ensures .1) fits in
     let b = c .before .before .before .before .before .before .before .before .s .given .1 in
     let kp = c .before .before .before .before .keep in

@@ -6,9 +6,10 @@ use Rattle.terms.proofs.Moving.{opened-none, opened-below, opened-more}
 use Rattle.terms.specs.Rows.{opened}
 use Rattle.terms.proofs.open.Statement.{statement}
 use Rattle.terms.proofs.open.Tie as tie
+use Rattle.definitions.specs.Places.{row-length}
 
 abbrev Inv-loop : tie.InvT-loop
-Inv-loop s₀ n i start k₀ s k = (start ≡ i * 10) × (start ≤ k) × (k ≤ n * 10) × (length s ≡ length s₀) × (s ≡ opened s₀ k (n * 10))
+Inv-loop s₀ n i start k₀ s k = (start ≡ i * row-length) × (start ≤ k) × (k ≤ n * row-length) × (length s ≡ length s₀) × (s ≡ opened s₀ k (n * row-length))
 
 abbrev μ-loop : tie.MeasureT-loop
 μ-loop s₀ n i start k₀ s k = k
@@ -20,7 +21,7 @@ mul-k : tie.Need-mul-k Inv-loop μ-loop
 mul-k c = omega arith
 
 loop-holds : tie.Need-loop-holds Inv-loop μ-loop
-loop-holds c = (refl, omega arith, omega arith, refl, opened-none (c .args .s .now) (c .args .n * 10))
+loop-holds c = (refl, omega arith, omega arith, refl, opened-none (c .args .s .now) (c .args .n * row-length))
 
 sub-k : tie.Need-sub-k Inv-loop μ-loop
 sub-k c = omega arith
@@ -47,15 +48,15 @@ loop-again : tie.Need-loop-again Inv-loop μ-loop
 loop-again c =
     let l = c .before .before .loop in
     let s = c .before .before .before .args .s .now in
-    let b = c .before .before .before .args .n * 10 in
+    let b = c .before .before .before .args .n * row-length in
     let m = l .k - 1 in
     let e : l .k ≡ m + 1 = omega arith in (
       refl,
       omega arith,
       omega arith,
-      omega (arith, length-set (l .s) (m + 10) (getD (l .s) m 0)),
-      ap (λ u. set u (m + 10) (getD u m 0)) (l .inv .4 ∙ ap (λ k. opened s k b) e)
-          ∙ ap (set (opened s (m + 1) b) (m + 10)) (opened-below s (m + 1) b m (omega arith) (omega arith) (omega arith)) ∙ opened-more s m b (omega arith) (omega arith),
+      omega (arith, length-set (l .s) (m + row-length) (getD (l .s) m 0)),
+      ap (λ u. set u (m + row-length) (getD u m 0)) (l .inv .4 ∙ ap (λ k. opened s k b) e)
+          ∙ ap (set (opened s (m + 1) b) (m + row-length)) (opened-below s (m + 1) b m (omega arith) (omega arith) (omega arith)) ∙ opened-more s m b (omega arith) (omega arith),
     )
 
 same-length : tie.Need-same-length Inv-loop μ-loop
@@ -64,8 +65,8 @@ same-length c = omega arith
 returns : tie.Need-returns Inv-loop μ-loop
 returns c =
     let l = c .before .loop in
-    let e : l .k ≡ c .before .before .args .i * 10 = omega arith in
-    l .inv .4 ∙ ap (λ k. opened (c .before .before .args .s .now) k (c .before .before .args .n * 10)) e
+    let e : l .k ≡ c .before .before .args .i * row-length = omega arith in
+    l .inv .4 ∙ ap (λ k. opened (c .before .before .args .s .now) k (c .before .before .args .n * row-length)) e
 
 pub open-spec : {M : Type 1} → statement M
 open-spec =

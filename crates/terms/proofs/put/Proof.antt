@@ -4,6 +4,7 @@ use Prim.Native.Nat.{_*_}
 use lib.Seq.{paste}
 use Rattle.terms.proofs.put.Statement.{statement}
 use Rattle.terms.proofs.put.Tie as tie
+use Rattle.definitions.specs.Places.{row-length}
 
 words-requires : tie.Need-words-requires
 words-requires c κs = search needs
@@ -20,7 +21,7 @@ same-length c = search needs
 returns : tie.Need-returns
 returns c =
     let a = c .before .before .before .before .before .before .before .before .args in
-    (c .before .before .store-words .ensures ∙ ap (λ w. paste (a .s .now) (a .i * 10) w 10) (c .before .before .before .before .words .ensures .0), c .before .before .before .before .words .ensures .1)
+    (c .before .before .store-words .ensures ∙ ap (λ w. paste (a .s .now) (a .i * row-length) w row-length) (c .before .before .before .before .words .ensures .0), c .before .before .before .before .words .ensures .1)
 
 pub put-spec : {M : Type 1} → statement M
 put-spec =

@@ -6,9 +6,10 @@ use Rattle.terms.proofs.Moving.{closed-none, closed-ahead, closed-more}
 use Rattle.terms.specs.Rows.{closed}
 use Rattle.terms.proofs.remove.Statement.{statement}
 use Rattle.terms.proofs.remove.Tie as tie
+use Rattle.definitions.specs.Places.{row-length}
 
 abbrev Inv-loop : tie.InvT-loop
-Inv-loop s₀ n i end k₀ s k = (end ≡ n * 10 - 10) × (i * 10 ≤ k) × (k ≤ end) × (length s ≡ length s₀) × (s ≡ closed s₀ (i * 10) k)
+Inv-loop s₀ n i end k₀ s k = (end ≡ n * row-length - row-length) × (i * row-length ≤ k) × (k ≤ end) × (length s ≡ length s₀) × (s ≡ closed s₀ (i * row-length) k)
 
 abbrev μ-loop : tie.MeasureT-loop
 μ-loop s₀ n i end k₀ s k = end - k
@@ -23,7 +24,7 @@ mul-k : tie.Need-mul-k Inv-loop μ-loop
 mul-k c = omega arith
 
 loop-holds : tie.Need-loop-holds Inv-loop μ-loop
-loop-holds c = (refl, omega arith, omega arith, refl, closed-none (c .args .s .now) (c .args .i * 10))
+loop-holds c = (refl, omega arith, omega arith, refl, closed-none (c .args .s .now) (c .args .i * row-length))
 
 add-s : tie.Need-add-s Inv-loop μ-loop
 add-s c = omega arith
@@ -50,12 +51,12 @@ loop-again : tie.Need-loop-again Inv-loop μ-loop
 loop-again c =
     let l = c .before .before .loop in
     let s = c .before .before .before .args .s .now in
-    let a = c .before .before .before .args .i * 10 in (
+    let a = c .before .before .before .args .i * row-length in (
       refl,
       omega arith,
       omega arith,
-      omega (arith, length-set (l .s) (l .k) (getD (l .s) (l .k + 10) 0)),
-      ap (λ u. set u (l .k) (getD u (l .k + 10) 0)) (l .inv .4) ∙ ap (set (closed s a (l .k)) (l .k)) (closed-ahead s a (l .k) (omega arith) (omega arith)) ∙ closed-more s a (l .k) (omega arith) (omega arith),
+      omega (arith, length-set (l .s) (l .k) (getD (l .s) (l .k + row-length) 0)),
+      ap (λ u. set u (l .k) (getD u (l .k + row-length) 0)) (l .inv .4) ∙ ap (set (closed s a (l .k)) (l .k)) (closed-ahead s a (l .k) (omega arith) (omega arith)) ∙ closed-more s a (l .k) (omega arith) (omega arith),
     )
 
 same-length : tie.Need-same-length Inv-loop μ-loop
@@ -64,8 +65,8 @@ same-length c = omega arith
 returns : tie.Need-returns Inv-loop μ-loop
 returns c =
     let l = c .before .loop in
-    let e : l .k ≡ c .before .before .args .n * 10 - 10 = omega arith in
-    l .inv .4 ∙ ap (closed (c .before .before .args .s .now) (c .before .before .args .i * 10)) e
+    let e : l .k ≡ c .before .before .args .n * row-length - row-length = omega arith in
+    l .inv .4 ∙ ap (closed (c .before .before .args .s .now) (c .before .before .args .i * row-length)) e
 
 pub remove-spec : {M : Type 1} → statement M
 remove-spec =

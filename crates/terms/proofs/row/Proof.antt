@@ -5,6 +5,7 @@ use lib.ListN.{getD}
 use Rattle.terms.proofs.Stored.{row-is}
 use Rattle.terms.proofs.row.Statement.{statement}
 use Rattle.terms.proofs.row.Tie as tie
+use Rattle.definitions.specs.Places.{row-length, component-offset}
 
 mul-at : tie.Need-mul-at
 mul-at c = search needs
@@ -33,7 +34,7 @@ shared-slice-read-t11 c = search needs
 returns : tie.Need-returns
 returns c =
     let a = c .before .before .before .before .args in
-    (λ i. (getD (a .s .now) (a .i * 10) 0, (c .before .before .exponents .ensures i, getD (a .s .now) (a .i * 10 + 1) 0))) ∙ sym (row-is (a .s .now) (a .i))
+    (λ i. (getD (a .s .now) (a .i * row-length) 0, (c .before .before .exponents .ensures i, getD (a .s .now) (a .i * row-length + component-offset) 0))) ∙ sym (row-is (a .s .now) (a .i))
 
 pub row-spec : {M : Type 1} → statement M
 row-spec =

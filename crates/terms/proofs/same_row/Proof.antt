@@ -7,6 +7,7 @@ use Rattle.terms.proofs.Stored.{row-is}
 use Rattle.monomial.proofs.Scans.{components-differ, components-equal}
 use Rattle.monomial.specs.Values.{monomial-of}
 use Rattle.definitions.specs.Monomial.{same-exponents?, same-monomial?}
+use Rattle.definitions.specs.Places.{row-length, component-offset, exponents-offset}
 use Rattle.terms.proofs.same_row.Statement.{statement}
 use Rattle.terms.proofs.same_row.Tie as tie
 
@@ -27,7 +28,7 @@ returns c =
     let a = c .before .before .before .args in
     let m = monomial-of (a .m) in
     let s = a .s .now in
-    components-differ (m .1) (getD s (a .i * 10 + 1) 0) (same-exponents? (m .0) (exponents-at s (a .i * 10 + 2))) (λ q. c .if1 .taken (sym q)) ∙ ap (λ t. same-monomial? m (t .1)) (sym (row-is s (a .i)))
+    components-differ (m .1) (getD s (a .i * row-length + component-offset) 0) (same-exponents? (m .0) (exponents-at s (a .i * row-length + exponents-offset))) (λ q. c .if1 .taken (sym q)) ∙ ap (λ t. same-monomial? m (t .1)) (sym (row-is s (a .i)))
 
 add-same-words : tie.Need-add-same-words
 add-same-words c = search needs
@@ -40,7 +41,7 @@ returns-2 c =
     let a = c .before .before .before .before .before .args in
     let m = monomial-of (a .m) in
     let s = a .s .now in
-    components-equal (m .1) (getD s (a .i * 10 + 1) 0) (same-exponents? (m .0) (exponents-at s (a .i * 10 + 2))) (c .same-words .result) (sym (c .before .before .if1 .left)) (c .same-words .ensures) ∙ ap (λ t. same-monomial? m (t .1)) (sym (row-is s (a .i)))
+    components-equal (m .1) (getD s (a .i * row-length + component-offset) 0) (same-exponents? (m .0) (exponents-at s (a .i * row-length + exponents-offset))) (c .same-words .result) (sym (c .before .before .if1 .left)) (c .same-words .ensures) ∙ ap (λ t. same-monomial? m (t .1)) (sym (row-is s (a .i)))
 
 pub same-row-spec : {M : Type 1} → statement M
 same-row-spec =

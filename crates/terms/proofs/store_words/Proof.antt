@@ -5,12 +5,13 @@ use lib.ListN.{length, getD, set, length-set}
 use lib.Seq.{paste, paste-zero, paste-suc}
 use Rattle.terms.proofs.store_words.Statement.{statement}
 use Rattle.terms.proofs.store_words.Tie as tie
+use Rattle.definitions.specs.Places.{row-length}
 
 abbrev Inv-loop : tie.InvT-loop
-Inv-loop s₀ at w j₀ s j = (j ≤ 10) × (length w ≡ 10) × (length s ≡ length s₀) × (s ≡ paste s₀ at w j)
+Inv-loop s₀ at w j₀ s j = (j ≤ row-length) × (length w ≡ row-length) × (length s ≡ length s₀) × (s ≡ paste s₀ at w j)
 
 abbrev μ-loop : tie.MeasureT-loop
-μ-loop s₀ at w j₀ s j = 10 - j
+μ-loop s₀ at w j₀ s j = row-length - j
 
 loop-holds : tie.Need-loop-holds Inv-loop μ-loop
 loop-holds c = (omega arith, omega arith, refl, paste-zero (c .args .s .now) (c .args .at) (c .args .t3))
@@ -55,7 +56,7 @@ same-length c = omega arith
 returns : tie.Need-returns Inv-loop μ-loop
 returns c =
     let l = c .before .loop in
-    let e : l .j ≡ 10 = omega arith in
+    let e : l .j ≡ row-length = omega arith in
     l .inv .3 ∙ ap (paste (c .before .before .args .s .now) (c .before .before .args .at) (c .before .before .args .t3)) e
 
 pub store-words-spec : {M : Type 1} → statement M

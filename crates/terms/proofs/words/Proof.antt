@@ -10,9 +10,10 @@ use Rattle.terms.proofs.Spelling.{two-first, small-more}
 use Rattle.terms.proofs.Spelling.{past-two}
 use Rattle.terms.proofs.words.Statement.{statement}
 use Rattle.terms.proofs.words.Tie as tie
+use Rattle.definitions.specs.Places.{row-length}
 
 abbrev Inv-loop : tie.InvT-loop
-Inv-loop c m e w₀ j₀ w j = (j ≤ 8) × (length e ≡ 8) × (length w ≡ 10) × ((k : ℕ) → k < j → getD e k 0 < 256) × Filled (λ k. getD (c ∷ m ∷ e) k 0) (2 + j) w
+Inv-loop c m e w₀ j₀ w j = (j ≤ 8) × (length e ≡ 8) × (length w ≡ row-length) × ((k : ℕ) → k < j → getD e k 0 < 256) × Filled (λ k. getD (c ∷ m ∷ e) k 0) (2 + j) w
 
 abbrev μ-loop : tie.MeasureT-loop
 μ-loop c m e w₀ j₀ w j = 8 - j

@@ -4,6 +4,7 @@ use mathlib.Core.Path.{ap, subst}
 use Prim.Native.Nat.{_-_, _*_}
 use lib.ListN.{length}
 use Rattle.definitions.specs.Layout.{rows}
+use Rattle.definitions.specs.Places.{row-length}
 use Rattle.orders.specs.Images.{table-of, table-order}
 use Rattle.reduce.specs.Grounds.{above-in}
 use Rattle.cache.specs.Entries.{Sized}
@@ -39,7 +40,7 @@ add-rows-requires c κs =
     let P = c .before .before .before .before .before .before .before .before .before .before .pre in
     let g = a .g in
     let z = subst (Sized 0 (g .tree) (a .room)) (c .before .before .before .s .given .1) (P .5) in
-    (P .0 .prime, P .1, P .2, P .6 .fits, P .6 .tabled, omega (arith, ap length (c .before .held .ensures), length-part (a .cache .now) (c .before .before .before .s .given .0 .0 * 10) (c .before .before .before .s .given .0 .1 .0 * 10) (omega (arith, z .0, z .1, P .4))))
+    (P .0 .prime, P .1, P .2, P .6 .fits, P .6 .tabled, omega (arith, ap length (c .before .held .ensures), length-part (a .cache .now) (c .before .before .before .s .given .0 .0 * row-length) (c .before .before .before .s .given .0 .1 .0 * row-length) (omega (arith, z .0, z .1, P .4))))
 
 joined-requires : tie.Need-joined-requires
 joined-requires c κs = search needs
@@ -69,7 +70,7 @@ add-rows-requires-2 c κs =
     let P = c .before .before .before .before .before .before .before .before .before .before .before .pre in
     let g = a .g in
     let z = subst (Sized 0 (g .tree) (a .room)) (c .before .before .before .before .s2 .given .1) (P .5) in
-    (P .0 .prime, P .1, P .2, P .6 .fits, P .6 .tabled, omega (arith, ap length (c .before .held2 .ensures), length-part (a .work .now) ((g .tree - c .before .before .before .before .s2 .given .0 .0) * 10) (c .before .before .before .before .s2 .given .0 .0 * 10) (omega (arith, z .0, P .3))))
+    (P .0 .prime, P .1, P .2, P .6 .fits, P .6 .tabled, omega (arith, ap length (c .before .held2 .ensures), length-part (a .work .now) ((g .tree - c .before .before .before .before .s2 .given .0 .0) * row-length) (c .before .before .before .before .s2 .given .0 .0 * row-length) (omega (arith, z .0, P .3))))
 
 joined-requires-2 : tie.Need-joined-requires-2
 joined-requires-2 c κs = search needs

@@ -17,6 +17,7 @@ use Rattle.tree.specs.Frames.{After}
 use Rattle.tree.proofs.Keeping.{all-from, all-on, all-refused, all-end, empty-cache}
 use Prim.Native.Nat.{_/_}
 use Rattle.definitions.specs.Monomial.{Level}
+use Rattle.definitions.specs.Places.{row-length}
 use Rattle.tree.proofs.lift_all.Statement.{statement}
 use Rattle.tree.proofs.lift_all.Tie as tie
 
@@ -34,7 +35,7 @@ loop-holds c =
     let P = c .before .before .before .before .before .before .pre in
     let g = a .g in
     let S : Stage = stage-of g (a .level .now) (a .tables .now) (table-order (g .code) (table-of (g .r) (above-in (a .tables .now)))) in
-    let room = length (a .cache .now) / 10 in
+    let room = length (a .cache .now) / row-length in
     let none : Lifted = ([], 0) in
     (omega arith, omega arith, omega arith, refl, refl, refl, none-kept (a .out .now), ap (all-from S room (a .frame .now) (a .count) 0 none) (sym (empty-cache (a .cache .now))))
 
@@ -45,7 +46,7 @@ lift-one-requires c κs =
     let g = a .g in
     let S : Stage = stage-of g (a .level .now) (a .tables .now) (table-order (g .code) (table-of (g .r) (above-in (a .tables .now)))) in
     let l = c .before .before .before .before .loop in
-    let room = length (a .cache .now) / 10 in
+    let room = length (a .cache .now) / row-length in
     (record { used-fits = l .inv .2; room-fits = omega (arith, l .inv .4); tree-fits = omega (arith, P .4, l .inv .5); tree-small = P .5; tables = P .0; family = P .1; images = P .2 }, P .6, P .3, omega (arith, c .before .before .before .loop-test .taken), omega (arith, P .7, l .inv .3), P .8, l .inv .1, l .inv .6)
 
 enum-known-v : tie.Need-enum-known-v Inv-loop μ-loop
@@ -70,7 +71,7 @@ returns c =
     let g = a .g in
     let S : Stage = stage-of g (a .level .now) (a .tables .now) (table-order (g .code) (table-of (g .r) (above-in (a .tables .now)))) in
     let l = c .before .before .before .before .before .before .before .before .before .before .before .before .before .before .loop in
-    let room = length (a .cache .now) / 10 in
+    let room = length (a .cache .now) / row-length in
     let lo = c .before .before .before .before .before .before .before .before .before .lift-one in
     let before : Lifted = (lifted-vectors (l .out) (l .i), l .used) in
     let K = cache-of (l .u) (l .cache) in
@@ -90,13 +91,13 @@ loop-again c =
     let g = a .g in
     let S : Stage = stage-of g (a .level .now) (a .tables .now) (table-order (g .code) (table-of (g .r) (above-in (a .tables .now)))) in
     let l = c .before .before .before .before .before .before .before .before .before .before .before .before .before .before .loop in
-    let room = length (a .cache .now) / 10 in
+    let room = length (a .cache .now) / row-length in
     let lo = c .before .before .before .before .before .before .before .before .before .lift-one in
     let before : Lifted = (lifted-vectors (l .out) (l .i), l .used) in
     let K = cache-of (l .u) (l .cache) in
     let inside : l .i < a .count = omega (arith, c .before .before .before .before .before .before .before .before .before .before .before .before .before .loop-test .taken) in
     let b = c .before .v .given .1 in
-    let now = subst (λ y. After g (l .i) (length (a .cache .now) / 10) y (lo .last .0)) b (lo .ensures .1) in
+    let now = subst (λ y. After g (l .i) (length (a .cache .now) / row-length) y (lo .last .0)) b (lo .ensures .1) in
     (omega (arith, c .before .before .before .before .before .before .before .before .before .before .before .before .before .loop-test .taken), now .0, now .1, omega (arith, lo .kept .0, l .inv .3), omega (arith, lo .kept .1 .1 .1 .0, l .inv .4), omega (arith, lo .kept .1 .1 .1 .1 .1 .1 .0, l .inv .5), now .2, (l .inv .7 ∙ all-on S room (a .frame .now) (a .count) (l .i) before K inside (lo .result) (lo .last .0) (lo .last .1 .1 .1 .0) (lo .ensures .0) (c .before .v .given .0 .0) (c .before .v .given .0 .1 .0) b))
 
 same-length-4 : tie.Need-same-length-4 Inv-loop μ-loop
@@ -115,7 +116,7 @@ returns-2 c =
     let g = a .g in
     let S : Stage = stage-of g (a .level .now) (a .tables .now) (table-order (g .code) (table-of (g .r) (above-in (a .tables .now)))) in
     let l = c .before .loop in
-    let room = length (a .cache .now) / 10 in
+    let room = length (a .cache .now) / row-length in
     let whole : l .i ≡ a .count = omega (arith, l .inv .0) in
     let X : ℕ → Result Level = λ n. done (lifted-vectors (l .out) n) in
     ((ap X (sym whole) ∙ sym (l .inv .7 ∙ all-end S room (a .frame .now) (a .count) (l .i) (lifted-vectors (l .out) (l .i), l .used) (cache-of (l .u) (l .cache)) (omega arith))), (l .inv .1, subst (λ n. Kept n (l .used) (l .out)) whole (l .inv .6)), tt)

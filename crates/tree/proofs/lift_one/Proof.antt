@@ -21,6 +21,7 @@ use Rattle.lift.proofs.Keeping.{frame-component}
 use Rattle.tree.proofs.Keeping.{length-made, vectors-made, kept-made, one-refused, one-full, one-kept}
 use Rattle.definitions.specs.Tree.{Cache}
 use Rattle.definitions.specs.Monomial.{Level}
+use Rattle.definitions.specs.Places.{most-vectors, row-length, ends-length}
 use Rattle.tree.proofs.lift_one.Statement.{statement}
 use Rattle.tree.proofs.lift_one.Tie as tie
 
@@ -58,7 +59,7 @@ lift-frame-term-requires c κs =
     let g = a .g in
     let row = c .before .before .before .before .before .row in
     let f = frame-component g (a .count) (a .frame .now) (a .i) (term-of (row .result)) (P .2) (P .3) (row .ensures) in
-    (P .0, P .1, omega (arith, length-part (a .out .now) (a .used * 10 + 128) (a .used * 10 + 128 + g .vector * 10 - (a .used * 10 + 128)) (omega (arith, P .4, P .6))), f .0, f .1)
+    (P .0, P .1, omega (arith, length-part (a .out .now) (a .used * row-length + ends-length) (a .used * row-length + ends-length + g .vector * row-length - (a .used * row-length + ends-length)) (omega (arith, P .4, P .6))), f .0, f .1)
 
 enum-known-s : tie.Need-enum-known-s
 enum-known-s c = search needs
@@ -105,10 +106,10 @@ slice-write-out c =
     let P = c .before .before .before .before .before .before .before .before .before .before .before .before .before .before .before .before .before .before .before .before .before .before .before .before .pre in
     let g = a .g in
     let lf = c .before .before .before .before .before .before .before .before .before .before .before .lift-frame-term in
-    let order : a .used * 10 + 128 ≤ a .used * 10 + 128 + g .vector * 10 = omega arith in
-    let room : a .used * 10 + 128 + g .vector * 10 ≤ length (a .out .now) = omega (arith, P .4, P .6) in
-    let long : length (lf .last .0) ≡ a .used * 10 + 128 + g .vector * 10 - (a .used * 10 + 128) = lf .kept .0 ∙ length-part (a .out .now) (a .used * 10 + 128) (a .used * 10 + 128 + g .vector * 10 - (a .used * 10 + 128)) (omega (arith, P .4, P .6)) in
-    omega (arith, length-made (a .out .now) (lf .last .0) (a .used * 10 + 128) (a .used * 10 + 128 + g .vector * 10) order room long, P .2 .few, P .3, P .4)
+    let order : a .used * row-length + ends-length ≤ a .used * row-length + ends-length + g .vector * row-length = omega arith in
+    let room : a .used * row-length + ends-length + g .vector * row-length ≤ length (a .out .now) = omega (arith, P .4, P .6) in
+    let long : length (lf .last .0) ≡ a .used * row-length + ends-length + g .vector * row-length - (a .used * row-length + ends-length) = lf .kept .0 ∙ length-part (a .out .now) (a .used * row-length + ends-length) (a .used * row-length + ends-length + g .vector * row-length - (a .used * row-length + ends-length)) (omega (arith, P .4, P .6)) in
+    omega (arith, length-made (a .out .now) (lf .last .0) (a .used * row-length + ends-length) (a .used * row-length + ends-length + g .vector * row-length) order room long, P .2 .few, P .3, P .4)
 
 add-t31 : tie.Need-add-t31
 add-t31 c = omega (arith, c .before .before .before .before .before .before .before .before .before .before .before .before .before .before .before .before .before .before .before .before .before .before .before .before .pre .5, c .before .before .before .before .before .before .before .before .before .before .before .before .before .before .before .before .before .before .before .before .before .before .before .before .pre .6, c .if1 .left)
@@ -142,13 +143,13 @@ returns-2 c =
     let u = c .before .before .before .s .given .0 .1 .0 in
     let b = c .before .before .before .s .given .1 in
     let f = subst (Fits 0 (g .vector) (a .room)) b (lf .ensures .1) in
-    let start = a .used * 10 + 128 in
-    let end = a .used * 10 + 128 + g .vector * 10 in
-    let order : a .used * 10 + 128 ≤ a .used * 10 + 128 + g .vector * 10 = omega arith in
-    let room : a .used * 10 + 128 + g .vector * 10 ≤ length (a .out .now) = omega (arith, P .4, P .6) in
-    let long : length (lf .last .0) ≡ a .used * 10 + 128 + g .vector * 10 - (a .used * 10 + 128) = lf .kept .0 ∙ length-part (a .out .now) (a .used * 10 + 128) (a .used * 10 + 128 + g .vector * 10 - (a .used * 10 + 128)) (omega (arith, P .4, P .6)) in
-    let small : a .i < 128 = omega (arith, P .2 .few, P .3) in
-    let has : v * 10 ≤ length (lf .last .0) = omega (arith, long, f .0) in
+    let start = a .used * row-length + ends-length in
+    let end = a .used * row-length + ends-length + g .vector * row-length in
+    let order : a .used * row-length + ends-length ≤ a .used * row-length + ends-length + g .vector * row-length = omega arith in
+    let room : a .used * row-length + ends-length + g .vector * row-length ≤ length (a .out .now) = omega (arith, P .4, P .6) in
+    let long : length (lf .last .0) ≡ a .used * row-length + ends-length + g .vector * row-length - (a .used * row-length + ends-length) = lf .kept .0 ∙ length-part (a .out .now) (a .used * row-length + ends-length) (a .used * row-length + ends-length + g .vector * row-length - (a .used * row-length + ends-length)) (omega (arith, P .4, P .6)) in
+    let small : a .i < most-vectors = omega (arith, P .2 .few, P .3) in
+    let has : v * row-length ≤ length (lf .last .0) = omega (arith, long, f .0) in
     let still : a .used + v ≤ g .room = omega (arith, P .6, c .if1 .left) in
     let X : Level → Result (Lifted × Cache) = λ w. done ((w, a .used + v), cache-of u (lf .last .1 .0)) in
     ((ap X (vectors-made (a .out .now) (lf .last .0) (a .i) (a .used) v end order room long small has (P .7)) ∙ one-kept S (a .room) l K m m′ (lf .last .0) (lf .last .1 .0) (lf .result) same (lf .ensures .0) v u b still), (still, f .1, kept-made (a .out .now) (lf .last .0) (a .i) (a .used) v end order room long small has (P .7)))

@@ -8,6 +8,7 @@ use Rattle.definitions.specs.Run.{multiple}
 use Rattle.definitions.specs.Stage.{Stage}
 use Rattle.definitions.specs.Layout.{row-at, rows}
 use Rattle.definitions.specs.Tree.{Lift-term, lift-term, lift-vector as vector-definition}
+use Rattle.definitions.specs.Places.{most-exponent}
 use Rattle.orders.specs.Images.{table-of, table-order}
 use Rattle.terms.specs.Rows.{term-of}
 use Rattle.reduce.proofs.Adding.{fits-as, formed-as}
@@ -75,10 +76,10 @@ returns c =
     let t = term-of (x .result .term) in
     let p = multiple (g .p) 1 (a .q) (row-at (a .level .now) (l .i)) in
     let inside : l .i < a .to = omega (arith, c .before .before .before .before .before .before .before .before .before .before .before .before .before .before .before .before .before .before .before .loop-test .taken) in
-    let fits : fits? 255 (p .1 .0) ≡ true = sym (fits-as (x .result .fits) (fits? 255 (p .1 .0)) t p (x .ensures)) ∙ c .before .before .before .before .before .before .before .before .before .before .before .before .before .before .before .before .if1 .taken in
+    let fits : fits? most-exponent (p .1 .0) ≡ true = sym (fits-as (x .result .fits) (fits? most-exponent (p .1 .0)) t p (x .ensures)) ∙ c .before .before .before .before .before .before .before .before .before .before .before .before .before .before .before .before .if1 .taken in
     let lt = c .before .before .before .before .before .before .before .before .before .before .before .before .lift-term in
     let ad = c .before .before .before .before .add-result in
-    let product : t ≡ p = formed-as (x .result .fits) (fits? 255 (p .1 .0)) t p (x .ensures) (c .before .before .before .before .before .before .before .before .before .before .before .before .before .before .before .before .if1 .taken) in
+    let product : t ≡ p = formed-as (x .result .fits) (fits? most-exponent (p .1 .0)) t p (x .ensures) (c .before .before .before .before .before .before .before .before .before .before .before .before .before .before .before .before .if1 .taken) in
     ((sym (l .inv .5 ∙ filling-stops S T (a .q) (a .level .now) (a .to) (l .i) (l .k) (l .vector) (lt .last .1 .1 .1 .0) (ad .last .0) (lt .last .0) (cache-of (l .v) (l .cache)) t (lt .result) (ad .result) inside fits product (lt .ensures .0) (ad .ensures .0) (c .enum-told .given .0 .0) (c .enum-told .given .1))), ad .ensures .1)
 
 add-i : tie.Need-add-i Inv-loop μ-loop
@@ -99,10 +100,10 @@ loop-again c =
     let t = term-of (x .result .term) in
     let p = multiple (g .p) 1 (a .q) (row-at (a .level .now) (l .i)) in
     let inside : l .i < a .to = omega (arith, c .before .before .before .before .before .before .before .before .before .before .before .before .before .before .before .before .before .before .before .before .loop-test .taken) in
-    let fits : fits? 255 (p .1 .0) ≡ true = sym (fits-as (x .result .fits) (fits? 255 (p .1 .0)) t p (x .ensures)) ∙ c .before .before .before .before .before .before .before .before .before .before .before .before .before .before .before .before .before .if1 .taken in
+    let fits : fits? most-exponent (p .1 .0) ≡ true = sym (fits-as (x .result .fits) (fits? most-exponent (p .1 .0)) t p (x .ensures)) ∙ c .before .before .before .before .before .before .before .before .before .before .before .before .before .before .before .before .before .if1 .taken in
     let lt = c .before .before .before .before .before .before .before .before .before .before .before .before .before .lift-term in
     let ad = c .before .before .before .before .before .add-result in
-    let product : t ≡ p = formed-as (x .result .fits) (fits? 255 (p .1 .0)) t p (x .ensures) (c .before .before .before .before .before .before .before .before .before .before .before .before .before .before .before .before .before .if1 .taken) in
+    let product : t ≡ p = formed-as (x .result .fits) (fits? most-exponent (p .1 .0)) t p (x .ensures) (c .before .before .before .before .before .before .before .before .before .before .before .before .before .before .before .before .before .if1 .taken) in
     let b = c .before .y .given .1 in
     let f = subst (Fits 0 (g .vector) (a .room)) b (ad .ensures .1) in
     (omega (arith, f .0), f .1, omega (arith, ad .kept .0, l .inv .2), omega (arith, lt .kept .0, l .inv .3), omega (arith, lt .kept .1 .1 .1 .0, l .inv .4), (l .inv .5 ∙ filling-on S T (a .q) (a .level .now) (a .to) (l .i) (l .k) (l .vector) (lt .last .1 .1 .1 .0) (ad .last .0) (lt .last .0) (cache-of (l .v) (l .cache)) t (lt .result) (ad .result) inside fits product (lt .ensures .0) (ad .ensures .0) (c .before .y .given .0 .0) (c .before .y .given .0 .1 .0) b))
@@ -128,7 +129,7 @@ returns-2 c =
     let t = term-of (x .result .term) in
     let p = multiple (g .p) 1 (a .q) (row-at (a .level .now) (l .i)) in
     let inside : l .i < a .to = omega (arith, c .before .before .before .loop-test .taken) in
-    let fits : fits? 255 (p .1 .0) ≡ false = sym (fits-as (x .result .fits) (fits? 255 (p .1 .0)) t p (x .ensures)) ∙ c .if1 .left in
+    let fits : fits? most-exponent (p .1 .0) ≡ false = sym (fits-as (x .result .fits) (fits? most-exponent (p .1 .0)) t p (x .ensures)) ∙ c .if1 .left in
     ((sym (l .inv .5 ∙ filling-unfit S T (a .q) (a .level .now) (a .to) (l .i) (rows (l .vector) 0 (l .k), cache-of (l .v) (l .cache)) inside fits)), tt)
 
 same-length-7 : tie.Need-same-length-7 Inv-loop μ-loop

@@ -10,6 +10,7 @@ use Rattle.lift.specs.Vectors.{frame-terms, lifted-of, Whole}
 use Rattle.tree_level.proofs.Framed.{asked, lifted-same}
 use Rattle.tree_level.proofs.lift_frame.Statement.{statement}
 use Rattle.tree_level.proofs.lift_frame.Tie as tie
+use Rattle.definitions.specs.Places.{row-length, rows-offset}
 
 ground-of-requires : tie.Need-ground-of-requires
 ground-of-requires c κs = search needs
@@ -38,7 +39,7 @@ lift-all-requires c κs =
     let s = a .state .now in
     let P = c .before .before .before .before .before .before .before .before .before .before .before .pre in
     let g = c .before .before .before .before .ground-of in
-    let ask = asked s (a .j) (P .0) (a .tables .now) (P .1) (a .b) (g .result) (take (length s - (1295 + a .j * 20480)) (drop (1295 + a .j * 20480) s)) (g .ensures) (whole-part (1295 + a .j * 20480) s) (a .count) (a .frame .now) (P .2) in
+    let ask = asked s (a .j) (P .0) (a .tables .now) (P .1) (a .b) (g .result) (take (length s - (rows-offset (a .j))) (drop (rows-offset (a .j)) s)) (g .ensures) (whole-part (rows-offset (a .j)) s) (a .count) (a .frame .now) (P .2) in
     let v = ask .4 in
     let t = ask .5 in
     let r = ask .6 in
@@ -61,7 +62,7 @@ returns c =
     let P = c .before .before .before .before .before .before .before .before .before .before .before .before .before .before .before .before .before .before .pre in
     let g = c .before .before .before .before .before .before .before .before .before .before .before .ground-of in
     let L = c .before .before .before .before .before .before .lift-all in (
-      lifted-same s (a .j) (P .0) (a .tables .now) (P .1) (a .b) (g .result) (take (length s - (1295 + a .j * 20480)) (drop (1295 + a .j * 20480) s)) (g .ensures) (whole-part (1295 + a .j * 20480) s) (length (a .cache .now) / 10) (frame-terms (a .frame .now) (a .count)) (lifted-of (L .result) (a .count) (L .last .0) []) (L .ensures .0),
+      lifted-same s (a .j) (P .0) (a .tables .now) (P .1) (a .b) (g .result) (take (length s - (rows-offset (a .j))) (drop (rows-offset (a .j)) s)) (g .ensures) (whole-part (rows-offset (a .j)) s) (length (a .cache .now) / row-length) (frame-terms (a .frame .now) (a .count)) (lifted-of (L .result) (a .count) (L .last .0) []) (L .ensures .0),
       subst (λ g. Whole g (a .count) (L .result) (L .last .0)) (g .ensures) (L .ensures .1),
     )
 

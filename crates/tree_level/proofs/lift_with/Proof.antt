@@ -13,6 +13,7 @@ use Rattle.definitions.specs.Frame.{frame}
 use Rattle.definitions.specs.Tree.{tree}
 use Rattle.definitions.specs.Lifting.{if-few, lift-all}
 use Rattle.definitions.specs.Layout.{rows, level-at}
+use Rattle.definitions.specs.Places.{most-vectors, row-length}
 use Rattle.levels.specs.Places.{count-at}
 use Rattle.reduce.specs.Grounds.{spans-in}
 use Rattle.frame.specs.Generators.{monomials-of, framed-of, few}
@@ -54,8 +55,8 @@ lift-frame-requires c κs =
     let lead : F0 ≡ leading-monomials (level-at document-01 s (a .j)) = ap (λ k. monomials-of (rows (a .tables .now) 0 k)) r ∙ leading-at s (a .j) (P .0) (a .tables .now) (spans-in (a .tables .now)) (P .1 .led) in
     let F = c .before .before .before .before .before .before .before .before .before .form in
     let n = c .before .before .before .before .before .n .given .0 .0 in
-    let told : done (monomials-of (rows (F .last .0) 0 n)) ≡ if-few (leb (length (frame 1 F0)) 128) (frame 1 F0) = sym (ap (λ y. framed-of y (F .last .0)) (c .before .before .before .before .before .n .given .1)) ∙ F .ensures .0 in
-    let m : n ≤ 128 = subst (few 128) (c .before .before .before .before .before .n .given .1) (F .ensures .1) in
+    let told : done (monomials-of (rows (F .last .0) 0 n)) ≡ if-few (leb (length (frame 1 F0)) most-vectors) (frame 1 F0) = sym (ap (λ y. framed-of y (F .last .0)) (c .before .before .before .before .before .n .given .1)) ∙ F .ensures .0 in
+    let m : n ≤ most-vectors = subst (few most-vectors) (c .before .before .before .before .before .n .given .1) (F .ensures .1) in
     (P .0, P .1, record { few = m; fits = omega (arith, m); terms = whole-frame 1 F0 (leading-monomials (level-at document-01 s (a .j))) (frame-terms (F .last .0) n) lead told }, P .2, P .3, P .4)
 
 enum-known-used : tie.Need-enum-known-used
@@ -76,7 +77,7 @@ returns c =
     let F0 = monomials-of (rows (a .tables .now) 0 (c .before .before .before .before .before .before .before .count-of .result)) in
     let lead : F0 ≡ leading-monomials (level-at document-01 s (a .j)) = ap (λ k. monomials-of (rows (a .tables .now) 0 k)) r ∙ leading-at s (a .j) (P .0) (a .tables .now) (spans-in (a .tables .now)) (P .1 .led) in
     let F = c .before .before .before .before .form in
-    (too-many (getD s 2 0) (level-at document-01 s (a .j)) F0 (λ ms. lift-all (stage-at (a .b) s (a .j)) (tree (stage-at (a .b) s (a .j)) (length (a .cache .now) / 10)) ([], 0) [] ms) lead (sym (ap (λ y. framed-of y (F .last .0)) (c .enum-told .given .1)) ∙ F .ensures .0), tt)
+    (too-many (getD s 2 0) (level-at document-01 s (a .j)) F0 (λ ms. lift-all (stage-at (a .b) s (a .j)) (tree (stage-at (a .b) s (a .j)) (length (a .cache .now) / row-length)) ([], 0) [] ms) lead (sym (ap (λ y. framed-of y (F .last .0)) (c .enum-told .given .1)) ∙ F .ensures .0), tt)
 
 same-length : tie.Need-same-length
 same-length c = search needs
@@ -97,9 +98,9 @@ returns-2 c =
     let lead : F0 ≡ leading-monomials (level-at document-01 s (a .j)) = ap (λ k. monomials-of (rows (a .tables .now) 0 k)) r ∙ leading-at s (a .j) (P .0) (a .tables .now) (spans-in (a .tables .now)) (P .1 .led) in
     let F = c .before .before .before .before .before .before .before .before .before .before .before .before .before .before .before .before .before .before .before .form in
     let n = c .before .before .before .before .before .before .before .before .before .before .before .before .before .before .before .n .given .0 .0 in
-    let told : done (monomials-of (rows (F .last .0) 0 n)) ≡ if-few (leb (length (frame 1 F0)) 128) (frame 1 F0) = sym (ap (λ y. framed-of y (F .last .0)) (c .before .before .before .before .before .before .before .before .before .before .before .before .before .before .before .n .given .1)) ∙ F .ensures .0 in
+    let told : done (monomials-of (rows (F .last .0) 0 n)) ≡ if-few (leb (length (frame 1 F0)) most-vectors) (frame 1 F0) = sym (ap (λ y. framed-of y (F .last .0)) (c .before .before .before .before .before .before .before .before .before .before .before .before .before .before .before .n .given .1)) ∙ F .ensures .0 in
     let L = c .before .before .before .before .before .before .before .before .before .lift-frame in (
-      sym (ap (λ y. lifted-of y n (L .last .0) []) (c .before .used .given .1)) ∙ L .ensures .0 ∙ few-enough (getD s 2 0) (level-at document-01 s (a .j)) F0 (frame-terms (F .last .0) n) (λ ms. lift-all (stage-at (a .b) s (a .j)) (tree (stage-at (a .b) s (a .j)) (length (a .cache .now) / 10)) ([], 0) [] ms) lead told,
+      sym (ap (λ y. lifted-of y n (L .last .0) []) (c .before .used .given .1)) ∙ L .ensures .0 ∙ few-enough (getD s 2 0) (level-at document-01 s (a .j)) F0 (frame-terms (F .last .0) n) (λ ms. lift-all (stage-at (a .b) s (a .j)) (tree (stage-at (a .b) s (a .j)) (length (a .cache .now) / row-length)) ([], 0) [] ms) lead told,
       (let h = subst (λ y. Whole (ground-at (a .b) s (a .j)) n y (L .last .0)) (c .before .used .given .1) (L .ensures .1) in (omega (arith, h .0, P .4 .room), h .1)),
     )
 
@@ -122,9 +123,9 @@ returns-3 c =
     let lead : F0 ≡ leading-monomials (level-at document-01 s (a .j)) = ap (λ k. monomials-of (rows (a .tables .now) 0 k)) r ∙ leading-at s (a .j) (P .0) (a .tables .now) (spans-in (a .tables .now)) (P .1 .led) in
     let F = c .before .before .before .before .before .before .before .before .before .before .before .before .before .before .before .before .before .before .before .form in
     let n = c .before .before .before .before .before .before .before .before .before .before .before .before .before .before .before .n .given .0 .0 in
-    let told : done (monomials-of (rows (F .last .0) 0 n)) ≡ if-few (leb (length (frame 1 F0)) 128) (frame 1 F0) = sym (ap (λ y. framed-of y (F .last .0)) (c .before .before .before .before .before .before .before .before .before .before .before .before .before .before .before .n .given .1)) ∙ F .ensures .0 in
+    let told : done (monomials-of (rows (F .last .0) 0 n)) ≡ if-few (leb (length (frame 1 F0)) most-vectors) (frame 1 F0) = sym (ap (λ y. framed-of y (F .last .0)) (c .before .before .before .before .before .before .before .before .before .before .before .before .before .before .before .n .given .1)) ∙ F .ensures .0 in
     let L = c .before .before .before .before .before .before .before .before .before .lift-frame in (
-      sym (ap (λ y. lifted-of y n (L .last .0) []) (c .before .x .given .1)) ∙ L .ensures .0 ∙ few-enough (getD s 2 0) (level-at document-01 s (a .j)) F0 (frame-terms (F .last .0) n) (λ ms. lift-all (stage-at (a .b) s (a .j)) (tree (stage-at (a .b) s (a .j)) (length (a .cache .now) / 10)) ([], 0) [] ms) lead told,
+      sym (ap (λ y. lifted-of y n (L .last .0) []) (c .before .x .given .1)) ∙ L .ensures .0 ∙ few-enough (getD s 2 0) (level-at document-01 s (a .j)) F0 (frame-terms (F .last .0) n) (λ ms. lift-all (stage-at (a .b) s (a .j)) (tree (stage-at (a .b) s (a .j)) (length (a .cache .now) / row-length)) ([], 0) [] ms) lead told,
       tt,
     )
 
@@ -147,9 +148,9 @@ returns-4 c =
     let lead : F0 ≡ leading-monomials (level-at document-01 s (a .j)) = ap (λ k. monomials-of (rows (a .tables .now) 0 k)) r ∙ leading-at s (a .j) (P .0) (a .tables .now) (spans-in (a .tables .now)) (P .1 .led) in
     let F = c .before .before .before .before .before .before .before .before .before .before .before .before .before .before .before .before .before .before .before .form in
     let n = c .before .before .before .before .before .before .before .before .before .before .before .before .before .before .before .n .given .0 .0 in
-    let told : done (monomials-of (rows (F .last .0) 0 n)) ≡ if-few (leb (length (frame 1 F0)) 128) (frame 1 F0) = sym (ap (λ y. framed-of y (F .last .0)) (c .before .before .before .before .before .before .before .before .before .before .before .before .before .before .before .n .given .1)) ∙ F .ensures .0 in
+    let told : done (monomials-of (rows (F .last .0) 0 n)) ≡ if-few (leb (length (frame 1 F0)) most-vectors) (frame 1 F0) = sym (ap (λ y. framed-of y (F .last .0)) (c .before .before .before .before .before .before .before .before .before .before .before .before .before .before .before .n .given .1)) ∙ F .ensures .0 in
     let L = c .before .before .before .before .before .before .before .before .before .lift-frame in (
-      sym (ap (λ y. lifted-of y n (L .last .0) []) (c .before .x2 .given .1)) ∙ L .ensures .0 ∙ few-enough (getD s 2 0) (level-at document-01 s (a .j)) F0 (frame-terms (F .last .0) n) (λ ms. lift-all (stage-at (a .b) s (a .j)) (tree (stage-at (a .b) s (a .j)) (length (a .cache .now) / 10)) ([], 0) [] ms) lead told,
+      sym (ap (λ y. lifted-of y n (L .last .0) []) (c .before .x2 .given .1)) ∙ L .ensures .0 ∙ few-enough (getD s 2 0) (level-at document-01 s (a .j)) F0 (frame-terms (F .last .0) n) (λ ms. lift-all (stage-at (a .b) s (a .j)) (tree (stage-at (a .b) s (a .j)) (length (a .cache .now) / row-length)) ([], 0) [] ms) lead told,
       tt,
     )
 

@@ -4,6 +4,7 @@ use Prim.Native.Nat.{_-_, _≤_}
 use lib.ListN.{length}
 use Rattle.definitions.specs.Limits.{document-01}
 use Rattle.definitions.specs.Layout.{work-words, lifting-by}
+use Rattle.definitions.specs.Places.{value-length, tree-length}
 use Rattle.all_levels.specs.Level.{by-picks, by-leading, Lifted-by}
 use Rattle.ways.specs.Ways.{way-of}
 use Rattle.ways.proofs.lift_by.Statement.{statement}
@@ -16,7 +17,7 @@ lift-level-requires : tie.Need-lift-level-requires
 lift-level-requires c κs =
     let a = c .before .before .before .before .before .before .before .args in
     let P = c .before .before .before .before .before .before .before .pre in
-    let h : 5120 ≤ length (a .work .now) = subst (λ x. work-words document-01 (way-of x) ≤ length (a .work .now)) (c .before .before .enum-told .given .1) (P .1) in
+    let h : value-length ≤ length (a .work .now) = subst (λ x. work-words document-01 (way-of x) ≤ length (a .work .now)) (c .before .before .enum-told .given .1) (P .1) in
     (P .0, h, by-leading refl refl refl)
 
 enum-known-way : tie.Need-enum-known-way
@@ -26,7 +27,7 @@ lift-level-requires-2 : tie.Need-lift-level-requires-2
 lift-level-requires-2 c κs =
     let a = c .before .before .before .before .before .before .before .before .args in
     let P = c .before .before .before .before .before .before .before .before .pre in
-    let h : 5120 ≤ length (a .work .now) = subst (λ x. work-words document-01 (way-of x) ≤ length (a .work .now)) (c .before .before .before .way .given .1) (P .1) in
+    let h : value-length ≤ length (a .work .now) = subst (λ x. work-words document-01 (way-of x) ≤ length (a .work .now)) (c .before .before .before .way .given .1) (P .1) in
     (P .0, h, by-picks refl refl)
 
 enum-told-2 : tie.Need-enum-told-2
@@ -36,7 +37,7 @@ lift-tree-requires : tie.Need-lift-tree-requires
 lift-tree-requires c κs =
     let a = c .before .before .before .before .before .before .before .before .args in
     let P = c .before .before .before .before .before .before .before .before .pre in
-    let h : 40960 ≤ length (a .work .now) = subst (λ x. work-words document-01 (way-of x) ≤ length (a .work .now)) (c .before .before .before .enum-told2 .given .1) (P .1) in
+    let h : tree-length ≤ length (a .work .now) = subst (λ x. work-words document-01 (way-of x) ≤ length (a .work .now)) (c .before .before .before .enum-told2 .given .1) (P .1) in
     (P .0, h)
 
 same-length : tie.Need-same-length

@@ -5,6 +5,7 @@ use mathlib.Core.Path.{sym, ap, _∙_, subst}
 use Prim.Native.Nat.{_-_, _/_}
 use lib.ListN.{length}
 use Rattle.definitions.specs.Lifting.{by-tree}
+use Rattle.definitions.specs.Places.{row-length}
 use Rattle.lifting.proofs.Framing.{usual-within}
 use Rattle.lifting.specs.Stages.{Within}
 use Rattle.tree_level.specs.Over.{tree-over}
@@ -37,7 +38,7 @@ store-requires c κs =
     let P = m .before .before .before .before .before .before .before .before .before .pre in
     let b = P .0 .base in
     let L = m .lift-level in
-    let room = length (a .cache .now) / 10 in
+    let room = length (a .cache .now) / row-length in
     let e = L .ensures .0 ∙ ap (λ x. tree-over x s (a .k - 1) room) (m .before .before .before .before .before .usual .ensures) in
     (P .0, way-settles s (a .k - 1) b (L .last .0) (omega arith) (by-tree room) 0 (L .result) [] e (L .ensures .1))
 
@@ -59,7 +60,7 @@ returns c =
     let P = m .before .before .before .before .before .before .before .before .before .pre in
     let b = P .0 .base in
     let L = m .lift-level in
-    let room = length (a .cache .now) / 10 in
+    let room = length (a .cache .now) / row-length in
     let e = L .ensures .0 ∙ ap (λ x. tree-over x s (a .k - 1) room) (m .before .before .before .before .before .usual .ensures) in
     let t = c .before .before .store in
     lifted-by s (a .k) (P .0) (by-tree room) 0 (L .last .0) (omega arith) (L .result) [] e (L .ensures .1) (t .result) (t .last .0) (t .ensures)

@@ -6,6 +6,7 @@ use Prim.Native.Nat.{_+_, _-_, _*_}
 use lib.ListN.{take, drop, set}
 use lib.Seq.{paste}
 use Rattle.definitions.specs.Layout.{rows, rows-of}
+use Rattle.definitions.specs.Places.{row-length, level-length, count-offset, rows-offset}
 use Rattle.writing.proofs.Copying.{length-spelled}
 use Rattle.writing.proofs.Parts.{paste-part}
 use Rattle.writing.proofs.append.Statement.{statement}
@@ -67,12 +68,12 @@ returns c =
     let a = c .before .before .before .before .before .before .args in
     let s = a .state .now in
     let k = a .k in
-    let n : 1295 + k * 20480 + 20480 - (1295 + k * 20480) ≡ 20480 = omega arith in
+    let n : rows-offset k + level-length - (rows-offset k) ≡ level-length = omega arith in
     let w = rows-of (rows (a .value .now) 0 (a .v)) in
-    let p : take (1295 + k * 20480) s ++ (c .before .before .copy-rows .last .0 ++ drop (1295 + k * 20480 + 20480 - (1295 + k * 20480)) (drop (1295 + k * 20480) s)) ≡ paste s (1295 + k * 20480 + a .used * 10) w (a .v * 10) =
-    (λ i. take (1295 + k * 20480) s ++ ((c .before .before .copy-rows .ensures ∙ (λ j. paste (take (n j) (drop (1295 + k * 20480) s)) (a .used * 10) w (a .v * 10))) i ++ drop (n i) (drop (1295 + k * 20480) s)))
-    ∙ paste-part s w (1295 + k * 20480) 20480 (a .used * 10) (a .v * 10) (omega (arith, c .before .before .before .before .before .before .pre .0, c .before .before .before .before .before .before .pre .1)) (omega (arith, c .before .before .before .before .before .before .pre .3)) (omega (arith, length-spelled (a .value .now) 0 (a .v))) in
-    ap (λ l. set l (5 + k * 129 + 1 + a .count) (a .used + a .v)) p
+    let p : take (rows-offset k) s ++ (c .before .before .copy-rows .last .0 ++ drop (rows-offset k + level-length - (rows-offset k)) (drop (rows-offset k) s)) ≡ paste s (rows-offset k + a .used * row-length) w (a .v * row-length) =
+    (λ i. take (rows-offset k) s ++ ((c .before .before .copy-rows .ensures ∙ (λ j. paste (take (n j) (drop (rows-offset k) s)) (a .used * row-length) w (a .v * row-length))) i ++ drop (n i) (drop (rows-offset k) s)))
+    ∙ paste-part s w (rows-offset k) level-length (a .used * row-length) (a .v * row-length) (omega (arith, c .before .before .before .before .before .before .pre .0, c .before .before .before .before .before .before .pre .1)) (omega (arith, c .before .before .before .before .before .before .pre .3)) (omega (arith, length-spelled (a .value .now) 0 (a .v))) in
+    ap (λ l. set l (count-offset k + 1 + a .count) (a .used + a .v)) p
 
 pub append-spec : {M : Type 1} → statement M
 append-spec =

@@ -4,13 +4,14 @@ use Prim.Native.Nat.{_+_, _-_, _*_, _≤_}
 use lib.ListN.{length}
 use lib.Seq.{paste}
 use Rattle.definitions.specs.Layout.{rows, rows-of}
+use Rattle.definitions.specs.Places.{row-length}
 use Rattle.terms.specs.Rows.{term-of, written}
 use Rattle.writing.proofs.Copying.{copied-none, copied-more}
 use Rattle.writing.proofs.copy_rows.Statement.{statement}
 use Rattle.writing.proofs.copy_rows.Tie as tie
 
 abbrev Inv-loop : tie.InvT-loop
-Inv-loop d₀ used value v j₀ d j = (j ≤ v) × (length d ≡ length d₀) × (d ≡ paste d₀ (used * 10) (rows-of (rows value 0 j)) (j * 10))
+Inv-loop d₀ used value v j₀ d j = (j ≤ v) × (length d ≡ length d₀) × (d ≡ paste d₀ (used * row-length) (rows-of (rows value 0 j)) (j * row-length))
 
 abbrev μ-loop : tie.MeasureT-loop
 μ-loop d₀ used value v j₀ d j = v - j
@@ -46,7 +47,7 @@ returns : tie.Need-returns Inv-loop μ-loop
 returns c =
     let l = c .before .loop in
     let z : l .j ≡ c .before .before .before .before .args .v = omega arith in
-    l .inv .2 ∙ ap (λ n. paste (c .before .before .before .before .args .d .now) (c .before .before .before .before .args .used * 10) (rows-of (rows (c .before .before .before .before .args .value .now) 0 n)) (n * 10)) z
+    l .inv .2 ∙ ap (λ n. paste (c .before .before .before .before .args .d .now) (c .before .before .before .before .args .used * row-length) (rows-of (rows (c .before .before .before .before .args .value .now) 0 n)) (n * row-length)) z
 
 pub copy-rows-spec : {M : Type 1} → statement M
 copy-rows-spec =

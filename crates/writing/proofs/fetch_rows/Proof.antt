@@ -4,6 +4,7 @@ use mathlib.Core.Path.{sym, ap, _∙_}
 use Prim.Native.Nat.{_+_, _-_, _*_}
 use lib.ListN.{length, take, drop}
 use Rattle.definitions.specs.Layout.{padded}
+use Rattle.definitions.specs.Places.{row-length, rows-offset}
 use Rattle.writing.proofs.Fetching.{fetchable}
 use Rattle.writing.proofs.fetch_rows.Statement.{statement}
 use Rattle.writing.proofs.fetch_rows.Tie as tie
@@ -63,7 +64,7 @@ returns : tie.Need-returns
 returns c =
     let f = fetchable (c .before .before .before .before .before .before .before .before .args .state .now) (c .before .before .before .before .before .before .before .before .pre .0) (c .before .before .before .before .before .before .before .before .pre .1) (c .before .before .before .before .before .before .before .before .args .k) (c .before .before .before .before .before .before .before .before .args .v) (c .before .before .before .before .before .before .before .before .pre .2) (c .before .before .before .before .before .before .before .before .pre .3) (c .before .before .before .before .before .before .before .before .pre .4) (c .before .before .before .before .before .before .before .before .pre .5) in
     let a = c .before .before .before .before .before .before .before .before .args in
-    c .before .before .copy-out .ensures ∙ ap (padded (length (a .out .now))) ((λ i. take ((c .before .before .before .before .end-of2 .ensures i - c .before .before .before .before .before .end-of .ensures i) * 10) (drop (1295 + a .k * 20480 + c .before .before .before .before .before .end-of .ensures i * 10) (a .state .now))) ∙ sym (f .words))
+    c .before .before .copy-out .ensures ∙ ap (padded (length (a .out .now))) ((λ i. take ((c .before .before .before .before .end-of2 .ensures i - c .before .before .before .before .before .end-of .ensures i) * row-length) (drop (rows-offset (a .k) + c .before .before .before .before .before .end-of .ensures i * row-length) (a .state .now))) ∙ sym (f .words))
 
 pub fetch-rows-spec : {M : Type 1} → statement M
 fetch-rows-spec =

@@ -6,6 +6,7 @@ use Rattle.writing.proofs.Parts.{block-by}
 use Rattle.writing.proofs.Assembling.{settled-by}
 use Rattle.writing.proofs.settle.Statement.{statement}
 use Rattle.writing.proofs.settle.Tie as tie
+use Rattle.definitions.specs.Places.{rows-start, count-offset, rows-offset}
 
 tidy-requires : tie.Need-tidy-requires
 tidy-requires c κs = search needs
@@ -48,8 +49,8 @@ returns c =
     let a = c .before .before .before .before .before .before .before .before .before .before .before .before .before .args in
     let s = a .state .now in
     let h = a .h in
-    let b = block-by (c .before .before .before .before .before .before .before .before .before .before .tidy .last .0) (c .before .before .before .before .before .before .before .before .before .before .tidy .last .0) (c .before .before .before .before .before .before .clear .last .0) (5 + h * 129) (1295 - (5 + h * 129)) (1295 - (5 + h * 129)) 0 0 refl refl refl (c .before .before .before .before .before .before .clear .ensures) in
-    c .before .before .clear2 .ensures ∙ ap (λ l. cleared l (1295 + h * 20480)) b ∙ settled-by s (c .before .before .before .before .before .before .before .before .before .before .tidy .last .0) h (c .before .before .before .before .before .before .before .before .before .before .before .before .before .pre .0) (c .before .before .before .before .before .before .before .before .before .before .before .before .before .pre .1) (c .before .before .before .before .before .before .before .before .before .before .before .before .before .pre .2) (c .before .before .before .before .before .before .before .before .before .before .before .before .before .pre .3) (c .before .before .before .before .before .before .before .before .before .before .tidy .ensures)
+    let b = block-by (c .before .before .before .before .before .before .before .before .before .before .tidy .last .0) (c .before .before .before .before .before .before .before .before .before .before .tidy .last .0) (c .before .before .before .before .before .before .clear .last .0) (count-offset h) (rows-start - (count-offset h)) (rows-start - (count-offset h)) 0 0 refl refl refl (c .before .before .before .before .before .before .clear .ensures) in
+    c .before .before .clear2 .ensures ∙ ap (λ l. cleared l (rows-offset h)) b ∙ settled-by s (c .before .before .before .before .before .before .before .before .before .before .tidy .last .0) h (c .before .before .before .before .before .before .before .before .before .before .before .before .before .pre .0) (c .before .before .before .before .before .before .before .before .before .before .before .before .before .pre .1) (c .before .before .before .before .before .before .before .before .before .before .before .before .before .pre .2) (c .before .before .before .before .before .before .before .before .before .before .before .before .before .pre .3) (c .before .before .before .before .before .before .before .before .before .before .tidy .ensures)
 
 pub settle-spec : {M : Type 1} → statement M
 settle-spec =

@@ -11,6 +11,7 @@ use Rattle.writing.specs.Growing.{block-cleared}
 use Rattle.writing.proofs.Parts.{block-by}
 use Rattle.writing.proofs.tidy_level.Statement.{statement}
 use Rattle.writing.proofs.tidy_level.Tie as tie
+use Rattle.definitions.specs.Places.{row-length, counts-length, level-length, count-offset, rows-offset}
 
 count-of-requires : tie.Need-count-of-requires
 count-of-requires c κs = search needs
@@ -80,10 +81,10 @@ returns c =
     let a = c .before .before .before .before .before .before .before .before .before .before .before .before .before .args in
     let s = a .state .now in
     let k = a .k in
-    let n : 5 + k * 129 + 129 - (5 + k * 129) ≡ 129 = omega arith in
-    let m : 1295 + k * 20480 + 20480 - (1295 + k * 20480) ≡ 20480 = omega arith in
-    let b = block-by s s (c .before .before .before .before .before .before .clear .last .0) (5 + k * 129) 129 (5 + k * 129 + 129 - (5 + k * 129)) (1 + count-at s k) (1 + c .before .before .before .before .before .before .before .before .before .before .count-of .result) refl n (ap (λ r. 1 + r) (c .before .before .before .before .before .before .before .before .before .before .count-of .ensures)) (c .before .before .before .before .before .before .clear .ensures) in
-    block-by (take (5 + k * 129) s ++ (c .before .before .before .before .before .before .clear .last .0 ++ drop (5 + k * 129 + 129 - (5 + k * 129)) (drop (5 + k * 129) s))) (block-cleared (5 + k * 129) 129 (1 + count-at s k) s) (c .before .before .clear2 .last .0) (1295 + k * 20480) 20480 (1295 + k * 20480 + 20480 - (1295 + k * 20480)) (start-of (ends-from s k) (count-at s k) * 10) (c .before .before .before .before .before .before .before .before .end-of .result * 10) b m (ap (λ r. r * 10) (c .before .before .before .before .before .before .before .before .end-of .ensures ∙ ap (start-of (ends-from s k)) (c .before .before .before .before .before .before .before .before .before .before .count-of .ensures))) (c .before .before .clear2 .ensures)
+    let n : count-offset k + counts-length - (count-offset k) ≡ counts-length = omega arith in
+    let m : rows-offset k + level-length - (rows-offset k) ≡ level-length = omega arith in
+    let b = block-by s s (c .before .before .before .before .before .before .clear .last .0) (count-offset k) counts-length (count-offset k + counts-length - (count-offset k)) (1 + count-at s k) (1 + c .before .before .before .before .before .before .before .before .before .before .count-of .result) refl n (ap (λ r. 1 + r) (c .before .before .before .before .before .before .before .before .before .before .count-of .ensures)) (c .before .before .before .before .before .before .clear .ensures) in
+    block-by (take (count-offset k) s ++ (c .before .before .before .before .before .before .clear .last .0 ++ drop (count-offset k + counts-length - (count-offset k)) (drop (count-offset k) s))) (block-cleared (count-offset k) counts-length (1 + count-at s k) s) (c .before .before .clear2 .last .0) (rows-offset k) level-length (rows-offset k + level-length - (rows-offset k)) (start-of (ends-from s k) (count-at s k) * row-length) (c .before .before .before .before .before .before .before .before .end-of .result * row-length) b m (ap (λ r. r * row-length) (c .before .before .before .before .before .before .before .before .end-of .ensures ∙ ap (start-of (ends-from s k)) (c .before .before .before .before .before .before .before .before .before .before .count-of .ensures))) (c .before .before .clear2 .ensures)
 
 pub tidy-level-spec : {M : Type 1} → statement M
 tidy-level-spec =

@@ -6,6 +6,7 @@ use Rattle.testing.proofs.Worked.{counted-none}
 use Prim.Native.Nat.{_/_}
 use borrow.Author.Tests.{le-leb, lt-leb}
 use Rattle.definitions.specs.Lists.{choose}
+use Rattle.definitions.specs.Places.{row-length}
 use Rattle.testing.specs.Leaves.{counted, descent}
 use Rattle.testing.proofs.Worked.{counted-step}
 use Rattle.testing.proofs.leaves.leaves_descents.Statement.{statement}
@@ -18,7 +19,7 @@ abbrev μ-loop : tie.MeasureT-loop
 μ-loop s n code k₀ i₀ k i = n - i
 
 returns : tie.Need-returns Inv-loop μ-loop
-returns c = let a = c .before .before .args in sym (ap (λ b. choose b 0 (counted (descent (a .code) (a .s .now)) (a .n))) (le-leb (length (a .s .now) / 10) (a .n) (c .if1 .taken)))
+returns c = let a = c .before .before .args in sym (ap (λ b. choose b 0 (counted (descent (a .code) (a .s .now)) (a .n))) (le-leb (length (a .s .now) / row-length) (a .n) (c .if1 .taken)))
 
 loop-holds : tie.Need-loop-holds Inv-loop μ-loop
 loop-holds c = let a = c .before .before .args in (omega arith, omega arith, counted-none (descent (a .code) (a .s .now)))
@@ -43,7 +44,7 @@ returns-2 c =
     let a = c .before .before .before .before .args in
     let l = c .before .loop in
     let z : l .i ≡ a .n = omega arith in
-    l .inv .2 ∙ ap (counted (descent (a .code) (a .s .now))) z ∙ sym (ap (λ b. choose b 0 (counted (descent (a .code) (a .s .now)) (a .n))) (lt-leb (length (a .s .now) / 10) (a .n) (c .before .before .if1 .left)))
+    l .inv .2 ∙ ap (counted (descent (a .code) (a .s .now))) z ∙ sym (ap (λ b. choose b 0 (counted (descent (a .code) (a .s .now)) (a .n))) (lt-leb (length (a .s .now) / row-length) (a .n) (c .before .before .if1 .left)))
 
 pub leaves-descents-spec : {M : Type 1} → statement M
 leaves-descents-spec =

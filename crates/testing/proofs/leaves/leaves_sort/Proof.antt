@@ -11,6 +11,7 @@ use Rattle.definitions.specs.Layout.{rows, levels-at}
 use Rattle.definitions.specs.Vectors.{descending}
 use Rattle.definitions.specs.Lists.{choose}
 use Rattle.definitions.specs.Limits.{document-01}
+use Rattle.definitions.specs.Places.{all-levels, row-length}
 use Prim.Native.Nat.{_/_}
 use borrow.Author.Tests.{lt-ltb, le-ltb}
 use Rattle.levels.proofs.Sounding.{height, prime-above}
@@ -19,7 +20,7 @@ use Rattle.testing.proofs.leaves.leaves_sort.Statement.{statement}
 use Rattle.testing.proofs.leaves.leaves_sort.Tie as tie
 
 returns : tie.Need-returns
-returns c = let a = c .before .before .before .before .args in rows-none (a .d .now) ∙ sym (ap (λ b. choose b [] (sorted (a .state .now) (a .k) (a .s .now) (a .n))) (lt-ltb (length (a .d .now) / 10) (a .n) (c .if1 .taken)))
+returns c = let a = c .before .before .before .before .args in rows-none (a .d .now) ∙ sym (ap (λ b. choose b [] (sorted (a .state .now) (a .k) (a .s .now) (a .n))) (lt-ltb (length (a .d .now) / row-length) (a .n) (c .if1 .taken)))
 
 ready-requires : tie.Need-ready-requires
 ready-requires c κs = search needs
@@ -82,7 +83,7 @@ sort-requires c κs =
     let e = sym (c .before .before .before .before .before .before .before .before .before .before .before .ready .ensures) ∙ c .before .before .before .before .before .before .before .before .before .before .if2 .taken in
     let t = ready-said S (a .k) (a .s .now) (a .n) e in
     let h = height S (t .long) (t .sound) in
-    let m : a .k < 10 = omega (arith, t .level, h) in
+    let m : a .k < all-levels = omega (arith, t .level, h) in
     let l = table-ready S (a .k) (c .before .before .before .before .before .before .before .fill-tables .last .0) (c .before .before .before .before .before .before .before .fill-tables .last .1 .0) (c .before .before .before .before .before .before .before .fill-tables .ensures) in
     (omega (arith, prime-above S (t .long) (t .sound)), omega (arith, t .enough), omega (arith, c .before .before .before .before .before .before .before .before .before .before .before .before .if1 .left), omega (arith, l .few, c .before .before .before .before .count-of .ensures), table-bounded S (a .k) (c .before .before .before .before .count-of .result) (c .before .before .before .before .before .before .before .fill-tables .last .1 .0) m (c .before .before .before .before .count-of .ensures) l)
 
@@ -96,13 +97,13 @@ returns-2 c =
     let e = sym (c .before .before .before .before .before .before .before .before .before .before .before .before .before .before .ready .ensures) ∙ c .before .before .before .before .before .before .before .before .before .before .before .before .before .if2 .taken in
     let t = ready-said S (a .k) (a .s .now) (a .n) e in
     let l = table-ready S (a .k) (c .before .before .before .before .before .before .before .before .before .before .fill-tables .last .0) (c .before .before .before .before .before .before .before .before .before .before .fill-tables .last .1 .0) (c .before .before .before .before .before .before .before .before .before .before .fill-tables .ensures) in
-    c .before .before .sort .ensures ∙ ap (λ x. descending (table-order (getD S 2 0) x) (getD S 0 0) (rows (a .s .now) 0 (a .n))) (ap (λ m. table-of m (c .before .before .before .before .before .before .before .before .before .before .fill-tables .last .1 .0)) (c .before .before .before .before .before .before .before .count-of .ensures) ∙ l .made) ∙ sym (λ i. choose (le-ltb (length (a .d .now) / 10) (a .n) (c .before .before .before .before .before .before .before .before .before .before .before .before .before .before .before .if1 .left) i) [] (choose (e i) (descending (table-order (getD S 2 0) (images (levels-at document-01 S (suc (a .k))))) (getD S 0 0) (rows (a .s .now) 0 (a .n))) []))
+    c .before .before .sort .ensures ∙ ap (λ x. descending (table-order (getD S 2 0) x) (getD S 0 0) (rows (a .s .now) 0 (a .n))) (ap (λ m. table-of m (c .before .before .before .before .before .before .before .before .before .before .fill-tables .last .1 .0)) (c .before .before .before .before .before .before .before .count-of .ensures) ∙ l .made) ∙ sym (λ i. choose (le-ltb (length (a .d .now) / row-length) (a .n) (c .before .before .before .before .before .before .before .before .before .before .before .before .before .before .before .if1 .left) i) [] (choose (e i) (descending (table-order (getD S 2 0) (images (levels-at document-01 S (suc (a .k))))) (getD S 0 0) (rows (a .s .now) 0 (a .n))) []))
 
 returns-3 : tie.Need-returns-3
 returns-3 c =
     let a = c .before .before .before .before .before .before .args in
     let S = a .state .now in
-    rows-none (a .d .now) ∙ sym (λ i. choose (le-ltb (length (a .d .now) / 10) (a .n) (c .before .before .if1 .left) i) [] (choose ((sym (c .before .ready .ensures) ∙ c .if2 .left) i) (descending (table-order (getD S 2 0) (images (levels-at document-01 S (suc (a .k))))) (getD S 0 0) (rows (a .s .now) 0 (a .n))) []))
+    rows-none (a .d .now) ∙ sym (λ i. choose (le-ltb (length (a .d .now) / row-length) (a .n) (c .before .before .if1 .left) i) [] (choose ((sym (c .before .ready .ensures) ∙ c .if2 .left) i) (descending (table-order (getD S 2 0) (images (levels-at document-01 S (suc (a .k))))) (getD S 0 0) (rows (a .s .now) 0 (a .n))) []))
 
 pub leaves-sort-spec : {M : Type 1} → statement M
 leaves-sort-spec =

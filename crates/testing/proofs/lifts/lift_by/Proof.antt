@@ -9,6 +9,7 @@ use Rattle.lifting.specs.Stages.{leveled-of, Stored-as}
 use Rattle.ways.specs.Ways.{way-of}
 use Rattle.definitions.specs.Layout.{Words, work-words}
 use Rattle.definitions.specs.Limits.{document-01}
+use Rattle.definitions.specs.Places.{value-length, tree-length}
 use Rattle.testing.proofs.lifts.lift_by.Statement.{statement}
 use Rattle.testing.proofs.lifts.lift_by.Tie as tie
 
@@ -23,7 +24,7 @@ lift-level-requires c κs =
     let a = c .before .before .before .before .before .before .before .before .args in
     let s = a .state .now in
     let P = c .before .before .before .before .before .before .before .before .pre in
-    let h : 5120 ≤ length (a .work .now) = subst (λ x. work-words document-01 (way-of x) ≤ length (a .work .now)) (c .before .before .enum-told .given .1) (P .4) in
+    let h : value-length ≤ length (a .work .now) = subst (λ x. work-words document-01 (way-of x) ≤ length (a .work .now)) (c .before .before .enum-told .given .1) (P .4) in
     (P .0, omega (arith, P .3), h, P .5)
 
 enum-known-way : tie.Need-enum-known-way
@@ -37,7 +38,7 @@ lift-level-requires-2 c κs =
     let a = c .before .before .before .before .before .before .before .before .before .args in
     let s = a .state .now in
     let P = c .before .before .before .before .before .before .before .before .before .pre in
-    let h : 5120 ≤ length (a .work .now) = subst (λ x. work-words document-01 (way-of x) ≤ length (a .work .now)) (c .before .before .before .way .given .1) (P .4) in
+    let h : value-length ≤ length (a .work .now) = subst (λ x. work-words document-01 (way-of x) ≤ length (a .work .now)) (c .before .before .before .way .given .1) (P .4) in
     (P .0, omega (arith, P .3), h, P .5)
 
 enum-told-2 : tie.Need-enum-told-2
@@ -51,7 +52,7 @@ lift-level-requires-3 c κs =
     let a = c .before .before .before .before .before .before .before .before .before .args in
     let s = a .state .now in
     let P = c .before .before .before .before .before .before .before .before .before .pre in
-    let h : 40960 ≤ length (a .work .now) = subst (λ x. work-words document-01 (way-of x) ≤ length (a .work .now)) (c .before .before .before .enum-told2 .given .1) (P .4) in
+    let h : tree-length ≤ length (a .work .now) = subst (λ x. work-words document-01 (way-of x) ≤ length (a .work .now)) (c .before .before .before .enum-told2 .given .1) (P .4) in
     (P .0, P .3, h, P .5)
 
 same-length : tie.Need-same-length

@@ -2,8 +2,8 @@ use mathlib.Core.Path.{sym}
 use borrow.Author.Tests.{lt-leb, le-leb}
 use lib.Dec.{leb}
 use Rattle.definitions.specs.Lists.{_and_}
-use Rattle.levels.proofs.between.Statement.{statement}
-use Rattle.levels.proofs.between.Tie as tie
+use Rattle.words.proofs.between.Statement.{statement}
+use Rattle.words.proofs.between.Tie as tie
 
 returns : tie.Need-returns
 returns c = λ i. sym (lt-leb (c .before .args .a) (c .before .args .x) (c .if1 .taken)) i and leb (c .before .args .x) (c .before .args .b)

@@ -4,8 +4,8 @@ use mathlib.Core.Path.{sym, _∙_}
 use borrow.Author.Tests.{le-leb}
 use Rattle.definitions.specs.Lists.{_and_}
 use Rattle.definitions.specs.Field.{prime?}
-use Rattle.levels.proofs.prime_in_range.Statement.{statement}
-use Rattle.levels.proofs.prime_in_range.Tie as tie
+use Rattle.field.proofs.prime_in_range.Statement.{statement}
+use Rattle.field.proofs.prime_in_range.Tie as tie
 
 is-prime-requires : tie.Need-is-prime-requires
 is-prime-requires c κs = search needs

@@ -2,8 +2,8 @@ use borrow.Author.Needs.{needs}
 use native.Mathlib.Omega.{arith}
 use mathlib.Core.Path.{sym}
 use Rattle.definitions.proofs.Rows.{byte-small, byte-large}
-use Rattle.terms.proofs.narrow.Statement.{statement}
-use Rattle.terms.proofs.narrow.Tie as tie
+use Rattle.words.proofs.narrow.Statement.{statement}
+use Rattle.words.proofs.narrow.Tie as tie
 
 cast-result : tie.Need-cast-result
 cast-result c = search needs

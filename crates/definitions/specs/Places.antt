@@ -1,0 +1,182 @@
+-- The numbers of the layout with document 01's limits: each has its one name here. `proofs/Places` says that they are what Layout's functions give at `document-01`,
+-- and that levels and rows stand beside each other and fit. The code's names for them are crate `words`.
+use Prim.Native.Nat.{ℕ, _+_, _*_}
+
+-- ## Limits
+
+-- the exponents of a monomial, one for each variable that there can be
+abbrev pub exponents-length : ℕ
+exponents-length = 8
+
+-- the largest exponent
+abbrev pub most-exponent : ℕ
+most-exponent = 255
+
+-- variables, components, elements of a file
+abbrev pub most-variables : ℕ
+most-variables = 8
+
+abbrev pub most-components : ℕ
+most-components = 16
+
+abbrev pub most-elements : ℕ
+most-elements = 64
+
+-- vectors of a level
+abbrev pub most-vectors : ℕ
+most-vectors = 128
+
+-- terms of a level, T lines of a file
+abbrev pub most-rows : ℕ
+most-rows = 2_048
+
+-- terms of a working value, and of a vector
+abbrev pub most-terms : ℕ
+most-terms = 512
+
+-- terms of the tree's work area
+abbrev pub most-tree-terms : ℕ
+most-tree-terms = 4_096
+
+-- the highest level, and how many levels there are with level 0
+abbrev pub most-levels : ℕ
+most-levels = 9
+
+abbrev pub all-levels : ℕ
+all-levels = 10
+
+-- ## Rows
+
+-- the words of a row: coefficient, component, exponents
+abbrev pub row-length : ℕ
+row-length = 10
+
+-- where a row's component stands, and the first of its exponents
+abbrev pub component-offset : ℕ
+component-offset = 1
+
+abbrev pub exponents-offset : ℕ
+exponents-offset = 2
+
+-- where an image's rank stands, in a row of a table of images
+abbrev pub rank-offset : ℕ
+rank-offset = 1
+
+-- ## The state
+
+-- p, n, the order code, s, how many levels are complete
+abbrev pub header-length : ℕ
+header-length = 5
+
+-- a level's count of vectors, and the ends of these
+abbrev pub counts-length : ℕ
+counts-length = 129
+
+-- where the ends of level 0's vectors start
+abbrev pub ends-start : ℕ
+ends-start = 6
+
+-- where level 0's rows start
+abbrev pub rows-start : ℕ
+rows-start = 1_295
+
+-- a level's rows
+abbrev pub level-length : ℕ
+level-length = 20_480
+
+-- the state
+abbrev pub state-length : ℕ
+state-length = 206_095
+
+-- where level k's count stands
+abbrev pub count-offset : ℕ → ℕ
+count-offset k = header-length + k * counts-length
+
+-- where the ends of level k's vectors start
+abbrev pub ends-offset : ℕ → ℕ
+ends-offset k = ends-start + k * counts-length
+
+-- where level k's rows start
+abbrev pub rows-offset : ℕ → ℕ
+rows-offset k = rows-start + k * level-length
+
+-- ## Other buffers
+
+-- the work area of division and hybrid, and the tree's
+abbrev pub value-length : ℕ
+value-length = 5_120
+
+abbrev pub tree-length : ℕ
+tree-length = 40_960
+
+-- a vector's rows: a fetched vector's buffer
+abbrev pub vector-length : ℕ
+vector-length = 5_120
+
+-- a row for each vector of a level: leading rows, images, frame terms
+abbrev pub table-length : ℕ
+table-length = 1_280
+
+-- the first and the last row of each component, and of none
+abbrev pub spans-length : ℕ
+spans-length = 258
+
+-- the tables of a lifting in one slice: leading rows, spans, the ends of the level below, images below it, images above it
+abbrev pub tables-spans : ℕ
+tables-spans = 1_280
+
+abbrev pub tables-ends : ℕ
+tables-ends = 1_538
+
+abbrev pub tables-below : ℕ
+tables-below = 1_666
+
+abbrev pub tables-above : ℕ
+tables-above = 2_946
+
+abbrev pub tables-length : ℕ
+tables-length = 4_226
+
+-- a lifted level before it is stored: an end for each vector, then their rows; the tree needs room for one vector more
+abbrev pub ends-length : ℕ
+ends-length = 128
+
+abbrev pub lifted-length : ℕ
+lifted-length = 20_608
+
+abbrev pub grown-length : ℕ
+grown-length = 25_728
+
+-- ## Bytes
+
+-- a file
+abbrev pub file-length : ℕ
+file-length = 65_536
+
+-- what the program reads of one: a byte more, to tell a file that is too long
+abbrev pub read-length : ℕ
+read-length = 65_537
+
+-- the sheet's lines at the most: an S line, a W line, a Z or X line; all S lines of a level, and its Z line with them
+abbrev pub s-line-length : ℕ
+s-line-length = 74
+
+abbrev pub w-line-length : ℕ
+w-line-length = 62
+
+abbrev pub pair-line-length : ℕ
+pair-line-length = 29
+
+abbrev pub s-lines-length : ℕ
+s-lines-length = 151_552
+
+abbrev pub level-lines-length : ℕ
+level-lines-length = 151_581
+
+-- the lines of all levels above 0
+abbrev pub all-lines-length : ℕ
+all-lines-length = 1_364_229
+
+-- the sheet
+abbrev pub sheet-length : ℕ
+sheet-length = 1_400_000

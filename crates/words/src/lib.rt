@@ -1,0 +1,220 @@
+// The numbers of the layout as the code names them, and what every crate does with a word: it is a place, a wider number, an exponent; it is in a range.
+// Knows: crate definitions' Places, whose names these are, in capitals.
+// `numbers` and `word_numbers` hold each of them to the definitions' one.
+ghost use mathlib.Core.Path.{_≡_};
+ghost use mathlib.Core.List.{_∷_, []};
+ghost use Prim.Native.Nat.{_≤_, _<_};
+ghost use Rattle.definitions.specs.Layout.{byte};
+ghost use Rattle.definitions.specs.Lists.{between as between-definition};
+ghost use Rattle.definitions.specs.Places.{exponents-length, most-exponent, most-variables, most-components, most-elements, most-vectors, most-rows, most-terms, most-tree-terms, most-levels, all-levels, row-length, component-offset, exponents-offset, rank-offset, header-length, counts-length, ends-start, rows-start, level-length, state-length, value-length, tree-length, vector-length, table-length, spans-length, tables-spans, tables-ends, tables-below, tables-above, tables-length, ends-length, lifted-length, grown-length, file-length, read-length, s-line-length, w-line-length, pair-line-length, s-lines-length, level-lines-length, all-lines-length, sheet-length};
+
+// ## Limits
+
+pub const EXPONENTS_LENGTH: usize = 8;
+
+pub const MOST_EXPONENT: u16 = 255;
+
+pub const MOST_VARIABLES: u16 = 8;
+
+pub const MOST_COMPONENTS: u16 = 16;
+
+pub const MOST_ELEMENTS: u16 = 64;
+
+pub const MOST_VECTORS: usize = 128;
+
+pub const MOST_VECTORS_U16: u16 = 128;
+
+pub const MOST_ROWS: usize = 2048;
+
+pub const MOST_TERMS: usize = 512;
+
+pub const MOST_TREE_TERMS: usize = 4096;
+
+pub const MOST_LEVELS: usize = 9;
+
+pub const ALL_LEVELS: usize = MOST_LEVELS + 1;
+
+// ## Rows
+
+pub const COMPONENT_OFFSET: usize = 1;
+
+pub const EXPONENTS_OFFSET: usize = COMPONENT_OFFSET + 1;
+
+pub const RANK_OFFSET: usize = COMPONENT_OFFSET;
+
+pub const ROW_LENGTH: usize = EXPONENTS_OFFSET + EXPONENTS_LENGTH;
+
+// ## The state
+
+pub const HEADER_LENGTH: usize = 5;
+
+pub const COUNTS_LENGTH: usize = MOST_VECTORS + 1;
+
+pub const ENDS_START: usize = HEADER_LENGTH + 1;
+
+pub const ROWS_START: usize = HEADER_LENGTH + ALL_LEVELS * COUNTS_LENGTH;
+
+pub const LEVEL_LENGTH: usize = MOST_ROWS * ROW_LENGTH;
+
+pub const STATE_LENGTH: usize = ROWS_START + ALL_LEVELS * LEVEL_LENGTH;
+
+// ## Other buffers
+
+pub const VALUE_LENGTH: usize = MOST_TERMS * ROW_LENGTH;
+
+pub const TREE_LENGTH: usize = MOST_TREE_TERMS * ROW_LENGTH;
+
+pub const VECTOR_LENGTH: usize = MOST_TERMS * ROW_LENGTH;
+
+pub const TABLE_LENGTH: usize = MOST_VECTORS * ROW_LENGTH;
+
+pub const SPANS_LENGTH: usize = COUNTS_LENGTH * 2;
+
+pub const ENDS_LENGTH: usize = MOST_VECTORS;
+
+pub const TABLES_SPANS: usize = TABLE_LENGTH;
+
+pub const TABLES_ENDS: usize = TABLES_SPANS + SPANS_LENGTH;
+
+pub const TABLES_BELOW: usize = TABLES_ENDS + ENDS_LENGTH;
+
+pub const TABLES_ABOVE: usize = TABLES_BELOW + TABLE_LENGTH;
+
+pub const TABLES_LENGTH: usize = TABLES_ABOVE + TABLE_LENGTH;
+
+pub const LIFTED_LENGTH: usize = ENDS_LENGTH + LEVEL_LENGTH;
+
+pub const GROWN_LENGTH: usize = LIFTED_LENGTH + VECTOR_LENGTH;
+
+// ## Bytes
+
+pub const FILE_LENGTH: usize = 65536;
+
+pub const READ_LENGTH: usize = FILE_LENGTH + 1;
+
+pub const S_LINE_LENGTH: usize = 74;
+
+pub const W_LINE_LENGTH: usize = 62;
+
+pub const PAIR_LINE_LENGTH: usize = 29;
+
+pub const S_LINES_LENGTH: usize = MOST_ROWS * S_LINE_LENGTH;
+
+pub const LEVEL_LINES_LENGTH: usize = S_LINES_LENGTH + PAIR_LINE_LENGTH;
+
+pub const ALL_LINES_LENGTH: usize = MOST_LEVELS * LEVEL_LINES_LENGTH;
+
+pub const SHEET_LENGTH: usize = 1400000;
+
+// ## Held to the definitions
+
+pub fn numbers() -> [usize; 39]
+    ensures { λ r. ⌜ r ≡ exponents-length ∷ most-vectors ∷ most-rows ∷ most-terms ∷ most-tree-terms ∷ most-levels ∷ all-levels ∷ component-offset ∷ exponents-offset ∷ rank-offset ∷ row-length ∷ header-length ∷ counts-length ∷ ends-start ∷ rows-start ∷ level-length ∷ state-length ∷ value-length ∷ tree-length ∷ vector-length ∷ table-length ∷ spans-length ∷ ends-length ∷ tables-spans ∷ tables-ends ∷ tables-below ∷ tables-above ∷ tables-length ∷ lifted-length ∷ grown-length ∷ file-length ∷ read-length ∷ s-line-length ∷ w-line-length ∷ pair-line-length ∷ s-lines-length ∷ level-lines-length ∷ all-lines-length ∷ sheet-length ∷ [] ⌝ }
+{
+    [
+        EXPONENTS_LENGTH,
+        MOST_VECTORS,
+        MOST_ROWS,
+        MOST_TERMS,
+        MOST_TREE_TERMS,
+        MOST_LEVELS,
+        ALL_LEVELS,
+        COMPONENT_OFFSET,
+        EXPONENTS_OFFSET,
+        RANK_OFFSET,
+        ROW_LENGTH,
+        HEADER_LENGTH,
+        COUNTS_LENGTH,
+        ENDS_START,
+        ROWS_START,
+        LEVEL_LENGTH,
+        STATE_LENGTH,
+        VALUE_LENGTH,
+        TREE_LENGTH,
+        VECTOR_LENGTH,
+        TABLE_LENGTH,
+        SPANS_LENGTH,
+        ENDS_LENGTH,
+        TABLES_SPANS,
+        TABLES_ENDS,
+        TABLES_BELOW,
+        TABLES_ABOVE,
+        TABLES_LENGTH,
+        LIFTED_LENGTH,
+        GROWN_LENGTH,
+        FILE_LENGTH,
+        READ_LENGTH,
+        S_LINE_LENGTH,
+        W_LINE_LENGTH,
+        PAIR_LINE_LENGTH,
+        S_LINES_LENGTH,
+        LEVEL_LINES_LENGTH,
+        ALL_LINES_LENGTH,
+        SHEET_LENGTH,
+    ]
+}
+
+pub fn word_numbers() -> [u16; 5]
+    ensures { λ r. ⌜ r ≡ most-exponent ∷ most-variables ∷ most-components ∷ most-elements ∷ most-vectors ∷ [] ⌝ }
+{
+    [
+        MOST_EXPONENT,
+        MOST_VARIABLES,
+        MOST_COMPONENTS,
+        MOST_ELEMENTS,
+        MOST_VECTORS_U16,
+    ]
+}
+
+// ## Words
+
+// A word as a place in a buffer.
+pub fn place(x: u16) -> usize
+    ensures { λ r. ⌜ (r ≡ x) × (r < 65536) ⌝ }
+{
+    x as usize
+}
+
+// A word as a number with room for sums and products of words.
+pub fn wider(x: u16) -> u32
+    ensures { λ r. ⌜ (r ≡ x) × (r ≤ 65535) ⌝ }
+{
+    x as u32
+}
+
+// An exponent as a word.
+pub fn wide(x: u8) -> u16
+    ensures { λ r. ⌜ (r ≡ x) × (r < 256) ⌝ }
+{
+    x as u16
+}
+
+// A word read as an exponent.
+pub fn narrow(x: u16) -> u8
+    ensures { λ r. ⌜ r ≡ byte x ⌝ }
+{
+    if x < 256 {
+        return x as u8;
+    }
+    255
+}
+
+// The same as a word.
+pub fn clamped(x: u16) -> u16
+    ensures { λ r. ⌜ (r ≡ byte x) × (r ≤ 255) ⌝ }
+{
+    if x < 256 {
+        return x;
+    }
+    255
+}
+
+// A word in a range, both ends included.
+pub fn between(a: u16, x: u16, b: u16) -> bool
+    ensures { λ r. ⌜ r ≡ between-definition a x b ⌝ }
+{
+    if x < a {
+        return false;
+    }
+    x <= b
+}
