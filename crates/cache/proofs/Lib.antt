@@ -1,3 +1,3 @@
 pub mod Parts
-pub mod Entering
-pub mod Growing
+pub mod Entries
+pub mod BoundedSums

@@ -9,8 +9,8 @@ use lib.Seq.{paste, getD-set-same, getD-set-other, getD-append-add, getD-take, g
 use Rattle.definitions.specs.Layout.{Words, row-at, rows}
 use Rattle.definitions.proofs.Rows.{rows-same}
 use Rattle.definitions.specs.Places.{row-length}
-use Rattle.terms.proofs.Moving.{getD-paste-in, getD-paste-below}
-use Rattle.terms.proofs.Stored.{same-row}
+use Rattle.vectors.proofs.terms.Moving.{getD-paste-in, getD-paste-below}
+use Rattle.vectors.proofs.terms.Stored.{same-row}
 use Rattle.cache.specs.Area.{Keeps, Leaves, Copied, Words-kept, Words-moved}
 
 -- ## A part that is read

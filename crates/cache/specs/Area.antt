@@ -6,8 +6,8 @@ use lib.ListN.{getD}
 use Rattle.definitions.specs.Monomial.{Vector}
 use Rattle.definitions.specs.Result.{Result, done, refusal}
 use Rattle.definitions.specs.Layout.{Words, row-at, rows}
-use Rattle.sums.specs.declared.Stored.{Stored}
-use Rattle.sums.specs.declared.Stored.the-variants.{Rows, Full}
+use Rattle.vectors.specs.declared.sums.Stored.{Stored}
+use Rattle.vectors.specs.declared.sums.Stored.the-variants.{Rows, Full}
 
 -- the rows below a are as they were: every unfinished sum below
 abbrev pub Keeps : ℕ → Words → Words → Type 0

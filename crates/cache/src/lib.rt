@@ -1,4 +1,5 @@
 // The rows that a tree's lifting works on: sums in the work area, and finished subtrees in the cache or at the work area's end.
+// Exists for: `look_up`, `keep`, `held`.
 // Knows: crate definitions' Tree.
 // An entry of the cache is its rows, then a row with its monomial and, for a coefficient, their number.
 ghost use mathlib.Core.Path.{_≡_};
@@ -11,12 +12,14 @@ ghost use Rattle.definitions.specs.Result.{done};
 ghost use Rattle.definitions.specs.Places.{row-length};
 ghost use Rattle.monomial.specs.Values.{monomial-of};
 ghost use Rattle.orders.specs.Images.{table-of, table-order, Tabled};
-ghost use Rattle.terms.specs.Rows.{term-of};
+ghost use Rattle.vectors.specs.terms.Rows.{term-of};
 ghost use Rattle.cache.specs.Area.{Keeps, Leaves, Words-kept, Words-moved, Apart, grown-of, Room};
 ghost use Rattle.cache.specs.Entries.{cache-of, entry-of, Inside, subtree-of, Sized};
 use monomial::Monomial;
-use sums::Stored;
-use terms::Term;
+use vectors::sums;
+use vectors::sums::Stored;
+use vectors::terms;
+use vectors::terms::Term;
 
 // Where an entry's rows stand in the cache, and how many they are.
 pub enum Entry {

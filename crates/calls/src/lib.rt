@@ -1,9 +1,10 @@
 // The three calls, and the sheet as one, for programs in other languages: include/tagetessash.h declares them.
-// Knows: crates engine, engine_lift and sheet.
+// Exists for: `tagetessash_read`, `tagetessash_lift`, `tagetessash_fetch`, `tagetessash_sheet`; `Making.all-calls`.
+// Knows: crates engine, lift_call and sheet.
 // A slice is a pointer and a length.
 ghost use mathlib.Core.Path.{_≡_};
 ghost use Prim.Native.Nat.{ℕ};
-ghost use Rattle.engine_lift.specs.Codes.{coded-way};
+ghost use Rattle.lift_call.specs.Codes.{coded-way};
 ghost use Rattle.sheet.specs.Sheets.{called};
 ghost use Rattle.calls.specs.Version.{version};
 ghost use Rattle.calls.specs.Coded.{Read-says, Lift-says, Fetch-says, sheet-told};
@@ -36,8 +37,8 @@ pub extern "C" fn tagetessash_lift(
 ) -> u16
     ensures { λ x. ⌜ Lift-says x (now (place .exit)) (now (state .exit)) (now (work .exit)) (now (cache .exit)) level (coded-way way pick) (now (state .entry)) (now (work .entry)) (now (cache .entry)) ⌝ }
 {
-    let w = engine_lift::way_by(way, pick);
-    let r = engine_lift::lift(state, work, cache, level, w);
+    let w = lift_call::way_by(way, pick);
+    let r = lift_call::lift(state, work, cache, level, w);
     *place = r.place;
     r.number
 }

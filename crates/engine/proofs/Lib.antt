@@ -1,2 +1,2 @@
-pub mod Fetched
-pub mod Settled
+pub mod FetchCall
+pub mod ReadCall

@@ -6,7 +6,7 @@ use Rattle.definitions.specs.Limits.{document-01}
 use Rattle.definitions.specs.Result.{Result, done, refused, unfinished, _>>=_}
 use Rattle.definitions.specs.State.{State, empty}
 use Rattle.definitions.specs.Layout.{Words, Read, Fetch, rows-of, padded, encode, decode}
-use Rattle.lifting.specs.Stages.{accepted-over}
+use Rattle.level.specs.by_runs.Stages.{accepted-over}
 use Rattle.engine.specs.declared.Reply.{Reply}
 
 abbrev pub read-reply : Reply → Words → Words → Read

@@ -1,4 +1,5 @@
 // The calls over lent buffers: reading with acceptance, fetching.
+// Exists for: `read`, `fetch`.
 // Knows: crate definitions' Layout.
 // A call asks for nothing: a buffer that is too short is 16, words that hold no state are 11.
 ghost use mathlib.Core.Path.{_≡_};
@@ -12,10 +13,15 @@ ghost use Rattle.definitions.specs.Result.{finished?};
 ghost use Rattle.definitions.specs.Calls.{read as read-definition};
 ghost use Rattle.definitions.specs.Layout.{encode, decode, holds-state?, read-call, fetch-call};
 ghost use Rattle.definitions.specs.Places.{most-levels, all-levels, state-length, value-length, vector-length};
-ghost use Rattle.levels.specs.Places.{count-at};
-ghost use Rattle.lifting.specs.Stages.{Base, accepted-over};
+ghost use Rattle.state.specs.soundness.Places.{count-at};
+ghost use Rattle.level.specs.by_runs.Stages.{Base, accepted-over};
 ghost use Rattle.engine.specs.Replies.{read-reply, fetch-reply, settled-words, accepted-words};
-use lift::Accepted;
+use level::by_runs;
+use reader::problem;
+use runs::frame_terms::Accepted;
+use state::soundness;
+use state::writing;
+use vectors::terms;
 
 // The refusal's number and place; 0 and 0 where the call succeeded.
 pub struct Reply {
@@ -28,7 +34,7 @@ fn accept(state: &mut [u16], work: &mut [u16]) -> Reply
     requires { ⌜ Base (now state) 0 × (now state ≡ encode document-01 (length (now state)) (decode document-01 (now state))) × (value-length ≤ length (now work)) ⌝ }
     ensures { λ r. ⌜ ((n : ℕ) × (read-reply r (now (state .exit)) (now (work .exit)) ≡ accepted-words n (now (state .entry)) (length (now (work .entry)))) × T (finished? (accepted-over (now (state .entry)) n))) ⌝ }
 {
-    match lifting::accept_level(work, state) {
+    match by_runs::accept_level(work, state) {
         Accepted::Yes => {
             terms::clear(work, 0);
             Reply {
@@ -100,7 +106,7 @@ fn vector_number(state: &[u16], k: usize, v: usize) -> bool
     if v == 0 {
         return false;
     }
-    let count = levels::count_of(state, k);
+    let count = soundness::count_of(state, k);
     v <= count
 }
 
@@ -159,7 +165,7 @@ pub fn fetch(state: &[u16], out: &mut [u16], k: usize, v: usize) -> Reply
             place: 0,
         };
     }
-    if levels::sound(state) {
+    if soundness::sound(state) {
         return fetch_sound(state, out, k, v);
     }
     Reply {

@@ -1,4 +1,5 @@
 // Arithmetic modulo p, for p up to 65,535.
+// Exists for: `sum`, `times`, `inverse`, `is_prime`.
 // Knows: crate definitions' Field.
 // All products are formed in u32.
 ghost use mathlib.Core.Path.{_≡_};

@@ -10,8 +10,8 @@ use Rattle.definitions.specs.Frame.{generators, minimal, with-component, frame-
 use Rattle.definitions.specs.Layout.{Words, rows}
 use Rattle.definitions.proofs.Rows.{length-rows}
 use Rattle.definitions.specs.Places.{row-length, component-offset}
-use Rattle.terms.proofs.Stored.{row-is}
-use Rattle.sums.proofs.Rowwise.{at-row}
+use Rattle.vectors.proofs.terms.Stored.{row-is}
+use Rattle.vectors.proofs.sums.Rowwise.{at-row}
 use Rattle.frame.specs.Generators.{monomials-of}
 
 abbrev Each : (Monomial → Type 0) → List Monomial → Type 0

@@ -10,9 +10,9 @@ use Rattle.definitions.specs.Order.{greater, equal, smaller, exponents-by}
 use Rattle.definitions.specs.Result.{Result, done, refusal}
 use Rattle.definitions.specs.Frame.{into-ascending, properly-divides?}
 use Rattle.definitions.specs.Layout.{Words, rows, row-at}
-use Rattle.terms.specs.Rows.{let-in}
-use Rattle.sums.specs.declared.Stored.{Stored}
-use Rattle.sums.specs.declared.Stored.the-variants.{Rows, Full}
+use Rattle.vectors.specs.terms.Rows.{let-in}
+use Rattle.vectors.specs.declared.sums.Stored.{Stored}
+use Rattle.vectors.specs.declared.sums.Stored.the-variants.{Rows, Full}
 use Rattle.frame.specs.declared.Spot.{Spot}
 use Rattle.frame.specs.declared.Spot.the-variants.{Same, Before}
 

@@ -1,6 +1,7 @@
 // Monomials: eight exponents by value and a component; product with 13's test, quotient, lcm, division, degree.
+// Exists for: `Monomial` with `UNIT`, `product`, `quotient`, `lcm`.
 // Knows: crate definitions' Monomial.
-// Exponents travel by value as [u8; 8]; what a slice holds is crate terms.
+// Exponents travel by value as [u8; 8]; what a slice holds is vectors::terms.
 ghost use mathlib.Core.Path.{_≡_};
 ghost use Prim.Native.Nat.{_-_, _<_, max};
 ghost use lib.Dec.{ltb};

@@ -1,4 +1,5 @@
 // Comparing: the three orders, images on level 0, and through them the order of every level.
+// Exists for: `compare`, `compare_images`, `against_row`.
 // Knows: crate definitions' Order.
 // An image is a monomial of level 0 whose exponents may pass 255: level k's are at most 255 · (k + 1), so 16 bits hold them.
 ghost use mathlib.Core.Path.{_≡_};

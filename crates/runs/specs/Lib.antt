@@ -1,1 +1,3 @@
-pub mod Stages
+pub mod reduction
+pub mod run
+pub mod frame_terms

@@ -14,9 +14,9 @@ use Rattle.definitions.specs.Problem.{Bytes}
 use Rattle.definitions.specs.Layout.{Words, padded, zeros}
 use Rattle.definitions.specs.Sheet.{sheet}
 use Rattle.definitions.specs.Places.{state-length, value-length, sheet-length}
-use Rattle.terms.specs.Rows.{cleared}
-use Rattle.all_levels.proofs.Lifting.{emptied}
-use Rattle.printing.specs.Lines.{Printed}
+use Rattle.vectors.specs.terms.Rows.{cleared}
+use Rattle.level.proofs.all_levels.Lifting.{emptied}
+use Rattle.listing.specs.printing.Lines.{Printed}
 use Rattle.sheet.specs.Sheets.{Told, called}
 
 behind : (out after : Bytes) (r : ℕ) (bytes : Bytes) → Printed out after 0 r bytes → length after ≡ length out → cleared after r ≡ padded (length out) bytes

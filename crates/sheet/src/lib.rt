@@ -1,10 +1,13 @@
 // The sheet of a file, for every file: the call's tests, and zeros in all that is not the sheet.
-// Knows: crate definitions' Sheet; crate listing prints it.
+// Exists for: `sheet`.
+// Knows: crate definitions' Sheet; listing::whole prints it.
 // The buffers are zeroed once, at the end.
 ghost use mathlib.Core.Path.{_≡_};
 ghost use Prim.Native.Nat.{ℕ};
-ghost use Rattle.terms.specs.Rows.{cleared};
+ghost use Rattle.vectors.specs.terms.Rows.{cleared};
 ghost use Rattle.sheet.specs.Sheets.{told, called};
+use listing::whole;
+use vectors::terms;
 
 // 0 and how many bytes, or 16 and 0.
 pub struct Answer {
@@ -45,7 +48,7 @@ pub fn sheet(file: &[u8], state: &mut [u16], work: &mut [u16], out: &mut [u8]) -
             length: 0,
         };
     }
-    let n = listing::print(file, state, work, out);
+    let n = whole::print(file, state, work, out);
     clear(out, n);
     terms::clear(state, 0);
     terms::clear(work, 0);

@@ -1,4 +1,5 @@
 // The program that people run: the sheet of the problem file on standard input, written to standard output.
+// Exists for: `answer`.
 // Knows: crate sheet.
 // It reads, makes one call and writes; all buffers are its own.
 ghost use mathlib.Core.Path.{_≡_};

@@ -1,3 +1,3 @@
-pub mod Framed
-pub mod Worked
-pub mod Lifted
+pub mod FrameCall
+pub mod LeavesCalls
+pub mod LevelCall

@@ -10,8 +10,8 @@ use Rattle.definitions.specs.Frame.{frame}
 use Rattle.definitions.specs.Lifting.{if-few}
 use Rattle.definitions.specs.Layout.{Words, rows}
 use Rattle.definitions.specs.Places.{row-length}
-use Rattle.sums.specs.declared.Stored.{Stored}
-use Rattle.sums.specs.declared.Stored.the-variants.{Rows, Full}
+use Rattle.vectors.specs.declared.sums.Stored.{Stored}
+use Rattle.vectors.specs.declared.sums.Stored.the-variants.{Rows, Full}
 use Rattle.frame.specs.Generators.{monomials-of}
 
 -- number and count

@@ -16,10 +16,10 @@ use Rattle.definitions.specs.Places.{row-length, state-length}
 use Rattle.monomial.specs.Values.{formed}
 use Rattle.orders.specs.Images.{table-order}
 use Rattle.orders.specs.Levels.{images}
-use Rattle.reducers.specs.Search.{searched}
-use Rattle.reducers.specs.declared.Answer.{Answer}
-use Rattle.reducers.specs.declared.Answer.the-variants.{Reducer, LowerOrder}
-use Rattle.terms.specs.Rows.{written}
+use Rattle.reducers.specs.search.Search.{searched}
+use Rattle.reducers.specs.declared.search.Answer.{Answer}
+use Rattle.reducers.specs.declared.search.Answer.the-variants.{Reducer, LowerOrder}
+use Rattle.vectors.specs.terms.Rows.{written}
 
 -- the sum of the first n numbers
 unfoldable pub counted : (ℕ → ℕ) → ℕ → ℕ

@@ -12,12 +12,12 @@ use Rattle.definitions.specs.Result.{Result, done, refused}
 use Rattle.definitions.specs.Lifting.{lift-level}
 use Rattle.definitions.specs.Layout.{Words, Way, lifting-by, work-words, levels-at}
 use Rattle.definitions.specs.Places.{most-rows, most-terms, most-tree-terms, state-length, grown-length}
-use Rattle.lift.specs.Vectors.{lifted-vectors, Kept}
-use Rattle.lifting.specs.Stages.{limits-with}
-use Rattle.lifting.specs.declared.Bounds.{Bounds}
-use Rattle.lifting.specs.declared.Leveled.{Leveled}
-use Rattle.lifting.specs.declared.Leveled.the-variants.{Vectors, Refused, Stopped}
-use Rattle.engine_lift.specs.Lifts.{complete-number}
+use Rattle.runs.specs.frame_terms.Vectors.{lifted-vectors, Kept}
+use Rattle.level.specs.by_runs.Stages.{limits-with}
+use Rattle.level.specs.declared.by_runs.Bounds.{Bounds}
+use Rattle.level.specs.declared.by_runs.Leveled.{Leveled}
+use Rattle.level.specs.declared.by_runs.Leveled.the-variants.{Vectors, Refused, Stopped}
+use Rattle.lift_call.specs.Lifts.{complete-number}
 
 abbrev pub bounds-by : ℕ → ℕ → ℕ → ℕ → Bounds
 bounds-by working vector tree room = record { working = working; vector = vector; tree = tree; room = room }

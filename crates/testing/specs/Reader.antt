@@ -7,7 +7,7 @@ use Rattle.definitions.specs.Lists.{choose}
 use Rattle.definitions.specs.Problem.{Bytes, problem}
 use Rattle.definitions.specs.Layout.{Words}
 use Rattle.definitions.specs.Places.{state-length}
-use Rattle.problem.specs.Reading.{read-as}
+use Rattle.reader.specs.problem.Reading.{read-as}
 
 abbrev pub called : Bytes → Words → ℕ × ℕ × Words
 called file state = choose (ltb (length state) state-length) (16, 0, state) (read-as (length state) (problem document-01 file))

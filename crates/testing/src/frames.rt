@@ -3,7 +3,7 @@
 // No code of the engine calls it.
 ghost use mathlib.Core.Path.{_≡_};
 ghost use Rattle.testing.specs.Frames.{told, told-of, called};
-use sums::Stored;
+use vectors::sums::Stored;
 
 // 0 and how many, or 15 and 0.
 fn tell(x: Stored, count: &mut usize) -> u16

@@ -1,5 +1,5 @@
 // The leaves for programs in other languages: each function works through many rows, so that the bench beside plain Rust times no calls.
-// Knows: crates orders, monomial, reducers and sums; the tables of a state by crate stages.
+// Knows: orders, monomial, reducers::search and vectors::sums; the tables of a state by state::preparing.
 // No code of the engine calls it.
 ghost use mathlib.Core.Path.{_≡_};
 ghost use mathlib.Core.List.{[]};
@@ -11,14 +11,19 @@ ghost use Rattle.definitions.specs.Layout.{row-at, rows};
 ghost use Rattle.definitions.specs.Places.{row-length};
 ghost use Rattle.monomial.specs.Values.{product-of};
 ghost use Rattle.orders.specs.Images.{comparison-of};
-ghost use Rattle.reducers.specs.Search.{Small, Spanned, searched};
-ghost use Rattle.terms.specs.Rows.{term-of};
+ghost use Rattle.reducers.specs.search.Search.{Small, Spanned, searched};
+ghost use Rattle.vectors.specs.terms.Rows.{term-of};
 ghost use Rattle.testing.specs.Leaves.{greater-mark, descent, counted, descents, product-row, product-at as product-at-definition, filled, products, ready?, lower-mark, lower, sorted};
 use monomial::Monomial;
 use monomial::Product;
 use orders::Comparison;
-use reducers::Answer;
-use terms::Term;
+use reducers::search;
+use reducers::search::Answer;
+use state::preparing;
+use state::soundness;
+use vectors::sums;
+use vectors::terms;
+use vectors::terms::Term;
 
 // ## Comparison
 
@@ -135,7 +140,7 @@ fn ready(state: &[u16], k: usize, s: &[u16], n: usize) -> bool
     if words::place(state[4]) <= k {
         return false;
     }
-    levels::sound(state)
+    soundness::sound(state)
 }
 
 fn mark_lower(a: Answer) -> usize
@@ -157,7 +162,7 @@ fn count_lower(heads: &[u16], r: usize, spans: &[u16], k: usize, s: &[u16], n: u
     while i < n {
         let t = terms::row(s, i);
         let m = t.monomial;
-        x += mark_lower(reducers::search(heads, r, spans, k, m));
+        x += mark_lower(search::search(heads, r, spans, k, m));
         i += 1;
     }
     x
@@ -171,9 +176,9 @@ pub extern "C" fn leaves_lower(state: &[u16], k: usize, s: &[u16], n: usize) -> 
     if ready(state, k, s, n) {
         let mut heads = [0u16; words::TABLE_LENGTH];
         let mut spans = [0u16; words::SPANS_LENGTH];
-        stages::fill_leads(&mut heads, &mut spans, state, k);
-        let r = levels::count_of(state, k);
-        let c = stages::components_of(state, k) + 1;
+        preparing::fill_leads(&mut heads, &mut spans, state, k);
+        let r = soundness::count_of(state, k);
+        let c = preparing::components_of(state, k) + 1;
         return count_lower(&heads, r, &spans, c, s, n);
     }
     0
@@ -192,8 +197,8 @@ pub extern "C" fn leaves_sort(d: &mut [u16], s: &[u16], n: usize, state: &[u16],
     if ready(state, k, s, n) {
         let mut below = [0u16; words::TABLE_LENGTH];
         let mut above = [0u16; words::TABLE_LENGTH];
-        stages::fill_tables(&mut below, &mut above, state, k + 1);
-        let r = levels::count_of(state, k);
+        preparing::fill_tables(&mut below, &mut above, state, k + 1);
+        let r = soundness::count_of(state, k);
         let code = state[2];
         let p = state[0];
         return sums::sort(d, s, n, code, &above, r, p);

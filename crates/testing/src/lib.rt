@@ -3,6 +3,6 @@
 // No code of the engine calls it.
 pub mod frames;
 pub mod leaves;
-pub mod lifts;
-pub mod reader;
+pub mod reading;
 pub mod soundness;
+pub mod within_limits;

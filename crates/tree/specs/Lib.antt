@@ -1,1 +1,2 @@
-pub mod Frames
+pub mod subtrees
+pub mod frame_terms

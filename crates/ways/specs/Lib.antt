@@ -1,1 +1,2 @@
-pub mod Ways
+pub mod by_tree
+pub mod any_way

@@ -2,13 +2,13 @@ use native.Mathlib.Omega.{arith}
 use mathlib.Core.Path.{_≡_, refl, sym, ap, _∙_, subst}
 use Prim.Native.Nat.{_+_, _-_, _≤_}
 use lib.ListN.{length}
-use Rattle.terms.specs.Rows.{term-of}
+use Rattle.vectors.specs.terms.Rows.{term-of}
 use Rattle.orders.specs.Images.{table-of, table-order}
 use Rattle.monomial.specs.Values.{monomial-of}
 use Rattle.definitions.specs.Monomial.{Term}
 use Rattle.definitions.specs.Tree.{add-result}
 use Rattle.definitions.specs.Layout.{Words, row-at, rows}
-use Rattle.cache.proofs.Growing.{scaled, adding-from, adding-start, adding-on, adding-stops, adding-ends}
+use Rattle.cache.proofs.BoundedSums.{scaled, adding-from, adding-start, adding-on, adding-stops, adding-ends}
 use Rattle.cache.specs.Area.{Room}
 use Rattle.cache.proofs.add_rows.Statement.{statement}
 use Rattle.cache.proofs.add_rows.Tie as tie

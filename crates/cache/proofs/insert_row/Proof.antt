@@ -3,12 +3,12 @@ use native.Mathlib.Omega.{arith}
 use mathlib.Core.Path.{_≡_, ap, _∙_}
 use Prim.Native.Nat.{_-_, _*_, _≤_}
 use lib.ListN.{length}
-use Rattle.sums.specs.Places.{inserted-within}
-use Rattle.terms.specs.Rows.{term-of}
+use Rattle.vectors.specs.sums.Places.{inserted-within}
+use Rattle.vectors.specs.terms.Rows.{term-of}
 use Rattle.orders.specs.Images.{table-of, table-order}
 use Rattle.definitions.specs.Layout.{rows}
 use Rattle.definitions.specs.Places.{row-length}
-use Rattle.cache.proofs.Growing.{grown-in}
+use Rattle.cache.proofs.BoundedSums.{grown-in}
 use Rattle.cache.proofs.Parts.{part-rows, length-part, back, back-inside, back-keeps, back-leaves}
 use Rattle.cache.proofs.insert_row.Statement.{statement}
 use Rattle.cache.proofs.insert_row.Tie as tie

@@ -4,7 +4,7 @@ use mathlib.Core.Path.{refl, ap}
 use Prim.Native.Nat.{_-_}
 use Rattle.definitions.specs.Result.{done}
 use Rattle.monomial.specs.Values.{monomial-of}
-use Rattle.cache.proofs.Entering.{entered-words, waits}
+use Rattle.cache.proofs.Entries.{entered-words, waits}
 use Rattle.cache.proofs.Parts.{moved-rows, kept-rows}
 use Rattle.cache.proofs.keep.Statement.{statement}
 use Rattle.cache.proofs.keep.Tie as tie

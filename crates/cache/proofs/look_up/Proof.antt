@@ -3,9 +3,9 @@ use mathlib.Core.Path.{_≡_, refl, sym, ap, _∙_}
 use Prim.Native.Nat.{_≤_}
 use Rattle.monomial.specs.Values.{monomial-of}
 use Rattle.definitions.specs.Tree.{cached}
-use Rattle.cache.proofs.Entering.{look-none, found, not-found}
+use Rattle.cache.proofs.Entries.{look-none, found, not-found}
 use Rattle.cache.specs.Entries.{cache-of}
-use Rattle.cache.proofs.Entering.{look-none, found, not-found}
+use Rattle.cache.proofs.Entries.{look-none, found, not-found}
 use Rattle.cache.proofs.look_up.Statement.{statement}
 use Rattle.cache.proofs.look_up.Tie as tie
 

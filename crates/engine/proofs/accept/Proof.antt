@@ -2,8 +2,8 @@ use borrow.Author.Needs.{needs}
 use native.Mathlib.Omega.{arith}
 use mathlib.Core.Path.{sym, ap, _∙_, subst}
 use lib.ListN.{length}
-use Rattle.engine.proofs.Settled.{accept-yes, accept-refused, accept-stopped, accept-over}
-use Rattle.lifting.specs.Stages.{accepted-with, Shown}
+use Rattle.engine.proofs.ReadCall.{accept-yes, accept-refused, accept-stopped, accept-over}
+use Rattle.level.specs.by_runs.Stages.{accepted-with, Shown}
 use Rattle.engine.proofs.accept.Statement.{statement}
 use Rattle.engine.proofs.accept.Tie as tie
 

@@ -1,7 +1,7 @@
 use borrow.Author.Needs.{needs}
 use mathlib.Core.Path.{sym, _∙_}
-use Rattle.engine.proofs.Fetched.{fetched, no-such-vector}
-use Rattle.levels.specs.Places.{count-at}
+use Rattle.engine.proofs.FetchCall.{fetched, no-such-vector}
+use Rattle.state.specs.soundness.Places.{count-at}
 use Rattle.definitions.proofs.Tests.{true-is, is-true, between-low, between-high, between-shown}
 use Rattle.definitions.specs.Lists.{between}
 use Rattle.definitions.specs.Places.{most-levels}

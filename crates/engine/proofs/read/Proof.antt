@@ -1,6 +1,6 @@
 use borrow.Author.Needs.{needs}
 use native.Mathlib.Omega.{arith}
-use Rattle.engine.proofs.Settled.{read-short-state, read-short-work, read-long}
+use Rattle.engine.proofs.ReadCall.{read-short-state, read-short-work, read-long}
 use Rattle.engine.specs.Replies.{read-reply}
 use Rattle.engine.proofs.read.Statement.{statement}
 use Rattle.engine.proofs.read.Tie as tie

@@ -2,11 +2,11 @@ use borrow.Author.Needs.{needs}
 use native.Mathlib.Omega.{arith}
 use mathlib.Core.Path.{_≡_, refl, sym, ap, _∙_}
 use lib.ListN.{length}
-use Rattle.all_levels.proofs.Basis.{based, whole-is}
-use Rattle.engine.proofs.Settled.{read-accepted, read-over, file-refused}
+use Rattle.level.proofs.all_levels.Basis.{based, whole-is}
+use Rattle.engine.proofs.ReadCall.{read-accepted, read-over, file-refused}
 use Rattle.engine.specs.Replies.{read-reply}
-use Rattle.problem.proofs.Answering.{zero-is-read}
-use Rattle.problem.specs.Reading.{read-as, words-read}
+use Rattle.reader.proofs.problem.Answering.{zero-is-read}
+use Rattle.reader.specs.problem.Reading.{read-as, words-read}
 use Rattle.engine.proofs.read_file.Statement.{statement}
 use Rattle.engine.proofs.read_file.Tie as tie
 

@@ -1,7 +1,7 @@
 use borrow.Author.Needs.{needs}
 use native.Mathlib.Omega.{arith}
 use mathlib.Core.Path.{sym, ap, _∙_}
-use Rattle.levels.specs.Places.{count-at}
+use Rattle.state.specs.soundness.Places.{count-at}
 use Rattle.definitions.specs.Lists.{_and_}
 use lib.Dec.{leb}
 use borrow.Author.Tests.{le-leb, lt-leb}

@@ -2,7 +2,7 @@ use native.Mathlib.Omega.{arith}
 use mathlib.Core.Path.{_≡_, refl, ap, _∙_}
 use Prim.Native.Nat.{_-_, _≤_}
 use lib.ListN.{length, set, length-set}
-use Rattle.terms.proofs.Moving.{cleared-to, cleared-none, cleared-more, cleared-end}
+use Rattle.vectors.proofs.terms.Moving.{cleared-to, cleared-none, cleared-more, cleared-end}
 use mathlib.Core.Logic.{_⊎_, inl, inr}
 use Rattle.sheet.proofs.clear.Statement.{statement}
 use Rattle.sheet.proofs.clear.Tie as tie

@@ -1,6 +1,6 @@
 use borrow.Author.Needs.{needs}
 use mathlib.Core.Path.{_∙_}
-use Rattle.testing.proofs.Framed.{tells-frame, too-many, short-frame, short-region, short-heads, long-enough}
+use Rattle.testing.proofs.FrameCall.{tells-frame, too-many, short-frame, short-region, short-heads, long-enough}
 use Rattle.testing.proofs.frames.frames_form.Statement.{statement}
 use Rattle.testing.proofs.frames.frames_form.Tie as tie
 

@@ -2,11 +2,11 @@ use borrow.Author.Needs.{needs}
 use native.Mathlib.Omega.{arith}
 use mathlib.Core.Path.{_≡_, ap, _∙_}
 use Prim.Native.Nat.{_-_, _≤_}
-use Rattle.testing.proofs.Worked.{counted-none}
+use Rattle.testing.proofs.LeavesCalls.{counted-none}
 use Rattle.definitions.specs.Layout.{rows, row-at}
-use Rattle.reducers.specs.Search.{searched}
+use Rattle.reducers.specs.search.Search.{searched}
 use Rattle.testing.specs.Leaves.{counted, lower-mark}
-use Rattle.testing.proofs.Worked.{counted-step}
+use Rattle.testing.proofs.LeavesCalls.{counted-step}
 use Rattle.testing.proofs.leaves.count_lower.Statement.{statement}
 use Rattle.testing.proofs.leaves.count_lower.Tie as tie
 

@@ -1,8 +1,8 @@
 use borrow.Author.Needs.{needs}
 use mathlib.Core.Path.{ap}
-use Rattle.terms.specs.Rows.{term-of}
+use Rattle.vectors.specs.terms.Rows.{term-of}
 use Rattle.orders.specs.Images.{comparison-of}
-use Rattle.testing.proofs.Worked.{descent-is}
+use Rattle.testing.proofs.LeavesCalls.{descent-is}
 use Rattle.testing.proofs.leaves.descent_at.Statement.{statement}
 use Rattle.testing.proofs.leaves.descent_at.Tie as tie
 

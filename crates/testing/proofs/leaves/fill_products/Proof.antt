@@ -2,10 +2,10 @@ use native.Mathlib.Omega.{arith}
 use mathlib.Core.Path.{_≡_, refl, ap, _∙_}
 use Prim.Native.Nat.{_-_, _≤_}
 use lib.ListN.{length}
-use Rattle.testing.proofs.Worked.{filled-none}
+use Rattle.testing.proofs.LeavesCalls.{filled-none}
 use Rattle.testing.specs.Leaves.{filled, product-at}
-use Rattle.terms.specs.Rows.{term-of}
-use Rattle.testing.proofs.Worked.{filled-step}
+use Rattle.vectors.specs.terms.Rows.{term-of}
+use Rattle.testing.proofs.LeavesCalls.{filled-step}
 use Rattle.testing.proofs.leaves.fill_products.Statement.{statement}
 use Rattle.testing.proofs.leaves.fill_products.Tie as tie
 

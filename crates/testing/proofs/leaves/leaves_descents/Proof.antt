@@ -2,13 +2,13 @@ use native.Mathlib.Omega.{arith}
 use mathlib.Core.Path.{_≡_, sym, ap, _∙_}
 use Prim.Native.Nat.{_-_, _≤_}
 use lib.ListN.{length}
-use Rattle.testing.proofs.Worked.{counted-none}
+use Rattle.testing.proofs.LeavesCalls.{counted-none}
 use Prim.Native.Nat.{_/_}
 use borrow.Author.Tests.{le-leb, lt-leb}
 use Rattle.definitions.specs.Lists.{choose}
 use Rattle.definitions.specs.Places.{row-length}
 use Rattle.testing.specs.Leaves.{counted, descent}
-use Rattle.testing.proofs.Worked.{counted-step}
+use Rattle.testing.proofs.LeavesCalls.{counted-step}
 use Rattle.testing.proofs.leaves.leaves_descents.Statement.{statement}
 use Rattle.testing.proofs.leaves.leaves_descents.Tie as tie
 

@@ -3,14 +3,14 @@ use native.Mathlib.Omega.{arith}
 use mathlib.Core.Path.{sym, ap, _∙_}
 use lib.ListN.{getD}
 use Rattle.testing.specs.Leaves.{counted, lower-mark}
-use Rattle.reducers.specs.Search.{searched}
+use Rattle.reducers.specs.search.Search.{searched}
 use Rattle.definitions.specs.Layout.{rows, row-at, level-at}
 use Rattle.definitions.specs.Reducer.{heads}
 use Rattle.definitions.specs.Lists.{choose}
 use Rattle.definitions.specs.Limits.{document-01}
-use Rattle.stages.proofs.Preparing.{components-few}
-use Rattle.levels.proofs.Sounding.{height, complete-cut}
-use Rattle.testing.proofs.Worked.{ready-said, led-spans}
+use Rattle.state.proofs.preparing.TablesReady.{components-few}
+use Rattle.state.proofs.soundness.SoundLevels.{height, complete-cut}
+use Rattle.testing.proofs.LeavesCalls.{ready-said, led-spans}
 use Rattle.testing.proofs.leaves.leaves_lower.Statement.{statement}
 use Rattle.testing.proofs.leaves.leaves_lower.Tie as tie
 

@@ -1,6 +1,6 @@
 use borrow.Author.Needs.{needs}
 use mathlib.Core.Path.{_∙_}
-use Rattle.testing.proofs.Worked.{no-row-behind, no-room, with-room}
+use Rattle.testing.proofs.LeavesCalls.{no-row-behind, no-room, with-room}
 use Rattle.testing.proofs.leaves.leaves_products.Statement.{statement}
 use Rattle.testing.proofs.leaves.leaves_products.Tie as tie
 

@@ -14,8 +14,8 @@ use Rattle.definitions.specs.Limits.{document-01}
 use Rattle.definitions.specs.Places.{all-levels, row-length}
 use Prim.Native.Nat.{_/_}
 use borrow.Author.Tests.{lt-ltb, le-ltb}
-use Rattle.levels.proofs.Sounding.{height, prime-above}
-use Rattle.testing.proofs.Worked.{ready-said, rows-none, table-ready, table-bounded}
+use Rattle.state.proofs.soundness.SoundLevels.{height, prime-above}
+use Rattle.testing.proofs.LeavesCalls.{ready-said, rows-none, table-ready, table-bounded}
 use Rattle.testing.proofs.leaves.leaves_sort.Statement.{statement}
 use Rattle.testing.proofs.leaves.leaves_sort.Tie as tie
 

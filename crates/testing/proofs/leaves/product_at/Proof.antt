@@ -1,8 +1,8 @@
 use borrow.Author.Needs.{needs}
 use mathlib.Core.Path.{ap}
-use Rattle.terms.specs.Rows.{term-of}
+use Rattle.vectors.specs.terms.Rows.{term-of}
 use Rattle.monomial.specs.Values.{product-of}
-use Rattle.testing.proofs.Worked.{product-is}
+use Rattle.testing.proofs.LeavesCalls.{product-is}
 use Rattle.testing.proofs.leaves.product_at.Statement.{statement}
 use Rattle.testing.proofs.leaves.product_at.Tie as tie
 

@@ -1,7 +1,7 @@
 use borrow.Author.Needs.{needs}
 use native.Mathlib.Omega.{arith}
 use mathlib.Core.Path.{_∙_}
-use Rattle.testing.proofs.Worked.{short-state, few-rows, no-level, has-level}
+use Rattle.testing.proofs.LeavesCalls.{short-state, few-rows, no-level, has-level}
 use Rattle.testing.proofs.leaves.ready.Statement.{statement}
 use Rattle.testing.proofs.leaves.ready.Tie as tie
 

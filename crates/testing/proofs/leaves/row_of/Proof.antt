@@ -1,6 +1,6 @@
 use borrow.Author.Needs.{needs}
 use Rattle.monomial.specs.Values.{monomial-of}
-use Rattle.testing.proofs.Worked.{product-fits, product-over}
+use Rattle.testing.proofs.LeavesCalls.{product-fits, product-over}
 use Rattle.testing.proofs.leaves.row_of.Statement.{statement}
 use Rattle.testing.proofs.leaves.row_of.Tie as tie
 

@@ -1,0 +1,3 @@
+pub mod GroundOfLevel
+pub mod OverGround
+pub mod Joining

@@ -1,0 +1,36 @@
+use borrow.Author.Needs.{needs}
+use mathlib.Core.Path.{ap, _∙_}
+use lib.Seq.{paste}
+use Rattle.runs.specs.reduction.Grounds.{ends-start, below-start, above-start}
+use Rattle.level.proofs.by_runs.join_tables.Statement.{statement}
+use Rattle.level.proofs.by_runs.join_tables.Tie as tie
+use Rattle.definitions.specs.Places.{most-vectors, ends-start, table-length}
+
+copy-requires : tie.Need-copy-requires
+copy-requires c κs = search needs
+
+copy-requires-2 : tie.Need-copy-requires-2
+copy-requires-2 c κs = search needs
+
+copy-requires-3 : tie.Need-copy-requires-3
+copy-requires-3 c κs = search needs
+
+copy-requires-4 : tie.Need-copy-requires-4
+copy-requires-4 c κs = search needs
+
+same-length : tie.Need-same-length
+same-length c = search needs
+
+returns : tie.Need-returns
+returns c =
+    let a = c .before .before .before .before .before .before .before .before .before .before .before .before .before .before .before .before .before .before .before .before .before .args in
+    c .before .before .copy4 .ensures
+    ∙ ap (λ z. paste z above-start (a .above .now) table-length) (
+    c .before .before .before .before .before .before .copy3 .ensures
+    ∙ ap (λ z. paste z below-start (a .below .now) table-length) (c .before .before .before .before .before .before .before .before .before .before .copy2 .ensures ∙ ap (λ z. paste z ends-start (a .ends .now) most-vectors) (c .before .before .before .before .before .before .before .before .before .before .before .before .before .before .copy .ensures))
+    )
+
+pub join-tables-spec : {M : Type 1} → statement M
+join-tables-spec =
+    tie.close
+    (tie.spec copy-requires copy-requires-2 copy-requires-3 copy-requires-4 same-length returns)

@@ -1,0 +1,88 @@
+use borrow.Author.Needs.{needs}
+use native.Mathlib.Omega.{arith}
+use mathlib.Core.Path.{subst}
+use Prim.Native.Nat.{_+_, _-_, _*_}
+use lib.ListN.{length, take, drop}
+use Rattle.level.proofs.by_runs.OverGround.{asked, lifted-same}
+use Rattle.runs.specs.frame_terms.Vectors.{frame-terms, lifted-of, Whole}
+use Rattle.state.proofs.soundness.VectorByVector.{whole-part}
+use Rattle.level.proofs.by_runs.lift_frame.Statement.{statement}
+use Rattle.level.proofs.by_runs.lift_frame.Tie as tie
+use Rattle.definitions.specs.Places.{rows-offset}
+
+ground-of-requires : tie.Need-ground-of-requires
+ground-of-requires c κs = search needs
+
+mul-start : tie.Need-mul-start
+mul-start c = search needs
+
+add-start : tie.Need-add-start
+add-start c = search needs
+
+slice-aggregate-lift-all : tie.Need-slice-aggregate-lift-all
+slice-aggregate-lift-all c = search needs
+
+mul-lift-all : tie.Need-mul-lift-all
+mul-lift-all c = search needs
+
+sub-lift-all : tie.Need-sub-lift-all
+sub-lift-all c = search needs
+
+part-lift-all-start : tie.Need-part-lift-all-start
+part-lift-all-start c = search needs
+
+part-lift-all-end : tie.Need-part-lift-all-end
+part-lift-all-end c = search needs
+
+lift-all-requires : tie.Need-lift-all-requires
+lift-all-requires c κs =
+    let a = c .before .before .before .before .before .before .before .before .before .before .args in
+    let s = a .state .now in
+    let P = c .before .before .before .before .before .before .before .before .before .before .pre in
+    let ask = asked s (a .j) (P .0) (a .tables .now) (P .1) (a .b) (c .before .before .before .before .ground-of .result)
+    (take (length s - (rows-offset (a .j))) (drop (rows-offset (a .j)) s))
+    (c .before .before .before .before .ground-of .ensures) (whole-part (rows-offset (a .j)) s) (a .count) (a .frame .now) (P .2) in
+    let w = ask .6 in
+    let v = ask .7 in
+    let r = ask .8 in
+    let i = P .5 in
+    (ask .0, ask .1, ask .2, ask .3, record { value-fits = omega (arith, w, i .working, P .4); vector-fits = omega (arith, v, i .vector); sorted-fits = omega (arith, v, i .vector, P .4); left-fits = omega (arith, w, i .working) }, omega (arith, v, i .vector), ask .4, ask .5, omega (arith, r, i .room, P .3), omega (arith, r, i .room))
+
+same-length : tie.Need-same-length
+same-length c = search needs
+
+same-length-2 : tie.Need-same-length-2
+same-length-2 c = search needs
+
+returns : tie.Need-returns
+returns c =
+    let a = c .before .before .before .before .before .before .before .before .before .before .before .before .before .before .before .before .args in
+    let s = a .state .now in
+    let P = c .before .before .before .before .before .before .before .before .before .before .before .before .before .before .before .before .pre in
+    let L = c .before .before .before .before .before .lift-all in (
+      (
+        L .ensures .0 .0,
+        L .last .1 .1 .0,
+        lifted-same s (a .j) (P .0) (a .tables .now) (P .1) (a .b) (c .before .before .before .before .before .before .before .before .before .before .ground-of .result)
+            (take (length s - (rows-offset (a .j))) (drop (rows-offset (a .j)) s))
+            (c .before .before .before .before .before .before .before .before .before .before .ground-of .ensures) (whole-part (rows-offset (a .j)) s) (a .w) (L .ensures .0 .0) (frame-terms (a .frame .now) (a .count)) (lifted-of (L .result) (a .count) (L .last .0) (L .last .1 .1 .0)) (L .ensures .0 .1),
+      ),
+      subst (λ g. Whole g (a .count) (L .result) (L .last .0)) (c .before .before .before .before .before .before .before .before .before .before .ground-of .ensures) (L .ensures .1),
+    )
+
+pub lift-frame-spec : {M : Type 1} → statement M
+lift-frame-spec =
+    tie.close
+    (tie.spec
+    ground-of-requires
+    mul-start
+    add-start
+    slice-aggregate-lift-all
+    mul-lift-all
+    sub-lift-all
+    part-lift-all-start
+    part-lift-all-end
+    lift-all-requires
+    same-length
+    same-length-2
+    returns)

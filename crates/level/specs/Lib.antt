@@ -1,0 +1,3 @@
+pub mod by_runs
+pub mod storing
+pub mod all_levels

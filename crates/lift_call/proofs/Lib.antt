@@ -1,0 +1,2 @@
+pub mod LiftCall
+pub mod Coding

@@ -1,3 +1,0 @@
-pub mod Readying
-pub mod Framing
-pub mod Joining

@@ -1,0 +1,67 @@
+use native.Mathlib.Omega.{arith}
+use mathlib.Core.Path.{_≡_, refl, ap, _∙_}
+use mathlib.Core.List.{_∷_, _++_}
+use Prim.Native.Nat.{_+_, _-_, _*_, _≤_}
+use lib.ListN.{length, take, getD}
+use Rattle.listing.specs.printing.Lines.{Printed, listed}
+use Rattle.listing.proofs.printing.Spelling.{nothing, after, spelled, listed-more}
+use Rattle.definitions.specs.Sheet.{decimal}
+use Rattle.listing.proofs.printing.exponents.Statement.{statement}
+use Rattle.listing.proofs.printing.exponents.Tie as tie
+
+abbrev Inv-loop : tie.InvT-loop
+Inv-loop out₀ at n e a₀ j₀ out a j = (j ≤ n) × (length out ≡ length out₀) × Printed out₀ out at a (listed (take j e)) × (a ≤ at + j * 6)
+
+abbrev μ-loop : tie.MeasureT-loop
+μ-loop out₀ at n e a₀ j₀ out a j = n - j
+
+loop-holds : tie.Need-loop-holds Inv-loop μ-loop
+loop-holds c = (omega arith, refl, nothing _ _, omega arith)
+
+array-read-wide : tie.Need-array-read-wide Inv-loop μ-loop
+array-read-wide c = omega arith
+
+wide-requires : tie.Need-wide-requires Inv-loop μ-loop
+wide-requires c κs = omega arith
+
+word-requires : tie.Need-word-requires Inv-loop μ-loop
+word-requires c κs = omega arith
+
+add-j : tie.Need-add-j Inv-loop μ-loop
+add-j c = omega arith
+
+loop-less : tie.Need-loop-less Inv-loop μ-loop
+loop-less c = omega arith
+
+loop-again : tie.Need-loop-again Inv-loop μ-loop
+loop-again c =
+    let L = c .before .before .before .before .before .before .loop in
+    let a = c .before .before .before .before .before .before .before .before .args in
+    let x : c .before .before .before .before .wide .result ≡ getD (a .t3) (L .j) 0 = c .before .before .before .before .wide .ensures .0 in
+    (omega arith, omega arith, spelled (ap (λ z. listed (take (L .j) (a .t3)) ++ 44 ∷ decimal z) x ∙ listed-more (a .t3) (L .j) (omega arith)) (after (L .inv .2) (c .before .before .word .ensures .0)), omega (arith, L .inv .3, c .before .before .word .ensures .1))
+
+same-length : tie.Need-same-length Inv-loop μ-loop
+same-length c = omega arith
+
+returns : tie.Need-returns Inv-loop μ-loop
+returns c =
+    let L = c .before .loop in
+    let e : L .j ≡ c .before .before .before .args .n = omega arith in
+    let a = c .before .before .before .args in
+    (spelled (ap (λ i. listed (take i (a .t3))) e) (L .inv .2), omega (arith, L .inv .3))
+
+pub exponents-spec : {M : Type 1} → statement M
+exponents-spec =
+    tie.close
+    (tie.spec
+    Inv-loop
+    μ-loop
+    loop-holds
+    array-read-wide
+    wide-requires
+    word-requires
+    add-j
+    loop-less
+    loop-again
+    same-length
+    returns)

@@ -1,0 +1,87 @@
+use borrow.Author.Needs.{needs}
+use native.Mathlib.Omega.{arith}
+use mathlib.Core.Path.{_≡_, sym, ap, _∙_}
+use mathlib.Core.List.{[], _∷_}
+use Prim.Native.Nat.{_-_}
+use lib.ListN.{length}
+use Rattle.definitions.specs.Sheet.{printed}
+use Rattle.reader.specs.problem.Reading.{read-as, words-read}
+use Rattle.reader.proofs.problem.Answering.{zero-is-read}
+use Rattle.level.proofs.all_levels.Basis.{based}
+use Rattle.listing.proofs.whole.Whole.{one-level, read-sheet, refused-sheet}
+use native.Mathlib.Nat.{not-suc-le-zero}
+use Rattle.listing.proofs.whole.print.Statement.{statement}
+use Rattle.listing.proofs.whole.print.Tie as tie
+
+read-requires : tie.Need-read-requires
+read-requires c κs = search needs
+
+accept-requires : tie.Need-accept-requires
+accept-requires c κs =
+    let a = c .before .before .before .before .before .before .before .before .before .before .before .before .args in
+    let P = c .before .before .before .before .before .before .before .before .before .before .before .before .pre in
+    let size = length (a .state .now) in
+    let file = a .file .now in
+    let r = c .before .before .before .before .before .before .read in
+    let zero = zero-is-read size file (sym (ap (λ t. t .0) (r .ensures)) ∙ (omega arith)) in
+    let f = zero .0 in
+    let s = r .last .1 .0 in
+    let words : s ≡ words-read size f = ap (λ t. t .2) (r .ensures ∙ ap (read-as size) (zero .1)) in
+    (based size (P .0) file f (zero .1) s words, one-level size (P .0) file f (zero .1) s words, omega (arith, P .1), omega (arith, P .2))
+
+same-length : tie.Need-same-length
+same-length c = search needs
+
+same-length-2 : tie.Need-same-length-2
+same-length-2 c = search needs
+
+same-length-3 : tie.Need-same-length-3
+same-length-3 c = search needs
+
+returns : tie.Need-returns
+returns c =
+    let a = c .before .before .before .before .before .before .before .before .before .before .before .before .before .before .before .before .before .before .before .args in
+    let P = c .before .before .before .before .before .before .before .before .before .before .before .before .before .before .before .before .before .before .before .pre in
+    let size = length (a .state .now) in
+    let file = a .file .now in
+    let r = c .before .before .before .before .before .before .before .before .before .before .before .before .before .read in
+    let zero = zero-is-read size file (sym (ap (λ t. t .0) (r .ensures)) ∙ (omega arith)) in
+    let f = zero .0 in
+    let s = r .last .1 .0 in
+    let words : s ≡ words-read size f = ap (λ t. t .2) (r .ensures ∙ ap (read-as size) (zero .1)) in
+    let R = c .before .before .before .before .before .before .accept .ensures in
+    (record { bound = R .0 .bound; bytes = R .0 .bytes; gives = R .0 .gives ∙ read-sheet size (P .0) file f (zero .1) s words (R .0 .bound); printed = R .0 .printed }, R .1)
+
+pair-line-requires : tie.Need-pair-line-requires
+pair-line-requires c κs = omega arith
+
+same-length-4 : tie.Need-same-length-4
+same-length-4 c = search needs
+
+same-length-5 : tie.Need-same-length-5
+same-length-5 c = search needs
+
+returns-2 : tie.Need-returns-2
+returns-2 c =
+    let a = c .before .before .before .before .before .before .before .before .before .before .before .before .before .args in
+    let P = c .before .before .before .before .before .before .before .before .before .before .before .before .before .pre in
+    let size = length (a .state .now) in
+    let file = a .file .now in
+    let r = c .before .before .before .before .before .before .before .read in
+    let q = c .before .before .pair-line .ensures in
+    (record { bound = 0; bytes = printed 88 (r .result .number ∷ r .result .place ∷ []); gives = refused-sheet size file (r .result .number) (r .result .place) (r .last .1 .0) (λ z. not-suc-le-zero {n = 0} (omega (arith, z))) (r .ensures); printed = q .0 }, omega (arith, q .1))
+
+pub print-spec : {M : Type 1} → statement M
+print-spec =
+    tie.close
+    (tie.spec
+    read-requires
+    accept-requires
+    same-length
+    same-length-2
+    same-length-3
+    returns
+    pair-line-requires
+    same-length-4
+    same-length-5
+    returns-2)

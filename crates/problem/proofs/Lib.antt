@@ -1,5 +1,0 @@
-pub mod Laid
-pub mod Growing
-pub mod Following
-pub mod Keeping
-pub mod Answering

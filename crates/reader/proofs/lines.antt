@@ -1,0 +1,2 @@
+pub mod LineTests
+pub mod LineAnswers

@@ -1,0 +1,5 @@
+pub mod LevelWords
+pub mod OneTermMore
+pub mod LineByLine
+pub mod WordsSoFar
+pub mod Answering

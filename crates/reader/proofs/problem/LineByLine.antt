@@ -1,0 +1,343 @@
+-- The definitions' sequence of lines, one line at a time, as the code goes.
+use mathlib.Core.Path.{_≡_, refl, sym, ap, _∙_, subst}
+use mathlib.Core.Bool.{Bool, true, false, not, _||_}
+use mathlib.Core.Option.{Option, none, some}
+use mathlib.Core.List.{[], _∷_, _++_}
+use Prim.Native.Nat.{ℕ, zero, suc, _+_, _-_, _<_, _≤_}
+use native.Mathlib.Omega.{arith}
+use native.Mathlib.Decide.{ℕ-discrete}
+use lib.Dec.{T, leb, ltb, eqb, eqb·suc-zero}
+use lib.ListN.{length, getD, take, drop, replicate, length-drop}
+use lib.Seq.{drop-append-le, take-append-add}
+use borrow.Author.Tests.{le-leb, lt-leb, eq-eqb, ne-eqb}
+use Rattle.definitions.specs.Limits.{document-01}
+use Rattle.definitions.specs.Lists.{_and_, _then_, last, empty?, between}
+use Rattle.definitions.specs.Monomial.{Level}
+use Rattle.definitions.specs.Result.{Result, done, refused, unless-refused, _>>=_}
+use Rattle.definitions.specs.Problem.{
+  Bytes,
+  Line,
+  Parameters,
+  lines,
+  shaped,
+  prime-in-range?,
+  in-ranges?,
+  parameters-of,
+  r-line,
+  term-of,
+  next?,
+  same?,
+  in-sequence?,
+  term-in-range?,
+  below?,
+  last-term,
+  with-term,
+  t-line,
+  e-line,
+  by-shape,
+  body,
+  after-r,
+  first-line,
+  problem,
+}
+use Rattle.definitions.specs.Layout.{Words, padded}
+use Rattle.definitions.proofs.Tests.{is-true, and-left, between-high}
+use Rattle.definitions.proofs.Results.{If-done, If-some}
+use Rattle.definitions.specs.Places.{most-variables, most-components, most-elements, most-rows, file-length}
+use Rattle.reader.specs.fields.Scanning.{behind, shaped-of, shaped-first, in-sixteen}
+use Rattle.reader.proofs.fields.Lines.{first-of, lines-none, letter-differs, shaped-count}
+use Rattle.reader.specs.lines.Tests.{term-in, unless, begins?, follows?, above?, descends?, t-number}
+use Rattle.reader.specs.lines.Steps.{Said, judged, with-shape, r-judged, r-first, t-judged, t-first, e-judged, e-first, by-letter, line-first}
+use Rattle.reader.proofs.problem.OneTermMore.{follows-says}
+
+-- ## Fields with zeros behind them
+
+getD-zeros : (k i : ℕ) → getD (replicate {A = ℕ} k 0) i 0 ≡ 0
+getD-zeros zero i = refl
+getD-zeros (suc k) zero = refl
+getD-zeros (suc k) (suc i) = getD-zeros k i
+
+getD-behind : (v : Words) (k i : ℕ) → getD (v ++ replicate k 0) i 0 ≡ getD v i 0
+getD-behind [] k i = getD-zeros k i
+getD-behind (x ∷ v) k zero = refl
+getD-behind (x ∷ v) k (suc i) = getD-behind v k i
+
+pub getD-padded : (v : Words) (i : ℕ) → getD (padded 16 v) i 0 ≡ getD v i 0
+getD-padded v i = getD-behind v (16 - length v) i
+
+take-zeros : (k m : ℕ) → k ≤ m → take k (replicate {A = ℕ} m 0) ≡ replicate k 0
+take-zeros zero m h = refl
+take-zeros (suc k) zero h = absurd (omega arith)
+take-zeros (suc k) (suc m) h = ap (λ l. 0 ∷ l) (take-zeros k m (omega arith))
+
+-- "exponents past n are zero"
+term-padded : (n : ℕ) (v : Words) → n ≤ 8 → length v ≡ 3 + n → term-of n v ≡ term-in (padded 16 v)
+term-padded n v h l = λ i. (sym (getD-padded v 1) i, (exponents i, sym (getD-padded v 2) i))
+  where
+    exponents : drop 3 v ++ replicate (8 - n) 0 ≡ take 8 (drop 3 (padded 16 v))
+    exponents =
+        let e : 8 ≡ length (drop 3 v) + (8 - n) = omega (arith, length-drop 3 v) in
+        sym (ap (take 8) (drop-append-le 3 v (replicate (16 - length v) 0) (omega arith)) ∙ ap (λ k. take k (drop 3 v ++ replicate (16 - length v) 0)) e
+        ∙ take-append-add (drop 3 v) (replicate (16 - length v) 0) (8 - n) ∙ ap (λ z. drop 3 v ++ z) (take-zeros (8 - n) (16 - length v) (omega arith)))
+
+parameters-padded : (v : Words) → parameters-of (padded 16 v) ≡ parameters-of v
+parameters-padded v = λ i. record { p = getD-padded v 0 i; n = getD-padded v 1 i; code = getD-padded v 2 i; s = getD-padded v 3 i }
+
+-- ## Tests in a row, and the number of the first that fails
+
+guarded : {A : Type 0} → Bool → Bool → Bool → Bool → ℕ → A → Result A
+guarded a b c d place x =
+    unless-refused a 8 place >>= λ u₁. unless-refused b 5 place >>= λ u₂. unless-refused c 4 place >>= λ u₃. unless-refused d 6 place >>= λ u₄. done x
+
+guarded-number : {A : Type 0} (a b c d : Bool) (place : ℕ) (x : A) → guarded a b c d place x ≡ judged (unless a 8 (unless b 5 (unless c 4 (unless d 6 0)))) place x
+unfolding guarded
+guarded-number false b c d place x = refl
+guarded-number true false c d place x = refl
+guarded-number true true false d place x = refl
+guarded-number true true true false place x = refl
+guarded-number true true true true place x = refl
+
+-- the last test counts only where the second holds
+guarded-same : {A : Type 0} (a b c d d′ : Bool) (place : ℕ) (x : A) → (b ≡ true → d ≡ d′) → guarded a b c d place x ≡ guarded a b c d′ place x
+unfolding guarded
+guarded-same false b c d d′ place x e = refl
+guarded-same true false c d d′ place x e = refl
+guarded-same true true c d d′ place x e = ap (λ t. guarded true true c t place x) (e refl)
+
+-- ## A T line
+
+-- what the code knows of the elements so far
+pub record Held (f : Level) (r : ℕ) (before : Words) : Type 0 where
+  pub elements : length f ≡ r
+  pub last-one : (r ≡ 0 → ⊥) → last-term (last f) ≡ some (term-in before)
+
+empty-is : (f : Level) → empty? f ≡ eqb (length f) 0
+empty-is [] = refl
+empty-is (v ∷ f) = sym (eqb·suc-zero (length f))
+
+module _ (q : Parameters) (few : q .n ≤ 8) (count : ℕ) (f : Level) (r : ℕ) (before : Words) (held : Held f r before) where
+  -- the level with the term of a line
+  abbrev more : Words → Level
+  more w = with-term (begins? r (getD w 0 0)) f (term-in w)
+
+  descends-same : (w : Words) → follows? r (getD w 0 0) ≡ true → (begins? r (getD w 0 0) || below? (q .code) (last-term (last f)) (term-in w)) ≡ descends? (q .code) r before w
+  descends-same w s = go (begins? r (getD w 0 0)) (follows-says r (getD w 0 0) (begins? r (getD w 0 0)) refl s)
+    where
+      go : (b : Bool) → (b ≡ true → getD w 0 0 ≡ suc r) × (b ≡ false → (getD w 0 0 ≡ r) × (r ≡ 0 → ⊥)) × (getD w 0 0 ≤ most-elements)
+          → (b || below? (q .code) (last-term (last f)) (term-in w)) ≡ (b || above? (q .code) before w)
+      go true h = refl
+      go false h = ap (λ o. below? (q .code) o (term-in w)) (held .last-one (h .1 refl .1))
+
+  t-line-judged : (place : ℕ) (v : Words) → length v ≡ 3 + q .n
+      → t-line document-01 q place count f v ≡ judged (t-number q count r before (padded 16 v)) place (more (padded 16 v))
+  unfolding guarded
+  t-line-judged place v l =
+      (λ i. guarded (ltb count most-rows) ((eqb (first i) (suc (held .elements i)) || (eqb (first i) (held .elements i) and not (none-yet i))) and leb (first i) most-elements)
+      (term-in-range? document-01 q (term i)) (eqb (first i) (suc (held .elements i)) || below? (q .code) (last-term (last f)) (term i)) place
+      (with-term (eqb (first i) (suc (held .elements i))) f (term i)))
+      ∙ guarded-same (ltb count most-rows) (follows? r (getD w 0 0)) (term-in-range? document-01 q (term-in w)) (begins? r (getD w 0 0) || below? (q .code) (last-term (last f)) (term-in w)) (descends? (q .code) r before w) place (more w) (descends-same w)
+      ∙ guarded-number (ltb count most-rows) (follows? r (getD w 0 0)) (term-in-range? document-01 q (term-in w)) (descends? (q .code) r before w) place (more w)
+    where
+      w : Words
+      w = padded 16 v
+
+      first : getD v 0 0 ≡ getD (padded 16 v) 0 0
+      first = sym (getD-padded v 0)
+
+      term : term-of (q .n) v ≡ term-in (padded 16 v)
+      term = term-padded (q .n) v few l
+
+      none-yet : empty? f ≡ eqb r 0
+      none-yet = empty-is f ∙ ap (λ n. eqb n 0) (held .elements)
+
+  -- ## The lines after R's
+
+  -- how the definitions go on behind a line
+  abbrev pub goes-on : Said → Result Level
+  goes-on none = done f
+  goes-on (some line) = body document-01 q (count + 3) (suc count) (with-term (begins? r (getD (line .0) 0 0)) f (term-in (line .0))) (lines (line .1))
+
+  abbrev paired : Bytes → Option Words → Option (Words × Bytes)
+  paired rest o = o then λ v. some (v, rest)
+
+  unpaired : (rest : Bytes) (o : Option Words) → paired rest o ≡ none → o ≡ none
+  unpaired rest none e = refl
+  unpaired rest (some v) e = let z : _≡_ {A = ℕ} 0 1 = cc in absurd (omega arith)
+
+  -- a T line that has the shape
+  term-step : (v : Words) (rest : Bytes) → length v ≡ 3 + q .n
+      → (t-line document-01 q (count + 2) count f v >>= λ grown. body document-01 q (suc (count + 2)) (suc count) grown (lines rest))
+      ≡ (t-judged q count r before (padded 16 v, rest) >>= goes-on)
+  term-step v rest l = ap (λ x. x >>= λ grown. body document-01 q (suc (count + 2)) (suc count) grown (lines rest)) (t-line-judged (count + 2) v l) ∙ go (t-number q count r before (padded 16 v))
+    where
+      next : suc (count + 2) ≡ count + 3
+      next = omega arith
+
+      go : (number : ℕ) → (judged number (count + 2) (more (padded 16 v)) >>= λ grown. body document-01 q (suc (count + 2)) (suc count) grown (lines rest))
+          ≡ (judged {A = Said} number (count + 2) (some (padded 16 v, rest)) >>= goes-on)
+      go zero = ap (λ place. body document-01 q place (suc count) (more (padded 16 v)) (lines rest)) next
+      go (suc number) = refl
+
+  -- an E line that has the shape
+  end-step : (v : Words) (rest : Bytes) → e-line (count + 2) count (lines rest) f (some v) ≡ (e-judged count (padded 16 v, rest) >>= goes-on)
+  end-step v rest =
+      (λ i. ends (not (eqb (sym (getD-padded v 0) i) 0) and eqb (sym (getD-padded v 0) i) count) (lines-none rest i) (next i))
+      ∙ go (not (eqb (getD (padded 16 v) 0 0) 0) and eqb (getD (padded 16 v) 0 0) count) (empty? rest)
+    where
+      next : suc (count + 2) ≡ count + 3
+      next = omega arith
+
+      ends : Bool → Bool → ℕ → Result Level
+      ends t u place = unless-refused t 7 (count + 2) >>= λ u₁. unless-refused u 1 place >>= λ u₂. done f
+
+      said : Bool → Bool → Result Said
+      said t u = unless-refused t 7 (count + 2) >>= λ u₁. unless-refused u 1 (count + 3) >>= λ u₂. done none
+
+      go : (t u : Bool) → ends t u (count + 3) ≡ (said t u >>= goes-on)
+      go false u = refl
+      go true false = refl
+      go true true = refl
+
+  -- the line in front decides how the lines go on
+  module _ (b : ℕ) (bytes : Bytes) (line : Line) (e : lines (b ∷ bytes) ≡ line ∷ lines (behind (b ∷ bytes))) where
+    first : (letter n : ℕ) → shaped-first 65535 letter n (b ∷ bytes) ≡ paired (behind (b ∷ bytes)) (shaped 65535 letter n line)
+    first letter n = ap (λ ls. paired (behind (b ∷ bytes)) (shaped-of 65535 letter n ls)) e
+
+    other : (letter n : ℕ) → 57 < letter → (b ≡ letter → ⊥) → shaped 65535 letter n line ≡ none
+    other letter n h d = unpaired (behind (b ∷ bytes)) (shaped 65535 letter n line) (sym (first letter n) ∙ letter-differs 65535 letter n h b bytes d)
+
+    abbrev stepped : Option Words → Result Level
+    stepped o = by-shape o document-01 q (count + 2) count f line (lines (behind (b ∷ bytes))) (λ grown. body document-01 q (suc (count + 2)) (suc count) grown (lines (behind (b ∷ bytes))))
+
+    abbrev decided : Bool → Bool → Result Level
+    decided t u = by-letter t u (t-first q count r before (b ∷ bytes)) (e-first count (b ∷ bytes)) (refused 1 (count + 2) []) >>= goes-on
+
+    refused-here : shaped 65535 69 1 line ≡ none → stepped none ≡ refused 1 (count + 2) []
+    refused-here d = ap (e-line (count + 2) count (lines (behind (b ∷ bytes))) f) d
+
+    on-T : b ≡ 84 → stepped (shaped 65535 84 (3 + q .n) line) ≡ (t-first q count r before (b ∷ bytes) >>= goes-on)
+    on-T t =
+        go (shaped 65535 84 (3 + q .n) line) (subst (If-some (λ (p : Words × Bytes). length (p .0) ≡ 3 + q .n)) (first 84 (3 + q .n)) (shaped-count 65535 84 (3 + q .n) (omega arith) (b ∷ bytes)))
+        ∙ ap (λ o. with-shape (in-sixteen o) (count + 2) (t-judged q count r before) >>= goes-on) (sym (first 84 (3 + q .n)))
+      where
+        go : (o : Option Words) → If-some (λ (p : Words × Bytes). length (p .0) ≡ 3 + q .n) (paired (behind (b ∷ bytes)) o)
+            → stepped o ≡ (with-shape (in-sixteen (paired (behind (b ∷ bytes)) o)) (count + 2) (t-judged q count r before) >>= goes-on)
+        go none l = refused-here (other 69 1 (omega arith) (λ d. omega arith))
+        go (some v) l = term-step v (behind (b ∷ bytes)) l
+
+    on-E : (b ≡ 84 → ⊥) → stepped (shaped 65535 84 (3 + q .n) line) ≡ (e-first count (b ∷ bytes) >>= goes-on)
+    on-E t =
+        ap stepped (other 84 (3 + q .n) (omega arith) t) ∙ go (shaped 65535 69 1 line)
+        ∙ ap (λ o. with-shape (in-sixteen o) (count + 2) (e-judged count) >>= goes-on) (sym (first 69 1))
+      where
+        go : (o : Option Words) → e-line (count + 2) count (lines (behind (b ∷ bytes))) f o ≡ (with-shape (in-sixteen (paired (behind (b ∷ bytes)) o)) (count + 2) (e-judged count) >>= goes-on)
+        go none = refl
+        go (some v) = end-step v (behind (b ∷ bytes))
+
+    on-none : (b ≡ 84 → ⊥) → (b ≡ 69 → ⊥) → stepped (shaped 65535 84 (3 + q .n) line) ≡ refused 1 (count + 2) []
+    on-none t d = ap stepped (other 84 (3 + q .n) (omega arith) t) ∙ refused-here (other 69 1 (omega arith) d)
+
+    by-byte : Dec (b ≡ 84) → Dec (b ≡ 69) → stepped (shaped 65535 84 (3 + q .n) line) ≡ (line-first q count r before (b ∷ bytes) >>= goes-on)
+    by-byte (yes t) d = on-T t ∙ sym (λ i. decided (eq-eqb b 84 t i) (eqb b 69))
+    by-byte (no t) (yes d) = on-E t ∙ sym (λ i. decided (ne-eqb b 84 t i) (eq-eqb b 69 d i))
+    by-byte (no t) (no d) = on-none t d ∙ sym (λ i. decided (ne-eqb b 84 t i) (ne-eqb b 69 d i))
+
+  pub body-step : (bytes : Bytes) → body document-01 q (count + 2) count f (lines bytes) ≡ (line-first q count r before bytes >>= goes-on)
+  body-step [] = refl
+  body-step (b ∷ bytes) = parted (first-of b bytes)
+    where
+      parted : (line : Line) × (lines (b ∷ bytes) ≡ line ∷ lines (behind (b ∷ bytes))) → body document-01 q (count + 2) count f (lines (b ∷ bytes)) ≡ (line-first q count r before (b ∷ bytes) >>= goes-on)
+      parted (line, e) = ap (body document-01 q (count + 2) count f) e ∙ by-byte b bytes line e (ℕ-discrete b 84) (ℕ-discrete b 69)
+
+-- ## What a term that is taken has passed
+
+abbrev pub Passed : ℕ → ℕ → Said → Type 0
+Passed count r none = Unit {0}
+Passed count r (some line) = (ltb count most-rows ≡ true) × (follows? r (getD (line .0) 0 0) ≡ true)
+
+module _ (q : Parameters) (count r : ℕ) (before : Words) where
+  judged-passed : (line : Words × Bytes) → If-done (Passed count r) (t-judged q count r before line)
+  judged-passed line =
+      go (ltb count most-rows) refl (follows? r (getD (line .0) 0 0)) refl (unless (term-in-range? document-01 q (term-in (line .0))) 4 (unless (descends? (q .code) r before (line .0)) 6 0))
+    where
+      go : (a : Bool) → ltb count most-rows ≡ a → (b : Bool) → follows? r (getD (line .0) 0 0) ≡ b → (n : ℕ)
+          → If-done (Passed count r) (judged (unless a 8 (unless b 5 n)) (count + 2) (some line))
+      go false e b k n = tt
+      go true e false k n = tt
+      go true e true k zero = (e, k)
+      go true e true k (suc n) = tt
+
+  shape-passed : (o : Option (Words × Bytes)) → If-done (Passed count r) (with-shape o (count + 2) (t-judged q count r before))
+  shape-passed none = tt
+  shape-passed (some line) = judged-passed line
+
+  end-passed : (o : Option (Words × Bytes)) → If-done (Passed count r) (with-shape o (count + 2) (e-judged count))
+  end-passed none = tt
+  end-passed (some line) = go (not (eqb (getD (line .0) 0 0) 0) and eqb (getD (line .0) 0 0) count) (empty? (line .1))
+    where
+      go : (t u : Bool) → If-done (Passed count r) (unless-refused t 7 (count + 2) >>= λ u₁. unless-refused u 1 (count + 3) >>= λ u₂. done none)
+      go false u = tt
+      go true false = tt
+      go true true = tt
+
+  pub line-passed : (bytes : Bytes) → If-done (Passed count r) (line-first q count r before bytes)
+  line-passed [] = tt
+  line-passed (b ∷ bytes) = go (eqb b 84) (eqb b 69)
+    where
+      go : (t e : Bool) → If-done (Passed count r) (by-letter t e (t-first q count r before (b ∷ bytes)) (e-first count (b ∷ bytes)) (refused 1 (count + 2) []))
+      go true e = shape-passed (in-sixteen (shaped-first 65535 84 (3 + q .n) (b ∷ bytes)))
+      go false true = end-passed (in-sixteen (shaped-first 65535 69 1 (b ∷ bytes)))
+      go false false = tt
+
+-- ## The R line
+
+-- how the definitions go on behind it
+abbrev pub goes-on-body : Parameters × Bytes → Result (Parameters × Level)
+goes-on-body a = body document-01 (a .0) 2 0 [] (lines (a .1)) >>= λ f. done (a .0, f)
+
+-- the tests in a row
+r-guarded : Bool → Bool → Parameters → Result Parameters
+r-guarded a b q = unless-refused a 2 1 >>= λ u. unless-refused b 3 1 >>= λ u′. done q
+
+r-step : (v : Words) (rest : Bytes) → (r-line document-01 v >>= λ q. body document-01 q 2 0 [] (lines rest) >>= λ f. done (q, f)) ≡ (r-judged (padded 16 v, rest) >>= goes-on-body)
+unfolding r-guarded
+r-step v rest =
+    ap (λ (q : Parameters). r-guarded (prime-in-range? document-01 (q .p)) (in-ranges? document-01 q) q >>= λ q. body document-01 q 2 0 [] (lines rest) >>= λ f. done (q, f)) (sym (parameters-padded v))
+    ∙ go (parameters-of (padded 16 v)) (prime-in-range? document-01 (getD (padded 16 v) 0 0)) (in-ranges? document-01 (parameters-of (padded 16 v)))
+  where
+    go : (q : Parameters) (a b : Bool) → (r-guarded a b q >>= λ q. body document-01 q 2 0 [] (lines rest) >>= λ f. done (q, f)) ≡ (judged (unless a 2 (unless b 3 0)) 1 (q, rest) >>= goes-on-body)
+    go q false b = refl
+    go q true false = refl
+    go q true true = refl
+
+pub first-step : (file : Bytes) → first-line document-01 (lines file) ≡ (r-first file >>= goes-on-body)
+first-step [] = refl
+first-step (b ∷ bytes) = parted (first-of b bytes)
+  where
+    parted : (line : Line) × (lines (b ∷ bytes) ≡ line ∷ lines (behind (b ∷ bytes))) → first-line document-01 (lines (b ∷ bytes)) ≡ (r-first (b ∷ bytes) >>= goes-on-body)
+    parted (line, e) =
+        ap (first-line document-01) e ∙ go (shaped 65535 82 4 line)
+        ∙ ap (λ ls. with-shape (in-sixteen (shaped-of 65535 82 4 ls then λ v. some (v, behind (b ∷ bytes)))) 1 r-judged >>= goes-on-body) (sym e)
+      where
+        go : (o : Option Words) → after-r document-01 (lines (behind (b ∷ bytes))) o ≡ (with-shape (in-sixteen (o then λ v. some (v, behind (b ∷ bytes)))) 1 r-judged >>= goes-on-body)
+        go none = refl
+        go (some v) = r-step v (behind (b ∷ bytes))
+
+pub too-long : (file : Bytes) → file-length < length file → problem document-01 file ≡ refused 1 0 []
+too-long file h = λ i. unless-refused (lt-leb (length file) file-length h i) 1 0 >>= λ u. first-line document-01 (lines file)
+
+pub problem-step : (file : Bytes) → length file ≤ file-length → problem document-01 file ≡ (r-first file >>= goes-on-body)
+problem-step file h = (λ i. unless-refused (le-leb (length file) file-length h i) 1 0 >>= λ u. first-line document-01 (lines file)) ∙ first-step file
+
+-- n is in range in what the R line says
+pub few-variables : (file : Bytes) → If-done (λ (a : Parameters × Bytes). a .0 .n ≤ 8) (r-first file)
+few-variables file = shape (in-sixteen (shaped-first 65535 82 4 file))
+  where
+    judge : (q : Parameters) (rest : Bytes) (a b : Bool) → in-ranges? document-01 q ≡ b → If-done (λ (a : Parameters × Bytes). a .0 .n ≤ 8) (judged (unless a 2 (unless b 3 0)) 1 (q, rest))
+    judge q rest false b e = tt
+    judge q rest true false e = tt
+    judge q rest true true e = between-high 1 (q .n) most-variables (and-left (between 1 (q .n) most-variables) (between 1 (q .code) 3 and between 1 (q .s) most-components) (is-true e))
+
+    shape : (o : Option (Words × Bytes)) → If-done (λ (a : Parameters × Bytes). a .0 .n ≤ 8) (with-shape o 1 r-judged)
+    shape none = tt
+    shape (some line) = judge (parameters-of (line .0)) (line .1) (prime-in-range? document-01 (getD (line .0) 0 0)) (in-ranges? document-01 (parameters-of (line .0))) refl

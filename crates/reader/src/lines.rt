@@ -1,0 +1,300 @@
+// The lines of a problem file one by one: the tests of each in their order, and what it says.
+// Knows: crate definitions' Problem, tests and refusals of R, T and E lines.
+// The sequence of lines is decided by `first_line` and `next_line` alone.
+ghost use mathlib.Core.Path.{_≡_};
+ghost use Prim.Native.Nat.{_≤_};
+ghost use lib.ListN.{take, drop};
+ghost use Rattle.definitions.specs.Lists.{between};
+ghost use Rattle.definitions.specs.Limits.{document-01};
+ghost use Rattle.definitions.specs.Monomial.{fits?};
+ghost use Rattle.definitions.specs.Problem.{prime-in-range?, in-ranges?, term-in-range?};
+ghost use Rattle.definitions.specs.Places.{most-exponent, most-rows};
+ghost use Rattle.reader.specs.lines.Tests.{parameters-of, term-in, begins?, follows?, above?, descends? as descends-definition, t-number, r-number};
+ghost use Rattle.reader.specs.lines.Steps.{r-first, t-first, e-first, line-first, first-as, taken-as};
+ghost use Rattle.reader.specs.declared.lines.Step.the-variants.{Refused};
+use crate::fields;
+use crate::fields::End as LineEnd;
+use orders::Comparison;
+
+// The numbers of the R line.
+pub struct Parameters {
+    pub p: u16,
+    pub n: u16,
+    pub code: u16,
+    pub s: u16,
+}
+
+// Behind the R line, or its refusal.
+pub enum Start {
+    At(usize),
+    Refused(u16),
+}
+
+pub struct First {
+    pub start: Start,
+    pub parameters: Parameters,
+}
+
+// A T line, with the position behind it; the end; a refusal, with its line.
+pub enum Step {
+    Term(usize),
+    End,
+    Refused(u16, usize),
+}
+
+pub struct Taken {
+    pub step: Step,
+    pub numbers: [u16; 16],
+}
+
+fn parameters_in_range(q: Parameters) -> bool
+    ensures { λ r. ⌜ r ≡ in-ranges? document-01 (parameters-of q) ⌝ }
+{
+    let n = q.n;
+    let code = q.code;
+    let s = q.s;
+    if words::between(1, n, 8) {
+        if words::between(1, code, 3) {
+            return words::between(1, s, 16);
+        }
+        return false;
+    }
+    false
+}
+
+fn parameters_refusal(q: Parameters) -> u16
+    ensures { λ r. ⌜ r ≡ r-number (parameters-of q) ⌝ }
+{
+    let p = q.p;
+    if field::prime_in_range(p) {
+        if parameters_in_range(q) {
+            return 0;
+        }
+        return 3;
+    }
+    2
+}
+
+pub fn first_line(file: &[u8]) -> First
+    ensures { λ r. ⌜ first-as r (now (file .entry)) ≡ r-first (now (file .entry)) ⌝ }
+{
+    let line = fields::line_at(file, 0, b'R', 4);
+    let v = line.numbers;
+    let q = Parameters {
+        p: v[0],
+        n: v[1],
+        code: v[2],
+        s: v[3],
+    };
+    let end = line.end;
+    let LineEnd::Behind(next) = end else {
+        return First {
+            start: Start::Refused(1),
+            parameters: q,
+        };
+    };
+    let number = parameters_refusal(q);
+    if number != 0 {
+        return First {
+            start: Start::Refused(number),
+            parameters: q,
+        };
+    }
+    First {
+        start: Start::At(next),
+        parameters: q,
+    }
+}
+
+fn begins(elements: u16, element: u16) -> bool
+    ensures { λ r. ⌜ r ≡ begins? elements element ⌝ }
+{
+    if element == 0 {
+        return false;
+    }
+    element - 1 == elements
+}
+
+fn follows(elements: u16, element: u16) -> bool
+    ensures { λ r. ⌜ r ≡ follows? elements element ⌝ }
+{
+    if words::MOST_ELEMENTS < element {
+        return false;
+    }
+    if begins(elements, element) {
+        return true;
+    }
+    if element != elements {
+        return false;
+    }
+    element != 0
+}
+
+fn exponents(w: [u16; 16]) -> [u16; words::EXPONENTS_LENGTH]
+    ensures { λ r. ⌜ r ≡ take 8 (drop 3 w) ⌝ }
+{
+    [w[3], w[4], w[5], w[6], w[7], w[8], w[9], w[10]]
+}
+
+fn fits(e: [u16; words::EXPONENTS_LENGTH]) -> bool
+    ensures { λ r. ⌜ r ≡ fits? most-exponent e ⌝ }
+{
+    let mut mark: u16 = 0;
+    let mut j = 0;
+    while j < words::EXPONENTS_LENGTH {
+        mark = monomial::mark_above(mark, e[j], words::MOST_EXPONENT);
+        j += 1;
+    }
+    mark == 0
+}
+
+fn term_in_range(q: Parameters, w: [u16; 16]) -> bool
+    ensures { λ r. ⌜ r ≡ term-in-range? document-01 (parameters-of q) (term-in w) ⌝ }
+{
+    let c = w[1];
+    let p = q.p;
+    let s = q.s;
+    if c == 0 {
+        return false;
+    }
+    if p <= c {
+        return false;
+    }
+    if words::between(1, w[2], s) {
+        return fits(exponents(w));
+    }
+    false
+}
+
+// The term before is the greater one.
+fn above(code: u16, before: [u16; 16], w: [u16; 16]) -> bool
+    ensures { λ r. ⌜ r ≡ above? code before w ⌝ }
+{
+    let d = orders::by_code(code, exponents(before), exponents(w));
+    match d {
+        Comparison::Greater => true,
+        Comparison::Equal => w[2] < before[2],
+        Comparison::Smaller => false,
+    }
+}
+
+fn descends(code: u16, elements: u16, before: [u16; 16], w: [u16; 16]) -> bool
+    ensures { λ r. ⌜ r ≡ descends-definition code elements before w ⌝ }
+{
+    if begins(elements, w[0]) {
+        return true;
+    }
+    above(code, before, w)
+}
+
+// The tests of a T line that has its shape.
+fn term_refusal(q: Parameters, count: usize, elements: u16, before: [u16; 16], w: [u16; 16]) -> u16
+    ensures { λ r. ⌜ r ≡ t-number (parameters-of q) count elements before w ⌝ }
+{
+    if words::MOST_ROWS <= count {
+        return 8;
+    }
+    if follows(elements, w[0]) {
+        if term_in_range(q, w) {
+            let code = q.code;
+            if descends(code, elements, before, w) {
+                return 0;
+            }
+            return 6;
+        }
+        return 4;
+    }
+    5
+}
+
+fn refused(number: u16, place: usize) -> Taken
+    ensures { λ r. ⌜ r .step ≡ Refused number place ⌝ }
+{
+    Taken {
+        step: Step::Refused(number, place),
+        numbers: [0; 16],
+    }
+}
+
+pub fn size_of(x: u16) -> usize
+    ensures { λ r. ⌜ r ≡ x ⌝ }
+{
+    x as usize
+}
+
+fn term_line(
+    file: &[u8],
+    at: usize,
+    q: Parameters,
+    count: usize,
+    elements: u16,
+    before: [u16; 16],
+) -> Taken
+    requires { ⌜ (q .n ≤ 8) × (count ≤ most-rows) ⌝ }
+    ensures { λ r. ⌜ taken-as r (now (file .entry)) ≡ t-first (parameters-of q) count elements before (drop at (now (file .entry))) ⌝ }
+{
+    let n = size_of(q.n);
+    let line = fields::line_at(file, at, b'T', 3 + n);
+    let w = line.numbers;
+    let end = line.end;
+    let LineEnd::Behind(next) = end else {
+        return refused(1, count + 2);
+    };
+    let number = term_refusal(q, count, elements, before, w);
+    if number != 0 {
+        return refused(number, count + 2);
+    }
+    Taken {
+        step: Step::Term(next),
+        numbers: w,
+    }
+}
+
+fn end_line(file: &[u8], at: usize, count: usize) -> Taken
+    requires { ⌜ count ≤ most-rows ⌝ }
+    ensures { λ r. ⌜ taken-as r (now (file .entry)) ≡ e-first count (drop at (now (file .entry))) ⌝ }
+{
+    let line = fields::line_at(file, at, b'E', 1);
+    let w = line.numbers;
+    let end = line.end;
+    let LineEnd::Behind(next) = end else {
+        return refused(1, count + 2);
+    };
+    let said = size_of(w[0]);
+    if said == 0 {
+        return refused(7, count + 2);
+    }
+    if said != count {
+        return refused(7, count + 2);
+    }
+    if next < file.len() {
+        return refused(1, count + 3);
+    }
+    Taken {
+        step: Step::End,
+        numbers: w,
+    }
+}
+
+// The sequence of lines after R's: the letter decides.
+pub fn next_line(
+    file: &[u8],
+    at: usize,
+    q: Parameters,
+    count: usize,
+    elements: u16,
+    before: [u16; 16],
+) -> Taken
+    requires { ⌜ (q .n ≤ 8) × (count ≤ most-rows) ⌝ }
+    ensures { λ r. ⌜ taken-as r (now (file .entry)) ≡ line-first (parameters-of q) count elements before (drop at (now (file .entry))) ⌝ }
+{
+    if file.len() <= at {
+        return refused(1, count + 2);
+    }
+    let letter = file[at];
+    match letter {
+        b'T' => term_line(file, at, q, count, elements, before),
+        b'E' => end_line(file, at, count),
+        _ => refused(1, count + 2),
+    }
+}

@@ -1,0 +1,132 @@
+// The reader: from the bytes of a problem file to the words of a state, or a refusal from 1 to 8 with its place.
+// Knows: crate definitions' Problem and the state's words in its Layout.
+// The state that it leaves is read, not accepted: only a call that goes on to accept it may use it.
+ghost use mathlib.Core.Path.{_≡_};
+ghost use Prim.Native.Nat.{_+_, _≤_, _<_};
+ghost use lib.ListN.{length, getD, drop, replicate};
+ghost use lib.Seq.{paste};
+ghost use Rattle.definitions.specs.Limits.{document-01};
+ghost use Rattle.definitions.specs.Problem.{problem as problem-definition};
+ghost use Rattle.definitions.specs.Places.{most-elements, most-rows, row-length, state-length};
+ghost use Rattle.reader.specs.lines.Tests.{parameters-of};
+ghost use Rattle.reader.specs.problem.Reading.{body-words, problem-words, read-as, stored, begun, outcome-as, answer-as};
+use crate::lines;
+use crate::lines::Parameters;
+use crate::lines::Start;
+use crate::lines::Step;
+use vectors::terms;
+
+pub enum Outcome {
+    Done,
+    Refused(u16, usize),
+}
+
+// Number 0 and place 0, or a refusal.
+pub struct Reading {
+    pub number: u16,
+    pub place: usize,
+}
+
+// A row: coefficient, component, eight exponents.
+fn store_row(state: &mut [u16], at: usize, w: [u16; 16])
+    requires { ⌜ at + row-length ≤ length (now state) ⌝ }
+    ensures { λ _. ⌜ now (state .exit) ≡ paste (now (state .entry)) at (drop 1 w) row-length ⌝ }
+{
+    let mut j = 0;
+    while j < words::ROW_LENGTH {
+        state[at + j] = w[j + 1];
+        j += 1;
+    }
+}
+
+fn store(state: &mut [u16], count: usize, w: [u16; 16])
+    requires { ⌜ (state-length ≤ length (now state)) × (count < most-rows) × (getD w 0 0 ≤ most-elements) ⌝ }
+    ensures { λ _. ⌜ (now (state .exit) ≡ stored (now (state .entry)) count w) × (length w ≡ 16) ⌝ }
+{
+    store_row(state, words::ROWS_START + count * words::ROW_LENGTH, w);
+    let element = w[0];
+    let e = lines::size_of(element);
+    state[words::HEADER_LENGTH + e] = (count + 1) as u16;
+    state[words::HEADER_LENGTH] = element;
+}
+
+fn begin(state: &mut [u16], q: Parameters)
+    requires { ⌜ state-length ≤ length (now state) ⌝ }
+    ensures { λ _. ⌜ now (state .exit) ≡ begun (now (state .entry)) (parameters-of q) ⌝ }
+{
+    let p = q.p;
+    let n = q.n;
+    let code = q.code;
+    let s = q.s;
+    state[0] = p;
+    state[1] = n;
+    state[2] = code;
+    state[3] = s;
+    state[4] = 1;
+}
+
+// The lines behind R's, into a state with no element yet.
+fn body(file: &[u8], from: usize, q: Parameters, state: &mut [u16]) -> Outcome
+    requires { ⌜ (q .n ≤ 8) × (state-length ≤ length (now state)) × (now state ≡ begun (replicate (length (now state)) 0) (parameters-of q)) ⌝ }
+    ensures { λ r. ⌜ outcome-as r (now (state .exit)) ≡ body-words (length (now (state .entry))) (parameters-of q) (drop from (now (file .entry))) ⌝ }
+{
+    let mut at = from;
+    let mut count: usize = 0;
+    let mut elements: u16 = 0;
+    let mut before = [0u16; 16];
+    loop {
+        let taken = lines::next_line(file, at, q, count, elements, before);
+        let w = taken.numbers;
+        let step = taken.step;
+        match step {
+            Step::Term(next) => {
+                store(state, count, w);
+                elements = w[0];
+                before = w;
+                at = next;
+                count += 1;
+            }
+            Step::End => return Outcome::Done,
+            Step::Refused(number, place) => return Outcome::Refused(number, place),
+        }
+    }
+}
+
+// The file, into a state of zeros; what a refused one leaves there is to be zeroed.
+fn read_lines(file: &[u8], state: &mut [u16]) -> Outcome
+    requires { ⌜ (state-length ≤ length (now state)) × (now state ≡ replicate (length (now state)) 0) ⌝ }
+    ensures { λ r. ⌜ outcome-as r (now (state .exit)) ≡ problem-words (length (now (state .entry))) (now (file .entry)) ⌝ }
+{
+    if words::FILE_LENGTH < file.len() {
+        return Outcome::Refused(1, 0);
+    }
+    let first = lines::first_line(file);
+    let q = first.parameters;
+    let start = first.start;
+    match start {
+        Start::At(next) => {
+            begin(state, q);
+            body(file, next, q, state)
+        }
+        Start::Refused(number) => Outcome::Refused(number, 1),
+    }
+}
+
+// Reads a file. Read, not accepted: the state's words are those of its elements as level 0, which acceptance has still to divide; refused, they are zeros.
+pub fn read(file: &[u8], state: &mut [u16]) -> Reading
+    requires { ⌜ state-length ≤ length (now state) ⌝ }
+    ensures { λ r. ⌜ answer-as r (now (state .exit)) ≡ read-as (length (now (state .entry))) (problem-definition document-01 (now (file .entry))) ⌝ }
+{
+    terms::clear(state, 0);
+    let outcome = read_lines(file, state);
+    match outcome {
+        Outcome::Done => Reading {
+            number: 0,
+            place: 0,
+        },
+        Outcome::Refused(number, place) => {
+            terms::clear(state, 0);
+            Reading { number, place }
+        }
+    }
+}

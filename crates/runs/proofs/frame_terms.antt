@@ -1,0 +1,2 @@
+pub mod OneVectorMore
+pub mod LoopsOverFrame

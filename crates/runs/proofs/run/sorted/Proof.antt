@@ -1,0 +1,108 @@
+use borrow.Author.Needs.{needs}
+use native.Mathlib.Omega.{arith}
+use mathlib.Core.Path.{sym, ap, _∙_, subst}
+use Rattle.definitions.specs.Result.{done, refused}
+use Rattle.orders.specs.Images.{table-of, table-order}
+use Rattle.runs.specs.run.Stages.{order-of, ended-of, Ended}
+use Rattle.runs.specs.reduction.Grounds.{above-in}
+use Rattle.runs.proofs.run.Sorting.{sorted-rows}
+use Rattle.runs.proofs.run.sorted.Statement.{statement}
+use Rattle.runs.proofs.run.sorted.Tie as tie
+
+enum-known-x : tie.Need-enum-known-x
+enum-known-x c = search needs
+
+sub-sort : tie.Need-sub-sort
+sub-sort c = search needs
+
+part-sort-start : tie.Need-part-sort-start
+part-sort-start c = search needs
+
+part-sort-end : tie.Need-part-sort-end
+part-sort-end c = search needs
+
+sort-requires : tie.Need-sort-requires
+sort-requires c κs = (c .before .before .before .before .before .before .before .before .before .pre .0 .prime, omega (arith, c .before .before .before .before .before .before .before .before .before .pre .3 .vector-fits, subst (Ended (c .before .before .before .before .before .before .before .before .before .args .g)) (c .before .before .before .before .x .given .1) (c .before .before .before .before .before .before .before .before .before .pre .4)), omega (arith, c .before .before .before .before .before .before .before .before .before .pre .3 .sorted-fits, subst (Ended (c .before .before .before .before .before .before .before .before .before .args .g)) (c .before .before .before .before .x .given .1) (c .before .before .before .before .before .before .before .before .before .pre .4)), c .before .before .before .before .before .before .before .before .before .pre .2 .fits, c .before .before .before .before .before .before .before .before .before .pre .2 .tabled)
+
+enum-known-x-2 : tie.Need-enum-known-x-2
+enum-known-x-2 c = search needs
+
+enum-known-x-3 : tie.Need-enum-known-x-3
+enum-known-x-3 c = search needs
+
+sub-sort-2 : tie.Need-sub-sort-2
+sub-sort-2 c = search needs
+
+part-sort-start-2 : tie.Need-part-sort-start-2
+part-sort-start-2 c = search needs
+
+part-sort-end-2 : tie.Need-part-sort-end-2
+part-sort-end-2 c = search needs
+
+sort-requires-2 : tie.Need-sort-requires-2
+sort-requires-2 c κs = (c .before .before .before .before .before .before .before .before .before .pre .0 .prime, omega (arith, c .before .before .before .before .before .before .before .before .before .pre .3 .value-fits, subst (Ended (c .before .before .before .before .before .before .before .before .before .args .g)) (c .before .before .before .before .x3 .given .1) (c .before .before .before .before .before .before .before .before .before .pre .4)), omega (arith, c .before .before .before .before .before .before .before .before .before .pre .3 .left-fits, subst (Ended (c .before .before .before .before .before .before .before .before .before .args .g)) (c .before .before .before .before .x3 .given .1) (c .before .before .before .before .before .before .before .before .before .pre .4)), c .before .before .before .before .before .before .before .before .before .pre .1 .fits, c .before .before .before .before .before .before .before .before .before .pre .1 .tabled)
+
+same-length : tie.Need-same-length
+same-length c = search needs
+
+same-length-2 : tie.Need-same-length-2
+same-length-2 c = search needs
+
+returns : tie.Need-returns
+returns c =
+    let a = c .before .before .before .before .before .before .before .before .before .before .before .before .args in
+    let g = a .g in
+    let order = order-of g (a .tables .now) in
+    let above = table-order (g .code) (table-of (g .r) (above-in (a .tables .now))) in
+    let s = c .before .before .sort in (
+      ap done (s .ensures) ∙ sym (ap (λ y. ended-of order above (g .p) y (a .value .now) (a .vector .now)) (c .before .before .before .before .before .before .before .x .given .1)),
+      omega (arith, sorted-rows above (g .p) (s .last .0) (s .result) (a .vector .now) (c .before .before .before .before .before .before .before .x .given .0 .0) (s .ensures), subst (Ended g) (c .before .before .before .before .before .before .before .x .given .1) (c .before .before .before .before .before .before .before .before .before .before .before .before .pre .4)),
+    )
+
+returns-2 : tie.Need-returns-2
+returns-2 c =
+    let a = c .before .before .before .before .before .before .args in
+    let g = a .g in
+    let order = order-of g (a .tables .now) in
+    let above = table-order (g .code) (table-of (g .r) (above-in (a .tables .now))) in
+    (sym (ap (λ y. ended-of order above (g .p) y (a .value .now) (a .vector .now)) (c .before .x2 .given .1)), tt)
+
+same-length-3 : tie.Need-same-length-3
+same-length-3 c = search needs
+
+same-length-4 : tie.Need-same-length-4
+same-length-4 c = search needs
+
+returns-3 : tie.Need-returns-3
+returns-3 c =
+    let a = c .before .before .before .before .before .before .before .before .before .before .before .before .args in
+    let g = a .g in
+    let order = order-of g (a .tables .now) in
+    let above = table-order (g .code) (table-of (g .r) (above-in (a .tables .now))) in
+    let s = c .before .before .sort2 in (
+      ap (refused 9 0) (s .ensures) ∙ sym (ap (λ y. ended-of order above (g .p) y (a .value .now) (a .vector .now)) (c .before .before .before .before .before .before .before .x3 .given .1)),
+      omega (arith, sorted-rows order (g .p) (s .last .0) (s .result) (a .value .now) (c .before .before .before .before .before .before .before .x3 .given .0 .0) (s .ensures), subst (Ended g) (c .before .before .before .before .before .before .before .x3 .given .1) (c .before .before .before .before .before .before .before .before .before .before .before .before .pre .4)),
+    )
+
+pub sorted-spec : {M : Type 1} → statement M
+sorted-spec =
+    tie.close
+    (tie.spec
+    enum-known-x
+    sub-sort
+    part-sort-start
+    part-sort-end
+    sort-requires
+    enum-known-x-2
+    enum-known-x-3
+    sub-sort-2
+    part-sort-start-2
+    part-sort-end-2
+    sort-requires-2
+    same-length
+    same-length-2
+    returns
+    returns-2
+    same-length-3
+    same-length-4
+    returns-3)

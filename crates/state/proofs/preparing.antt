@@ -1,0 +1,2 @@
+pub mod TablesReady
+pub mod Complete

@@ -1,0 +1,9 @@
+pub mod Copying
+pub mod Parts
+pub mod Blocks
+pub mod Spelled
+pub mod Encoded
+pub mod Fetching
+pub mod Local
+pub mod Appending
+pub mod AppendLoop

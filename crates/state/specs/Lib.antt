@@ -1,0 +1,3 @@
+pub mod soundness
+pub mod preparing
+pub mod writing

@@ -1,0 +1,3 @@
+pub mod LevelSoFar
+pub mod Zeroed
+pub mod AppendLoop

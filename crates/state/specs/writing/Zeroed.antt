@@ -1,0 +1,34 @@
+-- A state whose unused places are zeroed, word by word.
+use mathlib.Core.Path.{_≡_}
+use Prim.Native.Nat.{ℕ, suc, _+_, _*_, _<_, _≤_}
+use lib.ListN.{length, getD}
+use Rattle.definitions.specs.Layout.{Words}
+use Rattle.definitions.specs.Places.{row-length, header-length, rows-start, count-offset, ends-offset, rows-offset}
+use Rattle.reducers.specs.tables.Cuts.{start-of}
+use Rattle.state.specs.soundness.Places.{count-at, ends-from}
+
+-- the words from lo on, up to hi
+abbrev pub Same : Words → Words → ℕ → ℕ → Type 0
+Same z s lo hi = (i : ℕ) → lo ≤ i → i < hi → getD z i 0 ≡ getD s i 0
+
+abbrev pub Zero : Words → ℕ → ℕ → Type 0
+Zero z lo hi = (i : ℕ) → lo ≤ i → i < hi → getD z i 0 ≡ 0
+
+-- how many rows level k uses: its last end
+abbrev pub used-at : Words → ℕ → ℕ
+used-at s k = start-of (ends-from s k) (count-at s k)
+
+-- level j: its count, ends and rows as in s, zeros behind them
+pub record Tidy (s z : Words) (j : ℕ) : Type 0 where
+  pub counts : Same z s (count-offset j) (ends-offset j + count-at s j)
+  pub no-counts : Zero z (ends-offset j + count-at s j) (count-offset (suc j))
+  pub terms : Same z s (rows-offset j) (rows-offset j + used-at s j * row-length)
+  pub no-terms : Zero z (rows-offset j + used-at s j * row-length) (rows-offset (suc j))
+
+-- levels 0 to k − 1, the others as they were
+pub record Tidied-to (s z : Words) (k : ℕ) : Type 0 where
+  pub long : length z ≡ length s
+  pub front : Same z s 0 header-length
+  pub made : (j : ℕ) → j < k → Tidy s z j
+  pub counts-left : Same z s (count-offset k) rows-start
+  pub terms-left : Same z s (rows-offset k) (length s)

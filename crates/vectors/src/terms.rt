@@ -1,0 +1,183 @@
+// Terms as rows of ten words in a lent slice: coefficient, component, eight exponents.
+// Knows: crate definitions' Vectors and the rows of its Layout.
+// Every function works on the rows from row 0 of the slice that it is lent.
+ghost use mathlib.Core.Path.{_≡_};
+ghost use mathlib.Core.Bool.{true};
+ghost use mathlib.Core.List.{_∷_};
+ghost use Prim.Native.Nat.{_+_, _-_, _*_, _≤_, _<_};
+ghost use lib.Dec.{eqb};
+ghost use lib.ListN.{length, set};
+ghost use lib.Seq.{paste};
+ghost use Rattle.lists.specs.Marking.{mark-by};
+ghost use Rattle.definitions.specs.Monomial.{same-exponents?, same-monomial?};
+ghost use Rattle.definitions.specs.Layout.{byte, exponents-at, row-at};
+ghost use Rattle.definitions.proofs.Rows.{Eight};
+ghost use Rattle.definitions.specs.Places.{row-length};
+ghost use Rattle.monomial.specs.Values.{monomial-of};
+ghost use Rattle.vectors.specs.terms.Rows.{term-of, written, closed, opened, cleared};
+use monomial::Monomial;
+
+pub struct Term {
+    pub coefficient: u16,
+    pub monomial: Monomial,
+}
+
+fn exponents(s: &[u16], at: usize) -> [u8; words::EXPONENTS_LENGTH]
+    requires { ⌜ at + 8 ≤ length (now s) ⌝ }
+    ensures { λ r. ⌜ r ≡ exponents-at (now (s .entry)) at ⌝ }
+{
+    let mut e = [0u8; words::EXPONENTS_LENGTH];
+    let mut j = 0;
+    while j < words::EXPONENTS_LENGTH {
+        e[j] = words::narrow(s[at + j]);
+        j += 1;
+    }
+    e
+}
+
+// Row i by value.
+pub fn row(s: &[u16], i: usize) -> Term
+    requires { ⌜ i * row-length + row-length ≤ length (now s) ⌝ }
+    ensures { λ r. ⌜ term-of r ≡ row-at (now (s .entry)) i ⌝ }
+{
+    let at = i * words::ROW_LENGTH;
+    let e = exponents(s, at + words::EXPONENTS_OFFSET);
+    Term {
+        coefficient: s[at],
+        monomial: Monomial {
+            exponents: e,
+            component: s[at + words::COMPONENT_OFFSET],
+        },
+    }
+}
+
+fn words(c: u16, m: u16, e: [u8; words::EXPONENTS_LENGTH]) -> [u16; words::ROW_LENGTH]
+    ensures { λ r. ⌜ (r ≡ c ∷ m ∷ e) × Eight e ⌝ }
+{
+    let mut w = [c, m, 0, 0, 0, 0, 0, 0, 0, 0];
+    let mut j = 0;
+    while j < words::EXPONENTS_LENGTH {
+        w[j + 2] = words::wide(e[j]);
+        j += 1;
+    }
+    w
+}
+
+// Ten words stored from word at on.
+fn store_words(s: &mut [u16], at: usize, w: [u16; words::ROW_LENGTH])
+    requires { ⌜ at + row-length ≤ length (now s) ⌝ }
+    ensures { λ _. ⌜ now (s .exit) ≡ paste (now (s .entry)) at w row-length ⌝ }
+{
+    let mut j = 0;
+    while j < words::ROW_LENGTH {
+        s[at + j] = w[j];
+        j += 1;
+    }
+}
+
+// The term stored in row i.
+pub fn put(s: &mut [u16], i: usize, t: Term)
+    requires { ⌜ i * row-length + row-length ≤ length (now s) ⌝ }
+    ensures { λ _. ⌜ (now (s .exit) ≡ written (now (s .entry)) i (term-of t)) × Eight (term-of t .1 .0) ⌝ }
+{
+    let c = t.coefficient;
+    let m = t.monomial;
+    let e = m.exponents;
+    let w = words(c, m.component, e);
+    store_words(s, i * words::ROW_LENGTH, w);
+}
+
+// The coefficient of row i, changed in place.
+pub fn set_coefficient(s: &mut [u16], i: usize, c: u16)
+    requires { ⌜ i * row-length + row-length ≤ length (now s) ⌝ }
+    ensures { λ _. ⌜ now (s .exit) ≡ set (now (s .entry)) (i * row-length) c ⌝ }
+{
+    s[i * words::ROW_LENGTH] = c;
+}
+
+// 1 where the word, read as an exponent, is not x; else the mark.
+fn mark_other(mark: u16, word: u16, x: u8) -> u16
+    ensures { λ r. ⌜ r ≡ mark-by (mathlib.Core.Bool.not (eqb x (byte word))) mark ⌝ }
+{
+    if words::clamped(word) != words::wide(x) {
+        return 1;
+    }
+    mark
+}
+
+// Whether the exponents from word at on are e.
+fn same_words(s: &[u16], at: usize, e: [u8; words::EXPONENTS_LENGTH]) -> bool
+    requires { ⌜ at + 8 ≤ length (now s) ⌝ }
+    ensures { λ r. ⌜ r ≡ same-exponents? e (exponents-at (now (s .entry)) at) ⌝ }
+{
+    let mut mark: u16 = 0;
+    let mut j = 0;
+    while j < words::EXPONENTS_LENGTH {
+        mark = mark_other(mark, s[at + j], e[j]);
+        j += 1;
+    }
+    mark == 0
+}
+
+// Whether row i has the monomial.
+pub fn same_row(s: &[u16], i: usize, m: Monomial) -> bool
+    requires { ⌜ i * row-length + row-length ≤ length (now s) ⌝ }
+    ensures { λ r. ⌜ r ≡ same-monomial? (monomial-of m) (row-at (now (s .entry)) i .1) ⌝ }
+{
+    let at = i * words::ROW_LENGTH;
+    let a = m.component;
+    if s[at + words::COMPONENT_OFFSET] != a {
+        return false;
+    }
+    let e = m.exponents;
+    same_words(s, at + words::EXPONENTS_OFFSET, e)
+}
+
+// Row i leaves the first n rows; those above it close up.
+pub fn remove(s: &mut [u16], n: usize, i: usize)
+    requires { ⌜ (i < n) × (n * row-length ≤ length (now s)) ⌝ }
+    ensures { λ _. ⌜ now (s .exit) ≡ closed (now (s .entry)) (i * row-length) (n * row-length - row-length) ⌝ }
+{
+    let end = n * words::ROW_LENGTH - words::ROW_LENGTH;
+    let mut k = i * words::ROW_LENGTH;
+    while k < end {
+        s[k] = s[k + words::ROW_LENGTH];
+        k += 1;
+    }
+}
+
+// The rows from row i on, of the first n, go up by one.
+pub fn open(s: &mut [u16], n: usize, i: usize)
+    requires { ⌜ (i ≤ n) × (n * row-length + row-length ≤ length (now s)) ⌝ }
+    ensures { λ _. ⌜ now (s .exit) ≡ opened (now (s .entry)) (i * row-length) (n * row-length) ⌝ }
+{
+    let start = i * words::ROW_LENGTH;
+    let mut k = n * words::ROW_LENGTH;
+    while start < k {
+        k -= 1;
+        s[k + words::ROW_LENGTH] = s[k];
+    }
+}
+
+// Zeros from word a to the end.
+pub fn clear(s: &mut [u16], a: usize)
+    ensures { λ _. ⌜ now (s .exit) ≡ cleared (now (s .entry)) a ⌝ }
+{
+    let mut k = a;
+    while k < s.len() {
+        s[k] = 0;
+        k += 1;
+    }
+}
+
+// The first n words of another slice, from word at on.
+pub fn copy(d: &mut [u16], at: usize, s: &[u16], n: usize)
+    requires { ⌜ (at + n ≤ length (now d)) × (n ≤ length (now s)) ⌝ }
+    ensures { λ _. ⌜ now (d .exit) ≡ paste (now (d .entry)) at (now (s .entry)) n ⌝ }
+{
+    let mut j = 0;
+    while j < n {
+        d[at + j] = s[j];
+        j += 1;
+    }
+}

@@ -1,0 +1,104 @@
+use borrow.Author.Needs.{needs}
+use mathlib.Core.Path.{refl, sym, subst}
+use Prim.Native.Nat.{_-_, _≤_}
+use lib.ListN.{length}
+use Rattle.definitions.specs.Limits.{document-01}
+use Rattle.definitions.specs.Layout.{work-words, lifting-by}
+use Rattle.definitions.specs.Places.{value-length, tree-length}
+use Rattle.level.specs.all_levels.Level.{by-picks, by-leading, Lifted-by}
+use Rattle.ways.specs.any_way.Ways.{way-of}
+use Rattle.ways.proofs.any_way.lift_by.Statement.{statement}
+use Rattle.ways.proofs.any_way.lift_by.Tie as tie
+
+enum-told : tie.Need-enum-told
+enum-told c = search needs
+
+lift-level-requires : tie.Need-lift-level-requires
+lift-level-requires c κs =
+    let a = c .before .before .before .before .before .before .before .args in
+    let P = c .before .before .before .before .before .before .before .pre in
+    let h : value-length ≤ length (a .work .now) = subst (λ x. work-words document-01 (way-of x) ≤ length (a .work .now)) (c .before .before .enum-told .given .1) (P .1) in
+    (P .0, h, by-leading refl refl refl)
+
+enum-known-way : tie.Need-enum-known-way
+enum-known-way c = search needs
+
+lift-level-requires-2 : tie.Need-lift-level-requires-2
+lift-level-requires-2 c κs =
+    let a = c .before .before .before .before .before .before .before .before .args in
+    let P = c .before .before .before .before .before .before .before .before .pre in
+    let h : value-length ≤ length (a .work .now) = subst (λ x. work-words document-01 (way-of x) ≤ length (a .work .now)) (c .before .before .before .way .given .1) (P .1) in
+    (P .0, h, by-picks refl refl)
+
+enum-told-2 : tie.Need-enum-told-2
+enum-told-2 c = search needs
+
+lift-tree-requires : tie.Need-lift-tree-requires
+lift-tree-requires c κs =
+    let a = c .before .before .before .before .before .before .before .before .args in
+    let P = c .before .before .before .before .before .before .before .before .pre in
+    let h : tree-length ≤ length (a .work .now) = subst (λ x. work-words document-01 (way-of x) ≤ length (a .work .now)) (c .before .before .before .enum-told2 .given .1) (P .1) in
+    (P .0, h)
+
+same-length : tie.Need-same-length
+same-length c = search needs
+
+same-length-2 : tie.Need-same-length-2
+same-length-2 c = search needs
+
+returns : tie.Need-returns
+returns c =
+    let m = c .before .before .before .before .before .before .before in
+    let a = m .before .before .before .before .before .args in
+    let L = c .before .before .before .before .lift-level in
+    subst (λ x. Lifted-by (a .state .now) (a .k) (lifting-by (way-of x) (a .cache .now)) (L .result) (L .last .0)) (sym (m .enum-told .given .1)) (L .ensures)
+
+same-length-3 : tie.Need-same-length-3
+same-length-3 c = search needs
+
+same-length-4 : tie.Need-same-length-4
+same-length-4 c = search needs
+
+returns-2 : tie.Need-returns-2
+returns-2 c =
+    let m = c .before .before .before .before .before .before .before .before in
+    let a = m .before .before .before .before .before .args in
+    let L = c .before .before .before .before .lift-level2 in
+    subst (λ x. Lifted-by (a .state .now) (a .k) (lifting-by (way-of x) (a .cache .now)) (L .result) (L .last .0)) (sym (m .way .given .1)) (L .ensures)
+
+same-length-5 : tie.Need-same-length-5
+same-length-5 c = search needs
+
+same-length-6 : tie.Need-same-length-6
+same-length-6 c = search needs
+
+same-length-7 : tie.Need-same-length-7
+same-length-7 c = search needs
+
+returns-3 : tie.Need-returns-3
+returns-3 c =
+    let m = c .before .before .before .before .before .before .before .before .before .before in
+    let a = m .before .before .before .before .before .args in
+    let L = c .before .before .before .before .before .before .lift-tree in
+    subst (λ x. Lifted-by (a .state .now) (a .k) (lifting-by (way-of x) (a .cache .now)) (L .result) (L .last .0)) (sym (m .enum-told2 .given .1)) (L .ensures)
+
+pub lift-by-spec : {M : Type 1} → statement M
+lift-by-spec =
+    tie.close
+    (tie.spec
+    enum-told
+    lift-level-requires
+    enum-known-way
+    lift-level-requires-2
+    enum-told-2
+    lift-tree-requires
+    same-length
+    same-length-2
+    returns
+    same-length-3
+    same-length-4
+    returns-2
+    same-length-5
+    same-length-6
+    same-length-7
+    returns-3)

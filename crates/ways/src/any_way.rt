@@ -1,0 +1,58 @@
+// A level of a sound state lifted by any of the three ways, and stored.
+// Knows: crate definitions' Calls, through level::all_levels and by_tree.
+ghost use Prim.Native.Nat.{_/_, _≤_};
+ghost use lib.ListN.{length};
+ghost use Rattle.definitions.specs.Limits.{document-01};
+ghost use Rattle.definitions.specs.Lifting.{by-tree};
+ghost use Rattle.definitions.specs.Layout.{work-words, lifting-by};
+ghost use Rattle.definitions.specs.Places.{row-length, tree-length};
+ghost use Rattle.level.specs.all_levels.Level.{Liftable, Lifted-by};
+ghost use Rattle.ways.specs.any_way.Ways.{way-of};
+use crate::by_tree;
+use level::all_levels;
+use level::by_runs;
+use runs::run::Strategy;
+
+// "by one of three ways"; hybrid's with its pick code.
+pub enum Way {
+    Division,
+    Hybrid(u16),
+    Tree,
+}
+
+// Level k by the tree.
+fn lift_tree(state: &mut [u16], work: &mut [u16], cache: &mut [u16], k: usize) -> u16
+    requires { ⌜ Liftable (now state) k × (tree-length ≤ length (now work)) ⌝ }
+    ensures { λ r. ⌜ Lifted-by (now (state .entry)) k (by-tree (length (now (cache .entry)) / row-length)) r (now (state .exit)) ⌝ }
+{
+    let mut out = [0u16; words::GROWN_LENGTH];
+    let b = by_runs::usual();
+    let x = by_tree::lift_level(&mut out, cache, work, state, k - 1, b);
+    all_levels::store(state, k, x, &out)
+}
+
+// Level k.
+pub fn lift_by(state: &mut [u16], work: &mut [u16], cache: &mut [u16], k: usize, way: Way) -> u16
+    requires { ⌜ Liftable (now state) k × (work-words document-01 (way-of way) ≤ length (now work)) ⌝ }
+    ensures { λ r. ⌜ Lifted-by (now (state .entry)) k (lifting-by (way-of way) (now (cache .entry))) r (now (state .exit)) ⌝ }
+{
+    match way {
+        Way::Division => {
+            let w = Strategy {
+                drops: false,
+                pick: 1,
+                stops: false,
+            };
+            all_levels::lift_level(state, work, k, w)
+        }
+        Way::Hybrid(pick) => {
+            let w = Strategy {
+                drops: true,
+                pick,
+                stops: false,
+            };
+            all_levels::lift_level(state, work, k, w)
+        }
+        Way::Tree => lift_tree(state, work, cache, k),
+    }
+}

@@ -1,3 +1,0 @@
-pub mod Growing
-pub mod Settled
-pub mod Grown
