@@ -13,10 +13,29 @@ use Rattle.definitions.proofs.Views.{seen, held, due}
 
 -- calls-1-41
 abbrev limits-1 : Limits
-limits-1 = record { prime-bound = 65535; variables = 8; components = 16; elements = 64; exponent = 2; t-lines = 2048; file = 65536; field = 65535; vectors = 128; level-terms = 2048; levels = 9; working = 512; vector = 512; tree = 4096; numbering = λ code. 1 }
+limits-1 = record {
+  prime-bound = 65535;
+  variables = 8;
+  components = 16;
+  elements = 64;
+  exponent = 2;
+  t-lines = 2048;
+  file = 65536;
+  field =
+      65535;
+  vectors = 128;
+  level-terms = 2048;
+  levels = 9;
+  working = 512;
+  vector = 512;
+  tree = 4096;
+  numbering = λ code. 1;
+}
 
 abbrev list-1 : List Call
-list-1 = reading true (text ("R,11,2,3,1" ∷ "T,1,10,1,1,0" ∷ "T,1,1,1,0,1" ∷ "T,2,10,1,2,1" ∷ "T,2,1,1,1,2" ∷ "T,2,10,1,1,0" ∷ "T,2,1,1,0,1" ∷ "E,6" ∷ [])) ∷ lifting true 1 (by-hybrid 2) ∷ fetching true 1 1 ∷ fetching true 1 1 ∷ lifting true 11 (by-hybrid 3) ∷ fetching true 1 1 ∷ fetching true 1 1 ∷ []
+list-1 = reading true (text ("R,11,2,3,1" ∷ "T,1,10,1,1,0" ∷ "T,1,1,1,0,1" ∷ "T,2,10,1,2,1" ∷ "T,2,1,1,1,2" ∷ "T,2,10,1,1,0" ∷ "T,2,1,1,0,1" ∷ "E,6"
+    ∷ [])) ∷ lifting true 1 (by-hybrid 2) ∷ fetching true 1 1 ∷ fetching true 1 1 ∷ lifting true 11 (by-hybrid 3) ∷ fetching true 1 1
+    ∷ fetching true 1 1 ∷ []
 
 seen-1 : seen limits-1 2000 empty list-1 ≡ some (text ("A,0,0" ∷ "A,13,1" ∷ "A,11,0" ∷ "A,11,0" ∷ "A,11,0" ∷ "A,11,0" ∷ "A,11,0" ∷ []))
 seen-1 = refl
@@ -29,42 +48,103 @@ due-1 = refl
 
 -- calls-1-42
 abbrev limits-2 : Limits
-limits-2 = record { prime-bound = 65535; variables = 8; components = 16; elements = 64; exponent = 255; t-lines = 2048; file = 65536; field = 65535; vectors = 128; level-terms = 2048; levels = 9; working = 512; vector = 512; tree = 4096; numbering = λ code. 1 }
+limits-2 = record {
+  prime-bound = 65535;
+  variables = 8;
+  components = 16;
+  elements = 64;
+  exponent = 255;
+  t-lines = 2048;
+  file = 65536;
+  field =
+      65535;
+  vectors = 128;
+  level-terms = 2048;
+  levels = 9;
+  working = 512;
+  vector = 512;
+  tree = 4096;
+  numbering = λ code. 1;
+}
 
 abbrev list-2 : List Call
-list-2 = reading true (text ("R,32003,3,1,1" ∷ "T,1,29849,1,0,1,1" ∷ "T,2,32002,1,0,1,2" ∷ "E,2" ∷ [])) ∷ lifting true 1 (by-tree 20) ∷ lifting true 2 (by-hybrid 0) ∷ lifting true 2 by-division ∷ fetching true 1 1 ∷ []
+list-2 = reading true (text ("R,32003,3,1,1" ∷ "T,1,29849,1,0,1,1" ∷ "T,2,32002,1,0,1,2" ∷ "E,2" ∷ [])) ∷ lifting true 1 (by-tree 20)
+    ∷ lifting true 2 (by-hybrid 0) ∷ lifting true 2 by-division ∷ fetching true 1 1 ∷ []
 
-seen-2 : seen limits-2 2000 empty list-2 ≡ some (text ("A,0,0" ∷ "A,0,0" ∷ "A,12,0" ∷ "A,0,0" ∷ "A,0,0" ∷ "V,1,2,0,0,0,0,0,0,0,0" ∷ "V,12822,1,0,0,1,0,0,0,0,0" ∷ []))
+seen-2 : seen limits-2 2000 empty list-2 ≡ some (text ("A,0,0" ∷ "A,0,0" ∷ "A,12,0" ∷ "A,0,0" ∷ "A,0,0" ∷ "V,1,2,0,0,0,0,0,0,0,0"
+    ∷ "V,12822,1,0,0,1,0,0,0,0,0" ∷ []))
 seen-2 = refl
 
-held-2 : held limits-2 2000 empty list-2 ≡ some (text ("S,0,1,29849,1,0,1,1,0,0,0,0,0" ∷ "S,0,2,32002,1,0,1,2,0,0,0,0,0" ∷ "S,1,1,1,2,0,0,0,0,0,0,0,0" ∷ "S,1,1,12822,1,0,0,1,0,0,0,0,0" ∷ []))
+held-2 : held limits-2 2000 empty list-2 ≡ some (text ("S,0,1,29849,1,0,1,1,0,0,0,0,0" ∷ "S,0,2,32002,1,0,1,2,0,0,0,0,0" ∷ "S,1,1,1,2,0,0,0,0,0,0,0,0"
+    ∷ "S,1,1,12822,1,0,0,1,0,0,0,0,0" ∷ []))
 held-2 = refl
 
-due-2 : due limits-2 2000 empty list-2 ≡ some (text ("S,0,1,29849,1,0,1,1,0,0,0,0,0" ∷ "S,0,2,32002,1,0,1,2,0,0,0,0,0" ∷ "S,1,1,1,2,0,0,0,0,0,0,0,0" ∷ "S,1,1,12822,1,0,0,1,0,0,0,0,0" ∷ []))
+due-2 : due limits-2 2000 empty list-2 ≡ some (text ("S,0,1,29849,1,0,1,1,0,0,0,0,0" ∷ "S,0,2,32002,1,0,1,2,0,0,0,0,0" ∷ "S,1,1,1,2,0,0,0,0,0,0,0,0"
+    ∷ "S,1,1,12822,1,0,0,1,0,0,0,0,0" ∷ []))
 due-2 = refl
 
 -- calls-1-43
 abbrev limits-3 : Limits
-limits-3 = record { prime-bound = 65535; variables = 8; components = 16; elements = 64; exponent = 255; t-lines = 2048; file = 65536; field = 65535; vectors = 128; level-terms = 2048; levels = 9; working = 512; vector = 512; tree = 4096; numbering = λ code. 1 }
+limits-3 = record {
+  prime-bound = 65535;
+  variables = 8;
+  components = 16;
+  elements = 64;
+  exponent = 255;
+  t-lines = 2048;
+  file = 65536;
+  field =
+      65535;
+  vectors = 128;
+  level-terms = 2048;
+  levels = 9;
+  working = 512;
+  vector = 512;
+  tree = 4096;
+  numbering = λ code. 1;
+}
 
 abbrev list-3 : List Call
-list-3 = reading true (text ("R,32003,2,2,1" ∷ "T,1,17887,1,0,1" ∷ "T,2,22720,1,0,1" ∷ "E,2" ∷ [])) ∷ lifting true 1 (by-tree 9) ∷ lifting true 2 (by-tree 60) ∷ lifting true 3 (by-hybrid 2) ∷ lifting true 3 (by-hybrid 1) ∷ fetching true 1 1 ∷ []
+list-3 = reading true (text ("R,32003,2,2,1" ∷ "T,1,17887,1,0,1" ∷ "T,2,22720,1,0,1" ∷ "E,2" ∷ [])) ∷ lifting true 1 (by-tree 9)
+    ∷ lifting true 2 (by-tree 60) ∷ lifting true 3 (by-hybrid 2) ∷ lifting true 3 (by-hybrid 1) ∷ fetching true 1 1 ∷ []
 
-seen-3 : seen limits-3 2000 empty list-3 ≡ some (text ("A,0,0" ∷ "A,0,0" ∷ "A,0,0" ∷ "A,0,0" ∷ "A,0,0" ∷ "A,0,0" ∷ "V,1,2,0,0,0,0,0,0,0,0" ∷ "V,5343,1,0,0,0,0,0,0,0,0" ∷ []))
+seen-3 : seen limits-3 2000 empty list-3 ≡ some (text ("A,0,0" ∷ "A,0,0" ∷ "A,0,0" ∷ "A,0,0" ∷ "A,0,0" ∷ "A,0,0" ∷ "V,1,2,0,0,0,0,0,0,0,0"
+    ∷ "V,5343,1,0,0,0,0,0,0,0,0" ∷ []))
 seen-3 = refl
 
-held-3 : held limits-3 2000 empty list-3 ≡ some (text ("S,0,1,17887,1,0,1,0,0,0,0,0,0" ∷ "S,0,2,22720,1,0,1,0,0,0,0,0,0" ∷ "S,1,1,1,2,0,0,0,0,0,0,0,0" ∷ "S,1,1,5343,1,0,0,0,0,0,0,0,0" ∷ []))
+held-3 : held limits-3 2000 empty list-3 ≡ some (text ("S,0,1,17887,1,0,1,0,0,0,0,0,0" ∷ "S,0,2,22720,1,0,1,0,0,0,0,0,0" ∷ "S,1,1,1,2,0,0,0,0,0,0,0,0"
+    ∷ "S,1,1,5343,1,0,0,0,0,0,0,0,0" ∷ []))
 held-3 = refl
 
-due-3 : due limits-3 2000 empty list-3 ≡ some (text ("S,0,1,17887,1,0,1,0,0,0,0,0,0" ∷ "S,0,2,22720,1,0,1,0,0,0,0,0,0" ∷ "S,1,1,1,2,0,0,0,0,0,0,0,0" ∷ "S,1,1,5343,1,0,0,0,0,0,0,0,0" ∷ []))
+due-3 : due limits-3 2000 empty list-3 ≡ some (text ("S,0,1,17887,1,0,1,0,0,0,0,0,0" ∷ "S,0,2,22720,1,0,1,0,0,0,0,0,0" ∷ "S,1,1,1,2,0,0,0,0,0,0,0,0"
+    ∷ "S,1,1,5343,1,0,0,0,0,0,0,0,0" ∷ []))
 due-3 = refl
 
 -- calls-1-44
 abbrev limits-4 : Limits
-limits-4 = record { prime-bound = 65535; variables = 8; components = 16; elements = 64; exponent = 255; t-lines = 2048; file = 65536; field = 65535; vectors = 128; level-terms = 2048; levels = 9; working = 512; vector = 512; tree = 4; numbering = λ code. 1 }
+limits-4 = record {
+  prime-bound = 65535;
+  variables = 8;
+  components = 16;
+  elements = 64;
+  exponent = 255;
+  t-lines = 2048;
+  file = 65536;
+  field =
+      65535;
+  vectors = 128;
+  level-terms = 2048;
+  levels = 9;
+  working = 512;
+  vector = 512;
+  tree = 4;
+  numbering = λ code. 1;
+}
 
 abbrev list-4 : List Call
-list-4 = reading true (text ("R,11,5,1,1" ∷ "T,1,1,1,1,0,1,0,0" ∷ "T,1,10,1,0,2,0,0,0" ∷ "T,2,10,1,1,0,0,1,0" ∷ "T,2,1,1,0,1,1,0,0" ∷ "T,3,10,1,0,1,0,1,0" ∷ "T,3,1,1,0,0,2,0,0" ∷ "T,4,8,1,1,0,0,0,1" ∷ "T,4,3,1,0,1,0,1,0" ∷ "T,5,1,1,0,1,0,0,1" ∷ "T,5,10,1,0,0,1,1,0" ∷ "T,6,7,1,0,0,1,0,1" ∷ "T,6,4,1,0,0,0,2,0" ∷ "E,12" ∷ [])) ∷ fetching true 1 0 ∷ lifting true 1 (by-hybrid 3) ∷ lifting true 2 (by-tree 9) ∷ []
+list-4 = reading true (text ("R,11,5,1,1" ∷ "T,1,1,1,1,0,1,0,0" ∷ "T,1,10,1,0,2,0,0,0" ∷ "T,2,10,1,1,0,0,1,0" ∷ "T,2,1,1,0,1,1,0,0"
+    ∷ "T,3,10,1,0,1,0,1,0" ∷ "T,3,1,1,0,0,2,0,0" ∷ "T,4,8,1,1,0,0,0,1" ∷ "T,4,3,1,0,1,0,1,0" ∷ "T,5,1,1,0,1,0,0,1" ∷ "T,5,10,1,0,0,1,1,0"
+    ∷ "T,6,7,1,0,0,1,0,1" ∷ "T,6,4,1,0,0,0,2,0" ∷ "E,12" ∷ [])) ∷ fetching true 1 0 ∷ lifting true 1 (by-hybrid 3) ∷ lifting true 2 (by-tree 9) ∷ []
 
 seen-4 : seen limits-4 2000 empty list-4 ≡ some (text ("A,0,0" ∷ "A,11,0" ∷ "A,0,0" ∷ "A,14,2" ∷ []))
 seen-4 = refl
@@ -77,42 +157,104 @@ due-4 = refl
 
 -- calls-1-45
 abbrev limits-5 : Limits
-limits-5 = record { prime-bound = 65535; variables = 8; components = 16; elements = 64; exponent = 255; t-lines = 2048; file = 65536; field = 65535; vectors = 128; level-terms = 2048; levels = 9; working = 512; vector = 512; tree = 4096; numbering = λ code. 1 }
+limits-5 = record {
+  prime-bound = 65535;
+  variables = 8;
+  components = 16;
+  elements = 64;
+  exponent = 255;
+  t-lines = 2048;
+  file = 65536;
+  field =
+      65535;
+  vectors = 128;
+  level-terms = 2048;
+  levels = 9;
+  working = 512;
+  vector = 512;
+  tree = 4096;
+  numbering = λ code. 1;
+}
 
 abbrev list-5 : List Call
-list-5 = reading true (text ("R,2,1,2,1" ∷ "T,1,1,1,2" ∷ "T,2,1,1,3" ∷ "T,3,1,1,1" ∷ "T,4,1,1,0" ∷ "T,5,1,1,3" ∷ "T,6,1,1,0" ∷ "E,6" ∷ [])) ∷ fetching true 1 1 ∷ fetching true 1 1 ∷ []
+list-5 = reading true (text ("R,2,1,2,1" ∷ "T,1,1,1,2" ∷ "T,2,1,1,3" ∷ "T,3,1,1,1" ∷ "T,4,1,1,0" ∷ "T,5,1,1,3" ∷ "T,6,1,1,0" ∷ "E,6" ∷ []))
+    ∷ fetching true 1 1 ∷ fetching true 1 1 ∷ []
 
 seen-5 : seen limits-5 2000 empty list-5 ≡ some (text ("A,0,0" ∷ "A,11,0" ∷ "A,11,0" ∷ []))
 seen-5 = refl
 
-held-5 : held limits-5 2000 empty list-5 ≡ some (text ("S,0,1,1,1,2,0,0,0,0,0,0,0" ∷ "S,0,2,1,1,3,0,0,0,0,0,0,0" ∷ "S,0,3,1,1,1,0,0,0,0,0,0,0" ∷ "S,0,4,1,1,0,0,0,0,0,0,0,0" ∷ "S,0,5,1,1,3,0,0,0,0,0,0,0" ∷ "S,0,6,1,1,0,0,0,0,0,0,0,0" ∷ []))
+held-5 : held limits-5 2000 empty list-5 ≡ some (text ("S,0,1,1,1,2,0,0,0,0,0,0,0" ∷ "S,0,2,1,1,3,0,0,0,0,0,0,0" ∷ "S,0,3,1,1,1,0,0,0,0,0,0,0"
+    ∷ "S,0,4,1,1,0,0,0,0,0,0,0,0" ∷ "S,0,5,1,1,3,0,0,0,0,0,0,0" ∷ "S,0,6,1,1,0,0,0,0,0,0,0,0" ∷ []))
 held-5 = refl
 
-due-5 : due limits-5 2000 empty list-5 ≡ some (text ("S,0,1,1,1,2,0,0,0,0,0,0,0" ∷ "S,0,2,1,1,3,0,0,0,0,0,0,0" ∷ "S,0,3,1,1,1,0,0,0,0,0,0,0" ∷ "S,0,4,1,1,0,0,0,0,0,0,0,0" ∷ "S,0,5,1,1,3,0,0,0,0,0,0,0" ∷ "S,0,6,1,1,0,0,0,0,0,0,0,0" ∷ []))
+due-5 : due limits-5 2000 empty list-5 ≡ some (text ("S,0,1,1,1,2,0,0,0,0,0,0,0" ∷ "S,0,2,1,1,3,0,0,0,0,0,0,0" ∷ "S,0,3,1,1,1,0,0,0,0,0,0,0"
+    ∷ "S,0,4,1,1,0,0,0,0,0,0,0,0" ∷ "S,0,5,1,1,3,0,0,0,0,0,0,0" ∷ "S,0,6,1,1,0,0,0,0,0,0,0,0" ∷ []))
 due-5 = refl
 
 -- calls-1-46
 abbrev limits-6 : Limits
-limits-6 = record { prime-bound = 65535; variables = 8; components = 16; elements = 64; exponent = 2; t-lines = 2048; file = 65536; field = 65535; vectors = 128; level-terms = 0; levels = 9; working = 512; vector = 512; tree = 4096; numbering = λ code. 1 }
+limits-6 = record {
+  prime-bound = 65535;
+  variables = 8;
+  components = 16;
+  elements = 64;
+  exponent = 2;
+  t-lines = 2048;
+  file = 65536;
+  field =
+      65535;
+  vectors = 128;
+  level-terms = 0;
+  levels = 9;
+  working = 512;
+  vector = 512;
+  tree = 4096;
+  numbering = λ code. 1;
+}
 
 abbrev list-6 : List Call
-list-6 = reading true (text ("R,2,3,1,1" ∷ "T,1,1,1,2,0,0" ∷ "T,1,1,1,1,0,1" ∷ "T,1,1,1,1,0,0" ∷ "T,1,1,1,0,2,0" ∷ "T,1,1,1,0,1,1" ∷ "T,1,1,1,0,1,0" ∷ "T,2,1,1,2,0,0" ∷ "T,2,1,1,1,0,1" ∷ "T,2,1,1,1,0,0" ∷ "T,2,1,1,0,2,0" ∷ "T,2,1,1,0,1,1" ∷ "T,2,1,1,0,1,0" ∷ "E,12" ∷ [])) ∷ lifting true 1 by-division ∷ reading true (text ("R,251,5,1,1" ∷ "T,1,1,1,0,0,0,1,0" ∷ "T,2,42,1,2,0,0,0,0" ∷ "T,2,209,1,0,1,1,0,0" ∷ "T,2,209,1,0,1,0,0,1" ∷ "T,3,50,1,2,0,0,1,0" ∷ "T,3,50,1,0,1,0,1,0" ∷ "T,3,50,1,0,0,2,1,0" ∷ "E,7" ∷ [])) ∷ fetching true 1 1 ∷ fetching true 1 1 ∷ []
+list-6 = reading true (text ("R,2,3,1,1" ∷ "T,1,1,1,2,0,0" ∷ "T,1,1,1,1,0,1" ∷ "T,1,1,1,1,0,0" ∷ "T,1,1,1,0,2,0" ∷ "T,1,1,1,0,1,1" ∷ "T,1,1,1,0,1,0"
+    ∷ "T,2,1,1,2,0,0" ∷ "T,2,1,1,1,0,1" ∷ "T,2,1,1,1,0,0" ∷ "T,2,1,1,0,2,0" ∷ "T,2,1,1,0,1,1" ∷ "T,2,1,1,0,1,0" ∷ "E,12" ∷ []))
+    ∷ lifting true 1 by-division ∷ reading true (text ("R,251,5,1,1" ∷ "T,1,1,1,0,0,0,1,0" ∷ "T,2,42,1,2,0,0,0,0" ∷ "T,2,209,1,0,1,1,0,0"
+    ∷ "T,2,209,1,0,1,0,0,1" ∷ "T,3,50,1,2,0,0,1,0" ∷ "T,3,50,1,0,1,0,1,0" ∷ "T,3,50,1,0,0,2,1,0" ∷ "E,7" ∷ [])) ∷ fetching true 1 1 ∷ fetching true 1 1
+    ∷ []
 
 seen-6 : seen limits-6 2000 empty list-6 ≡ some (text ("A,0,0" ∷ "A,15,1" ∷ "A,0,0" ∷ "A,11,0" ∷ "A,11,0" ∷ []))
 seen-6 = refl
 
-held-6 : held limits-6 2000 empty list-6 ≡ some (text ("S,0,1,1,1,0,0,0,1,0,0,0,0" ∷ "S,0,2,42,1,2,0,0,0,0,0,0,0" ∷ "S,0,2,209,1,0,1,1,0,0,0,0,0" ∷ "S,0,2,209,1,0,1,0,0,1,0,0,0" ∷ "S,0,3,50,1,2,0,0,1,0,0,0,0" ∷ "S,0,3,50,1,0,1,0,1,0,0,0,0" ∷ "S,0,3,50,1,0,0,2,1,0,0,0,0" ∷ []))
+held-6 : held limits-6 2000 empty list-6 ≡ some (text ("S,0,1,1,1,0,0,0,1,0,0,0,0" ∷ "S,0,2,42,1,2,0,0,0,0,0,0,0" ∷ "S,0,2,209,1,0,1,1,0,0,0,0,0"
+    ∷ "S,0,2,209,1,0,1,0,0,1,0,0,0" ∷ "S,0,3,50,1,2,0,0,1,0,0,0,0" ∷ "S,0,3,50,1,0,1,0,1,0,0,0,0" ∷ "S,0,3,50,1,0,0,2,1,0,0,0,0" ∷ []))
 held-6 = refl
 
-due-6 : due limits-6 2000 empty list-6 ≡ some (text ("S,0,1,1,1,0,0,0,1,0,0,0,0" ∷ "S,0,2,42,1,2,0,0,0,0,0,0,0" ∷ "S,0,2,209,1,0,1,1,0,0,0,0,0" ∷ "S,0,2,209,1,0,1,0,0,1,0,0,0" ∷ "S,0,3,50,1,2,0,0,1,0,0,0,0" ∷ "S,0,3,50,1,0,1,0,1,0,0,0,0" ∷ "S,0,3,50,1,0,0,2,1,0,0,0,0" ∷ []))
+due-6 : due limits-6 2000 empty list-6 ≡ some (text ("S,0,1,1,1,0,0,0,1,0,0,0,0" ∷ "S,0,2,42,1,2,0,0,0,0,0,0,0" ∷ "S,0,2,209,1,0,1,1,0,0,0,0,0"
+    ∷ "S,0,2,209,1,0,1,0,0,1,0,0,0" ∷ "S,0,3,50,1,2,0,0,1,0,0,0,0" ∷ "S,0,3,50,1,0,1,0,1,0,0,0,0" ∷ "S,0,3,50,1,0,0,2,1,0,0,0,0" ∷ []))
 due-6 = refl
 
 -- calls-1-47
 abbrev limits-7 : Limits
-limits-7 = record { prime-bound = 65535; variables = 8; components = 16; elements = 64; exponent = 255; t-lines = 2048; file = 65536; field = 65535; vectors = 128; level-terms = 2048; levels = 9; working = 512; vector = 512; tree = 0; numbering = λ code. 1 }
+limits-7 = record {
+  prime-bound = 65535;
+  variables = 8;
+  components = 16;
+  elements = 64;
+  exponent = 255;
+  t-lines = 2048;
+  file = 65536;
+  field =
+      65535;
+  vectors = 128;
+  level-terms = 2048;
+  levels = 9;
+  working = 512;
+  vector = 512;
+  tree = 0;
+  numbering = λ code. 1;
+}
 
 abbrev list-7 : List Call
-list-7 = reading true (text ("R,32003,3,2,1" ∷ "T,1,23839,1,0,0,0" ∷ "T,2,1,1,0,0,1" ∷ "T,2,1,1,0,0,0" ∷ "T,3,10271,1,0,1,0" ∷ "T,3,7234,1,0,0,0" ∷ "T,4,11401,1,0,0,2" ∷ "T,5,8502,1,0,2,0" ∷ "T,6,32002,1,2,0,0" ∷ "T,6,1,1,0,0,1" ∷ "T,6,1,1,0,0,0" ∷ "T,7,9628,1,2,0,0" ∷ "E,11" ∷ [])) ∷ fetching true 1 65535 ∷ lifting true 1 (by-tree 60) ∷ lifting true 2 (by-tree 0) ∷ []
+list-7 = reading true (text ("R,32003,3,2,1" ∷ "T,1,23839,1,0,0,0" ∷ "T,2,1,1,0,0,1" ∷ "T,2,1,1,0,0,0" ∷ "T,3,10271,1,0,1,0" ∷ "T,3,7234,1,0,0,0"
+    ∷ "T,4,11401,1,0,0,2" ∷ "T,5,8502,1,0,2,0" ∷ "T,6,32002,1,2,0,0" ∷ "T,6,1,1,0,0,1" ∷ "T,6,1,1,0,0,0" ∷ "T,7,9628,1,2,0,0" ∷ "E,11" ∷ []))
+    ∷ fetching true 1 65535 ∷ lifting true 1 (by-tree 60) ∷ lifting true 2 (by-tree 0) ∷ []
 
 seen-7 : seen limits-7 2000 empty list-7 ≡ some (text ("A,0,0" ∷ "A,11,0" ∷ "A,14,1" ∷ "A,11,0" ∷ []))
 seen-7 = refl
@@ -125,12 +267,33 @@ due-7 = refl
 
 -- calls-1-48
 abbrev limits-8 : Limits
-limits-8 = record { prime-bound = 65535; variables = 8; components = 16; elements = 64; exponent = 255; t-lines = 2048; file = 65536; field = 65535; vectors = 128; level-terms = 2048; levels = 9; working = 512; vector = 512; tree = 4096; numbering = λ code. 1 }
+limits-8 = record {
+  prime-bound = 65535;
+  variables = 8;
+  components = 16;
+  elements = 64;
+  exponent = 255;
+  t-lines = 2048;
+  file = 65536;
+  field =
+      65535;
+  vectors = 128;
+  level-terms = 2048;
+  levels = 9;
+  working = 512;
+  vector = 512;
+  tree = 4096;
+  numbering = λ code. 1;
+}
 
 abbrev list-8 : List Call
-list-8 = reading true (text ("R,32003,4,3,1" ∷ "T,1,13803,1,0,2,0,0" ∷ "T,1,18200,1,1,0,1,0" ∷ "T,2,23441,1,0,1,1,0" ∷ "T,2,8562,1,1,0,0,1" ∷ "T,3,21693,1,0,0,2,0" ∷ "T,3,10310,1,0,1,0,1" ∷ "E,6" ∷ [])) ∷ fetching true 1 1 ∷ fetching true 1 1 ∷ lifting true 1 (by-hybrid 1) ∷ fetching true 1 2 ∷ lifting true 10 (by-tree 6) ∷ reading true (text ("R,32749,2,1,2" ∷ "T,1,25481,2,1,0" ∷ "T,1,7268,1,0,6" ∷ "E,2" ∷ [])) ∷ lifting true 1 (by-hybrid 2) ∷ []
+list-8 = reading true (text ("R,32003,4,3,1" ∷ "T,1,13803,1,0,2,0,0" ∷ "T,1,18200,1,1,0,1,0" ∷ "T,2,23441,1,0,1,1,0" ∷ "T,2,8562,1,1,0,0,1"
+    ∷ "T,3,21693,1,0,0,2,0" ∷ "T,3,10310,1,0,1,0,1" ∷ "E,6" ∷ [])) ∷ fetching true 1 1 ∷ fetching true 1 1 ∷ lifting true 1 (by-hybrid 1)
+    ∷ fetching true 1 2 ∷ lifting true 10 (by-tree 6) ∷ reading true (text ("R,32749,2,1,2" ∷ "T,1,25481,2,1,0" ∷ "T,1,7268,1,0,6" ∷ "E,2" ∷ []))
+    ∷ lifting true 1 (by-hybrid 2) ∷ []
 
-seen-8 : seen limits-8 2000 empty list-8 ≡ some (text ("A,0,0" ∷ "A,11,0" ∷ "A,11,0" ∷ "A,0,0" ∷ "A,0,0" ∷ "V,1,3,0,1,0,0,0,0,0,0" ∷ "V,5755,2,0,0,1,0,0,0,0,0" ∷ "V,405,1,0,0,0,1,0,0,0,0" ∷ "A,12,0" ∷ "A,0,0" ∷ "A,0,0" ∷ []))
+seen-8 : seen limits-8 2000 empty list-8 ≡ some (text ("A,0,0" ∷ "A,11,0" ∷ "A,11,0" ∷ "A,0,0" ∷ "A,0,0" ∷ "V,1,3,0,1,0,0,0,0,0,0"
+    ∷ "V,5755,2,0,0,1,0,0,0,0,0" ∷ "V,405,1,0,0,0,1,0,0,0,0" ∷ "A,12,0" ∷ "A,0,0" ∷ "A,0,0" ∷ []))
 seen-8 = refl
 
 held-8 : held limits-8 2000 empty list-8 ≡ some (text ("S,0,1,25481,2,1,0,0,0,0,0,0,0" ∷ "S,0,1,7268,1,0,6,0,0,0,0,0,0" ∷ []))
@@ -141,10 +304,29 @@ due-8 = refl
 
 -- calls-1-49
 abbrev limits-9 : Limits
-limits-9 = record { prime-bound = 65535; variables = 8; components = 16; elements = 64; exponent = 255; t-lines = 2048; file = 65536; field = 65535; vectors = 128; level-terms = 2048; levels = 9; working = 1; vector = 512; tree = 0; numbering = λ code. 1 }
+limits-9 = record {
+  prime-bound = 65535;
+  variables = 8;
+  components = 16;
+  elements = 64;
+  exponent = 255;
+  t-lines = 2048;
+  file = 65536;
+  field =
+      65535;
+  vectors = 128;
+  level-terms = 2048;
+  levels = 9;
+  working = 1;
+  vector = 512;
+  tree = 0;
+  numbering = λ code. 1;
+}
 
 abbrev list-9 : List Call
-list-9 = reading true (text ("R,5,4,1,1" ∷ "T,1,1,1,0,1,1,1" ∷ "T,2,4,1,1,1,0,1" ∷ "T,3,4,1,1,2,0,0" ∷ "T,4,1,1,0,0,0,1" ∷ "T,5,1,1,0,0,0,1" ∷ "T,6,2,1,1,0,0,0" ∷ "T,7,3,1,0,0,1,1" ∷ "T,8,3,1,0,2,0,1" ∷ "E,8" ∷ [])) ∷ lifting true 1 (by-hybrid 1) ∷ lifting true 2 (by-hybrid 2) ∷ fetching true 2 2 ∷ fetching true 1 3 ∷ lifting true 3 (by-tree 1000) ∷ fetching true 3 1 ∷ fetching true 1 5 ∷ []
+list-9 = reading true (text ("R,5,4,1,1" ∷ "T,1,1,1,0,1,1,1" ∷ "T,2,4,1,1,1,0,1" ∷ "T,3,4,1,1,2,0,0" ∷ "T,4,1,1,0,0,0,1" ∷ "T,5,1,1,0,0,0,1"
+    ∷ "T,6,2,1,1,0,0,0" ∷ "T,7,3,1,0,0,1,1" ∷ "T,8,3,1,0,2,0,1" ∷ "E,8" ∷ [])) ∷ lifting true 1 (by-hybrid 1) ∷ lifting true 2 (by-hybrid 2)
+    ∷ fetching true 2 2 ∷ fetching true 1 3 ∷ lifting true 3 (by-tree 1000) ∷ fetching true 3 1 ∷ fetching true 1 5 ∷ []
 
 seen-9 : seen limits-9 2000 empty list-9 ≡ some (text ("A,0,0" ∷ "A,0,0" ∷ "A,14,2" ∷ "A,11,0" ∷ "A,11,0" ∷ "A,11,0" ∷ "A,11,0" ∷ "A,11,0" ∷ []))
 seen-9 = refl
@@ -157,26 +339,69 @@ due-9 = refl
 
 -- calls-1-50
 abbrev limits-10 : Limits
-limits-10 = record { prime-bound = 65535; variables = 8; components = 16; elements = 64; exponent = 255; t-lines = 2048; file = 65536; field = 65535; vectors = 128; level-terms = 2048; levels = 9; working = 512; vector = 512; tree = 4096; numbering = λ code. 1 }
+limits-10 = record {
+  prime-bound = 65535;
+  variables = 8;
+  components = 16;
+  elements = 64;
+  exponent = 255;
+  t-lines = 2048;
+  file = 65536;
+  field =
+      65535;
+  vectors = 128;
+  level-terms = 2048;
+  levels = 9;
+  working = 512;
+  vector = 512;
+  tree = 4096;
+  numbering = λ code. 1;
+}
 
 abbrev list-10 : List Call
-list-10 = reading true (text ("R,101,3,3,1" ∷ "T,1,34,1,0,2,0" ∷ "T,2,100,1,0,0,0" ∷ "T,3,1,1,0,0,0" ∷ "T,4,17,1,0,2,0" ∷ "T,4,70,1,0,1,0" ∷ "E,5" ∷ [])) ∷ lifting true 1 (by-hybrid 2) ∷ lifting true 2 by-division ∷ fetching true 1 1 ∷ []
+list-10 = reading true (text ("R,101,3,3,1" ∷ "T,1,34,1,0,2,0" ∷ "T,2,100,1,0,0,0" ∷ "T,3,1,1,0,0,0" ∷ "T,4,17,1,0,2,0" ∷ "T,4,70,1,0,1,0" ∷ "E,5"
+    ∷ [])) ∷ lifting true 1 (by-hybrid 2) ∷ lifting true 2 by-division ∷ fetching true 1 1 ∷ []
 
-seen-10 : seen limits-10 2000 empty list-10 ≡ some (text ("A,0,0" ∷ "A,0,0" ∷ "A,0,0" ∷ "A,0,0" ∷ "V,1,2,0,2,0,0,0,0,0,0" ∷ "V,3,1,0,0,0,0,0,0,0,0" ∷ []))
+seen-10 : seen limits-10 2000 empty list-10 ≡ some (text ("A,0,0" ∷ "A,0,0" ∷ "A,0,0" ∷ "A,0,0" ∷ "V,1,2,0,2,0,0,0,0,0,0" ∷ "V,3,1,0,0,0,0,0,0,0,0"
+    ∷ []))
 seen-10 = refl
 
-held-10 : held limits-10 2000 empty list-10 ≡ some (text ("S,0,1,34,1,0,2,0,0,0,0,0,0" ∷ "S,0,2,100,1,0,0,0,0,0,0,0,0" ∷ "S,0,3,1,1,0,0,0,0,0,0,0,0" ∷ "S,0,4,17,1,0,2,0,0,0,0,0,0" ∷ "S,0,4,70,1,0,1,0,0,0,0,0,0" ∷ "S,1,1,1,2,0,2,0,0,0,0,0,0" ∷ "S,1,1,3,1,0,0,0,0,0,0,0,0" ∷ "S,1,2,1,3,0,0,0,0,0,0,0,0" ∷ "S,1,2,1,2,0,0,0,0,0,0,0,0" ∷ "S,1,3,1,4,0,0,0,0,0,0,0,0" ∷ "S,1,3,50,1,0,0,0,0,0,0,0,0" ∷ "S,1,3,70,2,0,1,0,0,0,0,0,0" ∷ []))
+held-10 : held limits-10 2000 empty list-10 ≡ some (text ("S,0,1,34,1,0,2,0,0,0,0,0,0" ∷ "S,0,2,100,1,0,0,0,0,0,0,0,0" ∷ "S,0,3,1,1,0,0,0,0,0,0,0,0"
+    ∷ "S,0,4,17,1,0,2,0,0,0,0,0,0" ∷ "S,0,4,70,1,0,1,0,0,0,0,0,0" ∷ "S,1,1,1,2,0,2,0,0,0,0,0,0" ∷ "S,1,1,3,1,0,0,0,0,0,0,0,0"
+    ∷ "S,1,2,1,3,0,0,0,0,0,0,0,0" ∷ "S,1,2,1,2,0,0,0,0,0,0,0,0" ∷ "S,1,3,1,4,0,0,0,0,0,0,0,0" ∷ "S,1,3,50,1,0,0,0,0,0,0,0,0"
+    ∷ "S,1,3,70,2,0,1,0,0,0,0,0,0" ∷ []))
 held-10 = refl
 
-due-10 : due limits-10 2000 empty list-10 ≡ some (text ("S,0,1,34,1,0,2,0,0,0,0,0,0" ∷ "S,0,2,100,1,0,0,0,0,0,0,0,0" ∷ "S,0,3,1,1,0,0,0,0,0,0,0,0" ∷ "S,0,4,17,1,0,2,0,0,0,0,0,0" ∷ "S,0,4,70,1,0,1,0,0,0,0,0,0" ∷ "S,1,1,1,2,0,2,0,0,0,0,0,0" ∷ "S,1,1,3,1,0,0,0,0,0,0,0,0" ∷ "S,1,2,1,3,0,0,0,0,0,0,0,0" ∷ "S,1,2,1,2,0,0,0,0,0,0,0,0" ∷ "S,1,3,1,4,0,0,0,0,0,0,0,0" ∷ "S,1,3,50,1,0,0,0,0,0,0,0,0" ∷ "S,1,3,70,2,0,1,0,0,0,0,0,0" ∷ []))
+due-10 : due limits-10 2000 empty list-10 ≡ some (text ("S,0,1,34,1,0,2,0,0,0,0,0,0" ∷ "S,0,2,100,1,0,0,0,0,0,0,0,0" ∷ "S,0,3,1,1,0,0,0,0,0,0,0,0"
+    ∷ "S,0,4,17,1,0,2,0,0,0,0,0,0" ∷ "S,0,4,70,1,0,1,0,0,0,0,0,0" ∷ "S,1,1,1,2,0,2,0,0,0,0,0,0" ∷ "S,1,1,3,1,0,0,0,0,0,0,0,0"
+    ∷ "S,1,2,1,3,0,0,0,0,0,0,0,0" ∷ "S,1,2,1,2,0,0,0,0,0,0,0,0" ∷ "S,1,3,1,4,0,0,0,0,0,0,0,0" ∷ "S,1,3,50,1,0,0,0,0,0,0,0,0"
+    ∷ "S,1,3,70,2,0,1,0,0,0,0,0,0" ∷ []))
 due-10 = refl
 
 -- calls-1-51
 abbrev limits-11 : Limits
-limits-11 = record { prime-bound = 65535; variables = 8; components = 16; elements = 64; exponent = 1; t-lines = 2048; file = 65536; field = 65535; vectors = 128; level-terms = 2048; levels = 9; working = 512; vector = 512; tree = 4096; numbering = λ code. 1 }
+limits-11 = record {
+  prime-bound = 65535;
+  variables = 8;
+  components = 16;
+  elements = 64;
+  exponent = 1;
+  t-lines = 2048;
+  file = 65536;
+  field =
+      65535;
+  vectors = 128;
+  level-terms = 2048;
+  levels = 9;
+  working = 512;
+  vector = 512;
+  tree = 4096;
+  numbering = λ code. 1;
+}
 
 abbrev list-11 : List Call
-list-11 = reading true (text ("R,5,1,3,1" ∷ "T,1,2,1,2" ∷ "T,1,3,1,1" ∷ "T,2,4,1,2?" ∷ "T,2,1,1,1" ∷ "T,3,4,1,3" ∷ "T,3,1,1,1" ∷ "E,6" ∷ [])) ∷ fetching true 1 1 ∷ lifting true 1 (by-tree 1) ∷ reading true (text ("R,251,3,3,3" ∷ "T,1,187,2,1,0,0" ∷ "T,2,2,2,0,0,2" ∷ "E,2" ∷ [])) ∷ []
+list-11 = reading true (text ("R,5,1,3,1" ∷ "T,1,2,1,2" ∷ "T,1,3,1,1" ∷ "T,2,4,1,2?" ∷ "T,2,1,1,1" ∷ "T,3,4,1,3" ∷ "T,3,1,1,1" ∷ "E,6" ∷ []))
+    ∷ fetching true 1 1 ∷ lifting true 1 (by-tree 1) ∷ reading true (text ("R,251,3,3,3" ∷ "T,1,187,2,1,0,0" ∷ "T,2,2,2,0,0,2" ∷ "E,2" ∷ [])) ∷ []
 
 seen-11 : seen limits-11 2000 empty list-11 ≡ some (text ("A,4,2" ∷ "A,11,0" ∷ "A,11,0" ∷ "A,4,3" ∷ []))
 seen-11 = refl
@@ -189,10 +414,28 @@ due-11 = refl
 
 -- calls-1-52
 abbrev limits-12 : Limits
-limits-12 = record { prime-bound = 65535; variables = 8; components = 16; elements = 64; exponent = 255; t-lines = 2048; file = 65536; field = 65535; vectors = 128; level-terms = 2048; levels = 9; working = 512; vector = 3; tree = 1; numbering = λ code. 1 }
+limits-12 = record {
+  prime-bound = 65535;
+  variables = 8;
+  components = 16;
+  elements = 64;
+  exponent = 255;
+  t-lines = 2048;
+  file = 65536;
+  field =
+      65535;
+  vectors = 128;
+  level-terms = 2048;
+  levels = 9;
+  working = 512;
+  vector = 3;
+  tree = 1;
+  numbering = λ code. 1;
+}
 
 abbrev list-12 : List Call
-list-12 = reading true (text ("R,32749,2,1,1" ∷ "T,1,1,1,1,0" ∷ "T,1,2465,1,0,1" ∷ "T,2,23570,1,0,2" ∷ "T,3,1757,1,2,1" ∷ "T,3,8137,1,1,2" ∷ "E,5" ∷ [])) ∷ lifting true 1 (by-tree 12) ∷ fetching true 1 1 ∷ lifting true 2 (by-hybrid 1) ∷ []
+list-12 = reading true (text ("R,32749,2,1,1" ∷ "T,1,1,1,1,0" ∷ "T,1,2465,1,0,1" ∷ "T,2,23570,1,0,2" ∷ "T,3,1757,1,2,1" ∷ "T,3,8137,1,1,2" ∷ "E,5"
+    ∷ [])) ∷ lifting true 1 (by-tree 12) ∷ fetching true 1 1 ∷ lifting true 2 (by-hybrid 1) ∷ []
 
 seen-12 : seen limits-12 2000 empty list-12 ≡ some (text ("A,0,0" ∷ "A,14,1" ∷ "A,11,0" ∷ "A,11,0" ∷ []))
 seen-12 = refl
@@ -205,10 +448,29 @@ due-12 = refl
 
 -- calls-1-53
 abbrev limits-13 : Limits
-limits-13 = record { prime-bound = 65535; variables = 8; components = 16; elements = 64; exponent = 255; t-lines = 2048; file = 65536; field = 65535; vectors = 128; level-terms = 2048; levels = 9; working = 2; vector = 512; tree = 0; numbering = λ code. 1 }
+limits-13 = record {
+  prime-bound = 65535;
+  variables = 8;
+  components = 16;
+  elements = 64;
+  exponent = 255;
+  t-lines = 2048;
+  file = 65536;
+  field =
+      65535;
+  vectors = 128;
+  level-terms = 2048;
+  levels = 9;
+  working = 2;
+  vector = 512;
+  tree = 0;
+  numbering = λ code. 1;
+}
 
 abbrev list-13 : List Call
-list-13 = reading true (text ("R,101,4,2,1" ∷ "T,1,9,1,1,0,2,0" ∷ "T,1,96,1,0,1,0,2" ∷ "T,2,46,1,0,1,1,1" ∷ "T,2,46,1,0,1,1,0" ∷ "T,3,100,1,1,0,0,0" ∷ "T,4,1,1,0,1,0,0" ∷ "T,5,91,1,0,1,0,0" ∷ "T,6,100,1,0,0,1,0" ∷ "T,7,1,1,0,0,0,1" ∷ "E,9" ∷ [])) ∷ lifting true 1 (by-hybrid 65535) ∷ fetching true 1 1 ∷ fetching true 1 1 ∷ lifting true 1 (by-hybrid 3) ∷ lifting true 2 (by-hybrid 2) ∷ []
+list-13 = reading true (text ("R,101,4,2,1" ∷ "T,1,9,1,1,0,2,0" ∷ "T,1,96,1,0,1,0,2" ∷ "T,2,46,1,0,1,1,1" ∷ "T,2,46,1,0,1,1,0" ∷ "T,3,100,1,1,0,0,0"
+    ∷ "T,4,1,1,0,1,0,0" ∷ "T,5,91,1,0,1,0,0" ∷ "T,6,100,1,0,0,1,0" ∷ "T,7,1,1,0,0,0,1" ∷ "E,9" ∷ [])) ∷ lifting true 1 (by-hybrid 65535)
+    ∷ fetching true 1 1 ∷ fetching true 1 1 ∷ lifting true 1 (by-hybrid 3) ∷ lifting true 2 (by-hybrid 2) ∷ []
 
 seen-13 : seen limits-13 2000 empty list-13 ≡ some (text ("A,0,0" ∷ "A,12,0" ∷ "A,11,0" ∷ "A,11,0" ∷ "A,0,0" ∷ "A,14,2" ∷ []))
 seen-13 = refl
@@ -221,7 +483,24 @@ due-13 = refl
 
 -- calls-1-54
 abbrev limits-14 : Limits
-limits-14 = record { prime-bound = 65535; variables = 8; components = 16; elements = 64; exponent = 0; t-lines = 2048; file = 65536; field = 65535; vectors = 128; level-terms = 0; levels = 9; working = 512; vector = 512; tree = 4096; numbering = λ code. 1 }
+limits-14 = record {
+  prime-bound = 65535;
+  variables = 8;
+  components = 16;
+  elements = 64;
+  exponent = 0;
+  t-lines = 2048;
+  file = 65536;
+  field =
+      65535;
+  vectors = 128;
+  level-terms = 0;
+  levels = 9;
+  working = 512;
+  vector = 512;
+  tree = 4096;
+  numbering = λ code. 1;
+}
 
 abbrev list-14 : List Call
 list-14 = fetching true 1 1 ∷ lifting true 1 by-division ∷ []
@@ -237,26 +516,73 @@ due-14 = refl
 
 -- calls-1-55
 abbrev limits-15 : Limits
-limits-15 = record { prime-bound = 65535; variables = 8; components = 16; elements = 64; exponent = 255; t-lines = 2048; file = 65536; field = 65535; vectors = 128; level-terms = 2048; levels = 9; working = 512; vector = 512; tree = 4096; numbering = λ code. 1 }
+limits-15 = record {
+  prime-bound = 65535;
+  variables = 8;
+  components = 16;
+  elements = 64;
+  exponent = 255;
+  t-lines = 2048;
+  file = 65536;
+  field =
+      65535;
+  vectors = 128;
+  level-terms = 2048;
+  levels = 9;
+  working = 512;
+  vector = 512;
+  tree = 4096;
+  numbering = λ code. 1;
+}
 
 abbrev list-15 : List Call
-list-15 = reading true (text ("R,251,3,2,1" ∷ "T,1,250,1,0,0,1" ∷ "T,1,1,1,0,0,0" ∷ "T,2,1,1,1,0,0" ∷ "T,2,250,1,0,0,0" ∷ "T,3,250,1,0,3,0" ∷ "E,5" ∷ [])) ∷ fetching true 2 1 ∷ lifting true 1 (by-hybrid 1) ∷ lifting true 2 (by-tree 4) ∷ lifting true 3 (by-tree 12) ∷ []
+list-15 = reading true (text ("R,251,3,2,1" ∷ "T,1,250,1,0,0,1" ∷ "T,1,1,1,0,0,0" ∷ "T,2,1,1,1,0,0" ∷ "T,2,250,1,0,0,0" ∷ "T,3,250,1,0,3,0" ∷ "E,5"
+    ∷ [])) ∷ fetching true 2 1 ∷ lifting true 1 (by-hybrid 1) ∷ lifting true 2 (by-tree 4) ∷ lifting true 3 (by-tree 12) ∷ []
 
 seen-15 : seen limits-15 2000 empty list-15 ≡ some (text ("A,0,0" ∷ "A,11,0" ∷ "A,0,0" ∷ "A,0,0" ∷ "A,0,0" ∷ []))
 seen-15 = refl
 
-held-15 : held limits-15 2000 empty list-15 ≡ some (text ("S,0,1,250,1,0,0,1,0,0,0,0,0" ∷ "S,0,1,1,1,0,0,0,0,0,0,0,0" ∷ "S,0,2,1,1,1,0,0,0,0,0,0,0" ∷ "S,0,2,250,1,0,0,0,0,0,0,0,0" ∷ "S,0,3,250,1,0,3,0,0,0,0,0,0" ∷ "S,1,1,1,2,0,0,1,0,0,0,0,0" ∷ "S,1,1,1,1,1,0,0,0,0,0,0,0" ∷ "S,1,1,250,2,0,0,0,0,0,0,0,0" ∷ "S,1,1,250,1,0,0,0,0,0,0,0,0" ∷ "S,1,2,1,3,0,0,1,0,0,0,0,0" ∷ "S,1,2,250,1,0,3,0,0,0,0,0,0" ∷ "S,1,2,250,3,0,0,0,0,0,0,0,0" ∷ "S,1,3,1,3,1,0,0,0,0,0,0,0" ∷ "S,1,3,1,2,0,3,0,0,0,0,0,0" ∷ "S,1,3,250,3,0,0,0,0,0,0,0,0" ∷ "S,2,1,1,3,0,0,1,0,0,0,0,0" ∷ "S,2,1,250,2,1,0,0,0,0,0,0,0" ∷ "S,2,1,250,1,0,3,0,0,0,0,0,0" ∷ "S,2,1,250,3,0,0,0,0,0,0,0,0" ∷ "S,2,1,1,2,0,0,0,0,0,0,0,0" ∷ []))
+held-15 : held limits-15 2000 empty list-15 ≡ some (text ("S,0,1,250,1,0,0,1,0,0,0,0,0" ∷ "S,0,1,1,1,0,0,0,0,0,0,0,0" ∷ "S,0,2,1,1,1,0,0,0,0,0,0,0"
+    ∷ "S,0,2,250,1,0,0,0,0,0,0,0,0" ∷ "S,0,3,250,1,0,3,0,0,0,0,0,0" ∷ "S,1,1,1,2,0,0,1,0,0,0,0,0" ∷ "S,1,1,1,1,1,0,0,0,0,0,0,0"
+    ∷ "S,1,1,250,2,0,0,0,0,0,0,0,0" ∷ "S,1,1,250,1,0,0,0,0,0,0,0,0" ∷ "S,1,2,1,3,0,0,1,0,0,0,0,0" ∷ "S,1,2,250,1,0,3,0,0,0,0,0,0"
+    ∷ "S,1,2,250,3,0,0,0,0,0,0,0,0" ∷ "S,1,3,1,3,1,0,0,0,0,0,0,0" ∷ "S,1,3,1,2,0,3,0,0,0,0,0,0" ∷ "S,1,3,250,3,0,0,0,0,0,0,0,0"
+    ∷ "S,2,1,1,3,0,0,1,0,0,0,0,0" ∷ "S,2,1,250,2,1,0,0,0,0,0,0,0" ∷ "S,2,1,250,1,0,3,0,0,0,0,0,0" ∷ "S,2,1,250,3,0,0,0,0,0,0,0,0"
+    ∷ "S,2,1,1,2,0,0,0,0,0,0,0,0" ∷ []))
 held-15 = refl
 
-due-15 : due limits-15 2000 empty list-15 ≡ some (text ("S,0,1,250,1,0,0,1,0,0,0,0,0" ∷ "S,0,1,1,1,0,0,0,0,0,0,0,0" ∷ "S,0,2,1,1,1,0,0,0,0,0,0,0" ∷ "S,0,2,250,1,0,0,0,0,0,0,0,0" ∷ "S,0,3,250,1,0,3,0,0,0,0,0,0" ∷ "S,1,1,1,2,0,0,1,0,0,0,0,0" ∷ "S,1,1,1,1,1,0,0,0,0,0,0,0" ∷ "S,1,1,250,2,0,0,0,0,0,0,0,0" ∷ "S,1,1,250,1,0,0,0,0,0,0,0,0" ∷ "S,1,2,1,3,0,0,1,0,0,0,0,0" ∷ "S,1,2,250,1,0,3,0,0,0,0,0,0" ∷ "S,1,2,250,3,0,0,0,0,0,0,0,0" ∷ "S,1,3,1,3,1,0,0,0,0,0,0,0" ∷ "S,1,3,1,2,0,3,0,0,0,0,0,0" ∷ "S,1,3,250,3,0,0,0,0,0,0,0,0" ∷ "S,2,1,1,3,0,0,1,0,0,0,0,0" ∷ "S,2,1,250,2,1,0,0,0,0,0,0,0" ∷ "S,2,1,250,1,0,3,0,0,0,0,0,0" ∷ "S,2,1,250,3,0,0,0,0,0,0,0,0" ∷ "S,2,1,1,2,0,0,0,0,0,0,0,0" ∷ []))
+due-15 : due limits-15 2000 empty list-15 ≡ some (text ("S,0,1,250,1,0,0,1,0,0,0,0,0" ∷ "S,0,1,1,1,0,0,0,0,0,0,0,0" ∷ "S,0,2,1,1,1,0,0,0,0,0,0,0"
+    ∷ "S,0,2,250,1,0,0,0,0,0,0,0,0" ∷ "S,0,3,250,1,0,3,0,0,0,0,0,0" ∷ "S,1,1,1,2,0,0,1,0,0,0,0,0" ∷ "S,1,1,1,1,1,0,0,0,0,0,0,0"
+    ∷ "S,1,1,250,2,0,0,0,0,0,0,0,0" ∷ "S,1,1,250,1,0,0,0,0,0,0,0,0" ∷ "S,1,2,1,3,0,0,1,0,0,0,0,0" ∷ "S,1,2,250,1,0,3,0,0,0,0,0,0"
+    ∷ "S,1,2,250,3,0,0,0,0,0,0,0,0" ∷ "S,1,3,1,3,1,0,0,0,0,0,0,0" ∷ "S,1,3,1,2,0,3,0,0,0,0,0,0" ∷ "S,1,3,250,3,0,0,0,0,0,0,0,0"
+    ∷ "S,2,1,1,3,0,0,1,0,0,0,0,0" ∷ "S,2,1,250,2,1,0,0,0,0,0,0,0" ∷ "S,2,1,250,1,0,3,0,0,0,0,0,0" ∷ "S,2,1,250,3,0,0,0,0,0,0,0,0"
+    ∷ "S,2,1,1,2,0,0,0,0,0,0,0,0" ∷ []))
 due-15 = refl
 
 -- calls-1-56
 abbrev limits-16 : Limits
-limits-16 = record { prime-bound = 65535; variables = 8; components = 16; elements = 64; exponent = 255; t-lines = 2048; file = 65536; field = 65535; vectors = 128; level-terms = 2048; levels = 9; working = 512; vector = 512; tree = 1; numbering = λ code. 1 }
+limits-16 = record {
+  prime-bound = 65535;
+  variables = 8;
+  components = 16;
+  elements = 64;
+  exponent = 255;
+  t-lines = 2048;
+  file = 65536;
+  field =
+      65535;
+  vectors = 128;
+  level-terms = 2048;
+  levels = 9;
+  working = 512;
+  vector = 512;
+  tree = 1;
+  numbering = λ code. 1;
+}
 
 abbrev list-16 : List Call
-list-16 = reading true (text ("R,5,2,3,1" ∷ "T,1,1,1,2,0" ∷ "T,1,3,1,1,1" ∷ "T,1,2,1,0,2" ∷ "T,2,4,1,3,0" ∷ "T,2,2,1,1,2" ∷ "T,2,1,1,0,3" ∷ "T,3,4,1,2,0" ∷ "T,3,3,1,1,1" ∷ "T,3,4,1,0,2" ∷ "T,4,1,1,1,1" ∷ "T,4,1,1,0,2" ∷ "E,11" ∷ [])) ∷ fetching true 1 1 ∷ lifting true 1 (by-tree 7) ∷ []
+list-16 = reading true (text ("R,5,2,3,1" ∷ "T,1,1,1,2,0" ∷ "T,1,3,1,1,1" ∷ "T,1,2,1,0,2" ∷ "T,2,4,1,3,0" ∷ "T,2,2,1,1,2" ∷ "T,2,1,1,0,3"
+    ∷ "T,3,4,1,2,0" ∷ "T,3,3,1,1,1" ∷ "T,3,4,1,0,2" ∷ "T,4,1,1,1,1" ∷ "T,4,1,1,0,2" ∷ "E,11" ∷ [])) ∷ fetching true 1 1 ∷ lifting true 1 (by-tree 7)
+    ∷ []
 
 seen-16 : seen limits-16 2000 empty list-16 ≡ some (text ("A,0,0" ∷ "A,11,0" ∷ "A,14,1" ∷ []))
 seen-16 = refl
@@ -269,28 +595,75 @@ due-16 = refl
 
 -- calls-1-57
 abbrev limits-17 : Limits
-limits-17 = record { prime-bound = 65535; variables = 8; components = 16; elements = 64; exponent = 255; t-lines = 2048; file = 65536; field = 65535; vectors = 128; level-terms = 2048; levels = 9; working = 512; vector = 512; tree = 4096; numbering = λ code. 1 }
+limits-17 = record {
+  prime-bound = 65535;
+  variables = 8;
+  components = 16;
+  elements = 64;
+  exponent = 255;
+  t-lines = 2048;
+  file = 65536;
+  field =
+      65535;
+  vectors = 128;
+  level-terms = 2048;
+  levels = 9;
+  working = 512;
+  vector = 512;
+  tree = 4096;
+  numbering = λ code. 1;
+}
 
 abbrev list-17 : List Call
-list-17 = reading true (text ("R,251,3,2,1" ∷ "T,1,198,1,1,1,2" ∷ "T,1,243,1,1,0,3" ∷ "T,1,23,1,1,0,1" ∷ "T,2,53,1,0,1,1" ∷ "T,2,8,1,0,0,2" ∷ "T,3,1,1,0,0,1" ∷ "E,6" ∷ [])) ∷ lifting true 1 (by-tree 60) ∷ lifting true 2 by-division ∷ lifting true 1 (by-tree 9) ∷ lifting true 2 (by-tree 6) ∷ lifting true 3 (by-tree 7) ∷ fetching true 4 65535 ∷ fetching true 2 1 ∷ []
+list-17 = reading true (text ("R,251,3,2,1" ∷ "T,1,198,1,1,1,2" ∷ "T,1,243,1,1,0,3" ∷ "T,1,23,1,1,0,1" ∷ "T,2,53,1,0,1,1" ∷ "T,2,8,1,0,0,2"
+    ∷ "T,3,1,1,0,0,1" ∷ "E,6" ∷ [])) ∷ lifting true 1 (by-tree 60) ∷ lifting true 2 by-division ∷ lifting true 1 (by-tree 9)
+    ∷ lifting true 2 (by-tree 6) ∷ lifting true 3 (by-tree 7) ∷ fetching true 4 65535 ∷ fetching true 2 1 ∷ []
 
 seen-17 : seen limits-17 2000 empty list-17 ≡ some (text ("A,0,0" ∷ "A,0,0" ∷ "A,0,0" ∷ "A,0,0" ∷ "A,0,0" ∷ "A,0,0" ∷ "A,11,0" ∷ "A,12,0" ∷ []))
 seen-17 = refl
 
-held-17 : held limits-17 2000 empty list-17 ≡ some (text ("S,0,1,198,1,1,1,2,0,0,0,0,0" ∷ "S,0,1,243,1,1,0,3,0,0,0,0,0" ∷ "S,0,1,23,1,1,0,1,0,0,0,0,0" ∷ "S,0,2,53,1,0,1,1,0,0,0,0,0" ∷ "S,0,2,8,1,0,0,2,0,0,0,0,0" ∷ "S,0,3,1,1,0,0,1,0,0,0,0,0" ∷ "S,1,1,1,2,1,0,1,0,0,0,0,0" ∷ "S,1,1,1,1,0,0,0,0,0,0,0,0" ∷ "S,1,1,228,3,1,0,0,0,0,0,0,0" ∷ "S,1,2,1,3,0,1,0,0,0,0,0,0" ∷ "S,1,2,161,2,0,0,0,0,0,0,0,0" ∷ "S,1,2,218,3,0,0,1,0,0,0,0,0" ∷ []))
+held-17 : held limits-17 2000 empty list-17 ≡ some (text ("S,0,1,198,1,1,1,2,0,0,0,0,0" ∷ "S,0,1,243,1,1,0,3,0,0,0,0,0" ∷ "S,0,1,23,1,1,0,1,0,0,0,0,0"
+    ∷ "S,0,2,53,1,0,1,1,0,0,0,0,0" ∷ "S,0,2,8,1,0,0,2,0,0,0,0,0" ∷ "S,0,3,1,1,0,0,1,0,0,0,0,0" ∷ "S,1,1,1,2,1,0,1,0,0,0,0,0"
+    ∷ "S,1,1,1,1,0,0,0,0,0,0,0,0" ∷ "S,1,1,228,3,1,0,0,0,0,0,0,0" ∷ "S,1,2,1,3,0,1,0,0,0,0,0,0" ∷ "S,1,2,161,2,0,0,0,0,0,0,0,0"
+    ∷ "S,1,2,218,3,0,0,1,0,0,0,0,0" ∷ []))
 held-17 = refl
 
-due-17 : due limits-17 2000 empty list-17 ≡ some (text ("S,0,1,198,1,1,1,2,0,0,0,0,0" ∷ "S,0,1,243,1,1,0,3,0,0,0,0,0" ∷ "S,0,1,23,1,1,0,1,0,0,0,0,0" ∷ "S,0,2,53,1,0,1,1,0,0,0,0,0" ∷ "S,0,2,8,1,0,0,2,0,0,0,0,0" ∷ "S,0,3,1,1,0,0,1,0,0,0,0,0" ∷ "S,1,1,1,2,1,0,1,0,0,0,0,0" ∷ "S,1,1,1,1,0,0,0,0,0,0,0,0" ∷ "S,1,1,228,3,1,0,0,0,0,0,0,0" ∷ "S,1,2,1,3,0,1,0,0,0,0,0,0" ∷ "S,1,2,161,2,0,0,0,0,0,0,0,0" ∷ "S,1,2,218,3,0,0,1,0,0,0,0,0" ∷ []))
+due-17 : due limits-17 2000 empty list-17 ≡ some (text ("S,0,1,198,1,1,1,2,0,0,0,0,0" ∷ "S,0,1,243,1,1,0,3,0,0,0,0,0" ∷ "S,0,1,23,1,1,0,1,0,0,0,0,0"
+    ∷ "S,0,2,53,1,0,1,1,0,0,0,0,0" ∷ "S,0,2,8,1,0,0,2,0,0,0,0,0" ∷ "S,0,3,1,1,0,0,1,0,0,0,0,0" ∷ "S,1,1,1,2,1,0,1,0,0,0,0,0"
+    ∷ "S,1,1,1,1,0,0,0,0,0,0,0,0" ∷ "S,1,1,228,3,1,0,0,0,0,0,0,0" ∷ "S,1,2,1,3,0,1,0,0,0,0,0,0" ∷ "S,1,2,161,2,0,0,0,0,0,0,0,0"
+    ∷ "S,1,2,218,3,0,0,1,0,0,0,0,0" ∷ []))
 due-17 = refl
 
 -- calls-1-58
 abbrev limits-18 : Limits
-limits-18 = record { prime-bound = 65535; variables = 8; components = 16; elements = 64; exponent = 255; t-lines = 2048; file = 65536; field = 65535; vectors = 128; level-terms = 2048; levels = 9; working = 512; vector = 512; tree = 4096; numbering = λ code. 1 }
+limits-18 = record {
+  prime-bound = 65535;
+  variables = 8;
+  components = 16;
+  elements = 64;
+  exponent = 255;
+  t-lines = 2048;
+  file = 65536;
+  field =
+      65535;
+  vectors = 128;
+  level-terms = 2048;
+  levels = 9;
+  working = 512;
+  vector = 512;
+  tree = 4096;
+  numbering = λ code. 1;
+}
 
 abbrev list-18 : List Call
-list-18 = reading true (text ("R,101,2,3,1" ∷ "T,1,81,1,1,1" ∷ "T,1,14,1,0,2" ∷ "T,2,87,1,2,1" ∷ "T,2,30,1,1,2" ∷ "E,4" ∷ [])) ∷ lifting true 1 (by-hybrid 1) ∷ fetching true 1 1 ∷ reading true (text ("R,11,4,3,81" ∷ "T,1,10,1,0,0,2,0" ∷ "T,1,1,1,0,0,1,0" ∷ "T,2,1,1,1,0,1,0" ∷ "T,2,10,1,1,0,0,0" ∷ "T,3,10,1,1,0,0,2" ∷ "T,3,1,1,2,0,0,0" ∷ "T,4,1,1,1,1,0,0" ∷ "T,4,10,1,0,0,1,1" ∷ "T,5,1,1,0,0,1,2" ∷ "T,5,10,1,1,0,0,0" ∷ "T,6,1,1,0,1,1,1" ∷ "T,6,10,1,0,0,1,0" ∷ "E,12" ∷ [])) ∷ fetching true 1 1 ∷ reading true (text ("R,251,2,3,1" ∷ "T,1,250,1,1,0" ∷ "T,2,113,1,0,1" ∷ "E,2" ∷ [])) ∷ fetching true 1 1 ∷ []
+list-18 = reading true (text ("R,101,2,3,1" ∷ "T,1,81,1,1,1" ∷ "T,1,14,1,0,2" ∷ "T,2,87,1,2,1" ∷ "T,2,30,1,1,2" ∷ "E,4" ∷ []))
+    ∷ lifting true 1 (by-hybrid 1) ∷ fetching true 1 1 ∷ reading true (text
+    ("R,11,4,3,81" ∷ "T,1,10,1,0,0,2,0" ∷ "T,1,1,1,0,0,1,0" ∷ "T,2,1,1,1,0,1,0" ∷ "T,2,10,1,1,0,0,0" ∷ "T,3,10,1,1,0,0,2" ∷ "T,3,1,1,2,0,0,0"
+    ∷ "T,4,1,1,1,1,0,0" ∷ "T,4,10,1,0,0,1,1" ∷ "T,5,1,1,0,0,1,2" ∷ "T,5,10,1,1,0,0,0" ∷ "T,6,1,1,0,1,1,1" ∷ "T,6,10,1,0,0,1,0" ∷ "E,12" ∷ []))
+    ∷ fetching true 1 1 ∷ reading true (text ("R,251,2,3,1" ∷ "T,1,250,1,1,0" ∷ "T,2,113,1,0,1" ∷ "E,2" ∷ [])) ∷ fetching true 1 1 ∷ []
 
-seen-18 : seen limits-18 2000 empty list-18 ≡ some (text ("A,0,0" ∷ "A,0,0" ∷ "A,0,0" ∷ "V,1,2,0,0,0,0,0,0,0,0" ∷ "V,70,1,1,0,0,0,0,0,0,0" ∷ "A,3,1" ∷ "A,11,0" ∷ "A,0,0" ∷ "A,11,0" ∷ []))
+seen-18 : seen limits-18 2000 empty list-18 ≡ some (text ("A,0,0" ∷ "A,0,0" ∷ "A,0,0" ∷ "V,1,2,0,0,0,0,0,0,0,0" ∷ "V,70,1,1,0,0,0,0,0,0,0" ∷ "A,3,1"
+    ∷ "A,11,0" ∷ "A,0,0" ∷ "A,11,0" ∷ []))
 seen-18 = refl
 
 held-18 : held limits-18 2000 empty list-18 ≡ some (text ("S,0,1,250,1,1,0,0,0,0,0,0,0" ∷ "S,0,2,113,1,0,1,0,0,0,0,0,0" ∷ []))
@@ -301,10 +674,28 @@ due-18 = refl
 
 -- calls-1-59
 abbrev limits-19 : Limits
-limits-19 = record { prime-bound = 65535; variables = 8; components = 16; elements = 64; exponent = 255; t-lines = 2048; file = 65536; field = 65535; vectors = 128; level-terms = 2048; levels = 9; working = 512; vector = 512; tree = 4096; numbering = λ code. 1 }
+limits-19 = record {
+  prime-bound = 65535;
+  variables = 8;
+  components = 16;
+  elements = 64;
+  exponent = 255;
+  t-lines = 2048;
+  file = 65536;
+  field =
+      65535;
+  vectors = 128;
+  level-terms = 2048;
+  levels = 9;
+  working = 512;
+  vector = 512;
+  tree = 4096;
+  numbering = λ code. 1;
+}
 
 abbrev list-19 : List Call
-list-19 = reading true (text ("R,251,1,2,1" ∷ "T,1,1,1,1" ∷ "E,1" ∷ [])) ∷ fetching true 1 0 ∷ fetching true 1 1 ∷ lifting true 1 by-division ∷ lifting true 2 (by-tree 4) ∷ lifting true 3 by-division ∷ lifting true 3 (by-hybrid 2) ∷ lifting true 3 (by-hybrid 3) ∷ []
+list-19 = reading true (text ("R,251,1,2,1" ∷ "T,1,1,1,1" ∷ "E,1" ∷ [])) ∷ fetching true 1 0 ∷ fetching true 1 1 ∷ lifting true 1 by-division
+    ∷ lifting true 2 (by-tree 4) ∷ lifting true 3 by-division ∷ lifting true 3 (by-hybrid 2) ∷ lifting true 3 (by-hybrid 3) ∷ []
 
 seen-19 : seen limits-19 2000 empty list-19 ≡ some (text ("A,0,0" ∷ "A,11,0" ∷ "A,11,0" ∷ "A,0,0" ∷ "A,0,0" ∷ "A,0,0" ∷ "A,0,0" ∷ "A,0,0" ∷ []))
 seen-19 = refl
@@ -317,10 +708,28 @@ due-19 = refl
 
 -- calls-1-60
 abbrev limits-20 : Limits
-limits-20 = record { prime-bound = 65535; variables = 8; components = 16; elements = 64; exponent = 255; t-lines = 2048; file = 65536; field = 65535; vectors = 128; level-terms = 2048; levels = 9; working = 512; vector = 512; tree = 4096; numbering = λ code. 1 }
+limits-20 = record {
+  prime-bound = 65535;
+  variables = 8;
+  components = 16;
+  elements = 64;
+  exponent = 255;
+  t-lines = 2048;
+  file = 65536;
+  field =
+      65535;
+  vectors = 128;
+  level-terms = 2048;
+  levels = 9;
+  working = 512;
+  vector = 512;
+  tree = 4096;
+  numbering = λ code. 1;
+}
 
 abbrev list-20 : List Call
-list-20 = reading true (text ("R,251,2,2,1" ∷ "T,1,1,1,0,0" ∷ "E,1" ∷ [])) ∷ fetching true 1 1 ∷ lifting true 1 (by-hybrid 3) ∷ fetching true 1 1 ∷ lifting true 2 (by-hybrid 1) ∷ []
+list-20 = reading true (text ("R,251,2,2,1" ∷ "T,1,1,1,0,0" ∷ "E,1" ∷ [])) ∷ fetching true 1 1 ∷ lifting true 1 (by-hybrid 3) ∷ fetching true 1 1
+    ∷ lifting true 2 (by-hybrid 1) ∷ []
 
 seen-20 : seen limits-20 2000 empty list-20 ≡ some (text ("A,0,0" ∷ "A,11,0" ∷ "A,0,0" ∷ "A,12,0" ∷ "A,0,0" ∷ []))
 seen-20 = refl

@@ -13,7 +13,24 @@ use Rattle.definitions.proofs.Views.{seen, held, due}
 
 -- eight
 abbrev limits-1 : Limits
-limits-1 = record { prime-bound = 65535; variables = 8; components = 16; elements = 64; exponent = 255; t-lines = 2; file = 65536; field = 65535; vectors = 128; level-terms = 2048; levels = 9; working = 512; vector = 512; tree = 4096; numbering = λ code. 1 }
+limits-1 = record {
+  prime-bound = 65535;
+  variables = 8;
+  components = 16;
+  elements = 64;
+  exponent = 255;
+  t-lines = 2;
+  file = 65536;
+  field =
+      65535;
+  vectors = 128;
+  level-terms = 2048;
+  levels = 9;
+  working = 512;
+  vector = 512;
+  tree = 4096;
+  numbering = λ code. 1;
+}
 
 abbrev list-1 : List Call
 list-1 = reading true (text ("R,7,2,1,1" ∷ "T,1,1,1,1,0" ∷ "T,2,1,1,0,1" ∷ "T,9,0,9,0,0" ∷ "E,3" ∷ [])) ∷ lifting true 1 by-division ∷ []

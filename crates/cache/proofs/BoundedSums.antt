@@ -48,12 +48,14 @@ module _ (order : Monomial → Monomial → Comparison) (p a top : ℕ) (t : Ter
   grow-is = ap (λ b. held-to b (insert order p t v)) (same-room a (length (insert order p t v)) top under)
 
   -- the part's rows stand from row a on
-  pub grown-in : (part z : Words) (x : Stored) → ((k : ℕ) → k < top - a → row-at z (a + k) ≡ row-at part k) → stored-as x part ≡ inserted-within order p (top - a) t v
+  pub grown-in : (part z : Words) (x : Stored) → ((k : ℕ) → k < top - a → row-at z (a + k) ≡ row-at part k) → stored-as x part
+      ≡ inserted-within order p (top - a) t v
       → (grown-of a x z ≡ grow order p top a t v) × Room a top x
   grown-in part z (Rows n) same e =
       let h : length (rows part 0 n) ≤ top - a = subst (At-most (top - a)) (sym e) (held-at-most (top - a) (insert order p t v)) in
       let l : n ≤ top - a = omega (arith, length-rows part 0 n) in
-      let g : rows z a n ≡ rows part 0 n = rows-same part z 0 a n (λ k m. let y : k ≡ 0 + k = omega arith in same k (omega arith) ∙ ap (row-at part) y) in
+      let g : rows z a n ≡ rows part 0 n = rows-same part z 0 a n (λ k m. let y : k ≡ 0 + k = omega arith in same k (omega arith)
+      ∙ ap (row-at part) y) in
       (ap done g ∙ e ∙ grow-is, omega arith)
   grown-in part z Full same e = (e ∙ grow-is, tt)
 
@@ -83,7 +85,8 @@ module _ (order : Monomial → Monomial → Comparison) (p top a c : ℕ) (s : W
       let f : suc (from + i) ≡ from + (i + 1) = omega arith in
       ap (λ n. add-result order p top a c (rows s (from + i) n) v) e
       ∙ ap (λ g. add-result order p top a c g v) (rows-first s (from + i) (len - (i + 1)))
-      ∙ ap (λ k. grow order p top a (times p c (row-at s (from + i) .0), row-at s (from + i) .1) v >>= λ w. add-result order p top a c (rows s k (len - (i + 1))) w) f
+      ∙ ap (λ k. grow order p top a (times p c (row-at s (from + i) .0), row-at s (from + i) .1) v
+      >>= λ w. add-result order p top a c (rows s k (len - (i + 1))) w) f
 
   module _ (i : ℕ) (v : Vector) (inside : i < len) (u : Term) (x : Stored) (z : Words)
       (term : u ≡ (times p c (row-at s (from + i) .0), row-at s (from + i) .1)) (gives : grown-of a x z ≡ grow order p top a u v) where
@@ -97,7 +100,8 @@ module _ (order : Monomial → Monomial → Comparison) (p top a c : ℕ) (s : W
     adding-stops e = after ∙ ap (λ y. grown-of a y z >>= λ w. adding-from (i + 1) w) e
 
   pub adding-ends : (i : ℕ) (v : Vector) → len ≤ i → adding-from i v ≡ done v
-  adding-ends i v h = let e : len - i ≡ 0 = omega arith in ap (λ n. add-result order p top a c (rows s (from + i) n) v) e ∙ ap (λ g. add-result order p top a c g v) (rows-none s (from + i))
+  adding-ends i v h = let e : len - i ≡ 0 = omega arith in ap (λ n. add-result order p top a c (rows s (from + i) n) v) e
+      ∙ ap (λ g. add-result order p top a c g v) (rows-none s (from + i))
 
 -- ## The slice that holds a result
 

@@ -55,7 +55,8 @@ cache-same zero (suc u) s z h =
     ap (λ (t : Term). (t .1, rows z (u - t .0) (u - (u - t .0))) ∷ cache-skip (t .0) u z) (h u (omega arith)) ∙ (λ i. (row-at s u .1, r i) ∷ q i)
 
 -- a subtree's rows behind the first u rows, and its key
-cache-more : (u n : ℕ) (m : Monomial) (v : Vector) (s z : Words) → Keeps u s z → row-at z (u + n) ≡ (n, m) → rows z u n ≡ v → cache-of (u + n + 1) z ≡ (m, v) ∷ cache-of u s
+cache-more : (u n : ℕ) (m : Monomial) (v : Vector) (s z : Words) → Keeps u s z → row-at z (u + n) ≡ (n, m) → rows z u n ≡ v → cache-of (u + n + 1) z
+    ≡ (m, v) ∷ cache-of u s
 unfolding cache-skip
 cache-more u n m v s z h e g =
     let a : u + n + 1 ≡ suc (u + n) = omega arith in
@@ -69,11 +70,13 @@ cache-more u n m v s z h e g =
 
 -- ## Looking up
 
-look-here : (m : Monomial) (j : ℕ) (s : Words) → same-monomial? (row-at s j .1) m ≡ true → cached m (cache-of (suc j) s) ≡ some (rows s (j - row-at s j .0) (j - (j - row-at s j .0)))
+look-here : (m : Monomial) (j : ℕ) (s : Words) → same-monomial? (row-at s j .1) m ≡ true → cached m (cache-of (suc j) s)
+    ≡ some (rows s (j - row-at s j .0) (j - (j - row-at s j .0)))
 unfolding cache-skip
 look-here m j s e = rw (e, cached)
 
-look-on : (m : Monomial) (j : ℕ) (s : Words) → same-monomial? (row-at s j .1) m ≡ false → cached m (cache-of (suc j) s) ≡ cached m (cache-of (j - row-at s j .0) s)
+look-on : (m : Monomial) (j : ℕ) (s : Words) → same-monomial? (row-at s j .1) m ≡ false → cached m (cache-of (suc j) s)
+    ≡ cached m (cache-of (j - row-at s j .0) s)
 unfolding cache-skip
 look-on m j s e = rw (e, cached) (ap (cached m) (skip-is (row-at s j .0) j s))
 
@@ -82,7 +85,8 @@ unfolding cache-skip
 look-none m s = refl
 
 same-turned : (m n : Monomial) → same-monomial? m n ≡ same-monomial? n m
-same-turned m n = go (same-monomial? m n) (same-monomial? n m) (λ t. same-monomial-shows n m (sym (same-monomial-says m n t))) (λ t. same-monomial-shows m n (sym (same-monomial-says n m t)))
+same-turned m n = go (same-monomial? m n) (same-monomial? n m) (λ t. same-monomial-shows n m (sym (same-monomial-says m n t)))
+    (λ t. same-monomial-shows m n (sym (same-monomial-says n m t)))
   where
     go : (a b : Bool) → (T a → T b) → (T b → T a) → a ≡ b
     go true true f g = refl
@@ -90,7 +94,8 @@ same-turned m n = go (same-monomial? m n) (same-monomial? n m) (λ t. same-monom
     go false true f g = absurd (g tt)
     go false false f g = refl
 
-module _ (m : Monomial) (k : ℕ) (s : Words) (n from : ℕ) (some-left : 0 < k) (count : n ≡ getD s ((k - 1) * row-length) 0) (start : from ≡ k - 1 - n) where
+module _ (m : Monomial) (k : ℕ) (s : Words) (n from : ℕ) (some-left : 0 < k) (count : n ≡ getD s ((k - 1) * row-length) 0)
+    (start : from ≡ k - 1 - n) where
   number : n ≡ row-at s (k - 1) .0
   number = count ∙ sym (ap (λ t. t .0) (row-is s (k - 1)))
 
@@ -108,7 +113,8 @@ module _ (m : Monomial) (k : ℕ) (s : Words) (n from : ℕ) (some-left : 0 < k)
 
 -- ## A finished subtree
 
-finish-is : (room u n : ℕ) (m : Monomial) (v : Vector) (k : Cache) → used k ≡ u → length v ≡ n → finish room m (v, k) ≡ finish-by (leb (u + suc n) room) m (v, k)
+finish-is : (room u n : ℕ) (m : Monomial) (v : Vector) (k : Cache) → used k ≡ u → length v ≡ n → finish room m (v, k)
+    ≡ finish-by (leb (u + suc n) room) m (v, k)
 finish-is room u n m v k e f = λ i. finish-by (leb (e i + suc (f i)) room) m (v, k)
 
 -- put in
@@ -117,7 +123,8 @@ pub entered : (u n a room : ℕ) (m : Monomial) (c z w : Words) → Keeps u c z 
 entered u n a room m c z w k cp e h =
     let g : rows z u n ≡ rows w a n = rows-same w z a u n cp in
     (λ i. (g i, 0, cache-more u n m (rows w a n) c z k e g i))
-    ∙ sym (finish-is room u n m (rows w a n) (cache-of u c) (used-cache u c) (length-rows w a n) ∙ ap (λ b. finish-by b m (rows w a n, cache-of u c)) (le-leb (u + suc n) room (omega arith)))
+    ∙ sym (finish-is room u n m (rows w a n) (cache-of u c) (used-cache u c) (length-rows w a n)
+    ∙ ap (λ b. finish-by b m (rows w a n, cache-of u c)) (le-leb (u + suc n) room (omega arith)))
 
 -- not put in
 pub waits : (u n a b room : ℕ) (m : Monomial) (c w z : Words) → Copied a w n b z → room ≤ u + n
@@ -125,10 +132,13 @@ pub waits : (u n a b room : ℕ) (m : Monomial) (c w z : Words) → Copied a w n
 waits u n a b room m c w z cp h =
     ap (λ (v : Vector). (v, n, cache-of u c)) (rows-same w z a b n cp)
     ∙ ap (λ k. (rows w a n, k, cache-of u c)) (sym (length-rows w a n))
-    ∙ sym (finish-is room u n m (rows w a n) (cache-of u c) (used-cache u c) (length-rows w a n) ∙ ap (λ b. finish-by b m (rows w a n, cache-of u c)) (lt-leb (u + suc n) room (omega arith)))
+    ∙ sym (finish-is room u n m (rows w a n) (cache-of u c) (used-cache u c) (length-rows w a n)
+    ∙ ap (λ b. finish-by b m (rows w a n, cache-of u c)) (lt-leb (u + suc n) room (omega arith)))
 
 -- the words of a sum copied behind the entries, then the row of its key
-pub entered-words : (u n a room : ℕ) (m : Monomial) (c w d z : Words) → d ≡ paste c (u * row-length) (take ((a + n) * row-length - a * row-length) (drop (a * row-length) w)) (n * row-length) → z ≡ written d (u + n) (n, m) → Eight (m .0)
+pub entered-words : (u n a room : ℕ) (m : Monomial) (c w d z : Words) → d
+    ≡ paste c (u * row-length) (take ((a + n) * row-length - a * row-length) (drop (a * row-length) w)) (n * row-length) → z ≡ written d (u + n) (n, m)
+    → Eight (m .0)
     → room * row-length ≤ length c → (a + n) * row-length ≤ length w → length d ≡ length c → u + n < room
     → _≡_ {A = Subtree} (rows z u n, 0, cache-of (u + n + 1) z) (finish room m (rows w a n, cache-of u c))
 entered-words u n a room m c w d z e₁ e₂ eight hc hw hd h = entered u n a room m c z w keeps copied key h
@@ -139,14 +149,16 @@ entered-words u n a room m c w d z e₁ e₂ eight hc hw hd h = entered u n a ro
     long : n * row-length ≤ length (take ((a + n) * row-length - a * row-length) (drop (a * row-length) w))
     long = omega (arith, length-part w (a * row-length) ((a + n) * row-length - a * row-length) (omega arith))
 
-    other : (k : ℕ) → k < u + n → row-at z k ≡ row-at (paste c (u * row-length) (take ((a + n) * row-length - a * row-length) (drop (a * row-length) w)) (n * row-length)) k
+    other : (k : ℕ) → k < u + n → row-at z k ≡ row-at (paste c (u * row-length) (take ((a + n) * row-length - a * row-length) (drop (a * row-length) w))
+        (n * row-length)) k
     other k l = ap (λ x. row-at x k) e₂ ∙ written-other d (u + n) (n, m) k fits eight (λ q. omega arith) ∙ ap (λ x. row-at x k) e₁
 
     keeps : Keeps u c z
     keeps k l = other k (omega arith) ∙ pasted-below c (take ((a + n) * row-length - a * row-length) (drop (a * row-length) w)) u n (omega arith) k l
 
     copied : Copied a w n u z
-    copied k l = other (u + k) (omega arith) ∙ pasted-inside c (take ((a + n) * row-length - a * row-length) (drop (a * row-length) w)) u n k (omega arith) long l ∙ part-row w a ((a + n) * row-length - a * row-length) k (omega arith)
+    copied k l = other (u + k) (omega arith) ∙ pasted-inside c (take ((a + n) * row-length - a * row-length) (drop (a * row-length) w)) u n k
+        (omega arith) long l ∙ part-row w a ((a + n) * row-length - a * row-length) k (omega arith)
 
     key : row-at z (u + n) ≡ (n, m)
     key = ap (λ x. row-at x (u + n)) e₂ ∙ written-here d (u + n) (n, m) fits eight

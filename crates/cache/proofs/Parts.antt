@@ -19,7 +19,8 @@ pub part-row : (s : Words) (a n k : ℕ) → k * row-length + row-length ≤ n �
 part-row s a n k h =
     same-row s (take n (drop (a * row-length) s)) (a + k) k λ j l.
     let e : a * row-length + (k * row-length + j) ≡ (a + k) * row-length + j = omega arith in
-    getD-take n (drop (a * row-length) s) (k * row-length + j) 0 (omega arith) ∙ getD-drop (a * row-length) s (k * row-length + j) 0 ∙ ap (λ x. getD s x 0) e
+    getD-take n (drop (a * row-length) s) (k * row-length + j) 0 (omega arith) ∙ getD-drop (a * row-length) s (k * row-length + j) 0
+    ∙ ap (λ x. getD s x 0) e
 
 pub part-rows : (s : Words) (a n m : ℕ) → m * row-length ≤ n → rows (take n (drop (a * row-length) s)) 0 m ≡ rows s a m
 part-rows s a n m h =
@@ -50,7 +51,8 @@ module _ (s p : Words) (a top : ℕ) (fits : top * row-length ≤ length s) (ord
   pub back-keeps : Keeps a s back
   back-keeps k h =
       same-row s back k k λ j l.
-      List·getD-append (take (a * row-length) s) (p ++ drop (top * row-length - a * row-length) (drop (a * row-length) s)) 0 (k * row-length + j) (omega (arith, before))
+      List·getD-append (take (a * row-length) s) (p ++ drop (top * row-length - a * row-length) (drop (a * row-length) s)) 0 (k * row-length + j)
+      (omega (arith, before))
       ∙ getD-take (a * row-length) s (k * row-length + j) 0 (omega arith)
 
   pub back-leaves : Leaves top s back
@@ -60,7 +62,8 @@ module _ (s p : Words) (a top : ℕ) (fits : top * row-length ≤ length s) (ord
       let e : k * row-length + j ≡ length (take (a * row-length) s) + (length p + (k * row-length + j - top * row-length)) = omega (arith, before) in
       let f : a * row-length + (top * row-length - a * row-length + (k * row-length + j - top * row-length)) ≡ k * row-length + j = omega arith in
       ap (λ x. getD back x 0) e
-      ∙ getD-append-add (take (a * row-length) s) (p ++ drop (top * row-length - a * row-length) (drop (a * row-length) s)) (length p + (k * row-length + j - top * row-length)) 0
+      ∙ getD-append-add (take (a * row-length) s) (p ++ drop (top * row-length - a * row-length) (drop (a * row-length) s))
+      (length p + (k * row-length + j - top * row-length)) 0
       ∙ getD-append-add p (drop (top * row-length - a * row-length) (drop (a * row-length) s)) (k * row-length + j - top * row-length) 0
       ∙ getD-drop (top * row-length - a * row-length) (drop (a * row-length) s) (k * row-length + j - top * row-length) 0
       ∙ getD-drop (a * row-length) s (top * row-length - a * row-length + (k * row-length + j - top * row-length)) 0
@@ -68,14 +71,17 @@ module _ (s p : Words) (a top : ℕ) (fits : top * row-length ≤ length s) (ord
 
 -- ## Rows copied in
 
-pub pasted-inside : (d s : Words) (u n k : ℕ) → (u + n) * row-length ≤ length d → n * row-length ≤ length s → k < n → row-at (paste d (u * row-length) s (n * row-length)) (u + k) ≡ row-at s k
+pub pasted-inside : (d s : Words) (u n k : ℕ) → (u + n) * row-length ≤ length d → n * row-length ≤ length s → k < n
+    → row-at (paste d (u * row-length) s (n * row-length)) (u + k) ≡ row-at s k
 pasted-inside d s u n k h l m =
     same-row s (paste d (u * row-length) s (n * row-length)) k (u + k) λ j q.
     let e : (u + k) * row-length + j ≡ u * row-length + (k * row-length + j) = omega arith in
-    ap (λ x. getD (paste d (u * row-length) s (n * row-length)) x 0) e ∙ getD-paste-in d (u * row-length) s (n * row-length) (k * row-length + j) 0 (omega arith) l (omega arith)
+    ap (λ x. getD (paste d (u * row-length) s (n * row-length)) x 0) e
+    ∙ getD-paste-in d (u * row-length) s (n * row-length) (k * row-length + j) 0 (omega arith) l (omega arith)
 
 pub pasted-below : (d s : Words) (u n : ℕ) → u * row-length ≤ length d → Keeps u d (paste d (u * row-length) s (n * row-length))
-pasted-below d s u n h k m = same-row d (paste d (u * row-length) s (n * row-length)) k k (λ j q. getD-paste-below d (u * row-length) s (n * row-length) (k * row-length + j) 0 h (omega arith))
+pasted-below d s u n h k m = same-row d (paste d (u * row-length) s (n * row-length)) k k
+    (λ j q. getD-paste-below d (u * row-length) s (n * row-length) (k * row-length + j) 0 h (omega arith))
 
 -- ## Words moved up
 
@@ -108,5 +114,7 @@ module _ (a b k n : ℕ) (s z : Words) (some-left : 0 < k) (last : k ≤ n) (up 
   moved-again moved j h l = go (ℕ-discrete j (k - 1))
     where
       go : Dec (j ≡ k - 1) → getD next (b + j) 0 ≡ getD s (a + j) 0
-      go (yes e) = ap (λ x. getD next (b + x) 0) e ∙ getD-set-same z (b + (k - 1)) (getD z (a + (k - 1)) 0) 0 (omega arith) ∙ kept (a + (k - 1)) (omega arith) ∙ ap (λ x. getD s (a + x) 0) (sym e)
-      go (no ne) = let o : j ≡ k - 1 → ⊥ = ne in getD-set-other z (b + (k - 1)) (b + j) (getD z (a + (k - 1)) 0) 0 (λ e. o (omega (arith, e))) ∙ moved j (omega arith) l
+      go (yes e) = ap (λ x. getD next (b + x) 0) e ∙ getD-set-same z (b + (k - 1)) (getD z (a + (k - 1)) 0) 0 (omega arith)
+          ∙ kept (a + (k - 1)) (omega arith) ∙ ap (λ x. getD s (a + x) 0) (sym e)
+      go (no ne) = let o : j ≡ k - 1 → ⊥ = ne in getD-set-other z (b + (k - 1)) (b + j) (getD z (a + (k - 1)) 0) 0 (λ e. o (omega (arith, e)))
+          ∙ moved j (omega arith) l

@@ -27,7 +27,8 @@ pub enum Entry {
     Nowhere,
 }
 
-// A finished subtree: its rows in the cache, from a row on; or how many rows wait at the work area's end. The cache's rows come last. Or a refusal's number.
+// A finished subtree: its rows in the cache, from a row on; or how many rows wait at the work area's end. The cache's rows come last. Or a refusal's
+// number.
 pub enum Subtree {
     Cached(usize, usize, usize),
     Waiting(usize, usize),
@@ -83,8 +84,11 @@ pub fn keep(
     m: Monomial,
     limit: usize,
 ) -> Subtree
-    requires { ⌜ (used ≤ room) × (room * row-length ≤ length (now cache)) × (a + n ≤ limit) × (limit * row-length ≤ length (now work)) × (limit < 65536) ⌝ }
-    ensures { λ x. ⌜ (subtree-of limit x (now (cache .exit)) (now (work .exit)) ≡ done (finish room (monomial-of m) (rows (now (work .entry)) a n, cache-of used (now (cache .entry))))) × Sized a limit room x × Keeps a (now (work .entry)) (now (work .exit)) ⌝ }
+    requires { ⌜ (used ≤ room) × (room * row-length ≤ length (now cache)) × (a + n ≤ limit) × (limit * row-length ≤ length (now work))
+        × (limit < 65536) ⌝ }
+    ensures { λ x. ⌜ (subtree-of limit x (now (cache .exit)) (now (work .exit))
+        ≡ done (finish room (monomial-of m) (rows (now (work .entry)) a n, cache-of used (now (cache .entry))))) × Sized a limit room x
+        × Keeps a (now (work .entry)) (now (work .exit)) ⌝ }
 {
     if used + n < room {
         terms::copy(
@@ -143,7 +147,9 @@ fn insert_row(
     t: Term,
 ) -> Stored
     requires { ⌜ (0 < p) × (a + n ≤ top) × (top * row-length ≤ length (now work)) × (r * row-length ≤ length (now table)) × Tabled r (now table) ⌝ }
-    ensures { λ x. ⌜ (grown-of a x (now (work .exit)) ≡ grow (table-order code (table-of r (now (table .entry)))) p top a (term-of t) (rows (now (work .entry)) a n)) × Room a top x × Keeps a (now (work .entry)) (now (work .exit)) × Leaves top (now (work .entry)) (now (work .exit)) ⌝ }
+    ensures { λ x. ⌜ (grown-of a x (now (work .exit)) ≡ grow (table-order code (table-of r (now (table .entry)))) p top a (term-of t)
+        (rows (now (work .entry)) a n)) × Room a top x × Keeps a (now (work .entry)) (now (work .exit))
+        × Leaves top (now (work .entry)) (now (work .exit)) ⌝ }
 {
     sums::insert(
         &mut work[a * words::ROW_LENGTH..top * words::ROW_LENGTH],
@@ -173,8 +179,11 @@ pub fn add_part(
     r: usize,
     p: u16,
 ) -> Stored
-    requires { ⌜ (0 < p) × (a + n ≤ top) × (top * row-length ≤ length (now work)) × (r * row-length ≤ length (now table)) × Tabled r (now table) × ((from + len) * row-length ≤ length (choose in_cache (now cache) (now work))) × Apart in_cache top from ⌝ }
-    ensures { λ x. ⌜ (grown-of a x (now (work .exit)) ≡ add-result (table-order code (table-of r (now (table .entry)))) p top a c (rows (choose in_cache (now (cache .entry)) (now (work .entry))) from len) (rows (now (work .entry)) a n)) × Room a top x × Keeps a (now (work .entry)) (now (work .exit)) ⌝ }
+    requires { ⌜ (0 < p) × (a + n ≤ top) × (top * row-length ≤ length (now work)) × (r * row-length ≤ length (now table)) × Tabled r (now table)
+        × ((from + len) * row-length ≤ length (choose in_cache (now cache) (now work))) × Apart in_cache top from ⌝ }
+    ensures { λ x. ⌜ (grown-of a x (now (work .exit)) ≡ add-result (table-order code (table-of r (now (table .entry)))) p top a c
+        (rows (choose in_cache (now (cache .entry)) (now (work .entry))) from len) (rows (now (work .entry)) a n)) × Room a top x
+        × Keeps a (now (work .entry)) (now (work .exit)) ⌝ }
 {
     let mut k = n;
     let mut i: usize = 0;
@@ -219,8 +228,10 @@ pub fn add_rows(
     r: usize,
     p: u16,
 ) -> Stored
-    requires { ⌜ (0 < p) × (n ≤ limit) × (limit * row-length ≤ length (now s)) × (r * row-length ≤ length (now table)) × Tabled r (now table) × (len * row-length ≤ length (now part)) ⌝ }
-    ensures { λ x. ⌜ (grown-of 0 x (now (s .exit)) ≡ add-result (table-order code (table-of r (now (table .entry)))) p limit 0 c (rows (now (part .entry)) 0 len) (rows (now (s .entry)) 0 n)) × Room 0 limit x ⌝ }
+    requires { ⌜ (0 < p) × (n ≤ limit) × (limit * row-length ≤ length (now s)) × (r * row-length ≤ length (now table)) × Tabled r (now table)
+        × (len * row-length ≤ length (now part)) ⌝ }
+    ensures { λ x. ⌜ (grown-of 0 x (now (s .exit)) ≡ add-result (table-order code (table-of r (now (table .entry)))) p limit 0 c
+        (rows (now (part .entry)) 0 len) (rows (now (s .entry)) 0 n)) × Room 0 limit x ⌝ }
 {
     let mut k = n;
     let mut i: usize = 0;

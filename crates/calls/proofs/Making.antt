@@ -15,7 +15,8 @@ use Rattle.definitions.specs.Problem.{Bytes, Parameters}
 use Rattle.definitions.specs.State.{State, sound?}
 use Rattle.definitions.specs.Calls.{settled, read-reply, lift}
 use Rattle.definitions.specs.Reckoning.{nothing, reckon-all}
-use Rattle.definitions.specs.Layout.{Words, meant, division, long-enough?, Read, read-left, Lift, Lent, read-with, lift-with, fetch-with, Left, lent-call, lent-calls}
+use Rattle.definitions.specs.Layout.{Words, meant, division, long-enough?, Read, read-left, Lift, Lent, read-with, lift-with, fetch-with, Left, lent-call}
+use Rattle.definitions.specs.Layout.{lent-calls}
 use Rattle.definitions.proofs.Steady.{answered?, steady-from}
 use Rattle.definitions.proofs.Bound.{lent-call-steady, lent-calls-steady}
 use Rattle.files.specs.Files.{Well-formed-file}

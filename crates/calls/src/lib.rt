@@ -17,7 +17,8 @@ pub extern "C" fn tagetessash_read(
     work: &mut [u16],
     place: &mut usize,
 ) -> u16
-    ensures { λ x. ⌜ Read-says x (now (place .exit)) (now (state .exit)) (now (work .exit)) (now (file .entry)) (now (state .entry)) (now (work .entry)) ⌝ }
+    ensures { λ x. ⌜ Read-says x (now (place .exit)) (now (state .exit)) (now (work .exit)) (now (file .entry)) (now (state .entry))
+        (now (work .entry)) ⌝ }
 {
     let r = engine::read(file, state, work);
     *place = r.place;
@@ -35,7 +36,8 @@ pub extern "C" fn tagetessash_lift(
     pick: u16,
     place: &mut usize,
 ) -> u16
-    ensures { λ x. ⌜ Lift-says x (now (place .exit)) (now (state .exit)) (now (work .exit)) (now (cache .exit)) level (coded-way way pick) (now (state .entry)) (now (work .entry)) (now (cache .entry)) ⌝ }
+    ensures { λ x. ⌜ Lift-says x (now (place .exit)) (now (state .exit)) (now (work .exit)) (now (cache .exit)) level (coded-way way pick)
+        (now (state .entry)) (now (work .entry)) (now (cache .entry)) ⌝ }
 {
     let w = lift_call::way_by(way, pick);
     let r = lift_call::lift(state, work, cache, level, w);
@@ -68,7 +70,8 @@ pub extern "C" fn tagetessash_sheet(
     out: &mut [u8],
     length: &mut usize,
 ) -> u16
-    ensures { λ x. ⌜ ((n : ℕ) × (sheet-told x (now (length .exit)) (now (state .exit)) (now (work .exit)) (now (out .exit)) ≡ called n (now (file .entry)) (now (state .entry)) (now (work .entry)) (now (out .entry)))) ⌝ }
+    ensures { λ x. ⌜ ((n : ℕ) × (sheet-told x (now (length .exit)) (now (state .exit)) (now (work .exit)) (now (out .exit))
+        ≡ called n (now (file .entry)) (now (state .entry)) (now (work .entry)) (now (out .entry)))) ⌝ }
 {
     let r = sheet::sheet(file, state, work, out);
     *length = r.length;

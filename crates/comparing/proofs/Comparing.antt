@@ -37,7 +37,8 @@ module _ (code : ℕ) (t : T (between 1 code 3)) where
       (⊎-elim (λ s. inl s) (λ s. inr (sym (s .0), s .1)), ⊎-elim (λ s. inl s) (λ s. inr (sym (s .0), s .1)))
       (exactly-tie (exponents-by code (m .0) (m′ .0)) (numbers (m .1) (m′ .1))
       (exponents-exactly code t (m .0) (m′ .0) (h ∙ sym h′)) (numbers-exactly (m .1) (m′ .1)))
-  compare-exactly (f ∷ below) k m m′ h h′ = over (compare-exactly below (k .1) (image f m) (image f m′) (image-has 8 f (k .0) m h) (image-has 8 f (k .0) m′ h′))
+  compare-exactly (f ∷ below) k m m′ h h′ = over (compare-exactly below (k .1) (image f m) (image f m′) (image-has 8 f (k .0) m h)
+      (image-has 8 f (k .0) m′ h′))
     where
       over : Exactly (Above code below (image f m) (image f m′)) (image f m ≡ image f m′) (Above code below (image f m′) (image f m))
           (compare-over code below (image f m) (image f m′))
@@ -101,7 +102,8 @@ module _ (lim : Limits) where
       → (m : Monomial) → Eight m → T (between 1 (m .1) (length f))
       → Greatest-of (X .parameters .code) below (multiplied (m .0) (vector-of f (m .1))) (image f m)
   leading-image X s f below d m h b =
-      leading-greatest (X .parameters .code) (code-in-range lim X s) below (leads lim (X .parameters) below (d .1)) (m .0) h (vector-of f (m .1)) (at (m .1) b)
+      leading-greatest (X .parameters .code) (code-in-range lim X s) below (leads lim (X .parameters) below (d .1)) (m .0) h (vector-of f (m .1))
+      (at (m .1) b)
     where
       at : (i : ℕ) → T (between 1 i (length f)) → Descends (X .parameters .code) below (vector-of f i)
       at zero b = let z = between-low 1 0 (length f) b in absurd (omega arith)

@@ -41,7 +41,11 @@ module _ {A B C A′ B′ C′ : Type 0} where
     );
   }
   exactly-tie smaller d x y = record {
-    when-greater = (λ e. absurd (greater≢smaller (sym e)), ⊎-elim (λ a. x .when-greater .1 a) (λ a. absurd (equal≢smaller (sym (x .when-equal .1 (a .0))))));
+    when-greater = (
+      λ e. absurd (greater≢smaller (sym e)),
+      ⊎-elim (λ a. x .when-greater .1 a)
+          (λ a. absurd (equal≢smaller (sym (x .when-equal .1 (a .0))))),
+    );
     when-equal = (λ e. absurd (equal≢smaller (sym e)), λ b. x .when-equal .1 (b .0));
     when-smaller = (λ e. inl (x .when-smaller .0 refl), λ s. refl);
   }

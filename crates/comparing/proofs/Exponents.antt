@@ -117,7 +117,8 @@ last-differing-exactly (x ∷ a) (y ∷ b) l =
 -- ## The order of a code
 
 by-degree-exactly : (Over : Exponents → Exponents → Type 0) (order : Exponents → Exponents → Comparison) (a b : Exponents)
-    → Exactly (Over a b) (a ≡ b) (Over b a) (order a b) → Exactly (By-degree Over a b) (a ≡ b) (By-degree Over b a) (or-at-tie (degrees a b) (order a b))
+    → Exactly (Over a b) (a ≡ b) (Over b a) (order a b) → Exactly (By-degree Over a b) (a ≡ b) (By-degree Over b a)
+    (or-at-tie (degrees a b) (order a b))
 by-degree-exactly Over order a b x =
     exactly-map (λ s. s, λ s. s) (λ e. e .1, λ e. (ap degree e, e))
     (⊎-elim (λ h. inl h) (λ h. inr (sym (h .0), h .1)), ⊎-elim (λ h. inl h) (λ h. inr (sym (h .0), h .1)))
@@ -138,10 +139,18 @@ exponents-exactly code t a b l = go (one-of-three code (between-low 1 code 3 t) 
     one a b e = (λ h. inl (e, h), ⊎-elim (λ h. h .1) (⊎-elim (λ h. absurd (let z = h .0 in omega arith)) (λ h. absurd (let z = h .0 in omega arith))))
 
     two : (a b : Exponents) → code ≡ 2 → By-degree First-larger a b ↔ Exponents-above code a b
-    two a b e = (λ h. inr (inl (e, h)), ⊎-elim (λ h. absurd (let z = h .0 in omega arith)) (⊎-elim (λ h. h .1) (λ h. absurd (let z = h .0 in omega arith))))
+    two a b e = (
+      λ h. inr (inl (e, h)),
+      ⊎-elim (λ h. absurd (let z = h .0 in omega arith))
+          (⊎-elim (λ h. h .1) (λ h. absurd (let z = h .0 in omega arith))),
+    )
 
     three : (a b : Exponents) → code ≡ 3 → By-degree Last-smaller a b ↔ Exponents-above code a b
-    three a b e = (λ h. inr (inr (e, h)), ⊎-elim (λ h. absurd (let z = h .0 in omega arith)) (⊎-elim (λ h. absurd (let z = h .0 in omega arith)) (λ h. h .1)))
+    three a b e = (
+      λ h. inr (inr (e, h)),
+      ⊎-elim (λ h. absurd (let z = h .0 in omega arith))
+          (⊎-elim (λ h. absurd (let z = h .0 in omega arith)) (λ h. h .1)),
+    )
 
     same : (a ≡ b) ↔ (a ≡ b)
     same = (λ e. e, λ e. e)

@@ -30,7 +30,8 @@ module _ (lim : Limits) (q : Parameters) where
   -- ## Vectors
 
   eights : (c : ℕ) (v : Vector) → T (every (term-sound? lim q c) v) → All (λ t. Has 8 (t .1)) v
-  eights c v h = all-map (λ t. T (term-sound? lim q c t)) (λ t. Has 8 (t .1)) (λ t s. term-says lim q c t s .eight) v (every-all (term-sound? lim q c) v h)
+  eights c v h = all-map (λ t. T (term-sound? lim q c t)) (λ t. Has 8 (t .1)) (λ t s. term-says lim q c t s .eight) v
+      (every-all (term-sound? lim q c) v h)
 
   descends : (c most : ℕ) (below : List Level) (v : Vector) → T (vector-sound? lim q c most below v) → Descends (q .code) below v
   descends c most below [] h = let l = vector-says lim q c most below [] h .filled in absurd (omega arith)
@@ -82,4 +83,5 @@ module _ (lim : Limits) (X : State) (h : T (sound? lim X)) where
   code-in-range =
       let q = X .parameters in
       let s = between 1 (q .code) 3 and between 1 (q .s) (lim .components) in
-      and-left (between 1 (q .code) 3) (between 1 (q .s) (lim .components)) (and-right (between 1 (q .n) (lim .variables)) s (sound-says lim X h .ranges))
+      and-left (between 1 (q .code) 3) (between 1 (q .s) (lim .components))
+      (and-right (between 1 (q .n) (lim .variables)) s (sound-says lim X h .ranges))

@@ -82,7 +82,8 @@ accept-from-steady S i (m ∷ ms) =
 pub accept-steady : (lim : Limits) (p code : ℕ) (f : Level) → Steady finished? (accept lim p code f)
 accept-steady lim p code f =
     let S = stage-over lim p code (f ∷ []) in
-    bind-steady (λ n. limited-frame lim code f) (λ n ms. accept-from S n 1 ms) (steady-fixed finished? (limited-frame lim code f)) (accept-from-steady S 1)
+    bind-steady (λ n. limited-frame lim code f) (λ n ms. accept-from S n 1 ms) (steady-fixed finished? (limited-frame lim code f))
+    (accept-from-steady S 1)
 
 -- ## Calls
 
@@ -198,5 +199,6 @@ lent-call-steady lim state (fetch-with k v out) = steady-fixed answered? (lent-c
 pub lent-calls-steady : (lim : Limits) (state : Words) (cs : List Lent) → Steady answered? (λ n. lent-calls lim n state cs)
 lent-calls-steady lim state [] = steady-fixed answered? (some [])
 lent-calls-steady lim state (c ∷ cs) =
-    then-steady (λ n. lent-call lim n state c) (λ n a. lent-calls lim n (a .state) cs then λ lefts. some (a ∷ lefts)) (lent-call-steady lim state c) λ a.
+    then-steady (λ n. lent-call lim n state c) (λ n a. lent-calls lim n (a .state) cs then λ lefts. some (a ∷ lefts))
+    (lent-call-steady lim state c) λ a.
     then-fixed (λ lefts. some (a ∷ lefts)) (λ n. lent-calls lim n (a .state) cs) (lent-calls-steady lim (a .state) cs)

@@ -18,17 +18,22 @@ abbrev first-vector : Bytes → Lifting → List Call
 first-vector file way = reading true file ∷ lifting true 1 way ∷ fetching true 1 1 ∷ []
 
 abbrev file-1 : Bytes
-file-1 = text ("R,32749,3,1,1" ∷ "T,1,20607,1,1,0,0" ∷ "T,1,28409,1,0,1,0" ∷ "T,1,22511,1,0,0,1" ∷ "T,2,26029,1,1,0,0" ∷ "T,2,22769,1,0,1,0" ∷ "T,2,28126,1,0,0,0" ∷ "T,3,9619,1,0,1,0" ∷ "T,3,8451,1,0,0,1" ∷ "T,3,25180,1,0,0,0" ∷ "E,9" ∷ [])
+file-1 = text ("R,32749,3,1,1" ∷ "T,1,20607,1,1,0,0" ∷ "T,1,28409,1,0,1,0" ∷ "T,1,22511,1,0,0,1" ∷ "T,2,26029,1,1,0,0" ∷ "T,2,22769,1,0,1,0"
+    ∷ "T,2,28126,1,0,0,0" ∷ "T,3,9619,1,0,1,0" ∷ "T,3,8451,1,0,0,1" ∷ "T,3,25180,1,0,0,0" ∷ "E,9" ∷ [])
 
 -- A cached subtree that still counted would give 14.
-a-part-of-the-cache-counts-nothing : seen (limited 52 128 2048 9 9 5) 999 empty (first-vector file-1 (by-tree 15)) ≡ some (text ("A,0,0" ∷ "A,0,0" ∷ "A,0,0" ∷ "V,1,2,0,0,0,0,0,0,0,0" ∷ "V,6327,1,0,0,0,0,0,0,0,0" ∷ "V,10734,3,0,0,0,0,0,0,0,0" ∷ []))
+a-part-of-the-cache-counts-nothing : seen (limited 52 128 2048 9 9 5) 999 empty (first-vector file-1 (by-tree 15))
+    ≡ some (text ("A,0,0" ∷ "A,0,0" ∷ "A,0,0" ∷ "V,1,2,0,0,0,0,0,0,0,0" ∷ "V,6327,1,0,0,0,0,0,0,0,0" ∷ "V,10734,3,0,0,0,0,0,0,0,0" ∷ []))
 a-part-of-the-cache-counts-nothing = refl
 
 abbrev file-2 : Bytes
-file-2 = text ("R,251,3,1,16" ∷ "T,1,130,1,1,0,0" ∷ "T,1,233,1,0,1,0" ∷ "T,1,33,1,0,0,1" ∷ "T,2,5,1,1,1,1" ∷ "T,2,6,1,0,2,1" ∷ "T,2,204,1,0,1,2" ∷ "T,2,155,1,0,1,1" ∷ "T,3,18,1,0,1,0" ∷ "T,3,88,1,0,0,0" ∷ "T,4,120,1,1,1,1" ∷ "T,4,22,1,0,2,1" ∷ "T,4,127,1,0,1,2" ∷ "T,5,100,1,1,0,0" ∷ "T,5,120,1,0,1,0" ∷ "T,5,64,1,0,0,1" ∷ "T,5,88,1,0,0,0" ∷ "E,16" ∷ [])
+file-2 = text ("R,251,3,1,16" ∷ "T,1,130,1,1,0,0" ∷ "T,1,233,1,0,1,0" ∷ "T,1,33,1,0,0,1" ∷ "T,2,5,1,1,1,1" ∷ "T,2,6,1,0,2,1" ∷ "T,2,204,1,0,1,2"
+    ∷ "T,2,155,1,0,1,1" ∷ "T,3,18,1,0,1,0" ∷ "T,3,88,1,0,0,0" ∷ "T,4,120,1,1,1,1" ∷ "T,4,22,1,0,2,1" ∷ "T,4,127,1,0,1,2" ∷ "T,5,100,1,1,0,0"
+    ∷ "T,5,120,1,0,1,0" ∷ "T,5,64,1,0,0,1" ∷ "T,5,88,1,0,0,0" ∷ "E,16" ∷ [])
 
 -- A combined term that became the newest would give 14.
-combined-in-place : seen (limited 2 128 2048 10 6 5) 999 empty (first-vector file-2 (by-hybrid 2)) ≡ some (text ("A,0,0" ∷ "A,0,0" ∷ "A,0,0" ∷ "V,1,2,0,0,0,0,0,0,0,0" ∷ "V,222,1,0,1,1,0,0,0,0,0" ∷ "V,138,3,0,1,1,0,0,0,0,0" ∷ []))
+combined-in-place : seen (limited 2 128 2048 10 6 5) 999 empty (first-vector file-2 (by-hybrid 2))
+    ≡ some (text ("A,0,0" ∷ "A,0,0" ∷ "A,0,0" ∷ "V,1,2,0,0,0,0,0,0,0,0" ∷ "V,222,1,0,1,1,0,0,0,0,0" ∷ "V,138,3,0,1,1,0,0,0,0,0" ∷ []))
 combined-in-place = refl
 
 -- The oldest picked by code 2 would finish.
@@ -39,14 +44,17 @@ abbrev file-3 : Bytes
 file-3 = text ("R,2,2,3,1" ∷ "T,1,1,1,0,1" ∷ "T,2,1,1,1,0" ∷ "T,2,1,1,0,1" ∷ "T,3,1,1,1,0" ∷ "T,4,1,1,0,1" ∷ "E,5" ∷ [])
 
 -- A finished uncached subtree that counted nothing would let the lifting finish.
-finished-uncached-counts : seen (limited 52 128 2048 6 5 2) 999 empty (first-vector file-3 (by-tree 5)) ≡ some (text ("A,0,0" ∷ "A,14,1" ∷ "A,11,0" ∷ []))
+finished-uncached-counts : seen (limited 52 128 2048 6 5 2) 999 empty (first-vector file-3 (by-tree 5))
+    ≡ some (text ("A,0,0" ∷ "A,14,1" ∷ "A,11,0" ∷ []))
 finished-uncached-counts = refl
 
 abbrev file-4 : Bytes
-file-4 = text ("R,2,3,2,1" ∷ "T,1,1,1,0,1,2" ∷ "T,1,1,1,0,0,3" ∷ "T,2,1,1,2,0,0" ∷ "T,2,1,1,0,2,0" ∷ "T,3,1,1,1,1,0" ∷ "T,3,1,1,0,0,2" ∷ "T,4,1,1,1,0,1" ∷ "T,4,1,1,0,1,1" ∷ "T,5,1,1,0,2,0" ∷ "T,5,1,1,0,1,1" ∷ "E,10" ∷ [])
+file-4 = text ("R,2,3,2,1" ∷ "T,1,1,1,0,1,2" ∷ "T,1,1,1,0,0,3" ∷ "T,2,1,1,2,0,0" ∷ "T,2,1,1,0,2,0" ∷ "T,3,1,1,1,1,0" ∷ "T,3,1,1,0,0,2" ∷ "T,4,1,1,1,0,1"
+    ∷ "T,4,1,1,0,1,1" ∷ "T,5,1,1,0,2,0" ∷ "T,5,1,1,0,1,1" ∷ "E,10" ∷ [])
 
 -- 13 only for products that are kept would let the lifting finish.
-dropped-products-are-tested : seen (limited 4 128 2048 512 11 50) 999 empty (first-vector file-4 (by-hybrid 2)) ≡ some (text ("A,0,0" ∷ "A,13,1" ∷ "A,11,0" ∷ []))
+dropped-products-are-tested : seen (limited 4 128 2048 512 11 50) 999 empty (first-vector file-4 (by-hybrid 2))
+    ≡ some (text ("A,0,0" ∷ "A,13,1" ∷ "A,11,0" ∷ []))
 dropped-products-are-tested = refl
 
 abbrev file-5 : Bytes
@@ -57,7 +65,8 @@ oldest-by-code-3 : seen (limited 3 128 2048 5 5 3) 999 empty (first-vector file-
 oldest-by-code-3 = refl
 
 abbrev file-6 : Bytes
-file-6 = text ("R,5,3,3,1" ∷ "T,1,4,1,1,0,0" ∷ "T,1,3,1,0,1,0" ∷ "T,1,3,1,0,0,1" ∷ "T,2,2,1,0,1,1" ∷ "T,2,2,1,0,0,2" ∷ "T,3,4,1,0,2,0" ∷ "T,3,1,1,0,0,2" ∷ "E,7" ∷ [])
+file-6 = text ("R,5,3,3,1" ∷ "T,1,4,1,1,0,0" ∷ "T,1,3,1,0,1,0" ∷ "T,1,3,1,0,0,1" ∷ "T,2,2,1,0,1,1" ∷ "T,2,2,1,0,0,2" ∷ "T,3,4,1,0,2,0" ∷ "T,3,1,1,0,0,2"
+    ∷ "E,7" ∷ [])
 
 -- A cache entry that took no term more than it has would let the lifting finish.
 one-term-more : seen (limited 4 128 2048 7 26 4) 999 empty (first-vector file-6 (by-tree 9)) ≡ some (text ("A,0,0" ∷ "A,14,1" ∷ "A,11,0" ∷ []))
@@ -74,7 +83,9 @@ abbrev accepted-file : State
 accepted-file = record { parameters = record { p = 7; n = 2; code = 1; s = 1 }; levels = f₁ ∷ [] }
 
 -- "a 513th term would be stored in a .. vector": four terms fit four places, not three
-vector-of-four : seen (limited 255 128 2048 512 4 4096) 99 empty (first-vector printed-file (by-hybrid 2)) ≡ some (text ("A,0,0" ∷ "A,0,0" ∷ "A,0,0" ∷ "V,1,2,1,0,0,0,0,0,0,0" ∷ "V,6,1,0,2,0,0,0,0,0,0" ∷ "V,6,1,0,0,0,0,0,0,0,0" ∷ "V,1,2,0,1,0,0,0,0,0,0" ∷ []))
+vector-of-four : seen (limited 255 128 2048 512 4 4096) 99 empty (first-vector printed-file (by-hybrid 2))
+    ≡ some (text ("A,0,0" ∷ "A,0,0" ∷ "A,0,0" ∷ "V,1,2,1,0,0,0,0,0,0,0" ∷ "V,6,1,0,2,0,0,0,0,0,0" ∷ "V,6,1,0,0,0,0,0,0,0,0" ∷ "V,1,2,0,1,0,0,0,0,0,0"
+    ∷ []))
 vector-of-four = refl
 
 vector-of-three : seen (limited 255 128 2048 512 3 4096) 99 accepted-file (lifting true 1 by-division ∷ []) ≡ some (text ("A,14,1" ∷ []))
@@ -84,7 +95,8 @@ vector-of-three-by-tree : seen (limited 255 128 2048 512 3 4096) 99 accepted-fil
 vector-of-three-by-tree = refl
 
 -- the same while accepting: place 0, and the state is empty
-vector-of-three-accepting : seen (limited 255 128 2048 512 3 4096) 99 empty (first-vector printed-file by-division) ≡ some (text ("A,14,0" ∷ "A,11,0" ∷ "A,11,0" ∷ []))
+vector-of-three-accepting : seen (limited 255 128 2048 512 3 4096) 99 empty (first-vector printed-file by-division)
+    ≡ some (text ("A,14,0" ∷ "A,11,0" ∷ "A,11,0" ∷ []))
 vector-of-three-accepting = refl
 
 -- "a 513th term would be stored in a working value"
@@ -98,14 +110,16 @@ value-of-one = refl
 four-terms : seen (limited 255 128 4 512 512 4096) 99 accepted-file (lifting true 1 (by-hybrid 2) ∷ []) ≡ some (text ("A,0,0" ∷ []))
 four-terms = refl
 
-three-terms : seen (limited 255 128 3 512 512 4096) 99 accepted-file (lifting true 1 (by-hybrid 2) ∷ fetching true 1 1 ∷ []) ≡ some (text ("A,15,1" ∷ "A,11,0" ∷ []))
+three-terms : seen (limited 255 128 3 512 512 4096) 99 accepted-file (lifting true 1 (by-hybrid 2) ∷ fetching true 1 1 ∷ [])
+    ≡ some (text ("A,15,1" ∷ "A,11,0" ∷ []))
 three-terms = refl
 
 -- "a 129th frame term, before any division or lifting, acceptance included": f = x², xy + y² is refused 9 where its one frame term is allowed
 no-gröbner-basis : Bytes
 no-gröbner-basis = text ("R,7,2,1,1" ∷ "T,1,1,1,2,0" ∷ "T,2,1,1,1,1" ∷ "T,2,1,1,0,2" ∷ "E,3" ∷ [])
 
-one-frame-term : seen (limited 255 1 2048 512 512 4096) 99 empty (reading true no-gröbner-basis ∷ []) ≡ some (text ("A,9,1" ∷ "V,6,1,0,3,0,0,0,0,0,0" ∷ []))
+one-frame-term : seen (limited 255 1 2048 512 512 4096) 99 empty (reading true no-gröbner-basis ∷ [])
+    ≡ some (text ("A,9,1" ∷ "V,6,1,0,3,0,0,0,0,0,0" ∷ []))
 unfolding no-gröbner-basis
 one-frame-term = refl
 
@@ -130,16 +144,22 @@ fourteen = refl
 record-before-products : seen (limited 4 128 2048 512 1 4096) 99 three-variables (lifting true 1 by-division ∷ []) ≡ some (text ("A,14,1" ∷ []))
 record-before-products = refl
 
--- "The cache starts empty at each lifting call": level 1 over 2y, x, z of component 2 leaves yz·e_2 in the cache, which level 2 meets with another meaning
+-- "The cache starts empty at each lifting call": level 1 over 2y, x, z of component 2 leaves yz·e_2 in the cache, which level 2 meets with another
+-- meaning
 level-2-by-tree : seen document-01 99 empty (
-    reading true (text ("R,7,3,1,2" ∷ "T,1,2,2,0,1,0" ∷ "T,2,1,2,1,0,0" ∷ "T,3,1,2,0,0,1" ∷ "E,3" ∷ [])) ∷ lifting true 1 (by-tree 99) ∷ lifting true 2 (by-tree 99) ∷ fetching true 2 1 ∷ [])
+    reading true (text ("R,7,3,1,2" ∷ "T,1,2,2,0,1,0" ∷ "T,2,1,2,1,0,0" ∷ "T,3,1,2,0,0,1" ∷ "E,3" ∷ [])) ∷ lifting true 1 (by-tree 99)
+    ∷ lifting true 2 (by-tree 99) ∷ fetching true 2 1 ∷ [])
     ≡ some (text ("A,0,0" ∷ "A,0,0" ∷ "A,0,0" ∷ "A,0,0" ∷ "V,1,3,0,1,0,0,0,0,0,0" ∷ "V,6,2,1,0,0,0,0,0,0,0" ∷ "V,1,1,0,0,1,0,0,0,0,0" ∷ []))
 level-2-by-tree = refl
 
 -- "lower order terms are dropped as they arise": f = x + y + z, y² + 1 in two places; y and z of −f_1 would want a third
-dropped-as-they-arise : seen (limited 255 128 2048 2 512 4096) 99 (with-level-0 (((1, (xyz 1 0 0, 1)) ∷ (1, (xyz 0 1 0, 1)) ∷ (1, (xyz 0 0 1, 1)) ∷ []) ∷ ((1, (xyz 0 2 0, 1)) ∷ (1, (xyz 0 0 0, 1)) ∷ []) ∷ [])) (lifting true 1 (by-hybrid 2) ∷ []) ≡ some (text ("A,0,0" ∷ []))
+dropped-as-they-arise : seen (limited 255 128 2048 2 512 4096) 99 (with-level-0
+    (((1, (xyz 1 0 0, 1)) ∷ (1, (xyz 0 1 0, 1)) ∷ (1, (xyz 0 0 1, 1)) ∷ []) ∷ ((1, (xyz 0 2 0, 1)) ∷ (1, (xyz 0 0 0, 1)) ∷ []) ∷ []))
+    (lifting true 1 (by-hybrid 2) ∷ []) ≡ some (text ("A,0,0" ∷ []))
 dropped-as-they-arise = refl
 
 -- division drops none
-none-dropped : seen (limited 255 128 2048 2 512 4096) 99 (with-level-0 (((1, (xyz 1 0 0, 1)) ∷ (1, (xyz 0 1 0, 1)) ∷ (1, (xyz 0 0 1, 1)) ∷ []) ∷ ((1, (xyz 0 2 0, 1)) ∷ (1, (xyz 0 0 0, 1)) ∷ []) ∷ [])) (lifting true 1 by-division ∷ []) ≡ some (text ("A,14,1" ∷ []))
+none-dropped : seen (limited 255 128 2048 2 512 4096) 99 (with-level-0
+    (((1, (xyz 1 0 0, 1)) ∷ (1, (xyz 0 1 0, 1)) ∷ (1, (xyz 0 0 1, 1)) ∷ []) ∷ ((1, (xyz 0 2 0, 1)) ∷ (1, (xyz 0 0 0, 1)) ∷ []) ∷ []))
+    (lifting true 1 by-division ∷ []) ≡ some (text ("A,14,1" ∷ []))
 none-dropped = refl

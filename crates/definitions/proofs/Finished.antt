@@ -58,7 +58,8 @@ add-products-finished R drops c q (t ∷ f) v =
 
 pub start-finished : (S : Stage) (W : Strategy) (m : Monomial) → T (finished? (start S W m))
 start-finished S W m =
-    bind-finished (add-products (S .reduction) (W .drops) 1 (m .0) (vector-of (S .family) (m .1)) []) (λ v. done (record { value = v; vector = (1, m) ∷ [] }))
+    bind-finished (add-products (S .reduction) (W .drops) 1 (m .0) (vector-of (S .family) (m .1)) [])
+    (λ v. done (record { value = v; vector = (1, m) ∷ [] }))
     (add-products-finished (S .reduction) (W .drops) 1 (m .0) (vector-of (S .family) (m .1)) []) (λ v. tt)
 
 pub step-finished : (S : Stage) (W : Strategy) (r : Run) → T (finished? (step S W r))
@@ -117,7 +118,8 @@ module _ (S : Stage) where
     where
       add : (r : Subtree) → T (finished? (add-subtree S others (multiple p c q t .0) (s .0) r))
       add r =
-          bind-finished (add-result (S .above) p (S .reduction .limits .tree - r .1) others (multiple p c q t .0) (r .0) (s .0)) (λ grown. done (grown, r .2))
+          bind-finished (add-result (S .above) p (S .reduction .limits .tree - r .1) others (multiple p c q t .0) (r .0) (s .0))
+          (λ grown. done (grown, r .2))
           (add-result-finished (S .above) p (S .reduction .limits .tree - r .1) others (multiple p c q t .0) (r .0) (s .0)) (λ grown. tt)
 
       go : (b : Bool) → T (finished? (if-product-fits b S lift others (multiple p c q t) s))
@@ -150,7 +152,8 @@ module _ (S : Stage) where
       lift-by-finished room (lift-list S (lift-term S room left)) (lift-list-finished (lift-term S room left) (lift-term-finished room left))
       (answer p (S .reduction .heads) (1, m)) others cache m
 
-  lift-vector-finished : (lift : Lift-term) → Finishes lift → (c : ℕ) (q : Exponents) (f : Vector) (s : Sum) → T (finished? (lift-vector S lift c q f s))
+  lift-vector-finished : (lift : Lift-term) → Finishes lift → (c : ℕ) (q : Exponents) (f : Vector) (s : Sum)
+      → T (finished? (lift-vector S lift c q f s))
   lift-vector-finished lift k c q [] s = tt
   lift-vector-finished lift k c q (t ∷ f) s =
       bind-finished (lift-vector-product S lift (multiple p c q t) s) (λ r. lift-vector S lift c q f r)
@@ -203,7 +206,8 @@ r-line-finished lim v =
     (λ u. unless-refused (in-ranges? lim (parameters-of v)) 3 1 >>= λ u′. done (parameters-of v)) λ u.
     guard-finished (in-ranges? lim (parameters-of v)) 3 1 (λ u′. done (parameters-of v)) (λ u′. tt)
 
-t-line-finished : (lim : Limits) (q : Parameters) (place count : ℕ) (elements : Level) (v : List ℕ) → T (finished? (t-line lim q place count elements v))
+t-line-finished : (lim : Limits) (q : Parameters) (place count : ℕ) (elements : Level) (v : List ℕ)
+    → T (finished? (t-line lim q place count elements v))
 t-line-finished lim q place count elements v = guard-finished (ltb count (lim .t-lines)) 8 place (λ u₁. after-8) (λ u₁.
     guard-finished (in-sequence? lim elements (getD v 0 0)) 5 place (λ u₂. after-5) (λ u₂.
     guard-finished (term-in-range? lim q t) 4 place (λ u₃. after-4) (λ u₃.

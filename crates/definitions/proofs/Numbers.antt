@@ -18,10 +18,15 @@ use Rattle.definitions.specs.Result.{Result, done, refused, unfinished, 
 use Rattle.definitions.specs.Vectors.{insert, combined, appended, or-last, store}
 use Rattle.definitions.specs.Stage.{Reduction, Stage, highest, stage-over}
 use Rattle.definitions.specs.Run
-use Rattle.definitions.specs.Run.{Strategy, Step, on, end, dropped?, unless-dropped, if-fits, multiple, add-products, start, reduced, without-reducer, by-answer, by-pick, continued, runs, run, hybrid-strategy, division-strategy, accepting-strategy}
-use Rattle.definitions.specs.Tree.{Cache, Sum, cached, held-to, add-result, Lift-term, Lift-list, if-product-fits, lift-list, open-subtree, or-open, lift-by, lift-term, if-vector-product-fits, lift-vector, tree}
-use Rattle.definitions.specs.Lifting.{Lifting, by-division, by-hybrid, by-tree, lift-one, Lifted, add-vector, lift-all, if-few, limited-frame, lift-level, at-frame-term, accept-from, accept}
-use Rattle.definitions.specs.Problem.{Bytes, Line, Parameters, shaped, letter-R, letter-T, letter-E, prime-in-range?, in-ranges?, parameters-of, r-line, term-of, in-sequence?, term-in-range?, descends?, t-line, e-line, by-shape, body, after-r, first-line, lines, problem}
+use Rattle.definitions.specs.Run.{Strategy, Step, on, end, dropped?, unless-dropped, if-fits, multiple, add-products, start, reduced, without-reducer}
+use Rattle.definitions.specs.Run.{by-answer, by-pick, continued, runs, run, hybrid-strategy, division-strategy, accepting-strategy}
+use Rattle.definitions.specs.Tree.{Cache, Sum, cached, held-to, add-result, Lift-term, Lift-list, if-product-fits, lift-list, open-subtree, or-open}
+use Rattle.definitions.specs.Tree.{lift-by, lift-term, if-vector-product-fits, lift-vector, tree}
+use Rattle.definitions.specs.Lifting.{Lifting, by-division, by-hybrid, by-tree, lift-one, Lifted, add-vector, lift-all, if-few, limited-frame, lift-level}
+use Rattle.definitions.specs.Lifting.{at-frame-term, accept-from, accept}
+use Rattle.definitions.specs.Problem.{Bytes, Line, Parameters, shaped, letter-R, letter-T, letter-E, prime-in-range?, in-ranges?, parameters-of, r-line}
+use Rattle.definitions.specs.Problem.{term-of, in-sequence?, term-in-range?, descends?, t-line, e-line, by-shape, body, after-r, first-line, lines}
+use Rattle.definitions.specs.Problem.{problem}
 use Rattle.definitions.specs.State.{State, up-to}
 use Rattle.definitions.specs.Calls.{read, lift}
 use Rattle.definitions.proofs.Tests.{between-low, between-high, between-shown}
@@ -34,7 +39,8 @@ pub data Numbered {A : Type 0} (ok : ℕ → Bool) : Result A → Type 0 where
   open-yet : Numbered ok unfinished
 
 -- one after the other
-pub numbered-then : {A B : Type 0} {ok : ℕ → Bool} {x : Result A} {f : A → Result B} → Numbered ok x → ((a : A) → Numbered ok (f a)) → Numbered ok (x >>= f)
+pub numbered-then : {A B : Type 0} {ok : ℕ → Bool} {x : Result A} {f : A → Result B} → Numbered ok x → ((a : A) → Numbered ok (f a))
+    → Numbered ok (x >>= f)
 numbered-then (gives {a}) k = k a
 numbered-then (refuses h) k = refuses h
 numbered-then (stops h) k = stops h
@@ -123,7 +129,8 @@ by-pick-number : (S : Stage) (W : Strategy) (r : Run.Run) (o : Option ℕ) → N
 by-pick-number S W r none = gives
 by-pick-number S W r (some i) = by-answer-number S W r i (answer (S .reduction .p) (S .reduction .heads) (getD (r .value) i no-term))
 
-continued-number : (S : Stage) (ok : ℕ → Bool) (go : Run.Run → Result Vector) → ((r : Run.Run) → Numbered ok (go r)) → {s : Result Step} → Numbered ok s → Numbered ok (continued S go s)
+continued-number : (S : Stage) (ok : ℕ → Bool) (go : Run.Run → Result Vector) → ((r : Run.Run) → Numbered ok (go r)) → {s : Result Step} → Numbered ok s
+    → Numbered ok (continued S go s)
 continued-number S ok go h (gives {a = on r}) = h r
 continued-number S ok go h (gives {a = end v}) = gives
 continued-number S ok go h (refuses k) = refuses k
@@ -132,7 +139,8 @@ continued-number S ok go h open-yet = open-yet
 
 runs-number : (S : Stage) (W : Strategy) (n : ℕ) (r : Run.Run) → Numbered (stop-number? (W .stops)) (runs S W n r)
 runs-number S W zero r = open-yet
-runs-number S W (suc n) r = continued-number S (stop-number? (W .stops)) (λ r′. runs S W n r′) (λ r′. runs-number S W n r′) (by-pick-number S W r (W .pick (r .value)))
+runs-number S W (suc n) r = continued-number S (stop-number? (W .stops)) (λ r′. runs S W n r′) (λ r′. runs-number S W n r′)
+    (by-pick-number S W r (W .pick (r .value)))
 
 pub run-number : (S : Stage) (W : Strategy) (n : ℕ) (m : Monomial) → Numbered (stop-number? (W .stops)) (run S W n m)
 run-number S W n m = numbered-then (numbered-more (limit-stop (W .stops)) (start-number S W m)) (λ r. runs-number S W n r)
@@ -143,7 +151,8 @@ held-to-number : (b : Bool) (v : Vector) → Numbered limit-number? (held-to b v
 held-to-number true v = gives
 held-to-number false v = refuses tt
 
-add-result-number : (order : Monomial → Monomial → Comparison) (p top others c : ℕ) (v total : Vector) → Numbered limit-number? (add-result order p top others c v total)
+add-result-number : (order : Monomial → Monomial → Comparison) (p top others c : ℕ) (v total : Vector)
+    → Numbered limit-number? (add-result order p top others c v total)
 add-result-number order p top others c [] total = gives
 add-result-number order p top others c (t ∷ v) total =
     let grown = insert order p (times p c (t .0), t .1) total in
@@ -152,23 +161,29 @@ add-result-number order p top others c (t ∷ v) total =
 abbrev Lift-number : Lift-term → Type 0
 Lift-number lift = (others : ℕ) (cache : Cache) (m : Monomial) → Numbered limit-number? (lift others cache m)
 
-if-product-fits-number : (b : Bool) (S : Stage) (lift : Lift-term) → Lift-number lift → (others : ℕ) (t : Term) (s : Sum) → Numbered limit-number? (if-product-fits b S lift others t s)
+if-product-fits-number : (b : Bool) (S : Stage) (lift : Lift-term) → Lift-number lift → (others : ℕ) (t : Term) (s : Sum)
+    → Numbered limit-number? (if-product-fits b S lift others t s)
 if-product-fits-number true S lift h others t s =
     numbered-then (h (others + length (s .0)) (s .1) (t .1))
-    (λ r. numbered-then (add-result-number (S .above) (S .reduction .p) (S .reduction .limits .tree - r .1) others (t .0) (r .0) (s .0)) (λ grown. gives))
+    (λ r. numbered-then (add-result-number (S .above) (S .reduction .p) (S .reduction .limits .tree - r .1) others (t .0) (r .0) (s .0))
+    (λ grown. gives))
 if-product-fits-number false S lift h others t s = refuses tt
 
-lift-list-number : (S : Stage) (lift : Lift-term) → Lift-number lift → (others c : ℕ) (q : Exponents) (f : Vector) (s : Sum) → Numbered limit-number? (lift-list S lift others c q f s)
+lift-list-number : (S : Stage) (lift : Lift-term) → Lift-number lift → (others c : ℕ) (q : Exponents) (f : Vector) (s : Sum)
+    → Numbered limit-number? (lift-list S lift others c q f s)
 lift-list-number S lift h others c q [] s = gives
 lift-list-number S lift h others c q (t ∷ f) s =
     let u = multiple (S .reduction .p) c q t in
-    numbered-then (if-product-fits-number (fits? (S .reduction .limits .exponent) (u .1 .0)) S lift h others u s) (λ r. lift-list-number S lift h others c q f r)
+    numbered-then (if-product-fits-number (fits? (S .reduction .limits .exponent) (u .1 .0)) S lift h others u s)
+    (λ r. lift-list-number S lift h others c q f r)
 
 abbrev List-number : Lift-list → Type 0
 List-number lift = (others c : ℕ) (q : Exponents) (f : Vector) (s : Sum) → Numbered limit-number? (lift others c q f s)
 
-open-subtree-number : (b : Bool) (S : Stage) (room : ℕ) (lift : Lift-list) → List-number lift → (others : ℕ) (cache : Cache) (m : Monomial) (j c : ℕ) (q : Exponents) → Numbered limit-number? (open-subtree b S room lift others cache m j c q)
-open-subtree-number true S room lift h others cache m j c q = numbered-then (h others c q (rest (vector-of (S .family) j)) ((c, (q, j)) ∷ [], cache)) (λ s. gives)
+open-subtree-number : (b : Bool) (S : Stage) (room : ℕ) (lift : Lift-list) → List-number lift
+    → (others : ℕ) (cache : Cache) (m : Monomial) (j c : ℕ) (q : Exponents) → Numbered limit-number? (open-subtree b S room lift others cache m j c q)
+open-subtree-number true S room lift h others cache m j c q = numbered-then (h others c q (rest (vector-of (S .family) j)) ((c, (q, j)) ∷ [], cache))
+    (λ s. gives)
 open-subtree-number false S room lift h others cache m j c q = refuses tt
 
 lift-by-number : (a : Answer) (S : Stage) (room : ℕ) (lift : Lift-list) → List-number lift → Lift-number (lift-by a S room lift)
@@ -180,20 +195,26 @@ lift-by-number (reducer j c q) S room lift h others cache m = go (cached m cache
     go none = open-subtree-number (ltb others (S .reduction .limits .tree)) S room lift h others cache m j (minus (S .reduction .p) c) q
 
 lift-term-number : (S : Stage) (room left : ℕ) → Lift-number (lift-term S room left)
-lift-term-number S room zero others cache m = lift-by-number (answer (S .reduction .p) (S .reduction .heads) (1, m)) S room (λ o c q f s. refusal 14) (λ o c q f s. refuses tt) others cache m
+lift-term-number S room zero others cache m = lift-by-number (answer (S .reduction .p) (S .reduction .heads) (1, m)) S room (λ o c q f s. refusal 14)
+    (λ o c q f s. refuses tt) others cache m
 lift-term-number S room (suc left) others cache m =
-    lift-by-number (answer (S .reduction .p) (S .reduction .heads) (1, m)) S room (lift-list S (lift-term S room left)) (lift-list-number S (lift-term S room left) (lift-term-number S room left)) others cache m
+    lift-by-number (answer (S .reduction .p) (S .reduction .heads) (1, m)) S room (lift-list S (lift-term S room left))
+    (lift-list-number S (lift-term S room left) (lift-term-number S room left)) others cache m
 
-if-vector-product-fits-number : (b : Bool) (S : Stage) (lift : Lift-term) → Lift-number lift → (t : Term) (s : Sum) → Numbered limit-number? (if-vector-product-fits b S lift t s)
+if-vector-product-fits-number : (b : Bool) (S : Stage) (lift : Lift-term) → Lift-number lift → (t : Term) (s : Sum)
+    → Numbered limit-number? (if-vector-product-fits b S lift t s)
 if-vector-product-fits-number true S lift h t s =
-    numbered-then (h 0 (s .1) (t .1)) (λ r. numbered-then (add-result-number (S .above) (S .reduction .p) (S .reduction .limits .vector) 0 (t .0) (r .0) (s .0)) (λ grown. gives))
+    numbered-then (h 0 (s .1) (t .1)) (λ r. numbered-then (add-result-number (S .above) (S .reduction .p) (S .reduction .limits .vector) 0 (t .0) (r .0)
+    (s .0)) (λ grown. gives))
 if-vector-product-fits-number false S lift h t s = refuses tt
 
-lift-vector-number : (S : Stage) (lift : Lift-term) → Lift-number lift → (c : ℕ) (q : Exponents) (f : Vector) (s : Sum) → Numbered limit-number? (lift-vector S lift c q f s)
+lift-vector-number : (S : Stage) (lift : Lift-term) → Lift-number lift → (c : ℕ) (q : Exponents) (f : Vector) (s : Sum)
+    → Numbered limit-number? (lift-vector S lift c q f s)
 lift-vector-number S lift h c q [] s = gives
 lift-vector-number S lift h c q (t ∷ f) s =
     let u = multiple (S .reduction .p) c q t in
-    numbered-then (if-vector-product-fits-number (fits? (S .reduction .limits .exponent) (u .1 .0)) S lift h u s) (λ r. lift-vector-number S lift h c q f r)
+    numbered-then (if-vector-product-fits-number (fits? (S .reduction .limits .exponent) (u .1 .0)) S lift h u s)
+    (λ r. lift-vector-number S lift h c q f r)
 
 -- ## Levels and acceptance
 
@@ -208,11 +229,13 @@ add-vector-number : (b : Bool) (l : Lifted) (v : Vector) → Numbered limit-numb
 add-vector-number true l v = gives
 add-vector-number false l v = refuses tt
 
-lift-all-number : (S : Stage) (lift : Cache → Monomial → Result Sum) → ((cache : Cache) (m : Monomial) → Numbered limit-number? (lift cache m)) → (l : Lifted) (cache : Cache) (ms : List Monomial) → Numbered limit-number? (lift-all S lift l cache ms)
+lift-all-number : (S : Stage) (lift : Cache → Monomial → Result Sum) → ((cache : Cache) (m : Monomial) → Numbered limit-number? (lift cache m))
+    → (l : Lifted) (cache : Cache) (ms : List Monomial) → Numbered limit-number? (lift-all S lift l cache ms)
 lift-all-number S lift h l cache [] = gives
 lift-all-number S lift h l cache (m ∷ ms) =
     numbered-then (h cache m)
-    (λ s. numbered-then (add-vector-number (leb (l .1 + length (s .0)) (S .reduction .limits .level-terms)) l (s .0)) (λ l′. lift-all-number S lift h l′ (s .1) ms))
+    (λ s. numbered-then (add-vector-number (leb (l .1 + length (s .0)) (S .reduction .limits .level-terms)) l (s .0))
+    (λ l′. lift-all-number S lift h l′ (s .1) ms))
 
 if-few-number : (b : Bool) (ms : List Monomial) → Numbered limit-number? (if-few b ms)
 if-few-number true ms = gives
@@ -223,7 +246,8 @@ limited-frame-number lim code f =
     let ms = frame (lim .numbering code) (leading-monomials f) in
     if-few-number (leb (length ms) (lim .vectors)) ms
 
-pub lift-level-number : (lim : Limits) (p code : ℕ) (below : List Level) (way : Lifting) (n : ℕ) → Numbered limit-number? (lift-level lim p code below way n)
+pub lift-level-number : (lim : Limits) (p code : ℕ) (below : List Level) (way : Lifting) (n : ℕ)
+    → Numbered limit-number? (lift-level lim p code below way n)
 lift-level-number lim p code below way n =
     let S = stage-over lim p code below in
     numbered-then (limited-frame-number lim code (highest below)) (λ ms. lift-all-number S (lift-one S way n) (lift-one-number S way n) ([], 0) [] ms)
@@ -236,7 +260,8 @@ at-frame-term-number i open-yet = open-yet
 
 accept-from-number : (S : Stage) (n i : ℕ) (ms : List Monomial) → Numbered run-number? (accept-from S n i ms)
 accept-from-number S n i [] = gives
-accept-from-number S n i (m ∷ ms) = numbered-then (at-frame-term-number i (run-number S (accepting-strategy S) n m)) (λ v. accept-from-number S n (suc i) ms)
+accept-from-number S n i (m ∷ ms) = numbered-then (at-frame-term-number i (run-number S (accepting-strategy S) n m))
+    (λ v. accept-from-number S n (suc i) ms)
 
 pub accept-number : (lim : Limits) (p code : ℕ) (f : Level) (n : ℕ) → Numbered run-number? (accept lim p code f n)
 accept-number lim p code f n =
@@ -266,9 +291,11 @@ t-line-number lim q place count f v =
 e-line-number : (place count : ℕ) (later : List Line) (f : Level) (o : Option (List ℕ)) → Numbered line-number? (e-line place count later f o)
 e-line-number place count later f none = refuses tt
 e-line-number place count later f (some v) =
-    numbered-then (unless-number (not (eqb (getD v 0 0) 0) and eqb (getD v 0 0) count) 7 place tt) (λ u₁. numbered-then (unless-number (empty? later) 1 (suc place) tt) (λ u₂. gives))
+    numbered-then (unless-number (not (eqb (getD v 0 0) 0) and eqb (getD v 0 0) count) 7 place tt)
+    (λ u₁. numbered-then (unless-number (empty? later) 1 (suc place) tt) (λ u₂. gives))
 
-by-shape-number : (o : Option (List ℕ)) (lim : Limits) (q : Parameters) (place count : ℕ) (f : Level) (line : Line) (later : List Line) (go : Level → Result Level)
+by-shape-number : (o : Option (List ℕ)) (lim : Limits) (q : Parameters) (place count : ℕ) (f : Level) (line : Line) (later : List Line)
+    (go : Level → Result Level)
     → ((g : Level) → Numbered line-number? (go g)) → Numbered line-number? (by-shape o lim q place count f line later go)
 by-shape-number (some v) lim q place count f line later go h = numbered-then (t-line-number lim q place count f v) h
 by-shape-number none lim q place count f line later go h = e-line-number place count later f (shaped (lim .field) letter-E 1 line)
@@ -276,7 +303,8 @@ by-shape-number none lim q place count f line later go h = e-line-number place c
 body-number : (lim : Limits) (q : Parameters) (place count : ℕ) (f : Level) (ls : List Line) → Numbered line-number? (body lim q place count f ls)
 body-number lim q place count f [] = refuses tt
 body-number lim q place count f (line ∷ later) =
-    by-shape-number (shaped (lim .field) letter-T (3 + q .n) line) lim q place count f line later (λ g. body lim q (suc place) (suc count) g later) (λ g. body-number lim q (suc place) (suc count) g later)
+    by-shape-number (shaped (lim .field) letter-T (3 + q .n) line) lim q place count f line later (λ g. body lim q (suc place) (suc count) g later)
+    (λ g. body-number lim q (suc place) (suc count) g later)
 
 after-r-number : (lim : Limits) (later : List Line) (o : Option (List ℕ)) → Numbered line-number? (after-r lim later o)
 after-r-number lim later none = refuses tt
@@ -292,7 +320,8 @@ problem-number lim bytes = numbered-then (unless-number (leb (length bytes) (lim
 -- ## The calls
 
 line-read : (n : ℕ) → T (line-number? n) → T (read-number? n)
-line-read n h = or-left (between 1 n 9) (between 13 n 15) (between-shown 1 n 9 (between-low 1 n 8 h) (let k : n ≤ 8 = between-high 1 n 8 h in omega arith))
+line-read n h = or-left (between 1 n 9) (between 13 n 15) (between-shown 1 n 9 (between-low 1 n 8 h)
+    (let k : n ≤ 8 = between-high 1 n 8 h in omega arith))
 
 run-read : (n : ℕ) → T (run-number? n) → T (read-number? n)
 run-read n h = go (eqb n 9) (eqb→eq n 9) h
@@ -303,7 +332,8 @@ run-read n h = go (eqb n 9) (eqb→eq n 9) h
 
 pub read-number : (lim : Limits) (n : ℕ) (bytes : Bytes) → Numbered read-number? (read lim n bytes)
 read-number lim n bytes =
-    numbered-then (numbered-more line-read (problem-number lim bytes)) (λ f. numbered-then (numbered-more run-read (accept-number lim (f .0 .p) (f .0 .code) (f .1) n)) (λ u. gives))
+    numbered-then (numbered-more line-read (problem-number lim bytes))
+    (λ f. numbered-then (numbered-more run-read (accept-number lim (f .0 .p) (f .0 .code) (f .1) n)) (λ u. gives))
 
 at-level-number : {A : Type 0} {ok : ℕ → Bool} (k : ℕ) {r : Result A} → Numbered ok r → Numbered ok (at-level k r)
 at-level-number k gives = gives
@@ -312,4 +342,5 @@ at-level-number k (stops h) = stops h
 at-level-number k open-yet = open-yet
 
 pub lift-number : (lim : Limits) (n : ℕ) (X : State) (k : ℕ) (way : Lifting) → Numbered limit-number? (lift lim n X k way)
-lift-number lim n X k way = numbered-then (at-level-number k (lift-level-number lim (X .parameters .p) (X .parameters .code) (up-to X (k - 1)) way n)) (λ f. gives)
+lift-number lim n X k way = numbered-then (at-level-number k (lift-level-number lim (X .parameters .p) (X .parameters .code) (up-to X (k - 1)) way n))
+    (λ f. gives)

@@ -4,15 +4,23 @@ use Prim.Native.Nat.{ℕ, suc, _+_, _*_, _<_, _≤_}
 use native.Mathlib.Omega.{arith}
 use Rattle.definitions.specs.Limits.{document-01}
 use Rattle.definitions.specs.Layout.{level-vectors, level-rows, count-place, rows-place, state-words, work-words, out-words, division, tree}
-use Rattle.definitions.specs.Places.{exponents-length, most-exponent, most-variables, most-components, most-elements, most-vectors, most-rows, most-terms, most-tree-terms, most-levels, all-levels, row-length, component-offset, exponents-offset, rank-offset, counts-length, rows-start, level-length, state-length, count-offset, ends-offset, rows-offset, value-length, tree-length, vector-length, table-length, spans-length, tables-spans, tables-ends, tables-below, tables-above, tables-length, ends-length, lifted-length, grown-length, file-length, read-length, s-line-length, pair-line-length, s-lines-length, level-lines-length, all-lines-length, sheet-length}
+use Rattle.definitions.specs.Places.{exponents-length, most-exponent, most-variables, most-components, most-elements, most-vectors, most-rows, most-terms}
+use Rattle.definitions.specs.Places.{most-tree-terms, most-levels, all-levels, row-length, component-offset, exponents-offset, rank-offset, counts-length}
+use Rattle.definitions.specs.Places.{rows-start, level-length, state-length, count-offset, ends-offset, rows-offset, value-length, tree-length}
+use Rattle.definitions.specs.Places.{vector-length, table-length, spans-length, tables-spans, tables-ends, tables-below, tables-above, tables-length}
+use Rattle.definitions.specs.Places.{ends-length, lifted-length, grown-length, file-length, read-length, s-line-length, pair-line-length, s-lines-length}
+use Rattle.definitions.specs.Places.{level-lines-length, all-lines-length, sheet-length}
 
 -- ## The numbers
 
 -- of the limits
 limits-are : (exponents-length ≡ document-01 .variables) × (most-exponent ≡ document-01 .exponent) × (most-variables ≡ document-01 .variables)
-    × (most-components ≡ document-01 .components) × (most-elements ≡ document-01 .elements) × (most-vectors ≡ document-01 .vectors) × (most-vectors ≡ level-vectors document-01)
-    × (most-rows ≡ document-01 .t-lines) × (most-rows ≡ level-rows document-01) × (most-terms ≡ document-01 .working) × (most-terms ≡ document-01 .vector)
-    × (most-tree-terms ≡ document-01 .tree) × (most-levels ≡ document-01 .levels) × (all-levels ≡ suc (document-01 .levels)) × (file-length ≡ document-01 .file) × (read-length ≡ suc file-length)
+    × (most-components ≡ document-01 .components) × (most-elements ≡ document-01 .elements) × (most-vectors ≡ document-01 .vectors)
+    × (most-vectors ≡ level-vectors document-01)
+    × (most-rows ≡ document-01 .t-lines) × (most-rows ≡ level-rows document-01) × (most-terms ≡ document-01 .working)
+    × (most-terms ≡ document-01 .vector)
+    × (most-tree-terms ≡ document-01 .tree) × (most-levels ≡ document-01 .levels) × (all-levels ≡ suc (document-01 .levels))
+    × (file-length ≡ document-01 .file) × (read-length ≡ suc file-length)
 limits-are = (refl, refl, refl, refl, refl, refl, refl, refl, refl, refl, refl, refl, refl, refl, refl, refl)
 
 -- of rows
@@ -29,18 +37,22 @@ ends-are k = omega arith
 rows-are : (k : ℕ) → rows-offset k ≡ rows-place document-01 k
 rows-are k = refl
 
-state-is : (state-length ≡ state-words document-01) × (rows-start ≡ count-offset all-levels) × (counts-length ≡ suc (level-vectors document-01)) × (level-length ≡ level-rows document-01 * row-length)
+state-is : (state-length ≡ state-words document-01) × (rows-start ≡ count-offset all-levels) × (counts-length ≡ suc (level-vectors document-01))
+    × (level-length ≡ level-rows document-01 * row-length)
 state-is = (refl, refl, refl, refl)
 
 -- of the other buffers
 buffers-are : (value-length ≡ work-words document-01 division) × (tree-length ≡ work-words document-01 tree) × (vector-length ≡ out-words document-01)
-    × (table-length ≡ most-vectors * row-length) × (spans-length ≡ suc most-vectors * 2) × (ends-length ≡ most-vectors) × (lifted-length ≡ ends-length + level-length)
-    × (grown-length ≡ lifted-length + vector-length) × (tables-spans ≡ table-length) × (tables-ends ≡ tables-spans + spans-length) × (tables-below ≡ tables-ends + ends-length)
+    × (table-length ≡ most-vectors * row-length) × (spans-length ≡ suc most-vectors * 2) × (ends-length ≡ most-vectors)
+    × (lifted-length ≡ ends-length + level-length)
+    × (grown-length ≡ lifted-length + vector-length) × (tables-spans ≡ table-length) × (tables-ends ≡ tables-spans + spans-length)
+    × (tables-below ≡ tables-ends + ends-length)
     × (tables-above ≡ tables-below + table-length) × (tables-length ≡ tables-above + table-length)
 buffers-are = (refl, refl, refl, refl, refl, refl, refl, refl, refl, refl, refl, refl, refl)
 
 -- of the sheet's lines
-lines-are : (s-lines-length ≡ most-rows * s-line-length) × (level-lines-length ≡ s-lines-length + pair-line-length) × (all-lines-length ≡ most-levels * level-lines-length)
+lines-are : (s-lines-length ≡ most-rows * s-line-length) × (level-lines-length ≡ s-lines-length + pair-line-length)
+    × (all-lines-length ≡ most-levels * level-lines-length)
 lines-are = (refl, refl, refl)
 
 sheet-fits : all-lines-length + pair-line-length ≤ sheet-length

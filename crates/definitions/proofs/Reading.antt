@@ -113,9 +113,11 @@ module _ (lim : Limits) (q : Parameters) where
       more : Level → Result Level
       more grown = body lim q (suc place) (suc count) grown later
 
-      go : (o : Option (List ℕ)) → If-some (Counts (3 + q .n)) o → ((grown : Level) → Elements lim q (suc count) grown → If-done Sound-basis (more grown))
+      go : (o : Option (List ℕ)) → If-some (Counts (3 + q .n)) o → ((grown : Level) → Elements lim q (suc count) grown
+          → If-done Sound-basis (more grown))
           → If-done Sound-basis (by-shape o lim q place count f line later more)
-      go (some v) l k = if-done-bind (Elements lim q (suc count)) Sound-basis (t-line lim q place count f v) more (t-line-elements few place count f h v l) k
+      go (some v) l k = if-done-bind (Elements lim q (suc count)) Sound-basis (t-line lim q place count f v) more
+          (t-line-elements few place count f h v l) k
       go none l k = e-line-basis place count later f h (shaped (lim .field) letter-E 1 line)
 
 -- ## The file
@@ -158,7 +160,8 @@ problem-sound lim v bytes = guard-done Sound (leb (length bytes) (lim .file)) 1 
     after : (later : List Line) (o : Option (List ℕ)) → If-done Sound (after-r lim later o)
     after later none = tt
     after later (some v) =
-        if-done-bind Ranged Sound (r-line lim v) (λ q. body lim q 2 0 [] later >>= λ f. done (q, f)) (r-line-ranged v) (λ q h. read later q (h .0) (h .1))
+        if-done-bind Ranged Sound (r-line lim v) (λ q. body lim q 2 0 [] later >>= λ f. done (q, f)) (r-line-ranged v)
+        (λ q h. read later q (h .0) (h .1))
 
     first : (ls : List Line) → If-done Sound (first-line lim ls)
     first [] = tt

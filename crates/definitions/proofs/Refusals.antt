@@ -15,7 +15,8 @@ use Rattle.definitions.specs.Lifting.{Lifting}
 use Rattle.definitions.specs.Problem.{Bytes}
 use Rattle.definitions.specs.State.{State, empty}
 use Rattle.definitions.specs.Calls.{Reply, refuse, settled, read, lift, fetch, eleven?, lifts?, fetches?, read-reply, lift-reply, fetch-reply}
-use Rattle.definitions.specs.Layout.{Words, padded, zeros, rows-place, state-words, encode, state-after, rows-after, cache-after, meant, Way, division, lifting-by, work-words, out-words, long-enough?, Read, read-left, read-call, Lift, lift-left, lift-call, fetch-call}
+use Rattle.definitions.specs.Layout.{Words, padded, zeros, rows-place, state-words, encode, state-after, rows-after, cache-after, meant, Way, division}
+use Rattle.definitions.specs.Layout.{lifting-by, work-words, out-words, long-enough?, Read, read-left, read-call, Lift, lift-left, lift-call, fetch-call}
 use Rattle.definitions.proofs.Tests.{and-left}
 use Rattle.definitions.proofs.Numbers.{Numbered, gives, refuses, stops, open-yet, limit-number?, read-number?, numbered-more, read-number, lift-number}
 use Rattle.definitions.specs.Places.{header-length}
@@ -33,7 +34,8 @@ padded-zeros n k h =
 
 pub encode-empty : (lim : Limits) (size : ℕ) → state-words lim ≤ size → encode lim size empty ≡ replicate size 0
 encode-empty lim size h =
-    ap (padded size) (append-nil (padded (rows-place lim 0) (replicate header-length 0)) ∙ padded-zeros (rows-place lim 0) header-length (omega arith)) ∙ padded-zeros size (rows-place lim 0) (omega arith)
+    ap (padded size) (append-nil (padded (rows-place lim 0) (replicate header-length 0)) ∙ padded-zeros (rows-place lim 0) header-length (omega arith))
+    ∙ padded-zeros size (rows-place lim 0) (omega arith)
 
 -- ## What a settled call leaves
 
@@ -86,7 +88,8 @@ lift-fair lim n X true k way = eleven (eleven? lim X k (k - 1))
     twelve false = refuse-fair lim 12 X tt
     twelve true = settled-fair lim (lift lim n X k way) (numbered-more limit-read (lift-number lim n X k way))
 
-    eleven : (b : Bool) → Fair-or-none lim (choose b (some (refuse 11 X)) (choose (not (lifts? lim k way)) (some (refuse 12 X)) (settled (lift lim n X k way))))
+    eleven : (b : Bool) → Fair-or-none lim (choose b (some (refuse 11 X))
+        (choose (not (lifts? lim k way)) (some (refuse 12 X)) (settled (lift lim n X k way))))
     eleven true = refuse-fair lim 11 X tt
     eleven false = twelve (lifts? lim k way)
 
@@ -117,7 +120,8 @@ module _ {B : Type 0} (lim : Limits) (left : Reply → B) (b : B) where
   from-reply (some a) h e = (a, h, refl, some-is e)
 
 -- 11, 12 and 16 change nothing
-pub read-keeps : (lim : Limits) (n : ℕ) (file : Bytes) (state work : Words) (r : Read) → read-call lim n file state work ≡ some r → T (keeps? (r .0)) → r ≡ (r .0, 0, state, work)
+pub read-keeps : (lim : Limits) (n : ℕ) (file : Bytes) (state work : Words) (r : Read) → read-call lim n file state work ≡ some r → T (keeps? (r .0))
+    → r ≡ (r .0, 0, state, work)
 read-keeps lim n file state work r e k =
     let X = meant lim state in
     let long = long-enough? lim division state work in
@@ -129,11 +133,13 @@ read-keeps lim n file state work r e k =
         let t = h .kept (subst (λ (x : Read). T (keeps? (x .0))) (sym l) k) in
         sym l ∙ (λ i. (l i .0, t .0 i, state-after lim state (a .state) (t .1 i), rows-after work (t .1 i)))
 
-pub lift-keeps : (lim : Limits) (n k : ℕ) (way : Way) (state work cache : Words) (r : Lift) → lift-call lim n k way state work cache ≡ some r → T (keeps? (r .0)) → r ≡ (r .0, 0, state, work, cache)
+pub lift-keeps : (lim : Limits) (n k : ℕ) (way : Way) (state work cache : Words) (r : Lift) → lift-call lim n k way state work cache ≡ some r
+    → T (keeps? (r .0)) → r ≡ (r .0, 0, state, work, cache)
 lift-keeps lim n k way state work cache r e q =
     let X = meant lim state in
     let long = long-enough? lim way state work in
-    let f = from-reply lim (lift-left lim state work cache) r (lift-reply lim n X long k (lifting-by way cache)) (lift-fair lim n X long k (lifting-by way cache)) e in
+    let f = from-reply lim (lift-left lim state work cache) r (lift-reply lim n X long k (lifting-by way cache))
+    (lift-fair lim n X long k (lifting-by way cache)) e in
     go (f .0) (f .1) (f .3)
   where
     go : (a : Reply) → Fair lim a → lift-left lim state work cache a ≡ r → r ≡ (r .0, 0, state, work, cache)
@@ -141,32 +147,43 @@ lift-keeps lim n k way state work cache r e q =
         let t = h .kept (subst (λ (x : Lift). T (keeps? (x .0))) (sym l) q) in
         sym l ∙ (λ i. (l i .0, t .0 i, state-after lim state (a .state) (t .1 i), rows-after work (t .1 i), cache-after cache (t .1 i)))
 
-pub fetch-keeps : (lim : Limits) (k v : ℕ) (state out : Words) → T (keeps? (fetch-call lim k v state out .0)) → fetch-call lim k v state out ≡ (fetch-call lim k v state out .0, 0, out)
+pub fetch-keeps : (lim : Limits) (k v : ℕ) (state out : Words) → T (keeps? (fetch-call lim k v state out .0)) → fetch-call lim k v state out
+    ≡ (fetch-call lim k v state out .0, 0, out)
 fetch-keeps lim k v state out q =
     let a = fetch-reply lim (meant lim state) (leb (state-words lim) (length state) and leb (out-words lim) (length out)) k v in
     let t = fetch-fair lim (meant lim state) (leb (state-words lim) (length state) and leb (out-words lim) (length out)) k v .kept q in
     λ i. (a .number, t .0 i, rows-after out (t .2 i))
 
 -- every other refusal leaves the state all zero
-emptied-words : (lim : Limits) (state : Words) (a : Reply) → Fair lim a → state-words lim ≤ length state → T (read-number? (a .number)) → state-after lim state (a .state) (a .work) ≡ zeros state
+emptied-words : (lim : Limits) (state : Words) (a : Reply) → Fair lim a → state-words lim ≤ length state → T (read-number? (a .number))
+    → state-after lim state (a .state) (a .work) ≡ zeros state
 emptied-words lim state a h l k =
     let t = h .emptied k in
     (λ i. state-after lim state (t .0 i) (t .1 .1 i)) ∙ encode-empty lim (length state) l
 
-pub read-empties : (lim : Limits) (n : ℕ) (file : Bytes) (state work : Words) (r : Read) → read-call lim n file state work ≡ some r → T (read-number? (r .0)) → r .2 ≡ zeros state
-read-empties lim n file state work r e k = go (long-enough? lim division state work) (λ t. leb→le (state-words lim) (length state) (and-left (leb (state-words lim) (length state)) (leb (work-words lim division) (length work)) t)) e
+pub read-empties : (lim : Limits) (n : ℕ) (file : Bytes) (state work : Words) (r : Read) → read-call lim n file state work ≡ some r
+    → T (read-number? (r .0)) → r .2 ≡ zeros state
+read-empties lim n file state work r e k = go (long-enough? lim division state work)
+    (λ t. leb→le (state-words lim) (length state) (and-left (leb (state-words lim) (length state)) (leb (work-words lim division) (length work)) t)) e
   where
-    go : (long : Bool) → (T long → state-words lim ≤ length state) → (read-reply lim n (meant lim state) long file then λ a. some (read-left lim state work a)) ≡ some r → r .2 ≡ zeros state
+    go : (long : Bool) → (T long → state-words lim ≤ length state) → (read-reply lim n (meant lim state) long file
+        then λ a. some (read-left lim state work a)) ≡ some r → r .2 ≡ zeros state
     go false l e = absurd (subst (λ (x : Read). T (read-number? (x .0))) (sym (some-is e)) k)
     go true l e =
         let f = from-reply lim (read-left lim state work) r (settled (read lim n file)) (read-fair lim n (meant lim state) true file) e in
-        ap (λ (x : Read). x .2) (sym (f .3)) ∙ emptied-words lim state (f .0) (f .1) (l tt) (subst (λ (x : Read). T (read-number? (x .0))) (sym (f .3)) k)
+        ap (λ (x : Read). x .2) (sym (f .3)) ∙ emptied-words lim state (f .0) (f .1) (l tt)
+        (subst (λ (x : Read). T (read-number? (x .0))) (sym (f .3)) k)
 
-pub lift-empties : (lim : Limits) (n k : ℕ) (way : Way) (state work cache : Words) (r : Lift) → lift-call lim n k way state work cache ≡ some r → T (read-number? (r .0)) → r .2 ≡ zeros state
-lift-empties lim n k way state work cache r e q = go (long-enough? lim way state work) (λ t. leb→le (state-words lim) (length state) (and-left (leb (state-words lim) (length state)) (leb (work-words lim way) (length work)) t)) e
+pub lift-empties : (lim : Limits) (n k : ℕ) (way : Way) (state work cache : Words) (r : Lift) → lift-call lim n k way state work cache ≡ some r
+    → T (read-number? (r .0)) → r .2 ≡ zeros state
+lift-empties lim n k way state work cache r e q = go (long-enough? lim way state work)
+    (λ t. leb→le (state-words lim) (length state) (and-left (leb (state-words lim) (length state)) (leb (work-words lim way) (length work)) t)) e
   where
-    go : (long : Bool) → (T long → state-words lim ≤ length state) → (lift-reply lim n (meant lim state) long k (lifting-by way cache) then λ a. some (lift-left lim state work cache a)) ≡ some r → r .2 ≡ zeros state
+    go : (long : Bool) → (T long → state-words lim ≤ length state) → (lift-reply lim n (meant lim state) long k (lifting-by way cache)
+        then λ a. some (lift-left lim state work cache a)) ≡ some r → r .2 ≡ zeros state
     go false l e = absurd (subst (λ (x : Lift). T (read-number? (x .0))) (sym (some-is e)) q)
     go true l e =
-        let f = from-reply lim (lift-left lim state work cache) r (lift-reply lim n (meant lim state) true k (lifting-by way cache)) (lift-fair lim n (meant lim state) true k (lifting-by way cache)) e in
-        ap (λ (x : Lift). x .2) (sym (f .3)) ∙ emptied-words lim state (f .0) (f .1) (l tt) (subst (λ (x : Lift). T (read-number? (x .0))) (sym (f .3)) q)
+        let f = from-reply lim (lift-left lim state work cache) r (lift-reply lim n (meant lim state) true k (lifting-by way cache))
+        (lift-fair lim n (meant lim state) true k (lifting-by way cache)) e in
+        ap (λ (x : Lift). x .2) (sym (f .3)) ∙ emptied-words lim state (f .0) (f .1) (l tt)
+        (subst (λ (x : Lift). T (read-number? (x .0))) (sym (f .3)) q)

@@ -80,13 +80,15 @@ module _ (lim : Limits) (q : Parameters) (small : lim .exponent ≤ most-exponen
   eights c [] h = no-terms
   eights c (t ∷ v) h =
       let s = term-says lim q c t (and-left (term-sound? lim q c t) (every (term-sound? lim q c) v) h) in
-      one-more (record { eight = s .eight; small = fits-more (lim .exponent) (t .1 .0) small (s .fits) }) (eights c v (and-right (term-sound? lim q c t) (every (term-sound? lim q c) v) h))
+      one-more (record { eight = s .eight; small = fits-more (lim .exponent) (t .1 .0) small (s .fits) })
+      (eights c v (and-right (term-sound? lim q c t) (every (term-sound? lim q c) v) h))
 
   filled : (c most : ℕ) (below : List Level) (f : Level) → T (every (vector-sound? lim q c most below) f) → Filled f
   filled c most below [] h = no-vectors
   filled c most below (v ∷ f) h =
       let s = vector-says lim q c most below v (and-left (vector-sound? lim q c most below v) (every (vector-sound? lim q c most below) f) h) in
-      one-vector (s .filled) (eights c v (s .terms)) (filled c most below f (and-right (vector-sound? lim q c most below v) (every (vector-sound? lim q c most below) f) h))
+      one-vector (s .filled) (eights c v (s .terms)) (filled c most below f
+      (and-right (vector-sound? lim q c most below v) (every (vector-sound? lim q c most below) f) h))
 
   pub all-housed : (ls : List Level) → T (levels-sound? lim q ls) → All-housed lim ls
   all-housed [] h = no-level
@@ -95,7 +97,8 @@ module _ (lim : Limits) (q : Parameters) (small : lim .exponent ≤ most-exponen
       one-level f [] (record { few = omega arith; short = omega arith; filled = filled (q .s) (lim .t-lines) [] f (s .vectors) }) no-level
   all-housed (f ∷ g ∷ below) h =
       let s = level-says lim q f g below h in
-      one-level f (g ∷ below) (record { few = omega arith; short = omega arith; filled = filled (length g) (lim .vector) (g ∷ below) f (s .vectors) }) (all-housed (g ∷ below) (s .under))
+      one-level f (g ∷ below) (record { few = omega arith; short = omega arith; filled = filled (length g) (lim .vector) (g ∷ below) f (s .vectors) })
+      (all-housed (g ∷ below) (s .under))
 
 -- ## Lengths
 
@@ -121,22 +124,27 @@ eights-joined : {f : Level} → Filled f → Eights (joined f)
 eights-joined no-vectors = no-terms
 eights-joined (one-vector l v f) = eights-append v (eights-joined f)
 
-length-level-rows : (lim : Limits) (f : Level) → Housed lim f → length (padded (level-rows lim * row-length) (rows-of (joined f))) ≡ level-rows lim * row-length
+length-level-rows : (lim : Limits) (f : Level) → Housed lim f → length (padded (level-rows lim * row-length) (rows-of (joined f)))
+    ≡ level-rows lim * row-length
 length-level-rows lim f h =
-    length-padded (level-rows lim * row-length) (rows-of (joined f)) (omega (arith, length-rows-of (joined f) (eights-joined (h .filled)), length-joined f, h .short))
+    length-padded (level-rows lim * row-length) (rows-of (joined f)) (omega
+    (arith, length-rows-of (joined f) (eights-joined (h .filled)), length-joined f, h .short))
 
 -- ## A level among others
 
 -- the levels below come first, then this one
 counts-last : (lim : Limits) (ls : List Level) (f : Level) → all-counts lim (ls ++ f ∷ []) ≡ all-counts lim ls ++ counts-of lim f
 counts-last lim [] f = append-nil (counts-of lim f)
-counts-last lim (g ∷ ls) f = ap (λ l. counts-of lim g ++ l) (counts-last lim ls f) ∙ sym (append-assoc (counts-of lim g) (all-counts lim ls) (counts-of lim f))
+counts-last lim (g ∷ ls) f = ap (λ l. counts-of lim g ++ l) (counts-last lim ls f)
+    ∙ sym (append-assoc (counts-of lim g) (all-counts lim ls) (counts-of lim f))
 
-rows-last : (lim : Limits) (ls : List Level) (f : Level) → all-rows lim (ls ++ f ∷ []) ≡ all-rows lim ls ++ padded (level-rows lim * row-length) (rows-of (joined f))
+rows-last : (lim : Limits) (ls : List Level) (f : Level) → all-rows lim (ls ++ f ∷ []) ≡ all-rows lim ls
+    ++ padded (level-rows lim * row-length) (rows-of (joined f))
 rows-last lim [] f = append-nil (padded (level-rows lim * row-length) (rows-of (joined f)))
 rows-last lim (g ∷ ls) f =
     ap (λ l. padded (level-rows lim * row-length) (rows-of (joined g)) ++ l) (rows-last lim ls f)
-    ∙ sym (append-assoc (padded (level-rows lim * row-length) (rows-of (joined g))) (all-rows lim ls) (padded (level-rows lim * row-length) (rows-of (joined f))))
+    ∙ sym (append-assoc (padded (level-rows lim * row-length) (rows-of (joined g))) (all-rows lim ls)
+    (padded (level-rows lim * row-length) (rows-of (joined f))))
 
 length-all-counts : (lim : Limits) (ls : List Level) → All-housed lim ls → length (all-counts lim (reverse ls)) ≡ length ls * suc (level-vectors lim)
 length-all-counts lim ls no-level = omega arith
@@ -148,11 +156,13 @@ length-all-rows : (lim : Limits) (ls : List Level) → All-housed lim ls → len
 length-all-rows lim ls no-level = omega arith
 length-all-rows lim ls (one-level f below h hs) =
     ap (λ l. length (all-rows lim l)) (reverse-cons f below) ∙ ap length (rows-last lim (reverse below) f)
-    ∙ length-append (all-rows lim (reverse below)) (padded (level-rows lim * row-length) (rows-of (joined f))) ∙ omega (arith, length-all-rows lim below hs, length-level-rows lim f h)
+    ∙ length-append (all-rows lim (reverse below)) (padded (level-rows lim * row-length) (rows-of (joined f)))
+    ∙ omega (arith, length-all-rows lim below hs, length-level-rows lim f h)
 
 -- ## A level read from its words
 
-vectors-spelled : (s : Words) (a : ℕ) (f : Level) (z : Words) → Filled f → drop (a * row-length) s ≡ rows-of (joined f) ++ z → vectors-at s a (ends-from a f) ≡ f
+vectors-spelled : (s : Words) (a : ℕ) (f : Level) (z : Words) → Filled f → drop (a * row-length) s ≡ rows-of (joined f) ++ z
+    → vectors-at s a (ends-from a f) ≡ f
 vectors-spelled s a f z no-vectors d = refl
 vectors-spelled s a f z (one-vector {v} {f = g} l h hs) d =
     let e : a + length v - a ≡ length v = omega arith in
@@ -162,12 +172,14 @@ vectors-spelled s a f z (one-vector {v} {f = g} l h hs) d =
     here = d ∙ ap (λ w. w ++ z) (rows-of-append v (joined g)) ∙ append-assoc (rows-of v) (rows-of (joined g)) z
 
     behind : drop ((a + length v) * row-length) s ≡ rows-of (joined g) ++ z
-    behind = drop-behind s (rows-of v) (rows-of (joined g) ++ z) (a * row-length) (length v * row-length) ((a + length v) * row-length) here (length-rows-of v h) (omega arith)
+    behind = drop-behind s (rows-of v) (rows-of (joined g) ++ z) (a * row-length) (length v * row-length) ((a + length v) * row-length) here
+        (length-rows-of v h) (omega arith)
 
 ends-ascend : (limit a : ℕ) (f : Level) → Filled f → a + terms-of f ≤ limit → T (ascending? limit a (ends-from a f))
 ends-ascend limit a f no-vectors h = tt
 ends-ascend limit a f (one-vector {v} {f = g} l e hs) h =
-    and-both (ltb a (a + length v)) (leb (a + length v) limit and ascending? limit (a + length v) (ends-from (a + length v) g)) (lt→ltb a (a + length v) (omega arith))
+    and-both (ltb a (a + length v)) (leb (a + length v) limit and ascending? limit (a + length v) (ends-from (a + length v) g))
+    (lt→ltb a (a + length v) (omega arith))
     (and-both (leb (a + length v) limit) (ascending? limit (a + length v) (ends-from (a + length v) g)) (le→leb (a + length v) limit (omega arith))
     (ends-ascend limit (a + length v) g hs (omega arith)))
 
@@ -175,7 +187,8 @@ last-end-is : (a : ℕ) (f : Level) → last-end (last (ends-from a f)) ≤ a + 
 last-end-is a [] = omega arith
 last-end-is a (v ∷ f) = go (last (ends-from (a + length v) f)) (last-end-is (a + length v) f)
   where
-    go : (l : Option ℕ) → last-end l ≤ a + length v + terms-of f → last-end (elim l [ none ↦ some (a + length v) | some b ↦ some b ]) ≤ a + (length v + terms-of f)
+    go : (l : Option ℕ) → last-end l ≤ a + length v + terms-of f → last-end (elim l [ none ↦ some (a + length v) | some b ↦ some b ]) ≤ a +
+        (length v + terms-of f)
     go none h = omega arith
     go (some b) h = omega arith
 
@@ -201,10 +214,12 @@ exponents-fit s v z (suc n) h e l =
     and-both (exponents-fit? s n) (fits? most-exponent (take 8 (drop (n * row-length + exponents-offset) s))) (exponents-fit s v z n h e (omega arith))
     (go (drop n v) (eights-drop v n h) (ap (drop (n * row-length)) e ∙ rows-behind v n z h (omega arith)) (omega (arith, length-drop n v)))
   where
-    go : (w : Vector) → Eights w → drop (n * row-length) s ≡ rows-of w ++ z → 0 < length w → T (fits? most-exponent (take 8 (drop (n * row-length + exponents-offset) s)))
+    go : (w : Vector) → Eights w → drop (n * row-length) s ≡ rows-of w ++ z → 0 < length w
+        → T (fits? most-exponent (take 8 (drop (n * row-length + exponents-offset) s)))
     go w no-terms d l = absurd (omega arith)
     go w (one-more {t} {v = u} k ks) d l =
-        let b : drop (n * row-length + exponents-offset) s ≡ t .1 .0 ++ (rows-of u ++ z) = sym (drop-drop 2 (n * row-length) s) ∙ ap (drop 2) (d ∙ append-assoc (row-of t) (rows-of u) z) in
+        let b : drop (n * row-length + exponents-offset) s ≡ t .1 .0 ++ (rows-of u ++ z) = sym (drop-drop 2 (n * row-length) s)
+        ∙ ap (drop 2) (d ∙ append-assoc (row-of t) (rows-of u) z) in
         subst (λ x. T (fits? most-exponent x)) (sym (ap (take 8) b ∙ take-at (t .1 .0) (rows-of u ++ z) 8 (k .eight))) (k .small)
 
 -- level k's words
@@ -231,22 +246,26 @@ module _ (lim : Limits) (s : Words) (k : ℕ) (f : Level) (w : Written lim s k f
           ap (λ j. drop j s) e ∙ sym (drop-drop 1 (count-place lim k) s) ∙ ap (drop 1) (w .counts)
           ∙ append-assoc (ends-from 0 f) (replicate (level-vectors lim - length (ends-from 0 f)) 0) (w .counts-behind)
 
-  terms-read : drop (rows-place lim k) s ≡ rows-of (joined f) ++ (replicate (level-rows lim * row-length - length (rows-of (joined f))) 0 ++ w .rows-behind)
+  terms-read : drop (rows-place lim k) s ≡ rows-of (joined f) ++ (replicate (level-rows lim * row-length - length (rows-of (joined f))) 0
+      ++ w .rows-behind)
   terms-read = w .terms ∙ append-assoc (rows-of (joined f)) (replicate (level-rows lim * row-length - length (rows-of (joined f))) 0) (w .rows-behind)
 
   level-read : level-at lim s k ≡ f
   level-read =
       ap (vectors-at (drop (rows-place lim k) s) 0) ends-read
-      ∙ vectors-spelled (drop (rows-place lim k) s) 0 f (replicate (level-rows lim * row-length - length (rows-of (joined f))) 0 ++ w .rows-behind) (h .filled) terms-read
+      ∙ vectors-spelled (drop (rows-place lim k) s) 0 f (replicate (level-rows lim * row-length - length (rows-of (joined f))) 0 ++ w .rows-behind)
+      (h .filled) terms-read
 
   words-read : T (words-sound? lim s k)
   words-read =
-      and-both (leb (getD s (count-place lim k) 0) (level-vectors lim)) (ascending? (level-rows lim) 0 (ends-at lim s k) and exponents-fit? (drop (rows-place lim k) s) (last-end (last (ends-at lim s k))))
+      and-both (leb (getD s (count-place lim k) 0) (level-vectors lim))
+      (ascending? (level-rows lim) 0 (ends-at lim s k) and exponents-fit? (drop (rows-place lim k) s) (last-end (last (ends-at lim s k))))
       (le→leb (getD s (count-place lim k) 0) (level-vectors lim) (omega (arith, count-read, h .few)))
       (and-both (ascending? (level-rows lim) 0 (ends-at lim s k)) (exponents-fit? (drop (rows-place lim k) s) (last-end (last (ends-at lim s k))))
       (subst (λ e. T (ascending? (level-rows lim) 0 e)) (sym ends-read) (ends-ascend (level-rows lim) 0 f (h .filled) (omega (arith, h .short))))
       (subst (λ e. T (exponents-fit? (drop (rows-place lim k) s) (last-end (last e)))) (sym ends-read)
-      (exponents-fit (drop (rows-place lim k) s) (joined f) (replicate (level-rows lim * row-length - length (rows-of (joined f))) 0 ++ w .rows-behind) (last-end (last (ends-from 0 f))) (eights-joined (h .filled)) terms-read
+      (exponents-fit (drop (rows-place lim k) s) (joined f) (replicate (level-rows lim * row-length - length (rows-of (joined f))) 0 ++ w .rows-behind)
+      (last-end (last (ends-from 0 f))) (eights-joined (h .filled)) terms-read
       (omega (arith, last-end-is 0 f, length-joined f)))))
 
 -- ## All levels
@@ -261,23 +280,34 @@ record All-written (lim : Limits) (s : Words) (ls : List Level) : Type 0 where
 module _ (lim : Limits) (s : Words) (f : Level) (below : List Level) (w : All-written lim s (f ∷ below)) where
   counts-split : drop (count-place lim 0) s ≡ all-counts lim (reverse below) ++ (counts-of lim f ++ w .counts-behind)
   counts-split =
-      w .counts ∙ ap (λ l. all-counts lim l ++ w .counts-behind) (reverse-cons f below) ∙ ap (λ l. l ++ w .counts-behind) (counts-last lim (reverse below) f)
+      w .counts ∙ ap (λ l. all-counts lim l ++ w .counts-behind) (reverse-cons f below)
+      ∙ ap (λ l. l ++ w .counts-behind) (counts-last lim (reverse below) f)
       ∙ append-assoc (all-counts lim (reverse below)) (counts-of lim f) (w .counts-behind)
 
-  terms-split : drop (rows-place lim 0) s ≡ all-rows lim (reverse below) ++ (padded (level-rows lim * row-length) (rows-of (joined f)) ++ w .rows-behind)
+  terms-split : drop (rows-place lim 0) s ≡ all-rows lim (reverse below)
+      ++ (padded (level-rows lim * row-length) (rows-of (joined f)) ++ w .rows-behind)
   terms-split =
       w .terms ∙ ap (λ l. all-rows lim l ++ w .rows-behind) (reverse-cons f below) ∙ ap (λ l. l ++ w .rows-behind) (rows-last lim (reverse below) f)
       ∙ append-assoc (all-rows lim (reverse below)) (padded (level-rows lim * row-length) (rows-of (joined f))) (w .rows-behind)
 
   written-below : All-written lim s below
-  written-below = record { counts-behind = counts-of lim f ++ w .counts-behind; counts = counts-split; rows-behind = padded (level-rows lim * row-length) (rows-of (joined f)) ++ w .rows-behind; terms = terms-split }
+  written-below = record {
+    counts-behind = counts-of lim f ++ w .counts-behind;
+    counts = counts-split;
+    rows-behind =
+        padded (level-rows lim * row-length) (rows-of (joined f)) ++ w .rows-behind;
+    terms = terms-split;
+  }
 
   written-here : All-housed lim below → Written lim s (length below) f
   written-here h = record {
     counts-behind = w .counts-behind;
-    counts = drop-behind s (all-counts lim (reverse below)) (counts-of lim f ++ w .counts-behind) (count-place lim 0) (length below * suc (level-vectors lim)) (count-place lim (length below)) counts-split (length-all-counts lim below h) (omega arith);
+    counts = drop-behind s (all-counts lim (reverse below)) (counts-of lim f ++ w .counts-behind) (count-place lim 0)
+        (length below * suc (level-vectors lim)) (count-place lim (length below)) counts-split (length-all-counts lim below h) (omega arith);
     rows-behind = w .rows-behind;
-    terms = drop-behind s (all-rows lim (reverse below)) (padded (level-rows lim * row-length) (rows-of (joined f)) ++ w .rows-behind) (rows-place lim 0) (length below * (level-rows lim * row-length)) (rows-place lim (length below)) terms-split (length-all-rows lim below h) (omega arith);
+    terms = drop-behind s (all-rows lim (reverse below)) (padded (level-rows lim * row-length) (rows-of (joined f)) ++ w .rows-behind)
+        (rows-place lim 0) (length below * (level-rows lim * row-length)) (rows-place lim (length below)) terms-split (length-all-rows lim below h)
+        (omega arith);
   }
 
 levels-read : (lim : Limits) (s : Words) (ls : List Level) → All-housed lim ls → All-written lim s ls → levels-at lim s (length ls) ≡ ls
@@ -310,7 +340,8 @@ module _ (lim : Limits) (small : lim .exponent ≤ most-exponent) (size : ℕ) (
     rows-behind = zeros₂;
     terms =
         ap (drop (rows-place lim 0)) (append-assoc (padded (rows-place lim 0) (header-of lim X)) terms zeros₂)
-        ∙ ap (λ j. drop j (padded (rows-place lim 0) (header-of lim X) ++ (terms ++ zeros₂))) (sym (length-padded (rows-place lim 0) (header-of lim X) header-fits))
+        ∙ ap (λ j. drop j (padded (rows-place lim 0) (header-of lim X) ++ (terms ++ zeros₂)))
+        (sym (length-padded (rows-place lim 0) (header-of lim X) header-fits))
         ∙ drop-append-seam (padded (rows-place lim 0) (header-of lim X)) (terms ++ zeros₂);
   }
     where
@@ -334,7 +365,8 @@ module _ (lim : Limits) (small : lim .exponent ≤ most-exponent) (size : ℕ) (
 
   pub holds-encode : T (holds-state? lim (encode lim size X))
   holds-encode =
-      and-both (leb (length (X .levels)) (suc (lim .levels))) (all-words-sound? lim (encode lim size X) (length (X .levels)) and sound? lim (decode lim (encode lim size X)))
+      and-both (leb (length (X .levels)) (suc (lim .levels))) (all-words-sound? lim (encode lim size X) (length (X .levels))
+      and sound? lim (decode lim (encode lim size X)))
       (le→leb (length (X .levels)) (suc (lim .levels)) (sound-says lim X h .height))
       (and-both (all-words-sound? lim (encode lim size X) (length (X .levels))) (sound? lim (decode lim (encode lim size X)))
       (all-words-read lim (encode lim size X) (X .levels) housed written)
@@ -355,4 +387,9 @@ module _ (lim : Limits) (small : lim .exponent ≤ most-exponent) (size : ℕ) (
       whole =
           let k : length (X .levels) ≤ suc (lim .levels) = sound-says lim X h .height in
           subst (λ n. n ≤ size) (sym (length-append (padded (rows-place lim 0) (header-of lim X)) (all-rows lim (reverse (X .levels)))))
-          (omega (arith, length-padded (rows-place lim 0) (header-of lim X) header-fits, length-all-rows lim (X .levels) housed, mul-le-mul-right (level-rows lim * row-length) k))
+          (omega (
+            arith,
+            length-padded (rows-place lim 0) (header-of lim X) header-fits,
+            length-all-rows lim (X .levels) housed,
+            mul-le-mul-right (level-rows lim * row-length) k,
+          ))

@@ -99,7 +99,8 @@ all-rows lim (f ∷ fs) = padded (level-rows lim * row-length) (rows-of (joined 
 
 -- p, n, the order code, s, how many levels are complete; the counts and ends of each level
 abbrev pub header-of : Limits → State → Words
-header-of lim X = X .parameters .p ∷ X .parameters .n ∷ X .parameters .code ∷ X .parameters .s ∷ length (X .levels) ∷ all-counts lim (reverse (X .levels))
+header-of lim X = X .parameters .p ∷ X .parameters .n ∷ X .parameters .code ∷ X .parameters .s ∷ length (X .levels)
+    ∷ all-counts lim (reverse (X .levels))
 
 -- a state in a buffer of this size: "zeros in .. the unused places of the state"
 abbrev pub encode : Limits → ℕ → State → Words
@@ -123,7 +124,11 @@ levels-at lim s (suc k) = level-at lim s k ∷ levels-at lim s k
 
 -- what any contents say
 abbrev pub decode : Limits → Words → State
-decode lim s = record { parameters = record { p = getD s 0 0; n = getD s 1 0; code = getD s 2 0; s = getD s 3 0 }; levels = levels-at lim s (getD s 4 0) }
+decode lim s = record {
+  parameters = record { p = getD s 0 0; n = getD s 1 0; code = getD s 2 0; s = getD s 3 0 };
+  levels =
+      levels-at lim s (getD s 4 0);
+}
 
 -- the ends ascend strictly from the one before, up to the limit
 abbrev pub ascending? : ℕ → ℕ → Words → Bool
@@ -219,7 +224,13 @@ abbrev pub Lift : Type 0
 Lift = ℕ × ℕ × Words × Words × Words
 
 abbrev pub lift-left : Limits → Words → Words → Words → Reply → Lift
-lift-left lim state work cache a = (a .number, a .place, state-after lim state (a .state) (a .work), rows-after work (a .work), cache-after cache (a .work))
+lift-left lim state work cache a = (
+  a .number,
+  a .place,
+  state-after lim state (a .state) (a .work),
+  rows-after work (a .work),
+  cache-after cache (a .work),
+)
 
 -- lifting level k
 abbrev pub lift-call : Limits → ℕ → ℕ → Way → Words → Words → Words → Option Lift

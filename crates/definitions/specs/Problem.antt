@@ -82,7 +82,8 @@ letter? letter (b ∷ field) = eqb b letter and empty? field
 
 abbrev pub shaped-fields : ℕ → ℕ → ℕ → List Bytes → Option (List ℕ)
 shaped-fields limit letter count [] = none
-shaped-fields limit letter count (head ∷ fields) = elim (letter? letter head and eqb (length fields) count) [ true ↦ all-numbers limit fields | false ↦ none ]
+shaped-fields limit letter count (head ∷ fields) = elim (letter? letter head
+    and eqb (length fields) count) [ true ↦ all-numbers limit fields | false ↦ none ]
 
 -- "Fields are parted by commas, without quoting or blanks.": the letter and so many numbers in an ended line; none for a wrong shape
 abbrev pub shaped : ℕ → ℕ → ℕ → Line → Option (List ℕ)
@@ -181,7 +182,8 @@ by-shape none lim q place count elements line later go = e-line place count late
 abbrev pub body : Limits → Parameters → ℕ → ℕ → Level → List Line → Result Level
 body lim q place count elements [] = refused 1 place []
 body lim q place count elements (line ∷ later) =
-    by-shape (shaped (lim .field) letter-T (3 + q .n) line) lim q place count elements line later (λ grown. body lim q (suc place) (suc count) grown later)
+    by-shape (shaped (lim .field) letter-T (3 + q .n) line) lim q place count elements line later
+    (λ grown. body lim q (suc place) (suc count) grown later)
 
 abbrev pub after-r : Limits → List Line → Option (List ℕ) → Result (Parameters × Level)
 after-r lim later none = refused 1 1 []

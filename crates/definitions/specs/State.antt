@@ -52,7 +52,8 @@ terms-of f = sum (lengths f)
 -- "r elements, 1 to 64", "2,048 T lines"; "128 vectors and 2,048 terms in a level above 0"
 abbrev pub levels-sound? : Limits → Parameters → List Level → Bool
 levels-sound? lim q [] = false
-levels-sound? lim q (f ∷ []) = between 1 (length f) (lim .elements) and leb (terms-of f) (lim .t-lines) and every (vector-sound? lim q (q .s) (lim .t-lines) []) f
+levels-sound? lim q (f ∷ []) = between 1 (length f) (lim .elements) and leb (terms-of f) (lim .t-lines)
+    and every (vector-sound? lim q (q .s) (lim .t-lines) []) f
 levels-sound? lim q (f ∷ g ∷ below) =
     levels-sound? lim q (g ∷ below) and leb (length f) (lim .vectors) and leb (terms-of f) (lim .level-terms) and
     every (vector-sound? lim q (length g) (lim .vector) (g ∷ below)) f

@@ -70,7 +70,8 @@ module _ (lim : Limits) (q : Parameters) (P : Prime (q .p)) (eight : q .n ≤ 8)
   exactly U i u = subst (Exact Z lim) (sym i) (refl, refl)
 
   -- what is left where division stops shows why f is no Gröbner basis
-  module _ (x : Mono (q .n)) (l : x .1 < length f) (value : Vector) (h : Halted Z lim I (Unit {0}) exactly (from x) (times (S Z) (L Z) (F Z .f) x) value) where
+  module _ (x : Mono (q .n)) (l : x .1 < length f) (value : Vector) (h : Halted Z lim I (Unit {0}) exactly (from x)
+      (times (S Z) (L Z) (F Z .f) x) value) where
     has : All (S Z) (Has (q .n) []) (h .left)
     has = Vec.all-map (S Z) (InValue Z lim) (Has (q .n) []) (λ y k. k .0) (h .left) (h .sum .ok)
 
@@ -101,7 +102,8 @@ module _ (lim : Limits) (q : Parameters) (P : Prime (q .p)) (eight : q .n ≤ 8)
         subst (All (S Z) X) (sym (canonical-is (S Z) (L Z) (form .form) (ψ (S Z) (L Z) (F Z .f) (combination .0)) (form .canonical)
         (Vec.same-trans (S Z) (form .like) (combination .2))))
         (canon-all (S Z) (L Z) X (ψ (S Z) (L Z) (F Z .f) (combination .0)) (Vec.all-lin (S Z) (In (S Z) (L Z) (F Z)) X (times (S Z) (L Z) (F Z .f))
-        (λ y i. Vec.all-mapB (S Z) (Sound-mono lim (q .n) (q .s)) X (L Z .act (y .0)) (λ z k. k .0) (getD f (y .1) []) (w (y .1) i)) (combination .0) (combination .1)))
+        (λ y i. Vec.all-mapB (S Z) (Sound-mono lim (q .n) (q .s)) X (L Z .act (y .0)) (λ z k. k .0) (getD f (y .1) []) (w (y .1) i)) (combination .0)
+        (combination .1)))
       where
         X : Mono (q .n) → Type 0
         X y = y .1 < q .s
@@ -109,7 +111,8 @@ module _ (lim : Limits) (q : Parameters) (P : Prime (q .p)) (eight : q .n ≤ 8)
     shows-form : length (vec (q .n) (form .form)) ≤ lim .working → Shows-why lim q (flat (q .n) f) (vec (q .n) (form .form))
     shows-form short = record {
       sound = terms-sound lim q P eight (q .s) (form .form) (canonical-good (q .n) (q .p) P (q .code) [] (form .form) (form .canonical))
-          (both (form .form) components (form .ok (Within lim (q .n)) (Vec.all-map (S Z) (InValue Z lim) (Within lim (q .n)) (λ y k. k .1) (h .left) (h .sum .ok))));
+          (both (form .form) components (form .ok (Within lim (q .n)) (Vec.all-map (S Z) (InValue Z lim) (Within lim (q .n)) (λ y k. k .1) (h .left)
+          (h .sum .ok))));
       short = short;
       combination = record {
         by = vec (q .n) (combination .0);
@@ -130,7 +133,8 @@ module _ (lim : Limits) (q : Parameters) (P : Prime (q .p)) (eight : q .n ≤ 8)
         u : TVec (q .n)
         u = combination .0
 
-        both : (v : TVec (q .n)) → All (S Z) (λ (y : Mono (q .n)). y .1 < q .s) v → All (S Z) (Within lim (q .n)) v → All (S Z) (Sound-mono lim (q .n) (q .s)) v
+        both : (v : TVec (q .n)) → All (S Z) (λ (y : Mono (q .n)). y .1 < q .s) v → All (S Z) (Within lim (q .n)) v
+            → All (S Z) (Sound-mono lim (q .n) (q .s)) v
         both [] a b = tt
         both (t ∷ v) a b = ((a .0, b .0), both v (a .1) (b .1))
 
@@ -158,11 +162,13 @@ module _ (lim : Limits) (q : Parameters) (P : Prime (q .p)) (eight : q .n ≤ 8)
   shown number value (limit t) l = limit t
   shown number value (nine s) l = nine (s l)
 
-  term-accepted : (N : ℕ) (x : Mono (q .n)) → x .1 < length f → Fits Z lim x → Ends (λ v. Zero-at x) (Refusal Shown) (run (stage Z lim) W N (mono (q .n) x))
+  term-accepted : (N : ℕ) (x : Mono (q .n)) → x .1 < length f → Fits Z lim x
+      → Ends (λ v. Zero-at x) (Refusal Shown) (run (stage Z lim) W N (mono (q .n) x))
   term-accepted N x l fx = ends-refusals shown
       (subst (Ends (λ v. Zero-at x) (Refusal (λ value. length value ≤ lim .working → Shown value))) (sym (run-as (stage Z lim) W N (mono (q .n) x)))
       (ends-turn (λ v h. (h .end, record { run = h .run; whole = h .whole tt })) (refusal-map (shows x l))
-      (run-ends Z lim I (Unit {0}) exactly W (λ u. refl) (copies N W) (copies-in Z lim I (Unit {0}) exactly W (accepting-picks (stage Z lim)) refl N) x l fx)))
+      (run-ends Z lim I (Unit {0}) exactly W (λ u. refl) (copies N W) (copies-in Z lim I (Unit {0}) exactly W (accepting-picks (stage Z lim)) refl N) x
+      l fx)))
       (run-short (stage Z lim) o W N (mono (q .n) x))
 
   -- ## All frame terms
@@ -175,7 +181,8 @@ module _ (lim : Limits) (q : Parameters) (P : Prime (q .p)) (eight : q .n ≤ 8)
   data Accepts (i : ℕ) (xs : List (Mono (q .n))) : Result (Unit {0}) → Type 0 where
     all-zero : All-zero xs → Accepts i xs (done tt)
     met : {number : ℕ} → T (between 13 number 15) → Accepts i xs (refused number 0 [])
-    not-zero : (place : ℕ) {value : Vector} → i ≤ place → place < i + length xs → Shows-why lim q (flat (q .n) f) value → Accepts i xs (refused 9 place value)
+    not-zero : (place : ℕ) {value : Vector} → i ≤ place → place < i + length xs → Shows-why lim q (flat (q .n) f) value
+        → Accepts i xs (refused 9 place value)
     more-steps : Accepts i xs unfinished
 
   place-of : (i number : ℕ) → T (between 13 number 15) → accepting-place i number ≡ 0
@@ -225,7 +232,8 @@ module _ (lim : Limits) (q : Parameters) (P : Prime (q .p)) (eight : q .n ≤ 8)
     steps-left : Accepted-right unfinished
 
   accepted-from : (N : ℕ) → Accepted-right (accept-from (stage Z lim) N 1 (frame-terms Z eight code))
-  accepted-from N = subst (λ ms. Accepted-right (accept-from (stage Z lim) N 1 ms)) (terms-back Z eight code) (go (terms-accepted N 1 xs (terms-good Z lim eight fits)))
+  accepted-from N = subst (λ ms. Accepted-right (accept-from (stage Z lim) N 1 ms)) (terms-back Z eight code)
+      (go (terms-accepted N 1 xs (terms-good Z lim eight fits)))
     where
       size : length xs ≡ length (frame-terms Z eight code)
       size = sym (monos-length (q .n) xs) ∙ ap length (terms-back Z eight code)

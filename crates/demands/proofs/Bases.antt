@@ -81,7 +81,8 @@ module _ (q : Parameters) (eight : q .n ≤ 8) (r : ℕ) where
 
 -- ## Gröbner bases
 
-module _ (q : Parameters) (P : Prime (q .p)) (eight : q .n ≤ 8) (f : TLevel (q .n)) (b : List (TLevel (q .n))) (d : Deep (q .n) (q .p) P (q .code) (f ∷ b)) where
+module _ (q : Parameters) (P : Prime (q .p)) (eight : q .n ≤ 8) (f : TLevel (q .n)) (b : List (TLevel (q .n)))
+    (d : Deep (q .n) (q .p) P (q .code) (f ∷ b)) where
   abbrev pub here : Setting
   here = setting (q .n) (q .p) P (q .code) f b d
 
@@ -103,25 +104,30 @@ module _ (q : Parameters) (P : Prime (q .p)) (eight : q .n ≤ 8) (f : TLevel (q
   pub combination-has : (w : TVec (q .n)) → All (S Z) (In (S Z) (L Z) (F Z)) w → All (S Z) (Has (q .n) b) (ψ (S Z) (L Z) (F Z .f) w)
   combination-has w h =
       Vec.all-lin (S Z) (In (S Z) (L Z) (F Z)) (Has (q .n) b) (times (S Z) (L Z) (F Z .f))
-      (λ x i. Vec.all-mapB (S Z) (Has (q .n) b) (Has (q .n) b) (L Z .act (x .0)) (λ y k. has-act (q .n) b (x .0) y k) (getD f (x .1) []) (Z .inside (x .1) i)) w h
+      (λ x i. Vec.all-mapB (S Z) (Has (q .n) b) (Has (q .n) b) (L Z .act (x .0)) (λ y k. has-act (q .n) b (x .0) y k) (getD f (x .1) [])
+      (Z .inside (x .1) i)) w h
 
   leading-at : (j : ℕ) → j < length f → leading (vector-of (flat (q .n) f) (suc j)) ≡ mono (q .n) (lm (q .n) f j)
   leading-at j l = ap leading (flat-at (q .n) f j) ∙ leading-vec (q .n) (getD f j []) (Z .somes j l)
 
   -- LM f_i divides
-  pub image-divided : (y : Mono (q .n)) → y .1 < length f → (x : Mono (q .n)) → Induced.image (L Z) (F Z .lm) y ≡ x → Divided (flat (q .n) f) (mono (q .n) x)
+  pub image-divided : (y : Mono (q .n)) → y .1 < length f → (x : Mono (q .n)) → Induced.image (L Z) (F Z .lm) y ≡ x
+      → Divided (flat (q .n) f) (mono (q .n) x)
   image-divided y l x e = record {
     i = suc (y .1);
     in-range = between-shown 1 (suc (y .1)) (length (flat (q .n) f)) (omega arith) (omega (arith, flat-length (q .n) f));
-    divides = subst (λ z. T (divides-monomial? z (mono (q .n) x))) (sym (leading-at (y .1) l)) (divides-multiple (q .n) (lm (q .n) f (y .1)) x (y .0) e);
+    divides = subst (λ z. T (divides-monomial? z (mono (q .n) x))) (sym (leading-at (y .1) l))
+        (divides-multiple (q .n) (lm (q .n) f (y .1)) x (y .0) e);
   }
 
-  pub divided-image : (x : Mono (q .n)) → Divided (flat (q .n) f) (mono (q .n) x) → (y : Mono (q .n)) × (y .1 < length f) × (Induced.image (L Z) (F Z .lm) y ≡ x)
+  pub divided-image : (x : Mono (q .n)) → Divided (flat (q .n) f) (mono (q .n) x) → (y : Mono (q .n)) × (y .1 < length f)
+      × (Induced.image (L Z) (F Z .lm) y ≡ x)
   divided-image x h = (
     (over (q .n) (x .0) (lm (q .n) f j .0), j),
     inside,
     divided-by (q .n) (lm (q .n) f j) x
-        (subst (λ z. T (divides-monomial? z (mono (q .n) x))) (ap (λ i. leading (vector-of (flat (q .n) f) i)) number ∙ leading-at j inside) (h .divides)),
+        (subst (λ z. T (divides-monomial? z (mono (q .n) x))) (ap (λ i. leading (vector-of (flat (q .n) f) i)) number ∙ leading-at j inside)
+        (h .divides)),
   )
     where
       low : 1 ≤ h .i
@@ -141,7 +147,8 @@ module _ (q : Parameters) (P : Prime (q .p)) (eight : q .n ≤ 8) (f : TLevel (q
 
   -- the leading monomial of a combination
   pub led-lead : (m : Monomial) → Led-by q (flats (q .n) b) (flat (q .n) f) m
-      → (w : TVec (q .n)) × All (S Z) (In (S Z) (L Z) (F Z)) w × ((x : Mono (q .n)) × (m ≡ mono (q .n) x) × Lead (S Z) (L Z) (ψ (S Z) (L Z) (F Z .f) w) x)
+      → (w : TVec (q .n)) × All (S Z) (In (S Z) (L Z) (F Z)) w × ((x : Mono (q .n)) × (m ≡ mono (q .n) x)
+      × Lead (S Z) (L Z) (ψ (S Z) (L Z) (F Z .f) w) x)
   led-lead m h = (w, i, leads-lead (q .n) (q .p) P (q .code) b G (ψ (S Z) (L Z) (F Z .f) w) (combination-has w i) m leads)
     where
       pr : Proper q eight (length (flat (q .n) f)) (h .by)
@@ -157,7 +164,8 @@ module _ (q : Parameters) (P : Prime (q .p)) (eight : q .n ≤ 8) (f : TLevel (q
       leads = subst (Leads (compare-over (q .code) (flats (q .n) b)) (q .p) m)
           (ap (put-for (q .p) (flat (q .n) f)) (sym (pr .back)) ∙ put-for-is (q .n) (q .p) P (q .code) b f w) (h .leads)
 
-  pub lead-led : (w : TVec (q .n)) → All (S Z) (In (S Z) (L Z) (F Z)) w → (x : Mono (q .n)) → Has (q .n) b x → Lead (S Z) (L Z) (ψ (S Z) (L Z) (F Z .f) w) x
+  pub lead-led : (w : TVec (q .n)) → All (S Z) (In (S Z) (L Z) (F Z)) w → (x : Mono (q .n)) → Has (q .n) b x
+      → Lead (S Z) (L Z) (ψ (S Z) (L Z) (F Z .f) w) x
       → Led-by q (flats (q .n) b) (flat (q .n) f) (mono (q .n) x)
   lead-led w i x hx l = record {
     by = vec (q .n) w;
@@ -169,7 +177,8 @@ module _ (q : Parameters) (P : Prime (q .p)) (eight : q .n ≤ 8) (f : TLevel (q
   pub gröbner-out : Gröbner (S Z) (L Z) (F Z) → Gröbner-basis q (flats (q .n) b) (flat (q .n) f)
   gröbner-out gb m h = go (led-lead m h)
     where
-      go : (w : TVec (q .n)) × All (S Z) (In (S Z) (L Z) (F Z)) w × ((x : Mono (q .n)) × (m ≡ mono (q .n) x) × Lead (S Z) (L Z) (ψ (S Z) (L Z) (F Z .f) w) x)
+      go : (w : TVec (q .n)) × All (S Z) (In (S Z) (L Z) (F Z)) w × ((x : Mono (q .n)) × (m ≡ mono (q .n) x)
+          × Lead (S Z) (L Z) (ψ (S Z) (L Z) (F Z .f) w) x)
           → Divided (flat (q .n) f) m
       go (w, i, (x, e, l)) = at (gb w i)
         where

@@ -59,4 +59,5 @@ module _ (lim : Limits) (q : Parameters) (P : Prime (q .p)) (eight : q .n ≤ 8)
       → T (every (term-sound? lim q count) (vec (q .n) v))
   terms-sound [] g h = tt
   terms-sound (t ∷ v) g h =
-      and-both (term-sound? lim q count (term (q .n) t)) (every (term-sound? lim q count) (vec (q .n) v)) (term-sound t (g .0) (h .0)) (terms-sound v (g .1) (h .1))
+      and-both (term-sound? lim q count (term (q .n) t)) (every (term-sound? lim q count) (vec (q .n) v)) (term-sound t (g .0) (h .0))
+      (terms-sound v (g .1) (h .1))

@@ -54,7 +54,8 @@ module _ (p : ℕ) (P : Prime p) where
   good-below c g = let b : 1 < p = P .big in let l : times p 1 c < p = mod-lt (1 * c) (omega arith) in omega (arith, g .1)
 
   minus-nonzero : (a : ℕ) → ¬ (times p 1 a ≡ 0) → ¬ (times p 1 (minus p a) ≡ 0)
-  minus-nonzero a h e = h (S .mul-comm 1 a ∙ sym (S .zero-add-mul a 1) ∙ ap (λ z. plus p z (times p a 1)) (sym (S .mul-comm (minus p a) 1 ∙ e)) ∙ S .neg-add a 1)
+  minus-nonzero a h e = h (S .mul-comm 1 a ∙ sym (S .zero-add-mul a 1) ∙ ap (λ z. plus p z (times p a 1)) (sym (S .mul-comm (minus p a) 1 ∙ e))
+      ∙ S .neg-add a 1)
 
   inverse-nonzero : (a : ℕ) → ¬ (times p 1 a ≡ 0) → ¬ (times p 1 (inverse p a) ≡ 0)
   inverse-nonzero a h e = S .one≢zero (sym (S .inv-mul a h) ∙ Vec.zero-term S (inverse p a) a e)

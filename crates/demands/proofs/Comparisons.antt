@@ -87,7 +87,8 @@ module _ (n : ℕ) (Less : E n → E n → Type 0) (a b : E n) where
   abbrev First : E n → E n → Type 0
   First x y = (deg n x < deg n y) ⊎ ((deg n x ≡ deg n y) × Less x y)
 
-  degree-first : {d : Comparison} → Says (Less a b) (a ≡ b) (Less b a) d → Says (First a b) (a ≡ b) (First b a) (or-at-tie (degrees (out n a) (out n b)) d)
+  degree-first : {d : Comparison} → Says (Less a b) (a ≡ b) (Less b a) d
+      → Says (First a b) (a ≡ b) (First b a) (or-at-tie (degrees (out n a) (out n b)) d)
   degree-first s = says-tie (λ h k. k) first s
     where
       first : Says (deg n a < deg n b) (deg n a ≡ deg n b) (deg n b < deg n a) (degrees (out n a) (out n b))

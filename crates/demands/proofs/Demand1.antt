@@ -45,7 +45,8 @@ module _ (lim : Limits) (o : T (sensible? lim)) where
 
   read-length : (file : Bytes) (state work : Words) (r : Read) → Read-form lim file state work r → length (r .2) ≡ length state
   read-length file state work r (accepted-as {q} {f} t e) =
-      length-encode lim (small-exponents lim o) (length state) (basis-state (q, f)) (well-formed lim o file q f e) (long-state lim o division state work t)
+      length-encode lim (small-exponents lim o) (length state) (basis-state (q, f)) (well-formed lim o file q f e)
+      (long-state lim o division state work t)
   read-length file state work r (Demands.Read-form.refused-as t b l) = length-replicate (length state) 0
   read-length file state work r (Demands.Read-form.too-short t) = refl
 
@@ -60,7 +61,8 @@ module _ (lim : Limits) (o : T (sensible? lim)) where
 
   lengths : (n : ℕ) (state : Words) (c : Lent) → Holds (λ a. length (a .state) ≡ length state) (lent-call lim n state c)
   lengths n state (read-with file work) = holds-then (read-form lim o n file state work) (λ r h. holds (read-length file state work r h))
-  lengths n state (lift-with k way work cache) = holds-then (lift-form lim o n k way state work cache) (λ r h. holds (lift-length k way state work cache r h))
+  lengths n state (lift-with k way work cache) = holds-then (lift-form lim o n k way state work cache)
+      (λ r h. holds (lift-length k way state work cache r h))
   lengths n state (fetch-with k v out) = holds refl
 
   -- ## Demand 1

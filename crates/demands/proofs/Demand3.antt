@@ -44,7 +44,8 @@ module _ (lim : Limits) (o : T (sensible? lim)) where
       holds-then (calls-right n cs (a .state) (reckon lim R (as-call c) (a .number)) (h .0)) (λ ls k. holds (k .0, (h .1, k .1))))
 
   -- the first call reads, and is not refused with 16
-  first-call : (n : ℕ) (state : Words) (c : Lent) → Holds (λ a. Reads c a → Called lim o nothing c a × Fetch-right lim nothing c a) (lent-call lim n state c)
+  first-call : (n : ℕ) (state : Words) (c : Lent) → Holds (λ a. Reads c a → Called lim o nothing c a × Fetch-right lim nothing c a)
+      (lent-call lim n state c)
   first-call n state (read-with file work) = holds-map (λ a h r. (h (inr r), tt)) (read-stored lim o n state nothing file work)
   first-call n state (lift-with k way work cache) = holds-given (lent-call lim n state (lift-with k way work cache)) (λ r. absurd r)
   first-call n state (fetch-with k v out) = holds-given (lent-call lim n state (fetch-with k v out)) (λ r. absurd r)
@@ -55,7 +56,8 @@ module _ (lim : Limits) (o : T (sensible? lim)) where
       holds-then (holds-given (lent-calls lim n (a .state) cs) (λ r. calls-right n cs (a .state) (reckon lim nothing (as-call c) (a .number)) (h r .0)))
       (λ ls k. holds (λ r. (k r .0, (h r .1, k r .1)))))
 
-  calls : (n : ℕ) (state : Words) (cs : List Lent) (ls : List Left) → lent-calls lim n state cs ≡ some ls → Starts state cs ls → All-right state nothing cs ls
+  calls : (n : ℕ) (state : Words) (cs : List Lent) (ls : List Left) → lent-calls lim n state cs ≡ some ls → Starts state cs ls
+      → All-right state nothing cs ls
   calls n state cs ls e (inl z) = holds-at e (calls-right n cs state nothing (zeros-stored lim state z))
   calls n state cs ls e (inr r) = holds-at e (first-right n state cs) r
 

@@ -26,7 +26,8 @@ use Rattle.definitions.specs.Problem.{Parameters}
 use Rattle.definitions.proofs.Modular.{Prime}
 use Rattle.demands.specs.Notions.{coefficient, put-for, Combination, Syzygy}
 use Rattle.demands.specs.Exact.{Vector-right, Level-right}
-use Rattle.demands.proofs.Levels.{Mono, TVec, TLevel, mono, monos, monos-length, vec, flat, flats, flat-at, flat-length, cons?, head, lm, module-over, Has}
+use Rattle.demands.proofs.Levels.{Mono, TVec, TLevel, mono, monos, monos-length, vec, flat, flats, flat-at, flat-length, cons?, head, lm, module-over}
+use Rattle.demands.proofs.Levels.{Has}
 use Rattle.demands.proofs.Setting.{Setting, S, L, F, red}
 use Rattle.demands.proofs.Soundness.{tvec, Regular, Regulars, Deep}
 use Rattle.demands.proofs.Reckoned.{vector}
@@ -118,7 +119,8 @@ module _ (lim : Limits) (q : Parameters) (P : Prime (q .p)) (eight : q .n ≤ 8)
 
   -- ## A vector is right
 
-  vector-right : Gröbner (S Z) (L Z) (F Z) → (k : ℕ) → k < length xs → Vector-right q (flats (q .n) (f ∷ b)) (mono (q .n) (at k)) (vec (q .n) (vector Z (at k)))
+  vector-right : Gröbner (S Z) (L Z) (F Z) → (k : ℕ) → k < length xs → Vector-right q (flats (q .n) (f ∷ b)) (mono (q .n) (at k))
+      (vec (q .n) (vector Z (at k)))
   vector-right gb k l = record {
     syzygy = (
       proper-shown q eight (length (flat (q .n) f)) v (subst (λ r. Ranged q eight r v) (sym (flat-length (q .n) f))
@@ -128,7 +130,8 @@ module _ (lim : Limits) (q : Parameters) (P : Prime (q .p)) (eight : q .n ≤ 8)
     );
     in-front = ap (λ w. leading-term (vec (q .n) w)) (front-at k l .1);
     leads =
-        lead-leads (q .n) (q .p) P (q .code) (f ∷ b) (Z .grounded) v (inside-at k l) (at k) (in-range k l) (ahead-lead (S Z) (L Z) (F Z) (vector-ahead (S Z) G k l));
+        lead-leads (q .n) (q .p) P (q .code) (f ∷ b) (Z .grounded) v (inside-at k l) (at k) (in-range k l)
+        (ahead-lead (S Z) (L Z) (F Z) (vector-ahead (S Z) G k l));
     descends = canonical-descends (q .n) (q .p) P (q .code) (f ∷ b) (Z .grounded) v (inside-at k l) (canonical-at k);
   }
     where
@@ -143,7 +146,8 @@ module _ (lim : Limits) (q : Parameters) (P : Prime (q .p)) (eight : q .n ≤ 8)
   module _ (gb : Gröbner (S Z) (L Z) (F Z)) where
     -- it is a Gröbner basis again
     pub gröbner-next : Gröbner (S Z′) (L Z′) (F Z′)
-    gröbner-next = gröbner-agrees (S Z) Up (Stage.family (S Z) Up (Tower.next (S Z) G)) (F Z′) into-size same-vector same-leading (gröbner-above (S Z) G gb)
+    gröbner-next = gröbner-agrees (S Z) Up (Stage.family (S Z) Up (Tower.next (S Z) G)) (F Z′) into-size same-vector same-leading
+        (gröbner-above (S Z) G gb)
 
     -- every syzygy is a combination
     generate : (c : Vector) → Syzygy q (flat (q .n) f) c → Combination q (flat (q .n) level-above) c
@@ -171,7 +175,8 @@ module _ (lim : Limits) (q : Parameters) (P : Prime (q .p)) (eight : q .n ≤ 8)
 
         zero-w : Same (S Z) (ψ (S Z) (L Z) (F Z .f) w) []
         zero-w = equal-same (q .n) (q .p) P (q .code) b (ψ (S Z) (L Z) (F Z .f) w) []
-            (λ m. ap (coefficient (q .p) m) (sym (put-for-is (q .n) (q .p) P (q .code) b f w) ∙ ap (put-for (q .p) (flat (q .n) f)) (pr .back)) ∙ s .1 m)
+            (λ m. ap (coefficient (q .p) m) (sym (put-for-is (q .n) (q .p) P (q .code) b f w) ∙ ap (put-for (q .p) (flat (q .n) f)) (pr .back))
+            ∙ s .1 m)
 
         found : (u : TVec (q .n)) × All (S Z) (λ (x : Mono (q .n)). x .1 < length xs) u × Same (S Z) w (ψ (S Z) Up vector-of-stage u)
         found = vectors-generate (S Z) G gb w in-w zero-w

@@ -127,7 +127,8 @@ onto-colon-fits : (limit n : ℕ) (a b : E n) (z : Exponents) → T (fits? limit
 onto-colon-fits limit zero a b z t = t
 onto-colon-fits limit (suc n) a b z t =
     let l : a .0 ≤ limit = leb→le (a .0) limit (and-left (leb (a .0) limit) (fits? limit (onto n (a .1) z)) t) in
-    and-both (leb (max (a .0) (b .0) - b .0) limit) (fits? limit (onto n (colon n (a .1) (b .1)) z)) (le→leb (max (a .0) (b .0) - b .0) limit (omega arith))
+    and-both (leb (max (a .0) (b .0) - b .0) limit) (fits? limit (onto n (colon n (a .1) (b .1)) z))
+    (le→leb (max (a .0) (b .0) - b .0) limit (omega arith))
     (onto-colon-fits limit n (a .1) (b .1) z (and-right (leb (a .0) limit) (fits? limit (onto n (a .1) z)) t))
 
 pub colon-fits : (limit n : ℕ) (a b : E n) → T (fits? limit (out n a)) → T (fits? limit (out n (colon n a b)))

@@ -40,17 +40,20 @@ all-zeros words = let e : length words - 0 ≡ length words = omega arith in ap 
 module _ (lim : Limits) (o : T (sensible? lim)) where
   -- ## Rows have room
 
-  rows-room : (q : Parameters) (count most : ℕ) (v : Vector) → T (every (term-sound? lim q count) v) → length v ≤ most → (words : Words) → most * row-length ≤ length words
+  rows-room : (q : Parameters) (count most : ℕ) (v : Vector) → T (every (term-sound? lim q count) v) → length v ≤ most → (words : Words)
+      → most * row-length ≤ length words
       → length (rows-of v) ≤ length words
   rows-room q count most v s l words r = omega (arith, length-rows-of v (eights lim q (small-exponents lim o) count v s))
 
   -- ## Reading
 
   pub long-state : (way : Way) (state work : Words) → T (long-enough? lim way state work) → state-words lim ≤ length state
-  long-state way state work t = leb→le (state-words lim) (length state) (and-left (leb (state-words lim) (length state)) (leb (work-words lim way) (length work)) t)
+  long-state way state work t = leb→le (state-words lim) (length state)
+      (and-left (leb (state-words lim) (length state)) (leb (work-words lim way) (length work)) t)
 
   long-work : (way : Way) (state work : Words) → T (long-enough? lim way state work) → work-words lim way ≤ length work
-  long-work way state work t = leb→le (work-words lim way) (length work) (and-right (leb (state-words lim) (length state)) (leb (work-words lim way) (length work)) t)
+  long-work way state work t = leb→le (work-words lim way) (length work)
+      (and-right (leb (state-words lim) (length state)) (leb (work-words lim way) (length work)) t)
 
   value-room : (file : Bytes) (state work : Words) → T (long-enough? lim division state work) → {number place : ℕ} {value : Vector}
       → Refused-reading lim file number place value
@@ -82,7 +85,8 @@ module _ (lim : Limits) (o : T (sensible? lim)) where
 
   -- ## Lifting
 
-  pub lift-form : (n k : ℕ) (way : Way) (state work cache : Words) → Holds (Lift-form lim k way state work cache) (lift-call lim n k way state work cache)
+  pub lift-form : (n k : ℕ) (way : Way) (state work cache : Words) → Holds (Lift-form lim k way state work cache)
+      (lift-call lim n k way state work cache)
   lift-form n k way state work cache = go (long-enough? lim way state work) (λ t. t) (λ t. t)
     where
       X : State
@@ -97,20 +101,28 @@ module _ (lim : Limits) (o : T (sensible? lim)) where
       Form : Lift → Type 0
       Form = Lift-form lim k way state work cache
 
-      settles : T (long-enough? lim way state work) → T (not (eleven? lim X k (k - 1))) → T (lifts? lim k by) → T (sound? lim X) → T (between 1 k (lim .levels))
+      settles : T (long-enough? lim way state work) → T (not (eleven? lim X k (k - 1))) → T (lifts? lim k by) → T (sound? lim X)
+          → T (between 1 k (lim .levels))
           → T (has-level? X (k - 1)) → {x : Result State}
           → lift lim n X k by ≡ x → Lifted-to lim X k x
           → Holds Form (settled x then λ a. some (left a))
       settles t u y s r c e (one-more g w) =
           let l : k - 1 < length (X .levels) = ltb→lt (k - 1) (length (X .levels)) c in
-          holds (subst (λ z. Form (0, 0, encode lim (length state) (record { parameters = X .parameters; levels = g ∷ up-to X (k - 1) }), z, zeros cache))
+          holds (subst (λ z. Form (
+            0,
+            0,
+            encode lim (length state) (record { parameters = X .parameters; levels = g ∷ up-to X (k - 1) }),
+            z,
+            zeros cache,
+          ))
           (sym (all-zeros work)) (lifted-as X g (w .bound) t refl u y (w .reckons) (with-level lim X s k r l g (w .sound))))
       settles t u y s r c e (Lifts.limit-met {number} l) =
           holds (subst₂ (λ y z. Form (number, k, y, z, zeros cache)) (sym (encode-empty lim (length state) (long-state way state work t)))
           (sym (all-zeros work)) (Demands.Lift-form.refused-as n t u y e l))
       settles t u y s r c e still-lifting = nothing
 
-      twelve : T (long-enough? lim way state work) → T (not (eleven? lim X k (k - 1))) → T (sound? lim X) × (T (between 1 k (lim .levels)) → T (has-level? X (k - 1)))
+      twelve : T (long-enough? lim way state work) → T (not (eleven? lim X k (k - 1))) → T (sound? lim X)
+          × (T (between 1 k (lim .levels)) → T (has-level? X (k - 1)))
           → (b : Bool) → (T b → T (lifts? lim k by)) → (T (not b) → T (not (lifts? lim k by)))
           → Holds Form (choose (not b) (some (refuse 12 X)) (settled (lift lim n X k by)) then λ a. some (left a))
       twelve t u s true r z =
@@ -120,7 +132,8 @@ module _ (lim : Limits) (o : T (sensible? lim)) where
 
       eleven : T (long-enough? lim way state work) → (b : Bool) → (T b → T (eleven? lim X k (k - 1))) → (T (not b) → T (not (eleven? lim X k (k - 1))))
           → ((T b → ⊥) → T (sound? lim X) × (T (between 1 k (lim .levels)) → T (has-level? X (k - 1))))
-          → Holds Form (choose b (some (refuse 11 X)) (choose (not (lifts? lim k by)) (some (refuse 12 X)) (settled (lift lim n X k by))) then λ a. some (left a))
+          → Holds Form (choose b (some (refuse 11 X)) (choose (not (lifts? lim k by)) (some (refuse 12 X)) (settled (lift lim n X k by)))
+          then λ a. some (left a))
       eleven t true y z s = holds (Demands.Lift-form.no-level t (y tt))
       eleven t false y z s = twelve t (z tt) (s (λ x. x)) (lifts? lim k by) (λ x. x) (λ x. x)
 
@@ -132,14 +145,16 @@ module _ (lim : Limits) (o : T (sensible? lim)) where
   -- ## Fetching
 
   -- a vector above level 0 has room
-  vector-in : (q : Parameters) (levels : List Level) (v : ℕ) → T (levels-sound? lim q levels) → 2 ≤ length levels → T (between 1 v (length (highest levels)))
+  vector-in : (q : Parameters) (levels : List Level) (v : ℕ) → T (levels-sound? lim q levels) → 2 ≤ length levels
+      → T (between 1 v (length (highest levels)))
       → (out : Words) → out-words lim ≤ length out → length (rows-of (vector-of (highest levels) v)) ≤ length out
   vector-in q [] v s l r out m = absurd (omega arith)
   vector-in q (f ∷ []) v s l r out m = absurd (omega arith)
   vector-in q (f ∷ g ∷ below) zero s l r out m = omega arith
   vector-in q (f ∷ g ∷ below) (suc i) s l r out m =
       let k : suc i ≤ length f = between-high 1 (suc i) (length f) r in
-      let h : Sound-vector lim q (length g) (lim .vector) (g ∷ below) (getD f i []) = vector-says lim q (length g) (lim .vector) (g ∷ below) (getD f i [])
+      let h : Sound-vector lim q (length g) (lim .vector) (g ∷ below) (getD f i []) =
+      vector-says lim q (length g) (lim .vector) (g ∷ below) (getD f i [])
       (every-at (vector-sound? lim q (length g) (lim .vector) (g ∷ below)) f i [] (level-says lim q f g below s .vectors) k) in
       rows-room q (length g) (lim .vector) (getD f i []) (h .terms) (h .short) out m
 
@@ -152,7 +167,8 @@ module _ (lim : Limits) (o : T (sensible? lim)) where
       Form : Fetch → Type 0
       Form = Fetch-form lim k v state out
 
-      fetched : T (out-long-enough? lim state out) → T (not (eleven? lim X k k)) → T (sound? lim X) → (T (between 1 k (lim .levels)) → T (has-level? X k))
+      fetched : T (out-long-enough? lim state out) → T (not (eleven? lim X k k)) → T (sound? lim X)
+          → (T (between 1 k (lim .levels)) → T (has-level? X k))
           → T (fetches? lim X k v)
           → Form (fetch-left out (fetch X k v))
       fetched t u s c r = fetched-as t u s r refl (vector-in (X .parameters) (up-to X k) v (levels-stay lim X s k) (omega (arith, height, low))
@@ -168,7 +184,8 @@ module _ (lim : Limits) (o : T (sensible? lim)) where
           height : length (up-to X k) ≡ suc k
           height = height-up-to lim X s k (ltb→lt k (length (X .levels)) (c ranged))
 
-      twelve : T (out-long-enough? lim state out) → T (not (eleven? lim X k k)) → T (sound? lim X) × (T (between 1 k (lim .levels)) → T (has-level? X k))
+      twelve : T (out-long-enough? lim state out) → T (not (eleven? lim X k k)) → T (sound? lim X)
+          × (T (between 1 k (lim .levels)) → T (has-level? X k))
           → (b : Bool) → (T b → T (fetches? lim X k v)) → (T (not b) → T (not (fetches? lim X k v)))
           → Form (fetch-left out (choose (not b) (refuse 12 X) (fetch X k v)))
       twelve t u s true y z = fetched t u (s .0) (s .1) (y tt)

@@ -14,7 +14,8 @@ use Rattle.definitions.proofs.Tests.{between-low, between-high, between-shown}
 use Rattle.demands.specs.Notions.{Member}
 use Rattle.demands.specs.Frames.{Leading-syzygy, Before, Before-all, Ascending, Is-frame}
 use Rattle.demands.proofs.Comparisons.{order}
-use Rattle.demands.proofs.Members.{member-left, member-right, member-either, divides-trans, divides-both, divides-monomial, monomial-divides, says-under, under-says}
+use Rattle.demands.proofs.Members.{member-left, member-right, member-either, divides-trans, divides-both, divides-monomial, monomial-divides, says-under}
+use Rattle.demands.proofs.Members.{under-says}
 use Rattle.demands.proofs.Generators.{Below-all, Sorted, Eights, Minimal-generators, minimal-generators}
 
 -- ## Terms of one number
@@ -28,7 +29,8 @@ tagged-member i (h ∷ gs) g (inl e) = inl (λ k. (e k, i))
 tagged-member i (h ∷ gs) g (inr m) = inr (tagged-member i gs g m)
 
 module _ (code : ℕ) where
-  tagged-before : (i : ℕ) (g : Exponents) → length g ≡ 8 → (gs : List Exponents) → Sorted code gs → Below-all code g gs → Before-all code (g, i) (with-component i gs)
+  tagged-before : (i : ℕ) (g : Exponents) → length g ≡ 8 → (gs : List Exponents) → Sorted code gs → Below-all code g gs
+      → Before-all code (g, i) (with-component i gs)
   tagged-before i g e [] s b = tt
   tagged-before i g e (h ∷ gs) s b = (inr (refl, under-says code g h e (s .0) (b .0)), tagged-before i g e gs (s .2) (b .1))
 
@@ -38,7 +40,8 @@ module _ (code : ℕ) where
 
   -- ## Lists one after the other
 
-  before-append : (t : Monomial) (ts us : List Monomial) → Before-all code t ts → ((u : Monomial) → Member u us → Before code t u) → Before-all code t (ts ++ us)
+  before-append : (t : Monomial) (ts us : List Monomial) → Before-all code t ts → ((u : Monomial) → Member u us → Before code t u)
+      → Before-all code t (ts ++ us)
   before-append t [] [] b h = tt
   before-append t [] (u ∷ us) b h = (h u (inl refl), before-append t [] us tt (λ v i. h v (inr i)))
   before-append t (s ∷ ts) us b h = (b .0, before-append t ts us (b .1) h)
@@ -46,7 +49,10 @@ module _ (code : ℕ) where
   ascending-append : (ts us : List Monomial) → Ascending code ts → Ascending code us → ((t u : Monomial) → Member t ts → Member u us → Before code t u)
       → Ascending code (ts ++ us)
   ascending-append [] us a b h = b
-  ascending-append (t ∷ ts) us a b h = (before-append t ts us (a .0) (λ u i. h t u (inl refl) i), ascending-append ts us (a .1) b (λ s u i j. h s u (inr i) j))
+  ascending-append (t ∷ ts) us a b h = (
+    before-append t ts us (a .0) (λ u i. h t u (inl refl) i),
+    ascending-append ts us (a .1) b (λ s u i j. h s u (inr i) j),
+  )
 
   -- ## The numbers from i on
 
@@ -60,7 +66,8 @@ module _ (code : ℕ) where
       pub divides : T (divides-monomial? (at j) (product (t .0) (at (t .1) .0), at (t .1) .1))
 
     pub record Part (i many : ℕ) (ts : List Monomial) : Type 0 where
-      pub covers : (t : Monomial) → length (t .0) ≡ 8 → i ≤ t .1 → t .1 < i + many → Earlier t → (u : Monomial) × Member u ts × T (divides-monomial? u t)
+      pub covers : (t : Monomial) → length (t .0) ≡ 8 → i ≤ t .1 → t .1 < i + many → Earlier t → (u : Monomial) × Member u ts
+          × T (divides-monomial? u t)
       pub only : (t : Monomial) → Member t ts → (length (t .0) ≡ 8) × (i ≤ t .1) × (t .1 < i + many) × Earlier t
       pub least : (t u : Monomial) → Member t ts → Member u ts → T (divides-monomial? t u) → t ≡ u
       pub numbered : Ascending code ts
@@ -71,7 +78,8 @@ module _ (code : ℕ) where
       pub listed : (j : ℕ) → 1 ≤ j → j < i → Member (at j) earlier
       pub behind : (k : ℕ) → k < length ms → at (i + k) ≡ getD ms k ([], 0)
 
-    splits-next : (i : ℕ) → 1 ≤ i → (earlier : List Monomial) (m : Monomial) (ms : List Monomial) → Splits i earlier (m ∷ ms) → Splits (suc i) (m ∷ earlier) ms
+    splits-next : (i : ℕ) → 1 ≤ i → (earlier : List Monomial) (m : Monomial) (ms : List Monomial) → Splits i earlier (m ∷ ms)
+        → Splits (suc i) (m ∷ earlier) ms
     splits-next i o earlier m ms s = record { before = from; listed = into; behind = next }
       where
         here : at i ≡ m
@@ -98,7 +106,8 @@ module _ (code : ℕ) where
       abbrev new : List Monomial
       new = with-component i gs
 
-      next-covers : (t : Monomial) → length (t .0) ≡ 8 → i ≤ t .1 → t .1 < i + suc many → Earlier t → (u : Monomial) × Member u (new ++ ts) × T (divides-monomial? u t)
+      next-covers : (t : Monomial) → length (t .0) ≡ 8 → i ≤ t .1 → t .1 < i + suc many → Earlier t → (u : Monomial) × Member u (new ++ ts)
+          × T (divides-monomial? u t)
       next-covers t e a b h = go (nat-tri i (t .1))
         where
           go : Tri (i < t .1) (i ≡ t .1) (t .1 < i) → (u : Monomial) × Member u (new ++ ts) × T (divides-monomial? u t)
@@ -137,7 +146,8 @@ module _ (code : ℕ) where
       next-least t u m k d = go (member-either t new ts m) (member-either u new ts k) (monomial-divides t u d)
         where
           go : Member t new ⊎ Member t ts → Member u new ⊎ Member u ts → (t .1 ≡ u .1) × T (divides? (t .0) (u .0)) → t ≡ u
-          go (inl a) (inl b) (e, v) = let x : t .0 ≡ u .0 = g .apart (u .0) (t .0) (tagged-either i gs u b .1) (tagged-either i gs t a .1) v in λ z. (x z, e z)
+          go (inl a) (inl b) (e, v) = let x : t .0 ≡ u .0 = g .apart (u .0) (t .0) (tagged-either i gs u b .1) (tagged-either i gs t a .1) v in
+              λ z. (x z, e z)
           go (inl a) (inr b) (e, v) = let x : t .1 ≡ i = tagged-either i gs t a .0 in let y : suc i ≤ u .1 = r .only u b .1 in absurd (omega arith)
           go (inr a) (inl b) (e, v) = let x : u .1 ≡ i = tagged-either i gs u b .0 in let y : suc i ≤ t .1 = r .only t a .1 in absurd (omega arith)
           go (inr a) (inr b) (e, v) = r .least t u a b d
@@ -153,11 +163,18 @@ module _ (code : ℕ) where
 
     frame-part : (ms : List Monomial) → Eights code ms → (i : ℕ) → 1 ≤ i → (earlier : List Monomial) → Eights code earlier → Splits i earlier ms
         → Part i (length ms) (frame-from code i earlier ms)
-    frame-part [] es i o earlier ee s = record { covers = λ t e a b h. absurd (omega arith); only = λ t m. absurd m; least = λ t u m k d. absurd m; numbered = tt }
+    frame-part [] es i o earlier ee s = record {
+      covers = λ t e a b h. absurd (omega arith);
+      only = λ t m. absurd m;
+      least =
+          λ t u m k d. absurd m;
+      numbered = tt;
+    }
     frame-part (m ∷ ms) es i o earlier ee s =
         part-next i (length ms) earlier (m ∷ ms) s (minimal (generators code earlier m))
         (subst (λ z. Minimal-generators code z earlier (minimal (generators code earlier m))) (sym here) (minimal-generators code m (es .0) earlier ee))
-        (frame-from code (suc i) (m ∷ earlier) ms) (frame-part ms (es .1) (suc i) (omega arith) (m ∷ earlier) (es .0, ee) (splits-next i o earlier m ms s))
+        (frame-from code (suc i) (m ∷ earlier) ms) (frame-part ms (es .1) (suc i) (omega arith) (m ∷ earlier) (es .0, ee)
+        (splits-next i o earlier m ms s))
       where
         here : at i ≡ m
         here = let e : i ≡ i + 0 = omega arith in ap at e ∙ s .behind 0 (omega arith)
@@ -269,7 +286,8 @@ module _ (code : ℕ) (f : Level) where
           go : (t ≡ u) ⊎ Member t us → (u ≡ t) ⊎ Member u ts → t ≡ u
           go (inl e) _ = e
           go (inr m) (inl e) = sym e
-          go (inr m) (inr n) = absurd (before-both t u (et t (inl refl)) (eu u (inl refl)) (before-member t ts (a .0) u n) (before-member u us (b .0) t m))
+          go (inr m) (inr n) = absurd (before-both t u (et t (inl refl)) (eu u (inl refl)) (before-member t ts (a .0) u n)
+              (before-member u us (b .0) t m))
 
       down : (s : Monomial) → Member s ts → Member s us
       down s m = go (h s (inr m))

@@ -17,7 +17,8 @@ use Rattle.definitions.proofs.Tests.{and-left, and-right, and-both}
 use Rattle.demands.specs.Notions.{Member}
 use Rattle.demands.proofs.Exponents.{same-is, same-refl, divides-refl}
 use Rattle.demands.proofs.Comparisons.{Says, less, level, more, order}
-use Rattle.demands.proofs.Members.{any-says, any-shown, those-says, those-shown, divides-trans, divides-degree, divides-monomial, monomial-divides, Under, eight-says}
+use Rattle.demands.proofs.Members.{any-says, any-shown, those-says, those-shown, divides-trans, divides-degree, divides-monomial, monomial-divides}
+use Rattle.demands.proofs.Members.{Under, eight-says}
 
 -- ## One generator: lcm(a, b) / b
 
@@ -97,7 +98,8 @@ module _ (code : ℕ) where
           turn (inl e) = inl e
           turn (inr i) = inr (inr i)
 
-  into-member : (g : Exponents) → length g ≡ 8 → (l : List Exponents) → Sorted l → (x : Exponents) → (x ≡ g) ⊎ Member x l → Member x (into-ascending code g l)
+  into-member : (g : Exponents) → length g ≡ 8 → (l : List Exponents) → Sorted l → (x : Exponents) → (x ≡ g) ⊎ Member x l
+      → Member x (into-ascending code g l)
   into-member g e [] s x m = m
   into-member g e (h ∷ l) s x m = go (eight-says code g h e (s .0)) m (into-member g e l (s .2) x)
     where
@@ -168,11 +170,13 @@ module _ (code : ℕ) where
                   let lk : length k ≡ 8 = sorted-length gs s k (those-says (minimal? gs) gs k n .0) in
                   (k, n, divides-trans k h g (lk ∙ sym (sorted-length gs s h j)) u w)
               step (inr q) =
-                  absurd (T-not (same-exponents? h g) (and-right (divides? h g) (not (same-exponents? h g)) t) (subst (λ z. T (same-exponents? h z)) q (same-refl h)))
+                  absurd (T-not (same-exponents? h g) (and-right (divides? h g) (not (same-exponents? h g)) t)
+                  (subst (λ z. T (same-exponents? h z)) q (same-refl h)))
 
   -- no minimal one divides another
   minimal-apart : (gs : List Exponents) (g h : Exponents) → Member g (minimal gs) → Member h (minimal gs) → T (divides? h g) → h ≡ g
-  minimal-apart gs g h i j t = go (same-exponents? h g) (same-is h g) (λ n. absurd (T-not (any (λ k. properly-divides? k g) gs) (those-says (minimal? gs) gs g i .1)
+  minimal-apart gs g h i j t = go (same-exponents? h g) (same-is h g) (λ n. absurd
+      (T-not (any (λ k. properly-divides? k g) gs) (those-says (minimal? gs) gs g i .1)
       (any-shown (λ k. properly-divides? k g) gs h (those-says (minimal? gs) gs h j .0) (and-both (divides? h g) (not (same-exponents? h g)) t n))))
     where
       go : (b : Bool) → (T b → h ≡ g) → (T (not b) → h ≡ g) → h ≡ g
@@ -204,7 +208,8 @@ module _ (code : ℕ) where
 
     generated : (earlier : List Monomial) → Eights earlier → Generates m earlier (generators code earlier m)
     generated [] es = record { sorted = tt; real = λ g i. absurd i; covers = λ x e l i t. absurd i }
-    generated (l ∷ earlier) es = go (eqb (l .1) (m .1)) (eqb→eq (l .1) (m .1)) (λ e. subst (λ z. T (eqb (l .1) z)) e (eqb-refl (l .1))) (generated earlier (es .1))
+    generated (l ∷ earlier) es = go (eqb (l .1) (m .1)) (eqb→eq (l .1) (m .1)) (λ e. subst (λ z. T (eqb (l .1) z)) e (eqb-refl (l .1)))
+        (generated earlier (es .1))
       where
         gs : List Exponents
         gs = generators code earlier m
@@ -231,7 +236,8 @@ module _ (code : ℕ) where
         same : l .1 ≡ m .1 → Generates m earlier gs → Generates m (l ∷ earlier) (into-ascending code c gs)
         same n r = record { sorted = into-sorted c ec gs (r .sorted); real = λ g i. from g (into-either c gs g i); covers = at }
           where
-            from : (g : Exponents) → (g ≡ c) ⊎ Member g gs → (length g ≡ 8) × ((k : Monomial) × Member k (l ∷ earlier) × T (divides-monomial? k (onto g)))
+            from : (g : Exponents) → (g ≡ c) ⊎ Member g gs → (length g ≡ 8)
+                × ((k : Monomial) × Member k (l ∷ earlier) × T (divides-monomial? k (onto g)))
             from g (inl e) = (
               ap length e ∙ ec,
               (

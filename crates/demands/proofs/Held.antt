@@ -77,7 +77,8 @@ module _ (lim : Limits) (q : Parameters) where
   exact-basis f (g ∷ []) t e = e
   exact-basis f (g ∷ b ∷ below) t e = e .0 .basis
 
-  exact-up : (f g : Level) (below : List Level) → Tower lim q f below → Exact lim q below → Level-right q (lim .numbering (q .code)) below g → Exact lim q (g ∷ below)
+  exact-up : (f g : Level) (below : List Level) → Tower lim q f below → Exact lim q below → Level-right q (lim .numbering (q .code)) below g
+      → Exact lim q (g ∷ below)
   exact-up f g [] t e r = absurd t
   exact-up f g (b ∷ below) t e r = (r, e)
 
@@ -90,18 +91,21 @@ module _ (lim : Limits) (o : T (sensible? lim)) where
   read-from n unfinished h k = open-yet
   read-from n (refused number place value) h (Numbers.refuses t) = refuses t
   read-from n (refused number place value) h (Numbers.stops t) = refuses t
-  read-from n (done (q, f)) h k = go (accepted-right lim q (sound-prime lim o X h) (sound-eight lim o X h) (vector-room lim o) f (sound-says lim X h .levels) n)
+  read-from n (done (q, f)) h k = go (accepted-right lim q (sound-prime lim o X h) (sound-eight lim o X h) (vector-room lim o) f
+      (sound-says lim X h .levels) n)
     where
       X : State
       X = basis-state (q, f)
 
-      go : {x : Result State} → Read-right lim q f x → Ends (Held lim (record { basis = some (q, f); h = 0 })) (λ number value. T (read-number? number)) x
+      go : {x : Result State} → Read-right lim q f x → Ends (Held lim (record { basis = some (q, f); h = 0 }))
+          (λ number value. T (read-number? number)) x
       go (accepts gb) = gives (held (record { height = refl; tower = refl; sound = h; exact = gb }))
       go (limited {number} t) = refuses (limit-read number t)
       go (stopped t s) = refuses tt
       go Demands.open-yet = open-yet
 
-  pub read-held : (n : ℕ) (bytes : Bytes) → Ends (Held lim (record { basis = basis-of (problem lim bytes); h = 0 })) (λ number value. T (read-number? number))
+  pub read-held : (n : ℕ) (bytes : Bytes) → Ends (Held lim (record { basis = basis-of (problem lim bytes); h = 0 }))
+      (λ number value. T (read-number? number))
       (read lim n bytes)
   read-held n bytes = read-from n (problem lim bytes) (problem-sound lim (few-variables lim o) bytes) (read-number lim n bytes)
 
@@ -113,7 +117,8 @@ module _ (lim : Limits) (o : T (sensible? lim)) where
       → Lift-right lim q (up-to (record { parameters = q; levels = levels }) (k - 1)) g
       → Standing lim q f k (g ∷ up-to (record { parameters = q; levels = levels }) (k - 1))
   level-stands q f levels h k s r l g w = record {
-    height = let e : length below ≡ suc (k - 1) = height-up-to lim X (s .sound) (k - 1) l in let m : 1 ≤ k = between-low 1 k (lim .levels) r in omega arith;
+    height = let e : length below ≡ suc (k - 1) = height-up-to lim X (s .sound) (k - 1) l in let m : 1 ≤ k = between-low 1 k (lim .levels) r in
+        omega arith;
     tower = tower-up lim q f g below tower-below (w .bound, w .reckons);
     sound = with-level lim X (s .sound) k r l g (w .sound);
     exact = exact-up lim q f g below tower-below exact-below (w .exact (exact-basis lim q f below tower-below exact-below));
@@ -137,7 +142,8 @@ module _ (lim : Limits) (o : T (sensible? lim)) where
   lift-held R X none-held k way n s r c = absurd (sound-says lim empty s .levels)
   lift-held R X (held {q} {f} {levels} {h} u) k way n s r c = go (lifted-to lim o X s k way n)
     where
-      go : {x : Result State} → Lifted-to lim X k x → Ends (Held lim (record { basis = some (q, f); h = k })) (λ number value. T (read-number? number)) x
+      go : {x : Result State} → Lifted-to lim X k x → Ends (Held lim (record { basis = some (q, f); h = k }))
+          (λ number value. T (read-number? number)) x
       go (one-more g w) = gives (held (level-stands q f levels h k u r (ltb→lt (k - 1) (length levels) c) g w))
       go (limit-met {number} t) = refuses (limit-read number t)
       go still-lifting = open-yet

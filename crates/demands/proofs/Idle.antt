@@ -45,14 +45,16 @@ empty-always : (E : Engine) → Right document-01 E → Empty-always document-01
 empty-always E r i = differ 0 printed-lines (printed letter-Z (1 ∷ 0 ∷ [])) tt (sym (prints E r) ∙ i printed-file (q₁, f₁) refl)
 
 refuses-all : (E : Engine) → Right document-01 E → Refuses-all E → ⊥
-refuses-all E r i = let (n, number, place, (value, e)) = i printed-file in differ 0 printed-lines (x-lines n number place value) tt (sym (prints E r) ∙ e)
+refuses-all E r i = let (n, number, place, (value, e)) = i printed-file in
+    differ 0 printed-lines (x-lines n number place value) tt (sym (prints E r) ∙ e)
 
 -- x, y, z: three vectors over them, and one over these
 abbrev three-file : Bytes
 three-file = text ("R,7,3,1,1" ∷ "T,1,1,1,1,0,0" ∷ "T,2,1,1,0,1,0" ∷ "T,3,1,1,0,0,1" ∷ "E,3" ∷ [])
 
 abbrev level-1-lines : Bytes
-level-1-lines = text ("S,1,1,1,2,1,0,0" ∷ "S,1,1,6,1,0,1,0" ∷ "S,1,2,1,3,0,1,0" ∷ "S,1,2,6,2,0,0,1" ∷ "S,1,3,1,3,1,0,0" ∷ "S,1,3,6,1,0,0,1" ∷ "Z,1,3" ∷ [])
+level-1-lines = text ("S,1,1,1,2,1,0,0" ∷ "S,1,1,6,1,0,1,0" ∷ "S,1,2,1,3,0,1,0" ∷ "S,1,2,6,2,0,0,1" ∷ "S,1,3,1,3,1,0,0" ∷ "S,1,3,6,1,0,0,1" ∷ "Z,1,3"
+    ∷ [])
 
 abbrev level-2-lines : Bytes
 level-2-lines = text ("S,2,1,1,3,0,1,0" ∷ "S,2,1,6,2,1,0,0" ∷ "S,2,1,6,1,0,0,1" ∷ "Z,2,1" ∷ "Z,3,0" ∷ [])
@@ -65,11 +67,13 @@ f₃ = ((1, (xyz 1 0 0, 1)) ∷ []) ∷ ((1, (xyz 0 1 0, 1)) ∷ []) ∷ ((1, (x
 
 abbrev g₃ : Level
 g₃ =
-    ((1, (xyz 1 0 0, 2)) ∷ (6, (xyz 0 1 0, 1)) ∷ []) ∷ ((1, (xyz 0 1 0, 3)) ∷ (6, (xyz 0 0 1, 2)) ∷ []) ∷ ((1, (xyz 1 0 0, 3)) ∷ (6, (xyz 0 0 1, 1)) ∷ []) ∷ []
+    ((1, (xyz 1 0 0, 2)) ∷ (6, (xyz 0 1 0, 1)) ∷ []) ∷ ((1, (xyz 0 1 0, 3)) ∷ (6, (xyz 0 0 1, 2)) ∷ [])
+    ∷ ((1, (xyz 1 0 0, 3)) ∷ (6, (xyz 0 0 1, 1)) ∷ []) ∷ []
 
 level-2-empty : (E : Engine) → Right document-01 E → Level-2-empty document-01 E → ⊥
 level-2-empty E r i =
-    differ 102 (level-1-lines ++ level-2-lines) (level-1-lines ++ printed letter-Z (2 ∷ 0 ∷ [])) tt (sym (r 99 three-file (level-1-lines ++ level-2-lines) refl)
+    differ 102 (level-1-lines ++ level-2-lines) (level-1-lines ++ printed letter-Z (2 ∷ 0 ∷ [])) tt
+    (sym (r 99 three-file (level-1-lines ++ level-2-lines) refl)
     ∙ i 99 three-file (record { parameters = q₃; levels = f₃ ∷ [] }) (record { parameters = q₃; levels = g₃ ∷ f₃ ∷ [] }) refl refl)
 
 -- the first byte after `Z,1,` does not depend on what follows the line
@@ -100,7 +104,8 @@ count-invented E count r i =
 
 -- two terms are enough for the printed file, and one is not
 early-14 : (E : Engine) → Right (limited 255 128 2048 2 512 4096) E → Early-14 (limited 255 128 2048 2 512 4096) E → ⊥
-early-14 E r i = differ 0 printed-lines (text ("X,14,0" ∷ [])) tt (sym (r 99 printed-file printed-lines refl) ∙ i 99 printed-file (text ("X,14,0" ∷ [])) refl)
+early-14 E r i = differ 0 printed-lines (text ("X,14,0" ∷ [])) tt (sym (r 99 printed-file printed-lines refl)
+    ∙ i 99 printed-file (text ("X,14,0" ∷ [])) refl)
 
 -- four terms are enough for its vector, and three are not
 early-14-vector : (E : Engine) → Right (limited 255 128 2048 512 4 4096) E → Early-14-vector (limited 255 128 2048 512 4 4096) E → ⊥
@@ -118,8 +123,10 @@ reply-in (some a) = a
 -- three terms in the unfinished subtrees are enough for it, and two are not
 early-14-tree : (E : Tree-engine) → Lifts-right (limited 255 128 2048 512 512 3) E → Early-14-tree (limited 255 128 2048 512 512 3) E → ⊥
 early-14-tree E r i =
-    let e : E X₁ 1 0 ≡ reply-in (by-the-tree (limited 255 128 2048 512 512 3)) = r 99 X₁ 1 0 (reply-in (by-the-tree (limited 255 128 2048 512 512 3))) refl in
-    let d : E X₁ 1 0 ≡ reply-in (by-the-tree (limited 255 128 2048 512 512 2)) = i 99 X₁ 1 0 (reply-in (by-the-tree (limited 255 128 2048 512 512 2))) refl in
+    let e : E X₁ 1 0 ≡ reply-in (by-the-tree (limited 255 128 2048 512 512 3)) =
+    r 99 X₁ 1 0 (reply-in (by-the-tree (limited 255 128 2048 512 512 3))) refl in
+    let d : E X₁ 1 0 ≡ reply-in (by-the-tree (limited 255 128 2048 512 512 2)) =
+    i 99 X₁ 1 0 (reply-in (by-the-tree (limited 255 128 2048 512 512 2))) refl in
     let z : _≡_ {A = ℕ} 0 14 = ap (λ (a : Reply). a .number) (sym e ∙ d) in
     omega arith
 
@@ -129,7 +136,8 @@ early-14-tree E r i =
 untouched-at : (R : Bytes → Words → Words → Read) → Reads-right document-01 R → Untouched R → (state work : Words)
     → T (long-enough? document-01 division state work) → getD state 0 0 ≡ 0 → ⊥
 untouched-at R r u state work t z =
-    let e : R printed-file state work ≡ (0, 0, encode document-01 (length state) X₁, padded (length work) []) = r 99 printed-file state work _ (reads state work t) in
+    let e : R printed-file state work ≡ (0, 0, encode document-01 (length state) X₁, padded (length work) []) =
+    r 99 printed-file state work _ (reads state work t) in
     let d : encode document-01 (length state) X₁ ≡ state = sym (ap (λ (x : Read). x .2) e) ∙ u printed-file state work in
     let p : _≡_ {A = ℕ} 7 0 = ap (λ l. getD l 0 0) d ∙ z in
     omega arith
@@ -148,7 +156,8 @@ long-zeros size width l m = and-both (leb (state-words document-01) (length stat
     work = replicate width 0
 
 untouched : (R : Bytes → Words → Words → Read) → Reads-right document-01 R → Untouched R → ⊥
-untouched R r u = go (state-words document-01) (work-words document-01 division) (le-refl (state-words document-01)) (le-refl (work-words document-01 division))
+untouched R r u = go (state-words document-01) (work-words document-01 division) (le-refl (state-words document-01))
+    (le-refl (work-words document-01 division))
   where
     go : (size width : ℕ) → state-words document-01 ≤ size → work-words document-01 division ≤ width → ⊥
     go size width l m = untouched-at R r u (replicate size 0) (replicate width 0) (long-zeros size width l m) (at-zeros size 0)

@@ -70,7 +70,8 @@ module _ (lim : Limits) (q : Parameters) (P : Prime (q .p)) (eight : q .n ≤ 8)
 
   terms-total : (ys : List (Mono (q .n))) → terms-of (flat (q .n) (vectors Z lim ys)) ≡ total Z lim ys
   terms-total [] = refl
-  terms-total (y ∷ ys) = let e : length (vec (q .n) (vector Z y)) ≡ length (vector Z y) = vec-length (q .n) (vector Z y) in omega (arith, terms-total ys)
+  terms-total (y ∷ ys) = let e : length (vec (q .n) (vector Z y)) ≡ length (vector Z y) = vec-length (q .n) (vector Z y) in
+      omega (arith, terms-total ys)
 
   vectors-count : (ys : List (Mono (q .n))) → length (flat (q .n) (vectors Z lim ys)) ≡ length ys
   vectors-count [] = refl
@@ -78,7 +79,8 @@ module _ (lim : Limits) (q : Parameters) (P : Prime (q .p)) (eight : q .n ≤ 8)
 
   -- ## What lifting leaves
 
-  module _ (o : 1 ≤ lim .vector) (fits : (j : ℕ) → j < length f → Within lim (q .n) (lm (q .n) f j)) (under : T (levels-sound? lim q (flats (q .n) (f ∷ b)))) where
+  module _ (o : 1 ≤ lim .vector) (fits : (j : ℕ) → j < length f → Within lim (q .n) (lm (q .n) f j))
+      (under : T (levels-sound? lim q (flats (q .n) (f ∷ b)))) where
     few-short : (b : Bool) (ms : List Monomial) (way : Lifting) (N : ℕ)
         → Gives (All-short (stage Z lim) (lim .vector)) (if-few b ms >>= λ ms. lift-all (stage Z lim) (lift-one (stage Z lim) way N) ([], 0) [] ms)
     few-short false ms way N = refuses tt
@@ -88,7 +90,8 @@ module _ (lim : Limits) (q : Parameters) (P : Prime (q .p)) (eight : q .n ≤ 8)
         → Gives (λ g. (g ≡ flat (q .n) (vectors Z lim (terms Z eight (lim .numbering (q .code))))) × T (levels-sound? lim q (g ∷ flats (q .n) (f ∷ b))))
         (lift-level lim (q .p) (q .code) (flats (q .n) (f ∷ b)) way N)
     lift-kept way N = ends-both (λ g r s. kept g r s) (level-lifted Z lim eight fits way N)
-        (few-short (leb (length (frame code (leading-monomials (flat (q .n) f)))) (lim .vectors)) (frame code (leading-monomials (flat (q .n) f))) way N)
+        (few-short (leb (length (frame code (leading-monomials (flat (q .n) f)))) (lim .vectors))
+        (frame code (leading-monomials (flat (q .n) f))) way N)
       where
         code : ℕ
         code = lim .numbering (q .code)
@@ -96,7 +99,8 @@ module _ (lim : Limits) (q : Parameters) (P : Prime (q .p)) (eight : q .n ≤ 8)
         xs : List (Mono (q .n))
         xs = terms Z eight code
 
-        sound : All-ok Z lim xs → length xs ≤ lim .vectors → total Z lim xs ≤ lim .level-terms → All-short (stage Z lim) (lim .vector) (flat (q .n) (vectors Z lim xs))
+        sound : All-ok Z lim xs → length xs ≤ lim .vectors → total Z lim xs ≤ lim .level-terms
+            → All-short (stage Z lim) (lim .vector) (flat (q .n) (vectors Z lim xs))
             → T (levels-sound? lim q (flat (q .n) (vectors Z lim xs) ∷ flats (q .n) (f ∷ b)))
         sound ok few short s = level-shown lim q (flat (q .n) (vectors Z lim xs)) (flat (q .n) f) (flats (q .n) b) (record {
           few = omega (arith, vectors-count xs);

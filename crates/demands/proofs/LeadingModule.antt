@@ -18,7 +18,8 @@ use Rattle.definitions.specs.Monomial
 use Rattle.definitions.specs.Monomial.{Monomial, Vector, leading, vector-of}
 use Rattle.definitions.specs.Problem.{Parameters}
 use Rattle.definitions.proofs.Modular.{Prime}
-use Rattle.demands.specs.Notions.{multiples, put-for, coefficient, Combination, Divided, Led-by, Gröbner-basis, All-led, leading-vectors, Leading-generated}
+use Rattle.demands.specs.Notions.{multiples, put-for, coefficient, Combination, Divided, Led-by, Gröbner-basis, All-led, leading-vectors}
+use Rattle.demands.specs.Notions.{Leading-generated}
 use Rattle.demands.proofs.Exponents.{E, out, product-out}
 use Rattle.demands.proofs.Levels.{Mono, TVec, TLevel, mono, vec, flat, flats, flat-at, flat-length, leading-vec, mono-same, head, lm}
 use Rattle.demands.proofs.Coefficients.{good-one}
@@ -27,7 +28,8 @@ use Rattle.demands.proofs.Soundness.{tvec, Deep}
 use Rattle.demands.proofs.Notions.{put-for-is, stands-in, Stands-in}
 use Rattle.demands.proofs.Bases.{Ranged, Proper, proper-says, proper-shown, here, ranged-in, image-divided, divided-image, led-lead}
 
-module _ (q : Parameters) (P : Prime (q .p)) (eight : q .n ≤ 8) (f : TLevel (q .n)) (b : List (TLevel (q .n))) (d : Deep (q .n) (q .p) P (q .code) (f ∷ b)) where
+module _ (q : Parameters) (P : Prime (q .p)) (eight : q .n ≤ 8) (f : TLevel (q .n)) (b : List (TLevel (q .n)))
+    (d : Deep (q .n) (q .p) P (q .code) (f ∷ b)) where
   abbrev Z : Setting
   Z = here q P eight f b d
 
@@ -89,7 +91,8 @@ module _ (q : Parameters) (P : Prime (q .p)) (eight : q .n ≤ 8) (f : TLevel (q
                   new = (t .0, (ExpM (q .n) .mulE (t .1 .0) (y .0), y .1));
                   inside = i;
                   same = ap (multiples (q .p) (t .0) (out (q .n) (t .1 .0))) (e ∙ ap (λ z. (1, z) ∷ []) (k ∙ ap (mono (q .n)) (sym r)))
-                      ∙ ap (λ z. (Field.times (q .p) (t .0) 1, (z, suc (lm (q .n) f (y .1) .1))) ∷ []) (products (t .1 .0) (y .0) (lm (q .n) f (y .1) .0))
+                      ∙ ap (λ z. (Field.times (q .p) (t .0) 1, (z, suc (lm (q .n) f (y .1) .1))) ∷ [])
+                      (products (t .1 .0) (y .0) (lm (q .n) f (y .1) .0))
                       ∙ ap (multiples (q .p) (t .0) (out (q .n) (ExpM (q .n) .mulE (t .1 .0) (y .0))))
                       (sym (flat-at (q .n) T-leadings (y .1) ∙ ap (vec (q .n)) (leadings-at f (y .1) i)));
                 }
@@ -115,7 +118,8 @@ module _ (q : Parameters) (P : Prime (q .p)) (eight : q .n ≤ 8) (f : TLevel (q
         record {
           by = vec (q .n) u;
           proper =
-              proper-shown q eight (length (flat (q .n) T-leadings)) u (subst (λ r. Ranged q eight r u) (sym (flat-length (q .n) T-leadings ∙ leadings-length f)) k);
+              proper-shown q eight (length (flat (q .n) T-leadings)) u
+              (subst (λ r. Ranged q eight r u) (sym (flat-length (q .n) T-leadings ∙ leadings-length f)) k);
           is = λ m. c .is m ∙ ap (coefficient (q .p) m) (ap (put-for (q .p) s) (sym (pr .back)) ∙ e);
         }
 
@@ -172,7 +176,8 @@ module _ (q : Parameters) (P : Prime (q .p)) (eight : q .n ≤ 8) (f : TLevel (q
       u = (1, (ExpM (q .n) .ε, 0)) ∷ []
 
       self : _≡_ {A = TVec (q .n)} ((1, x) ∷ []) (ψ (S Z) (L Z) (λ j. getD (((1, x) ∷ []) ∷ []) j []) u)
-      self = let e : 1 ≡ Field.times (q .p) 1 1 = sym (good-one (q .p) P .1) in let k = sym (ExpM (q .n) .mulE-unit (x .0)) in λ i. (e i, (k i, x .1)) ∷ []
+      self = let e : 1 ≡ Field.times (q .p) 1 1 = sym (good-one (q .p) P .1) in let k = sym (ExpM (q .n) .mulE-unit (x .0)) in λ i. (e i, (k i, x .1))
+          ∷ []
 
   -- ## Both
 
@@ -188,4 +193,5 @@ module _ (q : Parameters) (P : Prime (q .p)) (eight : q .n ≤ 8) (f : TLevel (q
           ((1, mono (q .n) x) ∷ []) (alone x)))
 
   pub leading-module : Gröbner-basis q (flats (q .n) b) (flat (q .n) f) ↔ Leading-generated q (flats (q .n) b) (flat (q .n) f)
-  leading-module = subst (λ g. Gröbner-basis q (flats (q .n) b) (flat (q .n) f) ↔ Generated g) (sym are-leadings) ((λ gb s led v c. generated gb s led v c), to-basis)
+  leading-module = subst (λ g. Gröbner-basis q (flats (q .n) b) (flat (q .n) f) ↔ Generated g) (sym are-leadings)
+      ((λ gb s led v c. generated gb s led v c), to-basis)

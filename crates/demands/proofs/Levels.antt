@@ -77,8 +77,10 @@ module _ (n : ℕ) where
 
   pub same-mono : (x y : Mono n) → T (same-monomial? (mono x) (mono y)) → x ≡ y
   same-mono x y t =
-      let s : T (same-exponents? (out n (x .0)) (out n (y .0))) = and-right (eqb (suc (x .1)) (suc (y .1))) (same-exponents? (out n (x .0)) (out n (y .0))) t in
-      let c : suc (x .1) ≡ suc (y .1) = eqb→eq (suc (x .1)) (suc (y .1)) (and-left (eqb (suc (x .1)) (suc (y .1))) (same-exponents? (out n (x .0)) (out n (y .0))) t) in
+      let s : T (same-exponents? (out n (x .0)) (out n (y .0))) = and-right (eqb (suc (x .1)) (suc (y .1)))
+      (same-exponents? (out n (x .0)) (out n (y .0))) t in
+      let c : suc (x .1) ≡ suc (y .1) = eqb→eq (suc (x .1)) (suc (y .1))
+      (and-left (eqb (suc (x .1)) (suc (y .1))) (same-exponents? (out n (x .0)) (out n (y .0))) t) in
       mono-injective x y (λ i. (same-is (out n (x .0)) (out n (y .0)) s i, c i))
 
   pub mono-same : (x y : Mono n) → x ≡ y → T (same-monomial? (mono x) (mono y))
@@ -152,7 +154,8 @@ module _ (n code : ℕ) where
   image-vec [] e t = absurd t
   image-vec (u ∷ v) e t = λ i. (product-out n e (u .1 .0) i, suc (u .1 .1))
 
-  pub image-out : (f : TLevel n) (b : List (TLevel n)) (x : Mono n) → Has n (f ∷ b) x → image (flat n f) (mono n x) ≡ mono n (Induced.image (module-over b) (lm n f) x)
+  pub image-out : (f : TLevel n) (b : List (TLevel n)) (x : Mono n) → Has n (f ∷ b) x → image (flat n f) (mono n x)
+      ≡ mono n (Induced.image (module-over b) (lm n f) x)
   image-out f b x t = ap (image-by (out n (x .0))) (flat-at n f (x .1)) ∙ image-vec (getD f (x .1) []) (x .0) t
 
   numbers-after : (a b : ℕ) → Says (a < b) (a ≡ b) (b < a) (numbers (suc a) (suc b))
@@ -165,7 +168,8 @@ module _ (n code : ℕ) where
       (says-tie (λ h k. λ i. (h i, k i)) (exponents-says code n (x .0) (y .0)) (numbers-after (x .1) (y .1)))
   over-says (f ∷ b) g x y hx hy =
       says-tie (ind-eq (module-over b) (lm n f) x y)
-      (images (over-says b (g .1) (im x) (im y) (has-act n b (x .0) (lm n f (x .1)) (g .0 (x .1) hx)) (has-act n b (y .0) (lm n f (y .1)) (g .0 (y .1) hy))))
+      (images (over-says b (g .1) (im x) (im y) (has-act n b (x .0) (lm n f (x .1)) (g .0 (x .1) hx))
+      (has-act n b (y .0) (lm n f (y .1)) (g .0 (y .1) hy))))
       (numbers-after (x .1) (y .1))
     where
       im : Mono n → Mono n

@@ -78,7 +78,8 @@ module _ (Z : Setting) (lim : Limits) (eight : Z .n ≤ 8) (fits : (j : ℕ) →
       count l = let e : length (monos (Z .n) xs) ≡ length xs = monos-length (Z .n) xs in omega (arith, ap length (terms-back Z eight code))
 
   pub level-lifted : (way : Lifting) (N : ℕ) → Gives Lifted-right (lift-level lim (Z .p) (Z .code) (flats (Z .n) (Z .f ∷ Z .b)) way N)
-  level-lifted way N = few-frame (leb (length (frame-terms Z eight code)) (lim .vectors)) (leb→le (length (frame-terms Z eight code)) (lim .vectors)) way N
+  level-lifted way N = few-frame (leb (length (frame-terms Z eight code)) (lim .vectors))
+      (leb→le (length (frame-terms Z eight code)) (lim .vectors)) way N
 
   -- ## The reckoning gives them too
 
@@ -101,7 +102,8 @@ module _ (Z : Setting) (lim : Limits) (eight : Z .n ≤ 8) (fits : (j : ℕ) →
   -- from some bound on the reckoning's level is that of the theory's vectors
   pub level-bound : (N : ℕ) × (reckoned-level lim N (Z .p) (Z .code) (flats (Z .n) (Z .f ∷ Z .b)) ≡ some
       (flat (Z .n) (vectors Z lim (terms Z eight (lim .numbering (Z .code))))))
-  level-bound = subst (λ ms. (N : ℕ) × (each (reckoned-vector N (Z .p) (Z .code) below) ms ≡ some (flat (Z .n) (vectors Z lim xs)))) (terms-back Z eight code)
+  level-bound = subst (λ ms. (N : ℕ) × (each (reckoned-vector N (Z .p) (Z .code) below) ms ≡ some (flat (Z .n) (vectors Z lim xs))))
+      (terms-back Z eight code)
       (r .bound, reached-at (λ N. each (reckoned-vector N (Z .p) (Z .code) below) (monos (Z .n) xs)) r ∙ ap some value)
     where
       xs : List (Mono (Z .n))

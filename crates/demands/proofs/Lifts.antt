@@ -31,7 +31,8 @@ pub data Lifted-to (lim : Limits) (X : State) (k : ℕ) : Result State → Type 
 
 -- ## The levels that stay
 
-pub sound-down : (lim : Limits) (q : Parameters) (g b : Level) (below : List Level) → T (levels-sound? lim q (g ∷ b ∷ below)) → T (levels-sound? lim q (b ∷ below))
+pub sound-down : (lim : Limits) (q : Parameters) (g b : Level) (below : List Level) → T (levels-sound? lim q (g ∷ b ∷ below))
+    → T (levels-sound? lim q (b ∷ below))
 sound-down lim q g b below t = level-says lim q g b below t .under
 
 module _ (lim : Limits) (X : State) (s : T (sound? lim X)) where
@@ -43,7 +44,8 @@ module _ (lim : Limits) (X : State) (s : T (sound? lim X)) where
       go (f ∷ levels) t = omega arith
 
   -- what passes to the levels below passes to levels 0 to k
-  pub stays : (k : ℕ) (Y : List Level → Type 0) → ((g b : Level) (below : List Level) → Y (g ∷ b ∷ below) → Y (b ∷ below)) → Y (X .levels) → Y (up-to X k)
+  pub stays : (k : ℕ) (Y : List Level → Type 0) → ((g b : Level) (below : List Level) → Y (g ∷ b ∷ below) → Y (b ∷ below)) → Y (X .levels)
+      → Y (up-to X k)
   stays k Y down y = drop-keeps Y down (length (X .levels) - suc k) (X .levels) (let l = some-level in omega arith) y
 
   pub levels-stay : (k : ℕ) → T (levels-sound? lim (X .parameters) (up-to X k))
@@ -53,7 +55,8 @@ module _ (lim : Limits) (X : State) (s : T (sound? lim X)) where
   height-up-to k l = let d = length-drop (length (X .levels) - suc k) (X .levels) in omega (arith, d, l)
 
   -- one level more, of so many as the limit allows, is sound again
-  pub with-level : (k : ℕ) → T (between 1 k (lim .levels)) → k - 1 < length (X .levels) → (g : Level) → T (levels-sound? lim (X .parameters) (g ∷ up-to X (k - 1)))
+  pub with-level : (k : ℕ) → T (between 1 k (lim .levels)) → k - 1 < length (X .levels) → (g : Level)
+      → T (levels-sound? lim (X .parameters) (g ∷ up-to X (k - 1)))
       → T (sound? lim (record { parameters = X .parameters; levels = g ∷ up-to X (k - 1) }))
   with-level k r l g t = sound-shown lim (record { parameters = X .parameters; levels = g ∷ up-to X (k - 1) }) (record {
     prime = sound-says lim X s .prime;

@@ -67,7 +67,8 @@ module _ {A : Type 0} where
   pub those-shown : (f : A → Bool) (l : List A) (a : A) → Member a l → T (f a) → Member a (those f l)
   those-shown f (b ∷ l) a m t = go (f b) (λ e. subst (λ z. T (f z)) e t) m (λ i. those-shown f l a i t)
     where
-      go : (s : Bool) → (a ≡ b → T s) → (a ≡ b) ⊎ Member a l → (Member a l → Member a (those f l)) → Member a (elim s [ true ↦ b ∷ those f l | false ↦ those f l ])
+      go : (s : Bool) → (a ≡ b → T s) → (a ≡ b) ⊎ Member a l → (Member a l → Member a (those f l))
+          → Member a (elim s [ true ↦ b ∷ those f l | false ↦ those f l ])
       go true h (inl e) k = inl e
       go true h (inr i) k = inr (k i)
       go false h (inl e) k = absurd (h e)
@@ -110,7 +111,10 @@ divides-degree (x ∷ a) (y ∷ b) l s =
     go (inr h) false e n = inl (let k : sum a ≡ sum b = ap sum h in let m : ¬ (x ≡ y) = λ z. n z in omega (arith, i))
 
 pub monomial-divides : (t u : Monomial) → T (divides-monomial? t u) → (t .1 ≡ u .1) × T (divides? (t .0) (u .0))
-monomial-divides t u s = (eqb→eq (t .1) (u .1) (and-left (eqb (t .1) (u .1)) (divides? (t .0) (u .0)) s), and-right (eqb (t .1) (u .1)) (divides? (t .0) (u .0)) s)
+monomial-divides t u s = (
+  eqb→eq (t .1) (u .1) (and-left (eqb (t .1) (u .1)) (divides? (t .0) (u .0)) s),
+  and-right (eqb (t .1) (u .1)) (divides? (t .0) (u .0)) s,
+)
 
 pub divides-monomial : (t u : Monomial) → t .1 ≡ u .1 → T (divides? (t .0) (u .0)) → T (divides-monomial? t u)
 divides-monomial t u e s = and-both (eqb (t .1) (u .1)) (divides? (t .0) (u .0)) (subst (λ z. T (eqb (t .1) z)) e (eqb-refl (t .1))) s
@@ -132,7 +136,8 @@ module _ (code : ℕ) where
       past (suc k) (x ∷ l) e = past k l (omega arith)
 
   pub eight-says : (a b : Exponents) → length a ≡ 8 → length b ≡ 8 → Says (Under a b) (a ≡ b) (Under b a) (exponents-by code a b)
-  eight-says a b ha hb = turn (subst₂ (λ x y. Says (Under a b) (into 8 a ≡ into 8 b) (Under b a) (exponents-by code x y)) (eight-back a ha) (eight-back b hb)
+  eight-says a b ha hb = turn (subst₂ (λ x y. Says (Under a b) (into 8 a ≡ into 8 b) (Under b a) (exponents-by code x y)) (eight-back a ha)
+      (eight-back b hb)
       (exponents-says code 8 (into 8 a) (into 8 b)))
     where
       turn : {c : Comparison} → Says (Under a b) (into 8 a ≡ into 8 b) (Under b a) c → Says (Under a b) (a ≡ b) (Under b a) c

@@ -23,7 +23,8 @@ use Rattle.definitions.proofs.Tests.{and-left, and-right}
 use Rattle.demands.specs.Notions.{multiples, put-for, coefficient, Equal, Leads}
 use Rattle.demands.proofs.Exponents.{E, out, same-is, product-out}
 use Rattle.demands.proofs.Comparisons.{Says, less, level, more, says-less}
-use Rattle.demands.proofs.Levels.{Mono, TVec, TLevel, mono, same-mono, mono-same, vec, vec-append, flat, flats, flat-at, module-over, Has, Grounded, over-says}
+use Rattle.demands.proofs.Levels.{Mono, TVec, TLevel, mono, same-mono, mono-same, vec, vec-append, flat, flats, flat-at, module-over, Has, Grounded}
+use Rattle.demands.proofs.Levels.{over-says}
 
 -- ## Coefficients
 
@@ -45,7 +46,8 @@ module _ (n p : ℕ) (P : Prime p) where
       go : (s : Bool) → coefficient p m (vec n v) ≡ ev S (chosen m) v
           → elim s [ true ↦ Field.plus p (t .0) (coefficient p m (vec n v)) | false ↦ coefficient p m (vec n v) ]
           ≡ Field.plus p (Field.times p (t .0) (elim s [ true ↦ 1 | false ↦ 0 ])) (ev S (chosen m) v)
-      go true e = ap (λ z. (t .0 + z) % p) e ∙ sym (mod-add-mod (t .0 * 1) p (ev S (chosen m) v) ∙ ap (λ z. (z + ev S (chosen m) v) % p) (times-one (t .0)))
+      go true e = ap (λ z. (t .0 + z) % p) e ∙ sym (mod-add-mod (t .0 * 1) p (ev S (chosen m) v)
+          ∙ ap (λ z. (z + ev S (chosen m) v) % p) (times-one (t .0)))
       go false e = e ∙ sym (ap (λ z. Field.plus p z (ev S (chosen m) v)) (S .mul-zero (t .0)) ∙ Vec.ev-red S (chosen m) v)
 
   -- equal vectors have equal coefficients
@@ -64,8 +66,10 @@ module _ (n p : ℕ) (P : Prime p) where
     where
       same-both : T (same-monomial? (mono n (t .1)) m) → m ≡ mono n (t .1)
       same-both s =
-          let e : suc (t .1 .1) ≡ m .1 = eqb→eq (suc (t .1 .1)) (m .1) (and-left (eqb (suc (t .1 .1)) (m .1)) (same-exponents? (out n (t .1 .0)) (m .0)) s) in
-          let d : out n (t .1 .0) ≡ m .0 = same-is (out n (t .1 .0)) (m .0) (and-right (eqb (suc (t .1 .1)) (m .1)) (same-exponents? (out n (t .1 .0)) (m .0)) s) in
+          let e : suc (t .1 .1) ≡ m .1 = eqb→eq (suc (t .1 .1)) (m .1)
+          (and-left (eqb (suc (t .1 .1)) (m .1)) (same-exponents? (out n (t .1 .0)) (m .0)) s) in
+          let d : out n (t .1 .0) ≡ m .0 = same-is (out n (t .1 .0)) (m .0)
+          (and-right (eqb (suc (t .1 .1)) (m .1)) (same-exponents? (out n (t .1 .0)) (m .0)) s) in
           sym (λ i. (d i, e i))
 
       go : (s : Bool) → (T s → T (same-monomial? (mono n (t .1)) m))
@@ -76,7 +80,8 @@ module _ (n p : ℕ) (P : Prime p) where
 
   -- ## Combinations
 
-  multiples-is : (c : ℕ) (q : E n) (f : TVec n) → multiples p c (out n q) (vec n f) ≡ vec n (scale S c (mapB S (λ (x : Mono n). (ExpM n .mulE q (x .0), x .1)) f))
+  multiples-is : (c : ℕ) (q : E n) (f : TVec n) → multiples p c (out n q) (vec n f)
+      ≡ vec n (scale S c (mapB S (λ (x : Mono n). (ExpM n .mulE q (x .0), x .1)) f))
   multiples-is c q [] = refl
   multiples-is c q (t ∷ f) = ap₂ (λ x y. (Field.times p c (t .0), (x, suc (t .1 .1))) ∷ y) (product-out n q (t .1 .0)) (multiples-is c q f)
 
@@ -88,7 +93,8 @@ module _ (n p : ℕ) (P : Prime p) where
     pub put-for-is : (f : TLevel n) (c : TVec n) → put-for p (flat n f) (vec n c) ≡ vec n (ψ S (module-over n code b) (λ j. getD f j []) c)
     put-for-is f [] = refl
     put-for-is f (t ∷ c) =
-        ap₂ (λ x y. x ++ y) (ap (multiples p (t .0) (out n (t .1 .0))) (flat-at n f (t .1 .1)) ∙ multiples-is (t .0) (t .1 .0) (getD f (t .1 .1) [])) (put-for-is f c)
+        ap₂ (λ x y. x ++ y) (ap (multiples p (t .0) (out n (t .1 .0))) (flat-at n f (t .1 .1)) ∙ multiples-is (t .0) (t .1 .0) (getD f (t .1 .1) []))
+        (put-for-is f c)
         ∙ sym (vec-append n (scale S (t .0) (times S L (λ j. getD f j []) (t .1))) (ψ S L (λ j. getD f j []) c))
 
     -- ## Equal coefficients make equal vectors
@@ -124,7 +130,8 @@ module _ (n p : ℕ) (P : Prime p) where
               go (level u) e = inr (s .is ∙ ap (mono n) u)
               go (more u) e = absurd (h (ap (λ z. coefficient p z (vec n v)) (s .is) ∙ coefficient-δ (s .x) v ∙ lead-over S L l (s .x) u))
 
-      pub leads-lead : (m : Monomial) → Leads (compare-over code (flats n b)) p m (vec n v) → (x : Mono n) × (m ≡ mono n x) × Lead S (module-over n code b) v x
+      pub leads-lead : (m : Monomial) → Leads (compare-over code (flats n b)) p m (vec n v) → (x : Mono n) × (m ≡ mono n x)
+          × Lead S (module-over n code b) v x
       leads-lead m h = go (leading S L (Has n b) v hv)
         where
           z : Stands-in v m
@@ -145,6 +152,7 @@ module _ (n p : ℕ) (P : Prime p) where
                   (says-less (over-says n code b G (l .mono) (z .x) (l .ok) (z .all (Has n b) hv))
                   (ap (compare-over code (flats n b) (mono n (l .mono))) (sym (z .is)) ∙ e)))
 
-              at : (compare-over code (flats n b) (mono n (l .mono)) m ≡ smaller) ⊎ (mono n (l .mono) ≡ m) → (x : Mono n) × (m ≡ mono n x) × Lead S L v x
+              at : (compare-over code (flats n b) (mono n (l .mono)) m ≡ smaller) ⊎ (mono n (l .mono) ≡ m) → (x : Mono n) × (m ≡ mono n x)
+                  × Lead S L v x
               at (inl e) = absurd (under e)
               at (inr e) = (l .mono, sym e, k)

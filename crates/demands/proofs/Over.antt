@@ -68,12 +68,14 @@ module _ (lim : Limits) (o : T (sensible? lim)) where
 
   -- the parameters of a sound state
   pub sound-prime : (X : State) → T (sound? lim X) → Prime (X .parameters .p)
-  sound-prime X h = prime-says (X .parameters .p) (and-right (leb (X .parameters .p) (lim .prime-bound)) (prime? (X .parameters .p)) (sound-says lim X h .prime))
+  sound-prime X h = prime-says (X .parameters .p) (and-right (leb (X .parameters .p) (lim .prime-bound)) (prime? (X .parameters .p))
+      (sound-says lim X h .prime))
 
   pub sound-eight : (X : State) → T (sound? lim X) → X .parameters .n ≤ 8
   sound-eight X h =
       let q = X .parameters in
-      let t = and-left (between 1 (q .n) (lim .variables)) (between 1 (q .code) 3 and between 1 (q .s) (lim .components)) (sound-says lim X h .ranges) in
+      let t = and-left (between 1 (q .n) (lim .variables)) (between 1 (q .code) 3 and between 1 (q .s) (lim .components))
+      (sound-says lim X h .ranges) in
       let l : q .n ≤ lim .variables = between-high 1 (q .n) (lim .variables) t in
       omega (arith, few-variables)
 
@@ -89,13 +91,15 @@ pub record Lift-right (lim : Limits) (q : Parameters) (below : List Monomial.Lev
 -- what holds over levels
 pub record Over (lim : Limits) (q : Parameters) (below : List Monomial.Level) : Type 0 where
   pub lifts : (way : Lifting) (N : ℕ) → Gives (Lift-right lim q below) (lift-level lim (q .p) (q .code) below way N)
-  pub picks : (W : Strategy) (Ws : List Strategy) (m : Monomial) → Member m (frame (lim .numbering (q .code)) (leading-monomials (highest below))) → All-pick Ws
+  pub picks : (W : Strategy) (Ws : List Strategy) (m : Monomial) → Member m (frame (lim .numbering (q .code)) (leading-monomials (highest below)))
+      → All-pick Ws
       → Gives (λ v. (bound : ℕ) × (reckoned-vector bound (q .p) (q .code) below m ≡ some v)) (run-by (stage-over lim (q .p) (q .code) below) W Ws m)
   pub eights : Eight-each (highest below)
   pub generates : Gröbner-basis q (rest below) (highest below) ↔ Leading-generated q (rest below) (highest below)
 
 module _ (lim : Limits) (q : Parameters) (P : Prime (q .p)) (eight : q .n ≤ 8) where
-  module _ (f : TLevel (q .n)) (b : List (TLevel (q .n))) (d : Deep (q .n) (q .p) P (q .code) (f ∷ b)) (count : ℕ) (w : All-sound lim (q .n) (q .p) P count f) where
+  module _ (f : TLevel (q .n)) (b : List (TLevel (q .n))) (d : Deep (q .n) (q .p) P (q .code) (f ∷ b)) (count : ℕ)
+      (w : All-sound lim (q .n) (q .p) P count f) where
     abbrev Z : Setting
     Z = here q P eight f b d
 
@@ -108,7 +112,8 @@ module _ (lim : Limits) (q : Parameters) (P : Prime (q .p)) (eight : q .n ≤ 8)
     leading-eight : Eight-each (flat (q .n) f)
     leading-eight j l =
         let i : j < length f = subst (λ z. j < z) (flat-length (q .n) f) l in
-        ap (λ (m : Monomial). length (m .0)) (ap leading (flat-at (q .n) f j) ∙ leading-vec (q .n) (getD f j []) (d .0 j i .has-one)) ∙ out-length (q .n) eight
+        ap (λ (m : Monomial). length (m .0)) (ap leading (flat-at (q .n) f j) ∙ leading-vec (q .n) (getD f j []) (d .0 j i .has-one))
+        ∙ out-length (q .n) eight
         (lm (q .n) f j .0)
 
     all-free : (Ws : List Strategy) → All-pick Ws → All-in Z lim (Free Z lim) ⊥ (never Z lim) Ws
@@ -143,7 +148,8 @@ module _ (lim : Limits) (q : Parameters) (P : Prime (q .p)) (eight : q .n ≤ 8)
         bound = level-bound Z lim eight fits .0;
         reckons = level-bound Z lim eight fits .1 ∙ ap some (sym (h .0));
         sound = h .1;
-        exact = λ gb. subst (Level-right q code (flats (q .n) (f ∷ b))) (sym (h .0)) (Exact.level-right lim q P eight f b d code (gröbner-in q P eight f b d gb));
+        exact = λ gb. subst (Level-right q code (flats (q .n) (f ∷ b))) (sym (h .0))
+            (Exact.level-right lim q P eight f b d code (gröbner-in q P eight f b d gb));
       }) (lift-kept lim q P eight f b d s fits under way N)
 
       over-theory : Over lim q (flats (q .n) (f ∷ b))

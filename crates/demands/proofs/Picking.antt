@@ -40,7 +40,8 @@ picked-picks W h = record { inside = λ v i e. inside (h v) i e; to-zero = λ v 
     zero-of (place {i = j} l) e = absurd (Option·none-ne-some j (sym e))
     zero-of (no-place z) e = z
 
-greatest-inside : (order : Monomial → Monomial → Comparison) (i : ℕ) (best : Best) (v : Vector) → best .0 < i → greatest-from order i best v < i + length v
+greatest-inside : (order : Monomial → Monomial → Comparison) (i : ℕ) (best : Best) (v : Vector) → best .0 < i
+    → greatest-from order i best v < i + length v
 greatest-inside order i best [] l = omega arith
 greatest-inside order i best (t ∷ v) l =
     let h : greatest-from order (suc i) next v < suc i + length v = greatest-inside order (suc i) next v (fits (order (t .1) (best .1))) in omega arith
@@ -62,8 +63,10 @@ code-picked order code [] = go (eqb code 1) (eqb code 2)
     go false false = no-place refl
 code-picked order code (t ∷ v) = go (eqb code 1) (eqb code 2)
   where
-    go : (s u : Bool) → Picked (t ∷ v) (elim s [ true ↦ some (greatest-from order 1 (0, t .1) v) | false ↦ elim u [ true ↦ some (length v) | false ↦ some 0 ] ])
-    go true u = place {i = greatest-from order 1 (0, t .1) v} (let h : greatest-from order 1 (0, t .1) v < 1 + length v = greatest-inside order 1 (0, t .1) v
+    go : (s u : Bool) → Picked (t ∷ v)
+        (elim s [ true ↦ some (greatest-from order 1 (0, t .1) v) | false ↦ elim u [ true ↦ some (length v) | false ↦ some 0 ] ])
+    go true u = place {i = greatest-from order 1 (0, t .1) v} (let h : greatest-from order 1 (0, t .1) v < 1 + length v =
+        greatest-inside order 1 (0, t .1) v
         (omega arith) in omega arith)
     go false true = place {i = length v} (omega arith)
     go false false = place {i = 0} (omega arith)
@@ -102,10 +105,12 @@ module _ (Z : Setting) (lim : Limits) where
 
   top-from : (w : Vector) (i b c : ℕ) (y : Mono (Z .n)) → getD w b no-term ≡ term (Z .n) (c, y) → Has (Z .n) (Z .b) y → (g : TVec (Z .n))
       → All (S Z) (Has (Z .n) (Z .b)) g
-      → ((k : ℕ) → k < length g → getD w (i + k) no-term ≡ term (Z .n) (getD g k (0, y))) → Top-at w (greatest-from order i (b, mono (Z .n) y) (vec (Z .n) g)) y g
+      → ((k : ℕ) → k < length g → getD w (i + k) no-term ≡ term (Z .n) (getD g k (0, y)))
+      → Top-at w (greatest-from order i (b, mono (Z .n) y) (vec (Z .n) g)) y g
   top-from w i b c y e hy [] hs at = record { c = c; x = y; is = e; over = inr refl; top = tt }
   top-from w i b c y e hy (t ∷ g) hs at = go (over-says (Z .n) (Z .code) (Z .b) (Z .grounded .1) (t .1) y (hs .0) hy)
-      (top-from w (suc i) b c y e hy g (hs .1) (λ k l. later k l y)) (top-from w (suc i) i (t .0) (t .1) here (hs .0) g (hs .1) (λ k l. later k l (t .1)))
+      (top-from w (suc i) b c y e hy g (hs .1) (λ k l. later k l y)) (top-from w (suc i) i (t .0) (t .1) here (hs .0) g (hs .1)
+      (λ k l. later k l (t .1)))
     where
       here : getD w i no-term ≡ term (Z .n) t
       here = let z : i ≡ i + 0 = omega arith in ap (λ k. getD w k no-term) z ∙ at 0 (omega arith)
@@ -117,7 +122,8 @@ module _ (Z : Setting) (lim : Limits) where
 
       later : (k : ℕ) → k < length g → (z : Mono (Z .n)) → getD w (suc i + k) no-term ≡ term (Z .n) (getD g k (0, z))
       later k l z =
-          let q : suc i + k ≡ i + suc k = omega arith in ap (λ j. getD w j no-term) q ∙ at (suc k) (omega arith) ∙ ap (term (Z .n)) (default g k l (0, y) (0, z))
+          let q : suc i + k ≡ i + suc k = omega arith in ap (λ j. getD w j no-term) q ∙ at (suc k) (omega arith)
+          ∙ ap (term (Z .n)) (default g k l (0, y) (0, z))
 
       go : {o : Comparison} → Says (L Z .Lt (t .1) y) (t .1 ≡ y) (L Z .Lt y (t .1)) o
           → Top-at w (greatest-from order (suc i) (b, mono (Z .n) y) (vec (Z .n) g)) y g

@@ -22,7 +22,8 @@ use Rattle.definitions.specs.Vectors.{descending}
 use Rattle.definitions.specs.Run.{multiple}
 use Rattle.definitions.specs.Stage.{highest}
 use Rattle.definitions.specs.Reckoning.{scaled, liftings, lifted-by, lifted-to, reckoned-vector}
-use Rattle.demands.proofs.Results.{Holds, holds, nothing, holds-then, holds-at, Upto, unknown, known, upto-then, Reached, reached-at, reached-some, reached-then, reached-deeper}
+use Rattle.demands.proofs.Results.{Holds, holds, nothing, holds-then, holds-at, Upto, unknown, known, upto-then, Reached, reached-at, reached-some}
+use Rattle.demands.proofs.Results.{reached-then, reached-deeper}
 use Rattle.demands.proofs.Exponents.{E, out, product-out}
 use Rattle.demands.proofs.Levels.{Mono, TVec, mono, term, vec, vec-append, flat, flats, flat-at, cons?, lm, module-over, Has}
 use Rattle.demands.proofs.Coefficients.{Good, good-mul, good-one, good-turned, minus-one}
@@ -44,9 +45,11 @@ lifted-by-more (reducer j c q) p f h k l = upto-then (liftings-more p h k l (Fie
 
 lifted-more : (N p : ℕ) (f : Monomial.Level) (m : Monomial) → Upto (lifted-to N p f m) (lifted-to (suc N) p f m)
 lifted-more zero p f m = unknown
-lifted-more (suc N) p f m = lifted-by-more (answer p (heads p f) (1, m)) p f (λ m′. lifted-to N p f m′) (λ m′. lifted-to (suc N) p f m′) (lifted-more N p f)
+lifted-more (suc N) p f m = lifted-by-more (answer p (heads p f) (1, m)) p f (λ m′. lifted-to N p f m′) (λ m′. lifted-to (suc N) p f m′)
+    (lifted-more N p f)
 
-pub vector-more : (N p code : ℕ) (below : List Monomial.Level) (m : Monomial) → Upto (reckoned-vector N p code below m) (reckoned-vector (suc N) p code below m)
+pub vector-more : (N p code : ℕ) (below : List Monomial.Level) (m : Monomial)
+    → Upto (reckoned-vector N p code below m) (reckoned-vector (suc N) p code below m)
 vector-more N p code below m =
     upto-then (liftings-more p (lifted-to N p (highest below)) (lifted-to (suc N) p (highest below)) (lifted-more N p (highest below)) 1 (m .0)
     (vector-of (highest below) (m .1))) (λ v. known)
@@ -93,7 +96,8 @@ module _ (Z : Setting) where
       → Holds (Spelled (lin (S Z) (up Z) (scale (S Z) c (mapB (S Z) (L Z .act q) g)))) (liftings (Z .p) h c (out (Z .n) q) (vec (Z .n) g))
   liftings-spelled h k c gc q [] gs = holds spelled-none
   liftings-spelled h k c gc q (t ∷ g) gs =
-      holds-then (subst (λ z. Holds (Spelled (up Z (L Z .act q (t .1)))) (h (z, suc (t .1 .1)))) (sym (product-out (Z .n) q (t .1 .0))) (k (L Z .act q (t .1)))) (λ v a.
+      holds-then (subst (λ z. Holds (Spelled (up Z (L Z .act q (t .1)))) (h (z, suc (t .1 .1)))) (sym (product-out (Z .n) q (t .1 .0)))
+      (k (L Z .act q (t .1)))) (λ v a.
       holds-then (liftings-spelled h k c gc q g (gs .1)) (λ w b.
       holds (spelled-both (Field.times (Z .p) c (t .0)) (good-mul (Z .p) (Z .P) c (t .0) gc (gs .0)) a b)))
 
@@ -108,7 +112,8 @@ module _ (Z : Setting) where
 
   module _ {x : Mono (Z .n)} (r : Reducer (S Z) (L Z) (F Z) x) where
     pub others-is : rest (vector-of (flat (Z .n) (Z .f)) (suc (r .at .1))) ≡ vec (Z .n) (F Z .lead (r .at .1) (r .dom) .rest)
-    others-is = ap rest (flat-at (Z .n) (Z .f) (r .at .1)) ∙ tail-is (getD (Z .f) (r .at .1) []) (Z .canons (r .at .1) (r .dom)) (Z .somes (r .at .1) (r .dom))
+    others-is = ap rest (flat-at (Z .n) (Z .f) (r .at .1)) ∙ tail-is (getD (Z .f) (r .at .1) []) (Z .canons (r .at .1) (r .dom))
+        (Z .somes (r .at .1) (r .dom))
 
     pub others-good : Goods (Z .n) (Z .p) (Z .P) (F Z .lead (r .at .1) (r .dom) .rest)
     others-good = tail-good (getD (Z .f) (r .at .1) []) (Z .canons (r .at .1) (r .dom)) (Z .somes (r .at .1) (r .dom))
@@ -123,14 +128,17 @@ module _ (Z : Setting) where
   lifted-by-spelled : (h : Monomial → Option Vector) → ((x : Mono (Z .n)) → Holds (Spelled (up Z x)) (h (mono (Z .n) x))) → (x : Mono (Z .n))
       → Holds (Spelled (up Z x)) (lifted-by (answer-to Z x) (Z .p) (flat (Z .n) (Z .f)) h)
   lifted-by-spelled h k x =
-      subst (λ z. Holds (Spelled z) (lifted-by (answer-to Z x) (Z .p) (flat (Z .n) (Z .f)) h)) (sym (lift-eq (S Z) (L Z) (F Z) (red Z) x)) (go (answered Z x))
+      subst (λ z. Holds (Spelled z) (lifted-by (answer-to Z x) (Z .p) (flat (Z .n) (Z .f)) h)) (sym (lift-eq (S Z) (L Z) (F Z) (red Z) x))
+      (go (answered Z x))
     where
-      go : {a : Answer} (s : Answered Z x a) → Holds (Spelled (lift-as (S Z) (L Z) (F Z) (red Z) x (red-by Z x s))) (lifted-by a (Z .p) (flat (Z .n) (Z .f)) h)
+      go : {a : Answer} (s : Answered Z x a) → Holds (Spelled (lift-as (S Z) (L Z) (F Z) (red Z) x (red-by Z x s)))
+          (lifted-by a (Z .p) (flat (Z .n) (Z .f)) h)
       go (miss o) = holds spelled-none
       go (hit r) =
           subst₂ (λ m g. Holds (Spelled (lift-as (S Z) (L Z) (F Z) (red Z) x (inl r)))
           (liftings (Z .p) h m (out (Z .n) (r .at .0)) g then λ v. some ((m, mono (Z .n) (r .at)) ∷ v))) (sym (turned-is r)) (sym (others-is r))
-          (holds-then (liftings-spelled h k (turned (S Z) (L Z) (F Z) r) (turned-good r) (r .at .0) (F Z .lead (r .at .1) (r .dom) .rest) (others-good r))
+          (holds-then (liftings-spelled h k (turned (S Z) (L Z) (F Z) r) (turned-good r) (r .at .0) (F Z .lead (r .at .1) (r .dom) .rest)
+          (others-good r))
           (λ v a. holds (record {
             form = (turned (S Z) (L Z) (F Z) r, r .at) ∷ a .form;
             is = ap (λ z. (turned (S Z) (L Z) (F Z) r, mono (Z .n) (r .at)) ∷ z) (a .is);
@@ -168,7 +176,8 @@ module _ (Z : Setting) where
     vector-is N =
         subst (λ g. Holds (λ w. w ≡ vec (Z .n) (vector x)) (liftings (Z .p) (lifted-to N (Z .p) (flat (Z .n) (Z .f))) 1 (out (Z .n) (x .0)) g then λ v.
         some (descending (compare-over (Z .code) (flats (Z .n) (Z .f ∷ Z .b))) (Z .p) ((1, mono (Z .n) x) ∷ v)))) (sym (flat-at (Z .n) (Z .f) (x .1)))
-        (holds-then (liftings-spelled (lifted-to N (Z .p) (flat (Z .n) (Z .f))) (lifted-spelled N) 1 (good-one (Z .p) (Z .P)) (x .0) family-vector family-good)
+        (holds-then (liftings-spelled (lifted-to N (Z .p) (flat (Z .n) (Z .f))) (lifted-spelled N) 1 (good-one (Z .p) (Z .P))
+        (x .0) family-vector family-good)
         (λ w a. holds (vector-from x l w a)))
 
   -- ## Some bound is enough
@@ -186,16 +195,19 @@ module _ (Z : Setting) where
       reached-then (λ N. to N (product (out (Z .n) q) (out (Z .n) (t .1 .0)), suc (t .1 .1)))
       (λ N v. liftings (Z .p) (to N) c (out (Z .n) q) (vec (Z .n) g) then λ w. some (scaled (Z .p) (Field.times (Z .p) c (t .0)) v ++ w))
       (subst (λ z. Reached (λ N. to N (z, suc (t .1 .1)))) (sym (product-out (Z .n) q (t .1 .0))) (es .0))
-      (λ v. reached-then (λ N. liftings (Z .p) (to N) c (out (Z .n) q) (vec (Z .n) g)) (λ N w. some (scaled (Z .p) (Field.times (Z .p) c (t .0)) v ++ w))
+      (λ v. reached-then (λ N. liftings (Z .p) (to N) c (out (Z .n) q) (vec (Z .n) g))
+      (λ N w. some (scaled (Z .p) (Field.times (Z .p) c (t .0)) v ++ w))
       (liftings-reached c q g (es .1)) (λ w. reached-some (scaled (Z .p) (Field.times (Z .p) c (t .0)) v ++ w)))
 
   lifted-step : (x : Mono (Z .n)) → ((y : Mono (Z .n)) → L Z .Lt y x → Liftable y) → Liftable x
   lifted-step x rec = reached-deeper (λ N. to N (mono (Z .n) x)) (go (answered Z x))
     where
-      others : (r : Reducer (S Z) (L Z) (F Z) x) → All (S Z) (λ (y : Mono (Z .n)). Liftable (L Z .act (r .at .0) y)) (F Z .lead (r .at .1) (r .dom) .rest)
+      others : (r : Reducer (S Z) (L Z) (F Z) x) → All (S Z) (λ (y : Mono (Z .n)). Liftable (L Z .act (r .at .0) y))
+          (F Z .lead (r .at .1) (r .dom) .rest)
       others r =
           Vec.all-map (S Z) (λ y. L Z .Lt y (lm (Z .n) (Z .f) (r .at .1))) (λ y. Liftable (L Z .act (r .at .0) y))
-          (λ y l. rec (L Z .act (r .at .0) y) (subst (λ z. L Z .Lt (L Z .act (r .at .0) y) z) (r .hits) (L Z .compat (r .at .0) y (lm (Z .n) (Z .f) (r .at .1)) l)))
+          (λ y l. rec (L Z .act (r .at .0) y) (subst (λ z. L Z .Lt (L Z .act (r .at .0) y) z) (r .hits)
+          (L Z .compat (r .at .0) y (lm (Z .n) (Z .f) (r .at .1)) l)))
           (F Z .lead (r .at .1) (r .dom) .rest) (F Z .lead (r .at .1) (r .dom) .smaller)
 
       go : {a : Answer} → Answered Z x a → Reached (λ N. lifted-by a (Z .p) (flat (Z .n) (Z .f)) (λ m. to N m))
@@ -218,7 +230,8 @@ module _ (Z : Setting) where
       reached-then (λ N. liftings (Z .p) (to N) 1 (out (Z .n) (x .0)) (vector-of (flat (Z .n) (Z .f)) (suc (x .1))))
       (λ N v. some (descending (compare-over (Z .code) (flats (Z .n) (Z .f ∷ Z .b))) (Z .p) ((1, mono (Z .n) x) ∷ v)))
       (subst (λ g. Reached (λ N. liftings (Z .p) (to N) 1 (out (Z .n) (x .0)) g)) (sym (flat-at (Z .n) (Z .f) (x .1)))
-      (liftings-reached 1 (x .0) (getD (Z .f) (x .1) []) (Vec.all-all (S Z) (λ y. Liftable (L Z .act (x .0) y)) (λ y. lifted-reached (L Z .act (x .0) y))
+      (liftings-reached 1 (x .0) (getD (Z .f) (x .1) []) (Vec.all-all (S Z) (λ y. Liftable (L Z .act (x .0) y))
+      (λ y. lifted-reached (L Z .act (x .0) y))
       (getD (Z .f) (x .1) []))))
       (λ v. reached-some (descending (compare-over (Z .code) (flats (Z .n) (Z .f ∷ Z .b))) (Z .p) ((1, mono (Z .n) x) ∷ v)))
 

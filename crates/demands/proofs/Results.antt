@@ -22,7 +22,8 @@ pub data Refusal (X : Vector → Type 0) : ℕ → Vector → Type 0 where
   limit : {number : ℕ} → T (between 13 number 15) → Refusal X number []
   nine : {value : Vector} → X value → Refusal X 9 value
 
-pub refusal-map : {X Y : Vector → Type 0} → ((value : Vector) → X value → Y value) → (number : ℕ) (value : Vector) → Refusal X number value → Refusal Y number value
+pub refusal-map : {X Y : Vector → Type 0} → ((value : Vector) → X value → Y value) → (number : ℕ) (value : Vector) → Refusal X number value
+    → Refusal Y number value
 refusal-map h number value (limit t) = limit t
 refusal-map h number value (nine x) = nine (h value x)
 
@@ -53,11 +54,13 @@ ends-turn h k open-yet = open-yet
 pub ends-done : {A : Type 0} {P : A → Type 0} {R : ℕ → Vector → Type 0} {a : A} → Ends P R (done a) → P a
 ends-done (gives p) = p
 
-pub ends-refused : {A : Type 0} {P : A → Type 0} {R : ℕ → Vector → Type 0} {number place : ℕ} {value : Vector} → Ends P R (refused number place value) → R number value
+pub ends-refused : {A : Type 0} {P : A → Type 0} {R : ℕ → Vector → Type 0} {number place : ℕ} {value : Vector} → Ends P R (refused number place value)
+    → R number value
 ends-refused (refuses r) = r
 
 -- two claims of one result
-pub ends-both : {A : Type 0} {P Q X : A → Type 0} {R U : ℕ → Vector → Type 0} {x : Result A} → ((a : A) → P a → Q a → X a) → Ends P R x → Ends Q U x → Ends X R x
+pub ends-both : {A : Type 0} {P Q X : A → Type 0} {R U : ℕ → Vector → Type 0} {x : Result A} → ((a : A) → P a → Q a → X a) → Ends P R x → Ends Q U x
+    → Ends X R x
 ends-both h (gives {a} p) k = gives (h a p (ends-done k))
 ends-both h (refuses r) k = refuses r
 ends-both h open-yet k = open-yet

@@ -132,7 +132,8 @@ module _ (Z : Setting) (lim : Limits) where
     started R at-13 at-14 W x l h =
         subst (λ z. Ends (Started W x) R (add-products (K .reduction) (W .drops) 1 (out (Z .n) (x .0)) z [] >>= λ v.
         done (record { value = v; vector = (1, mono (Z .n) x) ∷ [] }))) (sym (flat-at (Z .n) (Z .f) (x .1)))
-        (ends-then (products-added (Z .n) (Z .p) (Z .P) lim (hs Z) (W .drops) (Lower (S Z) (L Z) (F Z)) (InValue Z lim) R at-13 at-14 (is-lower Z) (Has (Z .n) (Z .b)) 1
+        (ends-then (products-added (Z .n) (Z .p) (Z .P) lim (hs Z) (W .drops) (Lower (S Z) (L Z) (F Z)) (InValue Z lim) R at-13 at-14 (is-lower Z)
+        (Has (Z .n) (Z .b)) 1
         (good-one (Z .p) (Z .P)) (x .0) (λ y h k. (has-act (Z .n) (Z .b) (x .0) y h, k)) (getD (Z .f) (x .1) []) []
         (canonical-good (Z .n) (Z .p) (Z .P) (Z .code) (Z .b) (getD (Z .f) (x .1) []) (Z .canons (x .1) l)) (Z .inside (x .1) l) tt tt tt)
         (λ w k. gives (record {
@@ -142,12 +143,18 @@ module _ (Z : Setting) (lim : Limits) where
             vector = record { good = (good-one (Z .p) (Z .P), tt); ok = ((Z .somes (x .1) l, h), tt); apart = (tt, tt) };
             value = record { good = k .good; ok = k .ok; apart = k .apart };
           };
-          drops = record { low = k .low; lower = k .lows; split = Vec.same-trans (S Z) (k .split) (Vec.scale-one (S Z) (times (S Z) (L Z) (F Z .f) x)) };
+          drops = record {
+            low = k .low;
+            lower = k .lows;
+            split = Vec.same-trans (S Z) (k .split)
+                (Vec.scale-one (S Z) (times (S Z) (L Z) (F Z .f) x));
+          };
           whole = k .whole;
         })))
 
     -- the run of a frame term
-    pub run-ends : (W : Strategy) → (exact → W .drops ≡ false) → (Ws : List Strategy) → All-in Ws → (x : Mono (Z .n)) → x .1 < length (Z .f) → Fits Z lim x
+    pub run-ends : (W : Strategy) → (exact → W .drops ≡ false) → (Ws : List Strategy) → All-in Ws → (x : Mono (Z .n)) → x .1 < length (Z .f)
+        → Fits Z lim x
         → Ends (Finished ((1, x) ∷ []) (times (S Z) (L Z) (F Z .f) x)) (Refusal (Halted ((1, x) ∷ []) (times (S Z) (L Z) (F Z .f) x)))
         (run-by K W Ws (mono (Z .n) x))
     run-ends W d Ws k x l h =

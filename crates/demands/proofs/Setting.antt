@@ -35,7 +35,8 @@ pub data Quotient (n : ℕ) (l x : Mono n) : Bool → Type 0 where
 -- a monomial that divides
 pub divided-by : (n : ℕ) (l x : Mono n) → T (divides-monomial? (mono n l) (mono n x)) → (ExpM n .mulE (over n (x .0) (l .0)) (l .0), l .1) ≡ x
 divided-by n l x t =
-    let c : suc (l .1) ≡ suc (x .1) = eqb→eq (suc (l .1)) (suc (x .1)) (and-left (eqb (suc (l .1)) (suc (x .1))) (divides? (out n (l .0)) (out n (x .0))) t) in
+    let c : suc (l .1) ≡ suc (x .1) = eqb→eq (suc (l .1)) (suc (x .1))
+    (and-left (eqb (suc (l .1)) (suc (x .1))) (divides? (out n (l .0)) (out n (x .0))) t) in
     let e : l .1 ≡ x .1 = omega arith in
     λ i. (divides-out n (l .0) (x .0) (and-right (eqb (suc (l .1)) (suc (x .1))) (divides? (out n (l .0)) (out n (x .0))) t) i, e i)
 
@@ -48,7 +49,8 @@ divides-multiple n l x q e =
 pub divides-says : (n : ℕ) (l x : Mono n) → Quotient n l x (divides-monomial? (mono n l) (mono n x))
 divides-says n l x = go (divides-monomial? (mono n l) (mono n x)) (divided-by n l x) (divides-multiple n l x)
   where
-    go : (s : Bool) → (T s → (ExpM n .mulE (over n (x .0) (l .0)) (l .0), l .1) ≡ x) → ((q : E n) → (ExpM n .mulE q (l .0), l .1) ≡ x → T s) → Quotient n l x s
+    go : (s : Bool) → (T s → (ExpM n .mulE (over n (x .0) (l .0)) (l .0), l .1) ≡ x) → ((q : E n) → (ExpM n .mulE q (l .0), l .1) ≡ x → T s)
+        → Quotient n l x s
     go true h k = divides (over n (x .0) (l .0)) (quotient-out n (x .0) (l .0)) (h tt)
     go false h k = parts (λ q e. k q e)
 
@@ -93,14 +95,19 @@ module _ (n p : ℕ) where
       place (q, suc i) e = inr (i, refl, e)
 
       go : (s : Bool) → Quotient n (head n v) x s → {a : Answer} → Searched f x c (suc k) a
-          → Searched (v ∷ f) x c k (elim s [ true ↦ reducer (suc k) (times p c (inverse p (head-coef v))) (quotient (out n (x .0)) (out n (head n v .0))) | false ↦ a ])
+          → Searched (v ∷ f) x c k (elim s [
+            | true ↦ reducer (suc k) (times p c (inverse p (head-coef v)))
+                (quotient (out n (x .0)) (out n (head n v .0)))
+            | false ↦ a
+          ])
       go true (divides q i e) s = let j : suc k ≡ suc (k + 0) = omega arith in search-hit (q, 0) (omega arith) e (λ z l h. omega arith) j refl i
       go false (parts m) (search-hit y l e low {j = i} j d q) =
           let j′ : i ≡ suc (k + suc (y .1)) = omega arith in
           search-hit (y .0, suc (y .1)) (omega arith) e (λ z i h. later z i (place z h)) j′ d q
         where
           later : (z : Mono n) → z .1 < suc (length f)
-              → (((ExpM n .mulE (z .0) (head n v .0), head n v .1) ≡ x) × (z .1 ≡ 0)) ⊎ ((i : ℕ) × (z .1 ≡ suc i) × Hits f x (z .0, i)) → suc (y .1) ≤ z .1
+              → (((ExpM n .mulE (z .0) (head n v .0), head n v .1) ≡ x) × (z .1 ≡ 0)) ⊎ ((i : ℕ) × (z .1 ≡ suc i) × Hits f x (z .0, i))
+              → suc (y .1) ≤ z .1
           later z i (inl w) = absurd (m (z .0) (w .0))
           later z i (inr (j, w, u)) = let g : y .1 ≤ j = low (z .0, j) (omega arith) u in omega arith
       go false (parts m) (search-miss o) = search-miss (λ z i h. never z i (place z h))
@@ -173,7 +180,8 @@ module _ (Z : Setting) where
   -- ## The reducer of a monomial is what the definitions answer
 
   pub data Answered (x : Mono (Z .n)) : Answer → Type 0 where
-    hit : (r : Reducer S L F x) → Answered x (reducer (suc (r .at .1)) (times (Z .p) 1 (inverse (Z .p) (F .lead (r .at .1) (r .dom) .coef))) (out (Z .n) (r .at .0)))
+    hit : (r : Reducer S L F x) → Answered x (reducer (suc (r .at .1)) (times (Z .p) 1 (inverse (Z .p) (F .lead (r .at .1) (r .dom) .coef)))
+        (out (Z .n) (r .at .0)))
     miss : Lower S L F x → Answered x lower-order
 
   lead-coef : (v : TVec (Z .n)) (k : Canonical S L v) (t : T (cons? (Z .n) v)) → head-coef (Z .n) (Z .p) v ≡ lead-at v k t .coef
@@ -193,7 +201,8 @@ module _ (Z : Setting) where
           number = omega arith
 
           coefficient : times (Z .p) 1 (inverse (Z .p) (F .lead (y .1) l .coef)) ≡ d
-          coefficient = sym (ed ∙ ap (λ z. times (Z .p) 1 (inverse (Z .p) z)) (lead-coef (getD (Z .f) (y .1) []) (Z .canons (y .1) l) (Z .somes (y .1) l)))
+          coefficient = sym (ed ∙ ap (λ z. times (Z .p) 1 (inverse (Z .p) z))
+              (lead-coef (getD (Z .f) (y .1) []) (Z .canons (y .1) l) (Z .somes (y .1) l)))
       go (search-miss o) = miss o
 
   abbrev pub red-by : (x : Mono (Z .n)) {a : Answer} → Answered x a → Reducer S L F x ⊎ Lower S L F x

@@ -75,7 +75,14 @@ module _ (lim : Limits) (o : T (sensible? lim)) where
   module _ (bytes : Bytes) (q : Parameters) (f : Level) (w : Well-formed-file lim bytes q f) (bound : ℕ) where
     listed : (g : Level) (below : List Level) → Standing lim q f (length below) (g ∷ below) → T (every filled? below) → Listed lim bytes q g below
     listed g below s t =
-        record { basis = f; well-formed = w; reckoned = tower-reckons lim q f (g ∷ below) (length below) (s .height) (s .tower); exact = s .exact; filled = t }
+        record {
+          basis = f;
+          well-formed = w;
+          reckoned = tower-reckons lim q f (g ∷ below) (length below) (s .height) (s .tower);
+          exact =
+              s .exact;
+          filled = t;
+        }
 
     -- the bytes after those of the levels so far
     abbrev After : Level → List Level → Bytes → Type 0

@@ -15,7 +15,8 @@ use Rattle.definitions.specs.Vectors.{unless-zero, insert, inserted, descending
 use Rattle.definitions.specs.Stage.{Stage}
 use Rattle.definitions.specs.Run
 use Rattle.definitions.specs.Lists.{without}
-use Rattle.definitions.specs.Run.{Strategy, on, end, multiple, dropped?, unless-dropped, if-fits, add-products, start, reduced, without-reducer, by-answer, by-pick, step, continued, runs, run, hybrid-strategy, division-strategy}
+use Rattle.definitions.specs.Run.{Strategy, on, end, multiple, dropped?, unless-dropped, if-fits, add-products, start, reduced, without-reducer, by-answer}
+use Rattle.definitions.specs.Run.{by-pick, step, continued, runs, run, hybrid-strategy, division-strategy}
 use Rattle.definitions.specs.Tree
 use Rattle.definitions.specs.Tree.{Cache, held-to, add-result, Lift-term, lift-term, if-vector-product-fits, lift-vector, tree}
 use Rattle.definitions.specs.Lifting.{Lifting, by-division, by-hybrid, by-tree, lift-one, Lifted, add-vector, lift-all}
@@ -48,11 +49,16 @@ combined-length p t (u ∷ v) = go (same-monomial? (t .1) (u .1)) (combined-leng
     later (holds {a = w} l) = let k : suc (length w) ≤ suc (length v) = omega arith in holds k
 
     go : (b : Bool) → Holds (λ w. length w ≤ length v) (combined p t v)
-        → Holds (λ (w : Vector). length w ≤ suc (length v)) (elim b [ true ↦ some (unless-zero (plus p (u .0) (t .0), u .1) v) | false ↦ behind u (combined p t v) ])
+        → Holds (λ (w : Vector). length w ≤ suc (length v)) (elim b [
+          | true ↦ some (unless-zero (plus p (u .0) (t .0), u .1) v)
+          | false ↦ behind u
+              (combined p t v)
+        ])
     go true h = holds (unless-zero-length (plus p (u .0) (t .0), u .1) v)
     go false h = later h
 
-store-short : {R : ℕ → Vector → Type 0} → R 14 [] → (limit p : ℕ) (t : Term) (v : Vector) → length v ≤ limit → Ends (λ w. length w ≤ limit) R (store limit p t v)
+store-short : {R : ℕ → Vector → Type 0} → R 14 [] → (limit p : ℕ) (t : Term) (v : Vector) → length v ≤ limit
+    → Ends (λ w. length w ≤ limit) R (store limit p t v)
 store-short {R} r limit p t v l = go (combined-length p t v)
   where
     last : (b : Bool) → (T b → length v < limit) → Ends (λ w. length w ≤ limit) R (appended b t v)
@@ -72,10 +78,12 @@ module _ (order : Monomial → Monomial → Comparison) (p : ℕ) where
   insert-length t (u ∷ v) = go (order (t .1) (u .1)) (insert-length t v)
     where
       go : (c : Comparison) → length (insert order p t v) ≤ suc (length v)
-          → length {A = Term} (elim c [ greater ↦ t ∷ u ∷ v | equal ↦ unless-zero (plus p (t .0) (u .0), u .1) v | smaller ↦ u ∷ insert order p t v ]) ≤ suc
+          → length {A = Term} (elim c [ greater ↦ t ∷ u ∷ v | equal ↦ unless-zero (plus p (t .0) (u .0), u .1) v | smaller ↦ u ∷ insert order p t v ]) ≤
+          suc
           (suc (length v))
       go greater h = omega arith
-      go equal h = let k : length (unless-zero (plus p (t .0) (u .0), u .1) v) ≤ suc (length v) = unless-zero-length (plus p (t .0) (u .0), u .1) v in omega arith
+      go equal h = let k : length (unless-zero (plus p (t .0) (u .0), u .1) v) ≤ suc (length v) = unless-zero-length (plus p (t .0) (u .0), u .1) v in
+          omega arith
       go smaller h = omega arith
 
   inserted-length : (w v : Vector) → length (inserted order p w v) ≤ length w + length v
@@ -169,7 +177,8 @@ module _ (S : Stage) where
       go (refuses u) ih = refuses u
       go open-yet ih = open-yet
 
-  pub run-short : 1 ≤ S .reduction .limits .vector → (W : Strategy) (N : ℕ) (m : Monomial) → Ends (λ w. length w ≤ S .reduction .limits .vector) Small (run S W N m)
+  pub run-short : 1 ≤ S .reduction .limits .vector → (W : Strategy) (N : ℕ) (m : Monomial)
+      → Ends (λ w. length w ≤ S .reduction .limits .vector) Small (run S W N m)
   run-short o W N m = ends-then started (λ r l. runs-short W N r l)
     where
       started : Ends ShortRun Small (start S W m)
@@ -184,7 +193,8 @@ module _ (S : Stage) where
   held-short true w h = let l : 0 + length w ≤ most = h tt in let m : length w ≤ most = omega arith in gives m
   held-short false w h = refuses tt
 
-  result-short : (c : ℕ) (v total : Vector) → length total ≤ most → Gives (λ w. length w ≤ most) (add-result (S .above) (S .reduction .p) most 0 c v total)
+  result-short : (c : ℕ) (v total : Vector) → length total ≤ most → Gives (λ w. length w ≤ most)
+      (add-result (S .above) (S .reduction .p) most 0 c v total)
   result-short c [] total l = gives l
   result-short c (t ∷ v) total l =
       let grown = insert (S .above) (S .reduction .p) (times (S .reduction .p) c (t .0), t .1) total in
@@ -228,7 +238,8 @@ module _ (S : Stage) where
       ends-then (one-short o way N cache m) (λ s k. added s k (leb (l .1 + length (s .0)) (S .reduction .limits .level-terms))
       (λ l′ h′. all-short o way N l′ (s .1) ms h′))
     where
-      added : (s : Tree.Sum) → ShortSum s → (b : Bool) → ((l′ : Lifted) → All-short most (l′ .0) → Gives (All-short most) (lift-all S (lift-one S way N) l′ (s .1) ms))
+      added : (s : Tree.Sum) → ShortSum s → (b : Bool) → ((l′ : Lifted) → All-short most (l′ .0)
+          → Gives (All-short most) (lift-all S (lift-one S way N) l′ (s .1) ms))
           → Gives (All-short most) (add-vector b l (s .0) >>= λ l′. lift-all S (lift-one S way N) l′ (s .1) ms)
       added s k false ih = refuses tt
       added s k true ih = ih (l .0 ++ s .0 ∷ [], l .1 + length (s .0)) (short-append most (l .0) (s .0) h k)

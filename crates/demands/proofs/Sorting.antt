@@ -109,7 +109,8 @@ module _ (n p : ℕ) (P : Prime p) (code : ℕ) (b : List (TLevel n)) (G : Groun
     where
       next : Form (t ∷ u) (insert by-order p (term n t) w)
       next =
-          let i : Form (t ∷ f .form) (insert by-order p (term n t) (vec n (f .form))) = term-inserted t (f .form) (g .0) (h .0) (f .ok (Has n b) hu) (f .canonical) in
+          let i : Form (t ∷ f .form) (insert by-order p (term n t) (vec n (f .form))) =
+          term-inserted t (f .form) (g .0) (h .0) (f .ok (Has n b) hu) (f .canonical) in
           record {
             form = i .form;
             is = ap (insert by-order p (term n t)) (f .is) ∙ i .is;

@@ -104,7 +104,8 @@ Sound-mono lim n count x = (x .1 < count) × Within lim n x
 abbrev pub All-sound : Limits → (n p : ℕ) → Prime p → ℕ → TLevel n → Type 0
 All-sound lim n p P count f = (j : ℕ) → j < length f → All (ModP p P) (Sound-mono lim n count) (getD f j [])
 
-pub leading-within : (lim : Limits) (n p : ℕ) (P : Prime p) (count : ℕ) (f : TLevel n) → Somes n p f → All-sound lim n p P count f → (j : ℕ) → j < length f
+pub leading-within : (lim : Limits) (n p : ℕ) (P : Prime p) (count : ℕ) (f : TLevel n) → Somes n p f → All-sound lim n p P count f → (j : ℕ)
+    → j < length f
     → Within lim n (lm n f j)
 leading-within lim n p P count f s w j l = go (getD f j []) (s j l) (w j l)
   where
@@ -148,7 +149,8 @@ module _ (lim : Limits) (q : Parameters) (P : Prime (q .p)) (eight : q .n ≤ 8)
       inside : t .1 .1 - 1 < count
       inside = omega (arith, low, high)
 
-  said-greater : (x y : Mono n) → Has n b x → Has n b y → T (greater? (compare-over (q .code) (flats n b) (mono n x) (mono n y))) → module-over n (q .code) b .Lt y x
+  said-greater : (x y : Mono n) → Has n b x → Has n b y → T (greater? (compare-over (q .code) (flats n b) (mono n x) (mono n y)))
+      → module-over n (q .code) b .Lt y x
   said-greater x y hx hy = go (over-says n (q .code) b G x y hx hy)
     where
       go : {c : Comparison} → Says (module-over n (q .code) b .Lt x y) (x ≡ y) (module-over n (q .code) b .Lt y x) c → T (greater? c)
@@ -175,7 +177,8 @@ module _ (lim : Limits) (q : Parameters) (P : Prime (q .p)) (eight : q .n ≤ 8)
       → Canonical (ModP (q .p) P) (module-over n (q .code) b) (tvec n v)
   vector-canonical [] s d = tt
   vector-canonical (t ∷ []) s d = let r : Term-right t = term-right t (and-left (term-sound? lim q count t) true s) in (r .good .0, r .good .1, tt, tt)
-  vector-canonical (t ∷ u ∷ v) s d = go (vector-canonical (u ∷ v) rest (and-right order (strictly-descending? (compare-over (q .code) (flats n b)) (u ∷ v)) d))
+  vector-canonical (t ∷ u ∷ v) s d = go (vector-canonical (u ∷ v) rest
+      (and-right order (strictly-descending? (compare-over (q .code) (flats n b)) (u ∷ v)) d))
     where
       order : Bool
       order = greater? (compare-over (q .code) (flats n b) (t .1) (u .1))
@@ -194,8 +197,14 @@ module _ (lim : Limits) (q : Parameters) (P : Prime (q .p)) (eight : q .n ≤ 8)
           (subst₂ (λ x y. T (greater? (compare-over (q .code) (flats n b) x y))) (sym (ap (λ z. z .1) (r .back))) (sym (ap (λ z. z .1) (w .back)))
           (and-left order (strictly-descending? (compare-over (q .code) (flats n b)) (u ∷ v)) d))
 
-      go : Canonical (ModP (q .p) P) (module-over n (q .code) b) (tvec n (u ∷ v)) → Canonical (ModP (q .p) P) (module-over n (q .code) b) (tvec n (t ∷ u ∷ v))
-      go c = (r .good .0, r .good .1, (l, all-lower (ModP (q .p) P) (module-over n (q .code) b) (tmono n (u .1)) (tmono n (t .1)) l (tvec n v) (c .2)), c)
+      go : Canonical (ModP (q .p) P) (module-over n (q .code) b) (tvec n (u ∷ v))
+          → Canonical (ModP (q .p) P) (module-over n (q .code) b) (tvec n (t ∷ u ∷ v))
+      go c = (
+        r .good .0,
+        r .good .1,
+        (l, all-lower (ModP (q .p) P) (module-over n (q .code) b) (tmono n (u .1)) (tmono n (t .1)) l (tvec n v) (c .2)),
+        c,
+      )
 
   some-one : (v : Vector) → 1 ≤ length v → T (cons? n (tvec n v))
   some-one [] h = absurd (omega arith)
@@ -213,7 +222,8 @@ module _ (lim : Limits) (q : Parameters) (P : Prime (q .p)) (eight : q .n ≤ 8)
       go (level-right most f (and-right (vector-sound? lim q count most (flats n b) v) (every (vector-sound? lim q count most (flats n b)) f) s))
     where
       h : Sound-vector lim q count most (flats n b) v
-      h = vector-says lim q count most (flats n b) v (and-left (vector-sound? lim q count most (flats n b) v) (every (vector-sound? lim q count most (flats n b)) f) s)
+      h = vector-says lim q count most (flats n b) v (and-left (vector-sound? lim q count most (flats n b) v)
+          (every (vector-sound? lim q count most (flats n b)) f) s)
 
       w : Vector-right v
       w = vector-right v (h .terms)

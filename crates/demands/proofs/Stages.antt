@@ -54,7 +54,8 @@ module _ (code : ℕ) where
       go true i r = at (into-either code c (generators code earlier m) g i) r
       go false i r = r i
 
-  frame-colon-from : (ms rest earlier : List Monomial) (i : ℕ) → ((l : Monomial) → Member l earlier → Member l ms) → ((m : Monomial) → Member m rest → Member m ms)
+  frame-colon-from : (ms rest earlier : List Monomial) (i : ℕ) → ((l : Monomial) → Member l earlier → Member l ms)
+      → ((m : Monomial) → Member m rest → Member m ms)
       → (t : Monomial) → Member t (frame-from code i earlier rest) → Colon ms (t .0)
   frame-colon-from ms [] earlier i h k t m = absurd m
   frame-colon-from ms (x ∷ rest) earlier i h k t m =
@@ -110,7 +111,15 @@ module _ (Z : Setting) (eight : Z .n ≤ 8) (code : ℕ) where
     pub colon-is : x .0 ≡ colon (Z .n) (lm (Z .n) (Z .f) from .0) by
 
   pub written : (t : Monomial) → Member t frame-terms → Written t
-  written t m = record { x = (colon (Z .n) (a .0) (b .0), t .1 - 1); is = λ i. (exponents i, component i); from = la .0; from-in = la .1; by = b .0; colon-is = refl }
+  written t m = record {
+    x = (colon (Z .n) (a .0) (b .0), t .1 - 1);
+    is = λ i. (exponents i, component i);
+    from = la .0;
+    from-in = la .1;
+    by =
+        b .0;
+    colon-is = refl;
+  }
     where
       c : Colon (leading-monomials (flat (Z .n) (Z .f))) (t .0)
       c = frame-colon code (leading-monomials (flat (Z .n) (Z .f))) t m
@@ -164,14 +173,16 @@ module _ (Z : Setting) (eight : Z .n ≤ 8) (code : ℕ) where
   pub term-in : (k : ℕ) → k < length terms → Member (mono (Z .n) (term-at (ExpM (Z .n)) terms k)) frame-terms
   term-in k l = subst (Member (mono (Z .n) (term-at (ExpM (Z .n)) terms k))) terms-back (monos-at terms k l)
 
-  monos-find : (xs : List (Mono (Z .n))) (t : Monomial) → Member t (monos (Z .n) xs) → (k : ℕ) × (k < length xs) × (t ≡ mono (Z .n) (term-at (ExpM (Z .n)) xs k))
+  monos-find : (xs : List (Mono (Z .n))) (t : Monomial) → Member t (monos (Z .n) xs) → (k : ℕ) × (k < length xs)
+      × (t ≡ mono (Z .n) (term-at (ExpM (Z .n)) xs k))
   monos-find (x ∷ xs) t (inl e) = (0, omega arith, e)
   monos-find (x ∷ xs) t (inr m) = let (k, l, e) = monos-find xs t m in (suc k, omega arith, e)
 
   -- ## A frame of the theory
 
   -- m · LM f_i, of m · e_i
-  times-is : (x : Mono (Z .n)) → x .1 < length (Z .f) → times-leading (flat (Z .n) (Z .f)) (mono (Z .n) x) ≡ mono (Z .n) (Induced.image (L Z) (A Z .lm) x)
+  times-is : (x : Mono (Z .n)) → x .1 < length (Z .f) → times-leading (flat (Z .n) (Z .f)) (mono (Z .n) x)
+      ≡ mono (Z .n) (Induced.image (L Z) (A Z .lm) x)
   times-is x l = ap (λ (m : Monomial). (product (out (Z .n) (x .0)) (m .0), m .1)) (leading-at (x .1) l) ∙ λ i.
       (product-out (Z .n) (x .0) (lm (Z .n) (Z .f) (x .1) .0) i, suc (lm (Z .n) (Z .f) (x .1) .1))
 
@@ -194,7 +205,8 @@ module _ (Z : Setting) (eight : Z .n ≤ 8) (code : ℕ) where
       high = between-high 1 (h .j) (suc (x .1) - 1) (h .earlier)
 
       inside : x .1 < length (Z .f)
-      inside = let l : suc (x .1) ≤ length (flat (Z .n) (Z .f)) = between-high 1 (suc (x .1)) (length (flat (Z .n) (Z .f))) (h .in-range) in omega (arith, flat-size)
+      inside = let l : suc (x .1) ≤ length (flat (Z .n) (Z .f)) = between-high 1 (suc (x .1)) (length (flat (Z .n) (Z .f))) (h .in-range) in
+          omega (arith, flat-size)
 
       below : k < x .1
       below = omega (arith, low, high)
@@ -226,7 +238,13 @@ module _ (Z : Setting) (eight : Z .n ≤ 8) (code : ℕ) where
       here (t, m, d) =
           let (k, i, e) = monos-find terms t (subst (Member t) (sym terms-back) m) in
           let x : Mono (Z .n) = term-at (ExpM (Z .n)) terms k in
-          record { number = k; dom = i; factor = over (Z .n) (b .0) (x .0); divides = divided-by (Z .n) x b (subst (λ z. T (divides-monomial? z (mono (Z .n) b))) e d) }
+          record {
+            number = k;
+            dom = i;
+            factor = over (Z .n) (b .0) (x .0);
+            divides =
+                divided-by (Z .n) x b (subst (λ z. T (divides-monomial? z (mono (Z .n) b))) e d);
+          }
 
       go : (s : Bool) → (T s → (t : Monomial) × Member t frame-terms × T (divides-monomial? t (mono (Z .n) b)))
           → ((t : Monomial) → Member t frame-terms → T (divides-monomial? t (mono (Z .n) b)) → T s)

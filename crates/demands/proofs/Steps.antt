@@ -172,10 +172,12 @@ module _ (Z : Setting) (lim : Limits) where
 
       recorded-good : Good (Z .p) c′
       recorded-good =
-          good-mul (Z .p) (Z .P) (t .c) _ (t .good) (good-turned (Z .p) (Z .P) (F Z .lead (a .at .1) (a .dom) .coef) (F Z .lead (a .at .1) (a .dom) .nonzero))
+          good-mul (Z .p) (Z .P) (t .c) _ (t .good) (good-turned (Z .p) (Z .P) (F Z .lead (a .at .1) (a .dom) .coef)
+          (F Z .lead (a .at .1) (a .dom) .nonzero))
 
       step-of : {vs gs : Vector} → Like (Z .n) (Z .p) (Z .P) InVector ((c′, a .at) ∷ v) vs
-          → Left (Z .n) (Z .p) (Z .P) lim (hs Z) (W .drops) (Lower (S Z) (L Z) (F Z)) InValue (g ++ scale (S Z) c′ (times (S Z) (L Z) (F Z .f) (a .at))) gs
+          → Left (Z .n) (Z .p) (Z .P) lim (hs Z) (W .drops) (Lower (S Z) (L Z) (F Z)) InValue
+          (g ++ scale (S Z) c′ (times (S Z) (L Z) (F Z .f) (a .at))) gs
           → Stepped W v g (on (record { value = gs; vector = vs }))
       step-of l k = onward (l .form) (k .form) (reduces move (λ e. k .whole (e .0))) (record {
         is = λ j. record { value = k .is j; vector = l .is j };
@@ -205,7 +207,8 @@ module _ (Z : Setting) (lim : Limits) where
           done (on (record { value = w; vector = vs })))) (sym (flat-at (Z .n) (Z .f) (a .at .1)))
           (ends-then (products-added (Z .n) (Z .p) (Z .P) lim (hs Z) (W .drops) (Lower (S Z) (L Z) (F Z)) InValue R (limit tt)
           (limit tt) (is-lower Z) (Has (Z .n) (Z .b)) c′ recorded-good (a .at .0) (λ x h k. (has-act (Z .n) (Z .b) (a .at .0) x h, k)) f′ g
-          (canonical-good (Z .n) (Z .p) (Z .P) (Z .code) (Z .b) f′ (Z .canons (a .at .1) (a .dom))) (Z .inside (a .at .1) (a .dom)) (sg .good) (sg .ok) (sg .apart))
+          (canonical-good (Z .n) (Z .p) (Z .P) (Z .code) (Z .b) f′ (Z .canons (a .at .1) (a .dom))) (Z .inside (a .at .1) (a .dom)) (sg .good) (sg .ok)
+          (sg .apart))
           (λ gs k. gives (step-of l k))))
 
     stuck-ends : (i : ℕ) → W .pick (vec (Z .n) g) ≡ some i → (t : Taken g i) → Lower (S Z) (L Z) (F Z) (t .x) → (b : Bool) → W .stops ≡ b
@@ -220,7 +223,8 @@ module _ (Z : Setting) (lim : Limits) where
         whole : Same (S Z) (t .kept ++ (t .c, t .x) ∷ []) g
         whole =
             Vec.same-trans (S Z) (Vec.same-sym (S Z) (Vec.same-middle (S Z) (t .c, t .x) (t .kept) []))
-            (Vec.same-trans (S Z) (Vec.same-cons (S Z) (t .c, t .x) (Vec.same-sym (S Z) (Vec.same-nil (S Z) (t .kept)))) (Vec.same-sym (S Z) (t .split)))
+            (Vec.same-trans (S Z) (Vec.same-cons (S Z) (t .c, t .x) (Vec.same-sym (S Z) (Vec.same-nil (S Z) (t .kept))))
+            (Vec.same-sym (S Z) (t .split)))
 
         lost : Drop (S Z) (L Z) (F Z) (red Z) g (t .kept)
         lost = record { low = (t .c, t .x) ∷ []; lower = (o, tt); split = whole }
@@ -238,7 +242,8 @@ module _ (Z : Setting) (lim : Limits) where
         go : {a : Answer} (s : Answered Z (t .x) a) → red Z (t .x) ≡ red-by Z (t .x) s
             → Ends (Stepped W v g) R (by-answer stage W (run-at v g) i (rescaled (Z .p) (t .c) a))
         go (hit a) known =
-            subst (λ z. Ends (Stepped W v g) R (reduced stage W (run-at v g) (suc (a .at .1)) z (out (Z .n) (a .at .0)))) (sym turns) (reduced-ends i t a known)
+            subst (λ z. Ends (Stepped W v g) R (reduced stage W (run-at v g) (suc (a .at .1)) z (out (Z .n) (a .at .0)))) (sym turns)
+            (reduced-ends i t a known)
           where
             ι : ℕ
             ι = Field.inverse (Z .p) (F Z .lead (a .at .1) (a .dom) .coef)
@@ -258,5 +263,7 @@ module _ (Z : Setting) (lim : Limits) where
             let t : Taken g i = taken g i m sg in
             subst (λ z. Ends (Stepped W v g) R (by-answer stage W (run-at v g) i (answer (Z .p) (hs Z) z))) (sym (t .is)) (answered-ends i e t)
 
-  pub stepped : (W : Strategy) → Picks W → (v g : TVec (Z .n)) (r : Run.Run) → Stands v g r → Ends (Stepped W v g) (Refusal (Stuck W g)) (step stage W r)
-  stepped W K v g r s = subst (λ z. Ends (Stepped W v g) (Refusal (Stuck W g)) (step stage W z)) (sym (s .is)) (stepped-at W K v g (s .vector) (s .value))
+  pub stepped : (W : Strategy) → Picks W → (v g : TVec (Z .n)) (r : Run.Run) → Stands v g r
+      → Ends (Stepped W v g) (Refusal (Stuck W g)) (step stage W r)
+  stepped W K v g r s = subst (λ z. Ends (Stepped W v g) (Refusal (Stuck W g)) (step stage W z)) (sym (s .is))
+      (stepped-at W K v g (s .vector) (s .value))

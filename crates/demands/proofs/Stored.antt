@@ -15,7 +15,8 @@ use Rattle.definitions.specs.Lifting.{Lifting}
 use Rattle.definitions.specs.Problem.{Bytes}
 use Rattle.definitions.specs.State.{State, empty, has-level?, up-to, levels-sound?, sound?}
 use Rattle.definitions.specs.Stage.{highest}
-use Rattle.definitions.specs.Calls.{Call, reading, lifting, Reply, refuse, settled, lift, fetch, eleven?, pick-code?, lifts?, fetches?, read-reply, lift-reply, fetch-reply}
+use Rattle.definitions.specs.Calls.{Call, reading, lifting, Reply, refuse, settled, lift, fetch, eleven?, pick-code?, lifts?, fetches?, read-reply, lift-reply}
+use Rattle.definitions.specs.Calls.{fetch-reply}
 use Rattle.definitions.specs.Reckoning.{Reckoning, nothing, succeeds, fails, reckon}
 use Rattle.definitions.specs.Layout.{Words, zeros, state-words, encode, meant, decode, holds-state?, state-after, rows-after, levels-at, all-words-sound?}
 use Rattle.definitions.specs.Layout.{Way, division, lifting-by, long-enough?, work-words, out-words, Read, read-left, Lift}
@@ -79,7 +80,8 @@ meant-zeros lim size = go (holds-state? lim s) (λ t. sound (sound? lim (decode 
     no-level t = let h = sound-says lim (decode lim s) t .levels in
         subst (λ k. T (levels-sound? lim (decode lim s .parameters) (levels-at lim s k))) (at-zeros size 4) h
 
-    sound : (b : Bool) → T (leb (getD s 4 0) (suc (lim .levels)) and all-words-sound? lim s (getD s 4 0) and b) → (T b → T (sound? lim (decode lim s))) → ⊥
+    sound : (b : Bool) → T (leb (getD s 4 0) (suc (lim .levels)) and all-words-sound? lim s (getD s 4 0) and b) → (T b → T (sound? lim (decode lim s)))
+        → ⊥
     sound b t f =
         no-level (f (and-right (all-words-sound? lim s (getD s 4 0)) b (and-right (leb (getD s 4 0) (suc (lim .levels)))
         (all-words-sound? lim s (getD s 4 0) and b) t)))
@@ -101,7 +103,8 @@ module _ (lim : Limits) (o : T (sensible? lim)) where
   -- what is written holds what was to be held
   encode-stored : (R : Reckoning) (X : State) (size : ℕ) → state-words lim ≤ size → Held lim R X → Stored lim R (encode lim size X)
   encode-stored R X size l none-held =
-      subst (Stored lim nothing) (sym (encode-empty lim size l)) (zeros-stored lim (replicate size 0) (ap (λ n. replicate n 0) (sym (length-replicate size 0))))
+      subst (Stored lim nothing) (sym (encode-empty lim size l)) (zeros-stored lim (replicate size 0)
+      (ap (λ n. replicate n 0) (sym (length-replicate size 0))))
   encode-stored R X size l (held s) = record {
     holds = subst (Held lim R) (sym back) (held s);
     spelled = λ i. ap (λ n. encode lim n X) (sym long) ∙ ap (encode lim (length (encode lim size X))) (sym back);
@@ -119,7 +122,8 @@ module _ (lim : Limits) (o : T (sensible? lim)) where
       → Holds (λ a. Stored lim (reckon lim R c (a .number)) (state-after lim words (a .state) (a .work))) (settled x)
   settled-stored R c words l (gives {a} h) = holds (encode-stored (succeeds lim R c) a (length words) l h)
   settled-stored R c words l (refuses {number} t) =
-      holds (subst (λ Q. Stored lim Q (encode lim (length words) empty)) (sym (reckon-fails lim R c number t)) (encode-stored nothing empty (length words) l none-held))
+      holds (subst (λ Q. Stored lim Q (encode lim (length words) empty)) (sym (reckon-fails lim R c number t))
+      (encode-stored nothing empty (length words) l none-held))
   settled-stored R c words l open-yet = Results.nothing
 
   -- ## The calls
@@ -134,11 +138,13 @@ module _ (lim : Limits) (o : T (sensible? lim)) where
     Replied R c a = Stored lim (reckon lim R c (a .number)) (state-after lim state (a .state) (a .work))
 
     long-state : (way : Way) (work : Words) → T (long-enough? lim way state work) → state-words lim ≤ length state
-    long-state way work t = leb→le (state-words lim) (length state) (and-left (leb (state-words lim) (length state)) (leb (work-words lim way) (length work)) t)
+    long-state way work t = leb→le (state-words lim) (length state) (and-left (leb (state-words lim) (length state))
+        (leb (work-words lim way) (length work)) t)
 
     -- reading: from words that agree with the reckoning, or, not refused with 16, from any words
     pub read-stored : (R : Reckoning) (file : Bytes) (work : Words)
-        → Holds (λ a. Stored lim R state ⊎ Reads (read-with file work) a → Called R (read-with file work) a) (lent-call lim n state (read-with file work))
+        → Holds (λ a. Stored lim R state ⊎ Reads (read-with file work) a → Called R (read-with file work) a)
+        (lent-call lim n state (read-with file work))
     read-stored R file work = go (long-enough? lim division state work) (long-state division work)
       where
         kept : Stored lim R state ⊎ ¬ (_≡_ {A = ℕ} 16 16) → Stored lim R state
@@ -174,7 +180,8 @@ module _ (lim : Limits) (o : T (sensible? lim)) where
           eleven true f = holds h
           eleven false f = twelve (f (λ x. x)) (lifts? lim k way) (and-left (between 1 k (lim .levels)) (pick-code? way))
 
-      pub lift-stored : (k : ℕ) (way : Way) (work cache : Words) → Holds (Called R (lift-with k way work cache)) (lent-call lim n state (lift-with k way work cache))
+      pub lift-stored : (k : ℕ) (way : Way) (work cache : Words) → Holds (Called R (lift-with k way work cache))
+          (lent-call lim n state (lift-with k way work cache))
       lift-stored k way work cache =
           holds-then {P = λ (z : Lift). Stored lim (reckon lim R (lifting true k (lifting-by way cache)) (z .0)) (z .2)}
           (holds-then (lift-replied (long-enough? lim way state work) (long-state way work) k (lifting-by way cache)) (λ a m. holds m)) (λ a m. holds m)
@@ -196,8 +203,15 @@ module _ (lim : Limits) (o : T (sensible? lim)) where
         fetch-twelve s true y =
             let d : T (between 1 k (lim .levels)) = and-left (between 1 k (lim .levels)) (between 1 v (length (highest (up-to X k)))) (y tt) in
             let c : T (between 1 v (length (highest (up-to X k)))) =
-            and-right (between 1 k (lim .levels)) (between 1 v (length (highest (up-to X k)))) (y tt) in
-            (h, λ e. (X .levels, held-agrees lim R X (h .holds) .levels, and-both (has-level? X k) (between 1 v (length (highest (up-to X k)))) (s d) c, refl))
+            and-right (between 1 k (lim .levels)) (between 1 v (length (highest (up-to X k)))) (y tt) in (
+              h,
+              λ e. (
+                X .levels,
+                held-agrees lim R X (h .holds) .levels,
+                and-both (has-level? X k) (between 1 v (length (highest (up-to X k)))) (s d) c,
+                refl,
+              ),
+            )
 
         fetch-eleven : (b : Bool) → ((T b → ⊥) → T (sound? lim X) × (T (between 1 k (lim .levels)) → T (has-level? X k)))
             → Fetched (left (choose b (refuse 11 X) (choose (not (fetches? lim X k v)) (refuse 12 X) (fetch X k v))))
@@ -208,5 +222,6 @@ module _ (lim : Limits) (o : T (sensible? lim)) where
         fetch-long false = (h, λ e. absurd (omega arith))
         fetch-long true = fetch-eleven (eleven? lim X k k) (not-eleven lim X k k)
 
-        pub fetch-stored : Holds (λ a. Called R (fetch-with k v out) a × Fetch-right lim R (fetch-with k v out) a) (lent-call lim n state (fetch-with k v out))
+        pub fetch-stored : Holds (λ a. Called R (fetch-with k v out) a × Fetch-right lim R (fetch-with k v out) a)
+            (lent-call lim n state (fetch-with k v out))
         fetch-stored = holds (fetch-long (leb (state-words lim) (length state) and leb (out-words lim) (length out)))

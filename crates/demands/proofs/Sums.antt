@@ -117,7 +117,8 @@ module _ (n p : ℕ) (P : Prime p) where
           apart = d;
         }
 
-        go : (s : Bool) → (T s → sum ≡ 0) → (T (not s) → sum ≢ 0) → Combined t (u ∷ v) (some (elim s [ true ↦ vec n v | false ↦ (sum, mono n (u .1)) ∷ vec n v ]))
+        go : (s : Bool) → (T s → sum ≡ 0) → (T (not s) → sum ≢ 0) → Combined t (u ∷ v)
+            (some (elim s [ true ↦ vec n v | false ↦ (sum, mono n (u .1)) ∷ vec n v ]))
         go true h k = joined (gone (h tt)) (λ X x. x .1)
         go false h k = joined (kept (k tt)) (λ X x. x)
 
@@ -136,7 +137,8 @@ module _ (n p : ℕ) (P : Prime p) where
     pub combined-with : (t : ℕ × Mono n) (v : TVec n) → Goods v → All S Q v → Distinct v → Combined t v (combined p (term n t) (vec n v))
     combined-with t [] g q d = new tt
     combined-with t (u ∷ v) g q d =
-        go (same-monomial? (mono n (t .1)) (mono n (u .1))) (same-mono n (t .1) (u .1)) (mono-same n (t .1) (u .1)) (combined-with t v (g .1) (q .1) (d .1))
+        go (same-monomial? (mono n (t .1)) (mono n (u .1))) (same-mono n (t .1) (u .1)) (mono-same n (t .1) (u .1))
+        (combined-with t v (g .1) (q .1) (d .1))
       where
         go : (s : Bool) → (T s → t .1 ≡ u .1) → (t .1 ≡ u .1 → T s) → Combined t v (combined p (term n t) (vec n v)) → Combined t (u ∷ v) (elim s [
           | true ↦ some (unless-zero (plus p (u .0) (t .0), mono n (u .1)) (vec n v))
@@ -191,7 +193,8 @@ module _ (n p : ℕ) (P : Prime p) where
     multiple-term : (c : ℕ) (q : E n) (u : ℕ × Mono n) → multiple p c (out n q) (term n u) ≡ term n (times p c (u .0), by q (u .1))
     multiple-term c q u = λ i. (times p c (u .0), (product-out n q (u .1 .0) i, suc (u .1 .1)))
 
-    module _ (R : ℕ → Vector → Type 0) (at-13 : R 13 []) (at-14 : R 14 []) (lower : (x : Mono n) → T (lower-order? (answer p heads (1, mono n x))) → Low x) where
+    module _ (R : ℕ → Vector → Type 0) (at-13 : R 13 []) (at-14 : R 14 [])
+        (lower : (x : Mono n) → T (lower-order? (answer p heads (1, mono n x))) → Low x) where
       -- a product that is not dropped is stored
       left-kept : (u : ℕ × Mono n) (v : TVec n) {w : Vector} → Like Q (u ∷ v) w → Left (v ++ u ∷ []) w
       left-kept u v l = record {
@@ -228,11 +231,13 @@ module _ (n p : ℕ) (P : Prime p) where
           go true t = (lower x t, true-not-false)
           go false t = absurd t
 
-      pub term-added : (u : ℕ × Mono n) (v : TVec n) → Good p (u .0) → (T (fits? (lim .exponent) (out n (u .1 .0))) → Q (u .1)) → Goods v → All S Q v → Distinct v
+      pub term-added : (u : ℕ × Mono n) (v : TVec n) → Good p (u .0) → (T (fits? (lim .exponent) (out n (u .1 .0))) → Q (u .1)) → Goods v → All S Q v
+          → Distinct v
           → Ends (Left (v ++ u ∷ [])) R (add-term K drops (term n u) (vec n v))
       term-added u v g h gs qs d = fitting (fits? (lim .exponent) (out n (u .1 .0))) h
         where
-          dropping : (s : Bool) → (T s → Low (u .1) × ¬ (drops ≡ false)) → Q (u .1) → Ends (Left (v ++ u ∷ [])) R (unless-dropped s K (term n u) (vec n v))
+          dropping : (s : Bool) → (T s → Low (u .1) × ¬ (drops ≡ false)) → Q (u .1)
+              → Ends (Left (v ++ u ∷ [])) R (unless-dropped s K (term n u) (vec n v))
           dropping true l q = gives (left-dropped u v gs qs d (l tt .0) (l tt .1))
           dropping false l q = ends-map (λ w k. left-kept u v k) (like-stored Q R at-14 (lim .working) u v g q gs qs d)
 
@@ -277,7 +282,8 @@ module _ (n p : ℕ) (P : Prime p) where
           ends-then (subst (λ z. Ends (Left (v ++ u ∷ [])) R (add-term K drops z (vec n v))) (sym (multiple-term c q t))
           (term-added u v (good-mul p P c (t .0) gc (gg .0)) (h (t .1) (qg .0)) gv qv d))
           (λ w a. subst (λ z. Ends (Left (v ++ u ∷ scale S c (mapB S (by q) g))) R (add-products K drops c (out n q) (vec n g) z)) (sym (a .is))
-          (ends-map (λ w′ b. left-more u v (scale S c (mapB S (by q) g)) a b) (products-added Q₀ c gc q h g (a .form) (gg .1) (qg .1) (a .good) (a .ok) (a .apart))))
+          (ends-map (λ w′ b. left-more u v (scale S c (mapB S (by q) g)) a b)
+          (products-added Q₀ c gc q h g (a .form) (gg .1) (qg .1) (a .good) (a .ok) (a .apart))))
         where
           u : ℕ × Mono n
           u = (times p c (t .0), by q (t .1))

@@ -23,7 +23,8 @@ use Rattle.definitions.proofs.Steady.{steady-once}
 use Rattle.definitions.proofs.Bound.{read-steady}
 use Rattle.files.specs.Answers.{Refused-right}
 use Rattle.demands.specs.Demands
-use Rattle.demands.specs.Demands.{sensible?, level-of, Fetch-right, Read-form, accepted-as, Refused-reading, ill-formed, not-accepted, no-basis, limit-met, Lift-form, lifted-as}
+use Rattle.demands.specs.Demands.{sensible?, level-of, Fetch-right, Read-form, accepted-as, Refused-reading, ill-formed, not-accepted, no-basis}
+use Rattle.demands.specs.Demands.{limit-met, Lift-form, lifted-as}
 use Rattle.demands.specs.Demands.{Fetch-form, fetched-as}
 use Rattle.demands.proofs.Demand2.{demand-2-of-document-01}
 use Rattle.demands.proofs.Demand3.{demand-3}
@@ -140,7 +141,8 @@ never-short true l t = t
 never-short false l t = l
 
 -- reading the printed file, which no limit stops, no reason refuses, and whose elements are a Gröbner basis
-pub not-refused : (state work : Words) (r : Read) → T (long-enough? document-01 division state work) → Read-form document-01 printed-file state work r → r .0 ≡ 0
+pub not-refused : (state work : Words) (r : Read) → T (long-enough? document-01 division state work) → Read-form document-01 printed-file state work r
+    → r .0 ≡ 0
 not-refused state work r l (accepted-as t w) = refl
 not-refused state work r l (Demands.Read-form.refused-as {number} {place} {value} t b k) =
     let d = run-of printed-file number place value b in

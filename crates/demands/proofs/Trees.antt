@@ -23,7 +23,8 @@ use Rattle.definitions.specs.Result.{Result, done, _>>=_, refusal}
 use Rattle.definitions.specs.Vectors.{insert}
 use Rattle.definitions.specs.Run.{multiple}
 use Rattle.definitions.specs.Tree
-use Rattle.definitions.specs.Tree.{Cache, cached, used, Subtree, finish-by, finish, held-to, add-result, Lift-term, Lift-list, if-product-fits, lift-product, lift-list, open-subtree, or-open, lift-by, lift-term, if-vector-product-fits, lift-vector-product, lift-vector, tree}
+use Rattle.definitions.specs.Tree.{Cache, cached, used, Subtree, finish-by, finish, held-to, add-result, Lift-term, Lift-list, if-product-fits, lift-product}
+use Rattle.definitions.specs.Tree.{lift-list, open-subtree, or-open, lift-by, lift-term, if-vector-product-fits, lift-vector-product, lift-vector, tree}
 use Rattle.demands.proofs.Results.{Gives, gives, refuses, ends-then, ends-map, Holds, holds, nothing}
 use Rattle.demands.proofs.Exponents.{E, out, product-out, factor-fits}
 use Rattle.demands.proofs.Levels.{Mono, TVec, mono, term, vec, flat-at, lm, module-over, Has, same-mono}
@@ -133,7 +134,8 @@ module _ (Z : Setting) (lim : Limits) where
     abbrev lifted : TVec (Z .n) → TVec (Z .n)
     lifted g = lin (S Z) (up Z) (scale (S Z) c (mapB (S Z) (L Z .act q) g))
 
-    multiple-is : (t : ℕ × Mono (Z .n)) → multiple (Z .p) c (out (Z .n) q) (term (Z .n) t) ≡ term (Z .n) (Field.times (Z .p) c (t .0), L Z .act q (t .1))
+    multiple-is : (t : ℕ × Mono (Z .n)) → multiple (Z .p) c (out (Z .n) q) (term (Z .n) t)
+        ≡ term (Z .n) (Field.times (Z .p) c (t .0), L Z .act q (t .1))
     multiple-is t = λ i. (Field.times (Z .p) c (t .0), (product-out (Z .n) q (t .1 .0) i, suc (t .1 .1)))
 
     all-ok : Good (Z .p) c → (g : TVec (Z .n)) → Goods (Z .n) (Z .p) (Z .P) g → (v : TVec (Z .n)) (s : Tree.Sum) → SumOk v s
@@ -151,10 +153,12 @@ module _ (Z : Setting) (lim : Limits) where
         A = scale (S Z) (u .0) (up Z (u .1))
 
         turn : Same (S Z) ((A ++ v) ++ lifted g) (v ++ (A ++ lifted g))
-        turn = Vec.same-trans (S Z) (Vec.same-append (S Z) (Vec.same-comm (S Z) A v) (Vec.same-refl (S Z) {v = lifted g})) (Vec.same-assoc (S Z) v A (lifted g))
+        turn = Vec.same-trans (S Z) (Vec.same-append (S Z) (Vec.same-comm (S Z) A v) (Vec.same-refl (S Z) {v = lifted g}))
+            (Vec.same-assoc (S Z) v A (lifted g))
 
   -- a product lifted into a subtree's sum
-  product-ok : (lift : Lift-term) → TermsOk lift → (others : ℕ) (t : ℕ × Mono (Z .n)) → Good (Z .p) (t .0) → (v : TVec (Z .n)) (s : Tree.Sum) → SumOk v s
+  product-ok : (lift : Lift-term) → TermsOk lift → (others : ℕ) (t : ℕ × Mono (Z .n)) → Good (Z .p) (t .0) → (v : TVec (Z .n)) (s : Tree.Sum)
+      → SumOk v s
       → Gives (SumOk (scale (S Z) (t .0) (up Z (t .1)) ++ v)) (lift-product (stage Z lim) lift others (term (Z .n) t) s)
   product-ok lift h others t g v s k = go (fits? (lim .exponent) (out (Z .n) (t .1 .0))) (λ f. f)
     where
@@ -167,7 +171,8 @@ module _ (Z : Setting) (lim : Limits) where
 
   list-ok : (lift : Lift-term) → TermsOk lift → (others c : ℕ) → Good (Z .p) c → (q : E (Z .n)) (g : TVec (Z .n)) → Goods (Z .n) (Z .p) (Z .P) g
       → (v : TVec (Z .n)) (s : Tree.Sum) → SumOk v s
-      → Gives (SumOk (v ++ lin (S Z) (up Z) (scale (S Z) c (mapB (S Z) (L Z .act q) g)))) (lift-list (stage Z lim) lift others c (out (Z .n) q) (vec (Z .n) g) s)
+      → Gives (SumOk (v ++ lin (S Z) (up Z) (scale (S Z) c (mapB (S Z) (L Z .act q) g))))
+      (lift-list (stage Z lim) lift others c (out (Z .n) q) (vec (Z .n) g) s)
   list-ok lift h others c gc q g gs v s k =
       all-ok c q (lift-product (stage Z lim) lift others) (lift-list (stage Z lim) lift others c (out (Z .n) q)) (λ s. refl) (λ t f s. refl)
       (product-ok lift h others) gc g gs v s k
@@ -182,7 +187,8 @@ module _ (Z : Setting) (lim : Limits) where
       go false = k
 
   abbrev ListsOk : Lift-list → Type 0
-  ListsOk lift = (others c : ℕ) → Good (Z .p) c → (q : E (Z .n)) (g : TVec (Z .n)) → Goods (Z .n) (Z .p) (Z .P) g → (v : TVec (Z .n)) (s : Tree.Sum) → SumOk v s
+  ListsOk lift = (others c : ℕ) → Good (Z .p) c → (q : E (Z .n)) (g : TVec (Z .n)) → Goods (Z .n) (Z .p) (Z .P) g → (v : TVec (Z .n)) (s : Tree.Sum)
+      → SumOk v s
       → Gives (SumOk (v ++ lin (S Z) (up Z) (scale (S Z) c (mapB (S Z) (L Z .act q) g)))) (lift others c (out (Z .n) q) (vec (Z .n) g) s)
 
   module _ (room : ℕ) (lift : Lift-list) (h : ListsOk lift) (beside : ℕ) (cache : Cache) (x : Mono (Z .n)) (k : CacheOk cache) (fx : Fits Z lim x) where
@@ -211,11 +217,13 @@ module _ (Z : Setting) (lim : Limits) where
 
     -- with a reducer
     opened-ok : (r : Reducer (S Z) (L Z) (F Z) x) → red Z x ≡ inl r → {o : Option Vector} → Holds (Summed (up Z x)) o
-        → Gives (SubtreeOk x) (or-open o (stage Z lim) room lift beside cache (mono (Z .n) x) (suc (r .at .1)) (turned (S Z) (L Z) (F Z) r) (out (Z .n) (r .at .0)))
+        → Gives (SubtreeOk x) (or-open o (stage Z lim) room lift beside cache (mono (Z .n) x) (suc (r .at .1)) (turned (S Z) (L Z) (F Z) r)
+        (out (Z .n) (r .at .0)))
     opened-ok r known (holds s) = gives (s, k)
     opened-ok r known nothing = grown-ok r known (ltb beside (lim .tree))
 
-    lift-by-ok : {a : Answer} (s : Answered Z x a) → red Z x ≡ red-by Z x s → Gives (SubtreeOk x) (lift-by a (stage Z lim) room lift beside cache (mono (Z .n) x))
+    lift-by-ok : {a : Answer} (s : Answered Z x a) → red Z x ≡ red-by Z x s
+        → Gives (SubtreeOk x) (lift-by a (stage Z lim) room lift beside cache (mono (Z .n) x))
     lift-by-ok (miss o) known = gives (
       record {
         form = [];
@@ -233,7 +241,8 @@ module _ (Z : Setting) (lim : Limits) where
 
   -- a subtree is the lifting of its monomial
   term-ok : (room left : ℕ) → TermsOk (lift-term (stage Z lim) room left)
-  term-ok room zero others cache x k fx = lift-by-ok room (λ o c q f s. refusal 14) (λ o c gc q g gs v s k. refuses tt) others cache x k fx (answered Z x) refl
+  term-ok room zero others cache x k fx = lift-by-ok room (λ o c q f s. refusal 14) (λ o c gc q g gs v s k. refuses tt) others cache x k fx
+      (answered Z x) refl
   term-ok room (suc left) others cache x k fx =
       lift-by-ok room (lift-list (stage Z lim) (lift-term (stage Z lim) room left))
       (list-ok (lift-term (stage Z lim) room left) (term-ok room left)) others cache x k fx (answered Z x) refl
@@ -262,14 +271,17 @@ module _ (Z : Setting) (lim : Limits) where
     where
       e : k .0 .form ≡ vector Z x
       e = canonical-is (S Z) (module-over (Z .n) (Z .code) (Z .f ∷ Z .b)) (k .0 .form) (reckon (S Z) (L Z) (F Z) (red Z) x) (k .0 .canonical)
-          (Vec.same-trans (S Z) (k .0 .like) (Vec.same-cons (S Z) (1, x) (Vec.same-lin (S Z) (up Z) (Vec.scale-one (S Z) (times (S Z) (L Z) (F Z .f) x)))))
+          (Vec.same-trans (S Z) (k .0 .like) (Vec.same-cons (S Z) (1, x)
+          (Vec.same-lin (S Z) (up Z) (Vec.scale-one (S Z) (times (S Z) (L Z) (F Z .f) x)))))
 
   pub tree-ok : (room : ℕ) (cache : Cache) (x : Mono (Z .n)) → x .1 < length (Z .f) → Fits Z lim x → CacheOk cache
       → Gives (Grown x) (tree (stage Z lim) room cache (mono (Z .n) x))
   tree-ok room cache x l fx k =
-      subst (λ g. Gives (Grown x) (lift-vector (stage Z lim) (lift-term (stage Z lim) room (lim .tree)) 1 (out (Z .n) (x .0)) g ((1, mono (Z .n) x) ∷ [], cache)))
+      subst (λ g. Gives (Grown x) (lift-vector (stage Z lim) (lift-term (stage Z lim) room (lim .tree)) 1 (out (Z .n) (x .0)) g
+      ((1, mono (Z .n) x) ∷ [], cache)))
       (sym (flat-at (Z .n) (Z .f) (x .1)))
-      (ends-map (grown-from x) (all-ok 1 (x .0) (lift-vector-product (stage Z lim) lift) (lift-vector (stage Z lim) lift 1 (out (Z .n) (x .0))) (λ s. refl)
+      (ends-map (grown-from x) (all-ok 1 (x .0) (lift-vector-product (stage Z lim) lift) (lift-vector (stage Z lim) lift 1 (out (Z .n) (x .0)))
+      (λ s. refl)
       (λ t f s. refl)
       (vector-product-ok lift (term-ok room (lim .tree))) (good-one (Z .p) (Z .P)) (getD (Z .f) (x .1) [])
       (canonical-good (Z .n) (Z .p) (Z .P) (Z .code) (Z .b) (getD (Z .f) (x .1) []) (Z .canons (x .1) l)) ((1, x) ∷ []) ((1, mono (Z .n) x) ∷ [], cache)

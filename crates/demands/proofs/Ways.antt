@@ -57,7 +57,8 @@ run-as K W N m = go (start K W m)
     go unfinished = refl
 
 module _ (Z : Setting) (lim : Limits) where
-  pub copies-in : (I : Strategy → Type 0) (exact : Type 0) (exactly : (W : Strategy) → I W → exact → Exact Z lim W) (W : Strategy) → Picks W → I W → (N : ℕ)
+  pub copies-in : (I : Strategy → Type 0) (exact : Type 0) (exactly : (W : Strategy) → I W → exact → Exact Z lim W) (W : Strategy) → Picks W → I W
+      → (N : ℕ)
       → All-in Z lim I exact exactly (copies N W)
   copies-in I exact exactly W K i zero = tt
   copies-in I exact exactly W K i (suc N) = (K, i, copies-in I exact exactly W K i N)
@@ -90,7 +91,8 @@ module _ (Z : Setting) (lim : Limits) where
   run-lifts : (W : Strategy) → Picks W → (N : ℕ) (cache : Cache) → CacheOk Z lim cache → (x : Mono (Z .n)) → x .1 < length (Z .f) → Fits Z lim x
       → Gives (Grown Z lim x) (run (stage Z lim) W N (mono (Z .n) x) >>= λ v. done (v, cache))
   run-lifts W K N cache k x l fx =
-      ends-then (subst (Gives (Lifts x)) (sym (run-as (stage Z lim) W N (mono (Z .n) x))) (picks-lift W (copies N W) (copies-in Free ⊥ never W K tt N) x l fx))
+      ends-then (subst (Gives (Lifts x)) (sym (run-as (stage Z lim) W N (mono (Z .n) x)))
+      (picks-lift W (copies N W) (copies-in Free ⊥ never W K tt N) x l fx))
       (λ v h. gives (record { is = h .is; ok = h .ok; cache = k }))
 
   one-lifted : (way : Lifting) (N : ℕ) (cache : Cache) → CacheOk Z lim cache → (x : Mono (Z .n)) → x .1 < length (Z .f) → Fits Z lim x
@@ -134,10 +136,12 @@ module _ (Z : Setting) (lim : Limits) where
     where
       added : (s : Tree.Sum) → Grown Z lim x s → (b : Bool) → (T b → l .1 + length (s .0) ≤ lim .level-terms)
           → ((l′ : Lifted) → Gives (Level-lifted l′ xs) (lift-all (stage Z lim) (lift-one (stage Z lim) way N) l′ (s .1) (monos (Z .n) xs)))
-          → Gives (Level-lifted l (x ∷ xs)) (add-vector b l (s .0) >>= λ l′. lift-all (stage Z lim) (lift-one (stage Z lim) way N) l′ (s .1) (monos (Z .n) xs))
+          → Gives (Level-lifted l (x ∷ xs)) (add-vector b l (s .0) >>= λ l′. lift-all (stage Z lim) (lift-one (stage Z lim) way N) l′ (s .1)
+          (monos (Z .n) xs))
       added s g false f ih = refuses tt
       added s g true f ih = ends-map (λ w r. record {
         is = r .is ∙ append-assoc (l .0) (s .0 ∷ []) (flat (Z .n) (vectors xs)) ∙ ap (λ z. l .0 ++ z ∷ flat (Z .n) (vectors xs)) (g .is);
         ok = (g .ok, r .ok);
-        few = λ e. let m : (l .1 + length (s .0)) + total xs ≤ lim .level-terms = r .few (f tt) in omega (arith, ap length (g .is), vec-length (Z .n) (vector Z x));
+        few = λ e. let m : (l .1 + length (s .0)) + total xs ≤ lim .level-terms = r .few (f tt) in
+            omega (arith, ap length (g .is), vec-length (Z .n) (vector Z x));
       }) (ih (l .0 ++ s .0 ∷ [], l .1 + length (s .0)))

@@ -60,7 +60,8 @@ out-long-enough? lim state out = leb (state-words lim) (length state) and leb (o
 -- a well-formed file refused all the same, where the run ends so: "for 9 the frame term's number, for 13 to 15 .. 0 while accepting"
 pub data Not-accepted (lim : Limits) (bytes : Bytes) (q : Parameters) : ℕ → ℕ → Vector → Type 0 where
   no-basis : {f : Level} {place : ℕ} {value : Vector} (bound : ℕ) → Well-formed-file lim bytes q f → read lim bound bytes ≡ refused 9 place value
-      → T (between 1 place (length (frame (lim .numbering (q .code)) (leading-monomials f)))) → Shows-why lim q f value → Not-accepted lim bytes q 9 place value
+      → T (between 1 place (length (frame (lim .numbering (q .code)) (leading-monomials f)))) → Shows-why lim q f value
+      → Not-accepted lim bytes q 9 place value
   limit-met : {f : Level} {number : ℕ} (bound : ℕ) → Well-formed-file lim bytes q f → read lim bound bytes ≡ refused number 0 [] → T (limit? number)
       → Not-accepted lim bytes q number 0 []
 
@@ -117,7 +118,8 @@ pub data Lift-form (lim : Limits) (k : ℕ) (way : Way) (state work cache : Word
   refused-as : {number : ℕ} (bound : ℕ) → T (long-enough? lim way state work) → T (not (eleven? lim (meant lim state) k (k - 1)))
       → T (lifts? lim k (lifting-by way cache)) → lift lim bound (meant lim state) k (lifting-by way cache) ≡ refused number k [] → T (limit? number)
       → Lift-form lim k way state work cache (number, k, zeros state, zeros work, zeros cache)
-  no-level : T (long-enough? lim way state work) → T (eleven? lim (meant lim state) k (k - 1)) → Lift-form lim k way state work cache (11, 0, state, work, cache)
+  no-level : T (long-enough? lim way state work) → T (eleven? lim (meant lim state) k (k - 1))
+      → Lift-form lim k way state work cache (11, 0, state, work, cache)
   no-number : T (long-enough? lim way state work) → T (not (eleven? lim (meant lim state) k (k - 1))) → T (not (lifts? lim k (lifting-by way cache)))
       → Lift-form lim k way state work cache (12, 0, state, work, cache)
   too-short : T (not (long-enough? lim way state work)) → Lift-form lim k way state work cache (16, 0, state, work, cache)
@@ -154,7 +156,8 @@ pub record Demand-1 (lim : Limits) : Type 0 where
 pub data Read-right (lim : Limits) (q : Parameters) (f : Level) : Result State → Type 0 where
   accepts : Gröbner-basis q [] f → Read-right lim q f (done (record { parameters = q; levels = f ∷ [] }))
   limited : {number : ℕ} → T (limit? number) → Read-right lim q f (refused number 0 [])
-  stopped : {place : ℕ} {value : Vector} → T (between 1 place (length (frame (lim .numbering (q .code)) (leading-monomials f)))) → Shows-why lim q f value
+  stopped : {place : ℕ} {value : Vector} → T (between 1 place (length (frame (lim .numbering (q .code)) (leading-monomials f))))
+      → Shows-why lim q f value
       → Read-right lim q f (refused 9 place value)
   open-yet : Read-right lim q f unfinished
 

@@ -17,7 +17,8 @@ use Rattle.definitions.specs.State.{term-sound?}
 use Rattle.definitions.specs.Reckoning.{Reckoning, reckoned}
 use Rattle.demands.specs.Notions.{Zero, Combination, Syzygy, Leads, Divided, Gröbner-basis}
 
--- "9 leaves .. the value where division stopped": of the file's module, a combination of the elements, not zero, descending, and its leading monomial has no reducer
+-- "9 leaves .. the value where division stopped": of the file's module, a combination of the elements, not zero, descending, and its leading monomial
+-- has no reducer
 pub record Shows-why (lim : Limits) (q : Parameters) (f : Level) (value : Vector) : Type 0 where
   -- coefficients 1 to p − 1, components 1 to s, exponents in range and zero past n
   pub sound : T (every (term-sound? lim q (q .s)) value)
@@ -35,7 +36,8 @@ pub record Vector-right (q : Parameters) (below : List Level) (m : Monomial) (v 
   pub leads : Leads (compare-over (q .code) below) (q .p) m v
   pub descends : T (strictly-descending? (compare-over (q .code) below) v)
 
--- a level over the levels below: a vector for each frame term; every syzygy, of any degree, is a combination of them; a Gröbner basis for the induced order
+-- a level over the levels below: a vector for each frame term; every syzygy, of any degree, is a combination of them; a Gröbner basis for the induced
+-- order
 pub record Level-right (q : Parameters) (code : ℕ) (below : List Level) (f : Level) : Type 0 where
   pub count : length f ≡ length (frame code (leading-monomials (highest below)))
   pub vectors : (k : ℕ) → k < length f → Vector-right q below (getD (frame code (leading-monomials (highest below))) k ([], 0)) (getD f k [])

@@ -1,4 +1,5 @@
--- "Whichever term each hybrid step picks, codes or not": runs in which each step has its own strategy, so that a pick may depend on all that went before.
+-- "Whichever term each hybrid step picks, codes or not": runs in which each step has its own strategy, so that a pick may depend on all that went
+-- before.
 use mathlib.Core.Path.{_≡_}
 use mathlib.Core.Option.{none, some}
 use mathlib.Core.List.{List, [], _∷_}

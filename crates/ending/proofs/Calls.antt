@@ -115,7 +115,8 @@ module _ (lim : Limits) (B : Bytewise lim) where
       let long = long-enough? lim division state work in
       then-fixed-ends (λ a. record { number = a .0; place = a .1; state = a .2; out = [] })
       (λ n. read-reply lim n (meant lim state) long file then λ a. some (read-left lim state work a))
-      (then-fixed-ends (λ a. read-left lim state work a) (λ n. read-reply lim n (meant lim state) long file) (read-reply-ends (meant lim state) long file))
+      (then-fixed-ends (λ a. read-left lim state work a) (λ n. read-reply lim n (meant lim state) long file)
+      (read-reply-ends (meant lim state) long file))
   lent-call-ends state (lift-with k way work cache) =
       let long = long-enough? lim way state work in
       let by = lifting-by way cache in
@@ -129,5 +130,6 @@ module _ (lim : Limits) (B : Bytewise lim) where
   lent-calls-end state [] = (0, tt)
   lent-calls-end state (c ∷ cs) =
       then-ends (λ n. lent-call lim n state c) (λ n a. lent-calls lim n (a .state) cs then λ lefts. some (a ∷ lefts)) (lent-call-steady lim state c)
-      (λ a. then-fixed (λ lefts. some (a ∷ lefts)) (λ n. lent-calls lim n (a .state) cs) (lent-calls-steady lim (a .state) cs)) (lent-call-ends state c) λ a.
+      (λ a. then-fixed (λ lefts. some (a ∷ lefts)) (λ n. lent-calls lim n (a .state) cs) (lent-calls-steady lim (a .state) cs))
+      (lent-call-ends state c) λ a.
       then-fixed-ends (λ lefts. a ∷ lefts) (λ n. lent-calls lim n (a .state) cs) (lent-calls-end (a .state) cs)

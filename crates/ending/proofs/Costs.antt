@@ -23,7 +23,8 @@ use Rattle.ending.proofs.Ranks.{Listed, all-monomials-listed, rank, ran
 -- ## The products of a reducer
 
 -- the vector of a number, or the empty one, which is descending too
-pub descending-of : (p : ℕ) (order : Monomial → Monomial → Comparison) (f : Level) → All (Descending p order) f → (j : ℕ) → Descending p order (vector-of f j)
+pub descending-of : (p : ℕ) (order : Monomial → Monomial → Comparison) (f : Level) → All (Descending p order) f → (j : ℕ)
+    → Descending p order (vector-of f j)
 descending-of p order f d zero = record { proper = tt; strictly = tt }
 descending-of p order f d (suc j) = all-at (Descending p order) [] (record { proper = tt; strictly = tt }) f j d
 
@@ -41,7 +42,8 @@ module _ (p : ℕ) (order : Monomial → Monomial → Comparison) (O : Module-or
       → All (λ u. Listed (all-monomials f) (u .1 .1)) v → Reducing p v t c q
       → All (Lower order f q (rank order f (t .1))) (rest v)
   others-lower t c q h [] d k r = tt
-  others-lower t c q h (l ∷ v) d k r = all-map₂ Below (λ u. Listed (all-monomials f) (u .1 .1)) (Lower order f q (rank order f (t .1))) one v belows (k .1)
+  others-lower t c q h (l ∷ v) d k r = all-map₂ Below (λ u. Listed (all-monomials f) (u .1 .1)) (Lower order f q (rank order f (t .1))) one v belows
+      (k .1)
     where
       led : Leading 8 q (l .1) (t .1)
       led = reducing-leads p t c q l v r 8 (d .proper .0 .shaped .long) h
@@ -58,7 +60,11 @@ module _ (p : ℕ) (order : Monomial → Monomial → Comparison) (O : Module-or
           (descending-above (Has 8) order (O .orders) l v (d .proper .0 .shaped .long) eights (d .strictly))
 
       one : (u : Term) → Below u → Listed (all-monomials f) (u .1 .1) → Lower order f q (rank order f (t .1)) u
-      one u b listed = record { eight = e; ranked = λ fits. rank-below order O f (t .1) (shifted q (u .1)) h e above (listed (product q (u .1 .0)) e fits) }
+      one u b listed = record {
+        eight = e;
+        ranked = λ fits. rank-below order O f (t .1) (shifted q (u .1)) h e above
+            (listed (product q (u .1 .0)) e fits);
+      }
         where
           e : length (product q (u .1 .0)) ≡ 8
           e = length-product 8 q (u .1 .0) (led .long) (b .0)
@@ -129,7 +135,8 @@ module _ (p : ℕ) (order : Monomial → Monomial → Comparison) (O : Module-or
   cost-by : (k : ℕ) (t : Term) → T (fits? 255 (t .1 .0)) → (a : Answer) → answer p (heads p f) t ≡ a → at (suc k) (t .1) ≡ worth (at k) f true a
   unfolding cost
   cost-by k t h a e =
-      worth-alike (at k) (fits? 255 (t .1 .0)) (answer p (heads p f) (1, t .1)) (answer p (heads p f) t) (answer-alike p 1 (heads p f) (t .1) 1 (t .0)) ∙
+      worth-alike (at k) (fits? 255 (t .1 .0)) (answer p (heads p f) (1, t .1)) (answer p (heads p f) t) (answer-alike p 1 (heads p f) (t .1) 1 (t .0))
+      ∙
       (λ i. worth (at k) f (true-is (fits? 255 (t .1 .0)) h i) (e i))
 
   falls-at : (k : ℕ) (t : Term) (j c : ℕ) (q : Exponents) → rank order f (t .1) < suc k → Has 8 (t .1) → T (fits? 255 (t .1 .0))
@@ -139,7 +146,8 @@ module _ (p : ℕ) (order : Monomial → Monomial → Comparison) (O : Module-or
       omega (
         arith,
         cost-by k t fits (reducer j c q) e,
-        products-same (suc k) k (cost-same (suc k) k) (rank order f (t .1)) (omega arith) (omega arith) q (rest (vector-of f j)) (products-lower t j c q h e),
+        products-same (suc k) k (cost-same (suc k) k) (rank order f (t .1)) (omega arith) (omega arith) q (rest (vector-of f j))
+            (products-lower t j c q h e),
       )
 
   -- a term with a reducer costs more than the reducer's other products

@@ -112,17 +112,20 @@ module _ (S : Stage) (X : Well S) (W : Strategy) where
         cheaper : total-products h q (rest (vector-of (S .family) j)) < h (t .1)
         cheaper =
             let k = good-at (r .value) g i l in
-            cost-falls (R .p) (S .below) (X .order) (S .family) (X .family) t j c q (good-eight (t .1) k) (good-fits (t .1) k) (by-family (reducer j c q) e)
+            cost-falls (R .p) (S .below) (X .order) (S .family) (X .family) t j c q (good-eight (t .1) k) (good-fits (t .1) k)
+            (by-family (reducer j c q) e)
 
         fall : If-done (Below (total h (r .value)) h) added
         fall =
             products-fall R (X .prime) (X .small) (W .drops) h (r .value) i g l c q (ap lower-order? e) (S .below) (vector-of (S .family) j)
-            (descending-of (R .p) (S .below) (S .family) (X .family) j) (answer-reducing (R .p) (S .family) t j c q (by-family (reducer j c q) e)) cheaper
+            (descending-of (R .p) (S .below) (S .family) (X .family) j)
+            (answer-reducing (R .p) (S .family) t j c q (by-family (reducer j c q) e)) cheaper
 
     dropped-falls : answer (R .p) (R .heads) t ≡ lower-order → (stops : Bool) → If-done Next (without-reducer stops S r i)
     dropped-falls e true = tt
     dropped-falls e false =
-        let one = cost-lower (R .p) (S .below) (X .order) (S .family) (X .family) t (good-fits (t .1) (good-at (r .value) g i l)) (by-family lower-order e) in
+        let one = cost-lower (R .p) (S .below) (X .order) (S .family) (X .family) t (good-fits (t .1) (good-at (r .value) g i l))
+        (by-family lower-order e) in
         (thinned-good (without-thinned (r .value) i) g, omega (arith, without-total h (r .value) i l, one))
 
     answer-falls : (a : Answer) → answer (R .p) (R .heads) t ≡ a → If-done Next (by-answer S W r i a)
@@ -154,7 +157,8 @@ module _ (S : Stage) (X : Well S) (W : Strategy) where
       by hs v = total (cost (many (S .family)) (R .p) hs (S .family)) v
 
   -- the same over a prime, heads and a family that are known to be the stage's, as a loop has them
-  pub step-falls-as : {p : ℕ} {hs : Vector} {f : Level} → R .p ≡ p → R .heads ≡ hs → S .family ≡ f → Picks (W .pick) → (r r′ : Run) → T (good? (r .value))
+  pub step-falls-as : {p : ℕ} {hs : Vector} {f : Level} → R .p ≡ p → R .heads ≡ hs → S .family ≡ f → Picks (W .pick) → (r r′ : Run)
+      → T (good? (r .value))
       → step S W r ≡ done (on r′) → spent p hs f (r′ .value) < spent p hs f (r .value)
   step-falls-as a b c k r r′ g e = subst₃ (λ p hs f. spent p hs f (r′ .value) < spent p hs f (r .value)) a b c (step-falls k r r′ g e)
 

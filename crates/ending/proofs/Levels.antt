@@ -60,7 +60,8 @@ module _ (S : Stage) (X : Well S) where
   lift-all-ends way l cache [] s = (0, tt)
   lift-all-ends way l cache (m ∷ ms) s =
       bind-ends-any (λ n. lift-one S way n cache m) (λ n v. with-vector S l v >>= λ l′. lift-all S (lift-one S way n) l′ (v .1) ms)
-      (lift-one-steady S way cache m) (λ v. later-steady S way l v ms (λ l′. lift-all-steady S way l′ (v .1) ms)) (lift-one-ends way cache m (s .0)) λ v.
+      (lift-one-steady S way cache m) (λ v. later-steady S way l v ms (λ l′. lift-all-steady S way l′ (v .1) ms))
+      (lift-one-ends way cache m (s .0)) λ v.
       bind-ends-any (λ n. with-vector S l v) (λ n l′. lift-all S (lift-one S way n) l′ (v .1) ms)
       (steady-fixed finished? (with-vector S l v)) (λ l′. lift-all-steady S way l′ (v .1) ms) (0, with-vector-finished S l v) λ l′.
       lift-all-ends way l′ (v .1) ms (s .1)

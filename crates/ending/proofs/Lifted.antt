@@ -119,7 +119,8 @@ module _ (S : Stage) (X : Well S) (O : Orders (Has 8) (S .above)) (W : Strategy)
       go : (o : Option ℕ) → ((i : ℕ) → o ≡ some i → i < length (r .value)) → If-done (Proper-step (R .p)) (by-pick S W r o)
       go none l = b
       go (some i) l =
-          answer-proper r a b i (all-inside (Proper (R .p)) no-term (r .value) i (l i refl) a) (answer (R .p) (R .heads) (getD (r .value) i no-term)) refl
+          answer-proper r a b i (all-inside (Proper (R .p)) no-term (r .value) i (l i refl) a)
+          (answer (R .p) (R .heads) (getD (r .value) i no-term)) refl
 
   -- what a run ends with
   abbrev Sorted : Vector → Type 0

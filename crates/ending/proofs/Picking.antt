@@ -17,7 +17,8 @@ abbrev Inside : Vector → Option ℕ → Type 0
 Inside v none = Unit {0}
 Inside v (some i) = i < length v
 
-greatest-inside : (order : Monomial → Monomial → Comparison) (i : ℕ) (best : Best) (v : Vector) → best .0 < i → greatest-from order i best v < i + length v
+greatest-inside : (order : Monomial → Monomial → Comparison) (i : ℕ) (best : Best) (v : Vector) → best .0 < i
+    → greatest-from order i best v < i + length v
 greatest-inside order i best [] l = omega arith
 greatest-inside order i best (t ∷ v) l = go (order (t .1) (best .1)) (λ b k. greatest-inside order (suc i) b v k)
   where
@@ -36,7 +37,8 @@ by-code-inside order code [] = go (eqb code 1) (eqb code 2)
     go false false = tt
 by-code-inside order code (t ∷ v) = go (eqb code 1) (eqb code 2)
   where
-    go : (one two : Bool) → Inside (t ∷ v) (elim one [ true ↦ greatest order (t ∷ v) | false ↦ elim two [ true ↦ newest (t ∷ v) | false ↦ oldest (t ∷ v) ] ])
+    go : (one two : Bool)
+        → Inside (t ∷ v) (elim one [ true ↦ greatest order (t ∷ v) | false ↦ elim two [ true ↦ newest (t ∷ v) | false ↦ oldest (t ∷ v) ] ])
     go true two = omega (arith, greatest-inside order 1 (0, t .1) v (omega arith))
     go false true = omega arith
     go false false = omega arith

@@ -151,7 +151,8 @@ all-monomials-listed (v ∷ f) = (
   where
     first : (u : Vector) → All (λ t. Listed (all-of v) (t .1 .1)) u → All (λ t. Listed (all-monomials (v ∷ f)) (t .1 .1)) u
     first =
-        all-map (λ t. Listed (all-of v) (t .1 .1)) (λ t. Listed (all-monomials (v ∷ f)) (t .1 .1)) (λ t l e h k. Memᴰ·append-left (all-monomials f) (l e h k))
+        all-map (λ t. Listed (all-of v) (t .1 .1)) (λ t. Listed (all-monomials (v ∷ f)) (t .1 .1))
+        (λ t l e h k. Memᴰ·append-left (all-monomials f) (l e h k))
 
     later : (u : Vector) → All (λ t. Listed (all-monomials f) (t .1 .1)) u → All (λ t. Listed (all-monomials (v ∷ f)) (t .1 .1)) u
     later =

@@ -105,7 +105,8 @@ module _ (lim : Limits) (B : Bytewise lim) where
 
   read-descending : (bytes : Bytes) (n : ℕ) → If-done Descending-state (read lim n bytes)
   read-descending bytes n =
-      if-done-bind (λ f. T (sound? lim (basis-state f))) Descending-state (problem lim bytes) (accepted lim n) (problem-sound lim (B .variables) bytes) λ f s.
+      if-done-bind (λ f. T (sound? lim (basis-state f))) Descending-state (problem lim bytes) (accepted lim n)
+      (problem-sound lim (B .variables) bytes) λ f s.
       if-done-bind (λ u. Unit {0}) Descending-state (accept lim (f .0 .p) (f .0 .code) (f .1) n) (λ u. done (basis-state f))
       (if-done-always (λ u. Unit {0}) (λ u. tt) (accept lim (f .0 .p) (f .0 .code) (f .1) n)) (λ u v. sound-descending lim (basis-state f) s)
 

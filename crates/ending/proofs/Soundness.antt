@@ -35,7 +35,8 @@ rest-descending : (p code : ℕ) (below : List Level) → Descending-levels p co
 rest-descending p code [] d = tt
 rest-descending p code (f ∷ below) d = d .1
 
-highest-descending : (p code : ℕ) (below : List Level) → Descending-levels p code below → All (Descending p (compare-over code (rest below))) (highest below)
+highest-descending : (p code : ℕ) (below : List Level) → Descending-levels p code below
+    → All (Descending p (compare-over code (rest below))) (highest below)
 highest-descending p code [] d = tt
 highest-descending p code (f ∷ below) d = d .0
 
@@ -63,7 +64,8 @@ module _ (lim : Limits) (q : Parameters) (P : Prime (q .p)) where
       let s = term-says lim q components t h in
       record {
         shaped = record { long = s .eight; component = between-low 1 (t .1 .1) components (s .component) };
-        coefficient = range-nonzero (q .p) P (t .0) (between-low 1 (t .0) (q .p - 1) (s .coefficient)) (between-high 1 (t .0) (q .p - 1) (s .coefficient));
+        coefficient = range-nonzero (q .p) P (t .0) (between-low 1 (t .0) (q .p - 1) (s .coefficient))
+            (between-high 1 (t .0) (q .p - 1) (s .coefficient));
       }
 
   vector-descending : (components most : ℕ) (below : List Level) (v : Vector) → T (vector-sound? lim q components most below v)

@@ -33,7 +33,8 @@ fresh-says m v t =
 fresh-shows : (m : Monomial) (v : Vector) → Fresh m v → T (fresh? m v)
 fresh-shows m v h =
     all-every (λ u. not (same-monomial? m (u .1))) v
-    (all-map (λ u. m ≢ u .1) (λ u. T (not (same-monomial? m (u .1)))) (λ u n. not-T (same-monomial? m (u .1)) (λ t. n (same-monomial-says m (u .1) t))) v h)
+    (all-map (λ u. m ≢ u .1) (λ u. T (not (same-monomial? m (u .1)))) (λ u n. not-T (same-monomial? m (u .1)) (λ t. n (same-monomial-says m (u .1) t)))
+    v h)
 
 pub good-says : (v : Vector) → T (good? v) → Good v
 unfolding good?
@@ -65,7 +66,8 @@ pub good-fits : (m : Monomial) → T (good-monomial? m) → T (fits? 255 (m .0))
 good-fits m t = and-left (fits? 255 (m .0)) (leb 1 (m .1)) (and-right (eqb (length (m .0)) 8) (fits? 255 (m .0) and leb 1 (m .1)) t)
 
 pub good-component : (m : Monomial) → T (good-monomial? m) → 1 ≤ m .1
-good-component m t = leb→le 1 (m .1) (and-right (fits? 255 (m .0)) (leb 1 (m .1)) (and-right (eqb (length (m .0)) 8) (fits? 255 (m .0) and leb 1 (m .1)) t))
+good-component m t = leb→le 1 (m .1) (and-right (fits? 255 (m .0)) (leb 1 (m .1))
+    (and-right (eqb (length (m .0)) 8) (fits? 255 (m .0) and leb 1 (m .1)) t))
 
 -- ## Terms leave, coefficients change
 

@@ -22,10 +22,12 @@ module _ (s out : Words) (k v : ℕ) where
   -- by the tests' values
   abbrev by-tests : Bool → Bool → State → Bool → Bool → Bool → Bool → Fetch
   by-tests long long′ X sound inside has own =
-      fetch-left out (choose (not (long and long′)) (refuse 16 X) (choose (not sound || (inside and not has)) (refuse 11 X) (choose (not (inside and own)) (refuse 12 X) (fetch-definition X k v))))
+      fetch-left out (choose (not (long and long′)) (refuse 16 X) (choose (not sound || (inside and not has)) (refuse 11 X)
+      (choose (not (inside and own)) (refuse 12 X) (fetch-definition X k v))))
 
   abbrev at-tests : Bool → Bool → State → Fetch
-  at-tests long long′ X = by-tests long long′ X (sound? document-01 X) (between 1 k most-levels) (has-level? X k) (between 1 v (length (highest (up-to X k))))
+  at-tests long long′ X = by-tests long long′ X (sound? document-01 X) (between 1 k most-levels) (has-level? X k)
+      (between 1 v (length (highest (up-to X k))))
 
   pub short-state : length s < state-length → _≡_ {A = Fetch} (16, 0, out) (fetch-call document-01 k v s out)
   short-state h = sym (ap (λ b. at-tests b (leb vector-length (length out)) (meant document-01 s)) (lt-leb state-length (length s) h))
@@ -66,7 +68,8 @@ module _ (s out : Words) (k v : ℕ) where
 
         pub not-complete : true ≡ between 1 k most-levels → getD s 4 0 ≤ k → _≡_ {A = Fetch} (11, 0, out) (fetch-call document-01 k v s out)
         not-complete e h =
-            in-state true false (between 1 v (length (highest (up-to X k)))) (sym e) (le-ltb k (length (levels-at document-01 s (getD s 4 0))) (omega (arith, length-levels s (getD s 4 0), h))) refl
+            in-state true false (between 1 v (length (highest (up-to X k)))) (sym e)
+            (le-ltb k (length (levels-at document-01 s (getD s 4 0))) (omega (arith, length-levels s (getD s 4 0), h))) refl
 
         module _ (inside : between 1 k most-levels ≡ true) (has : k < getD s 4 0) where
           has-it : has-level? X k ≡ true
@@ -78,7 +81,8 @@ module _ (s out : Words) (k v : ℕ) where
           pub no-such-vector : false ≡ between 1 v (count-at s k) → _≡_ {A = Fetch} (12, 0, out) (fetch-call document-01 k v s out)
           no-such-vector e = in-state true true false inside has-it (count-is ∙ sym e)
 
-          pub fetched : true ≡ between 1 v (count-at s k) → (z : Words) → z ≡ padded (length out) (rows-of (vector-of (level-at document-01 s k) v)) → _≡_ {A = Fetch} (0, 0, z) (fetch-call document-01 k v s out)
+          pub fetched : true ≡ between 1 v (count-at s k) → (z : Words) → z ≡ padded (length out) (rows-of (vector-of (level-at document-01 s k) v))
+              → _≡_ {A = Fetch} (0, 0, z) (fetch-call document-01 k v s out)
           fetched e z w =
               (λ i. (0, 0, (w ∙ ap (λ f. padded (length out) (rows-of (vector-of f v))) (sym (highest-is s k has))) i))
               ∙ in-state true true true inside has-it (count-is ∙ sym e)

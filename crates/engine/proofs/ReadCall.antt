@@ -39,7 +39,8 @@ accepted-finished Yes v = tt
 accepted-finished (Refused number place) v = tt
 accepted-finished (Stopped i n) v = tt
 
-module _ (s : Words) (long : state-length ≤ length s) (whole : s ≡ encode document-01 (length s) (decode document-01 s)) (area : ℕ) (n : ℕ) (v : Vector) where
+module _ (s : Words) (long : state-length ≤ length s) (whole : s ≡ encode document-01 (length s) (decode document-01 s)) (area : ℕ) (n : ℕ)
+    (v : Vector) where
   abbrev goes-on : Result (Unit {0}) → Read
   goes-on r = settled-words (length s) area (r >>= λ u. done (decode document-01 s))
 
@@ -59,7 +60,8 @@ module _ (s : Words) (long : state-length ≤ length s) (whole : s ≡ encode do
 
 -- ## A file that was read
 
-module _ (size : ℕ) (big : state-length ≤ size) (file : Bytes) (f : Parameters × Level) (e : problem document-01 file ≡ done f) (s : Words) (w : s ≡ words-read size f) where
+module _ (size : ℕ) (big : state-length ≤ size) (file : Bytes) (f : Parameters × Level) (e : problem document-01 file ≡ done f) (s : Words)
+    (w : s ≡ words-read size f) where
   pub read-accepted : (area n : ℕ) (r : Read) → r ≡ accepted-words n s area → r ≡ settled-words size area (read document-01 n file)
   read-accepted area n r h = h ∙ (λ i. settled-words (length-is size big file f e s w i) area (accepted-is size big file f e s w n i))
 
@@ -87,7 +89,12 @@ module _ (size area : ℕ) (big : state-length ≤ size) (file : Bytes) (number 
       go (done f) p b q = absurd (some-number (ap (λ t. t .0) q))
       go (refused m o value) p b q = record {
         words =
-            (λ i. (q i .0, q i .1, (ap (λ t. t .2) q ∙ sym (encode-empty document-01 size big)) i, (ap (λ a. padded a []) l ∙ ap (λ x. padded area (rows-of x)) (sym (b .1))) i))
+            (λ i. (
+              q i .0,
+              q i .1,
+              (ap (λ t. t .2) q ∙ sym (encode-empty document-01 size big)) i,
+              (ap (λ a. padded a []) l ∙ ap (λ x. padded area (rows-of x)) (sym (b .1))) i,
+            ))
             ∙ sym (ap (λ x. settled-words size area (x >>= accepted document-01 0)) p);
         over = subst (λ x. T (finished? (x >>= accepted document-01 0))) (sym p) tt;
       }
@@ -98,26 +105,32 @@ module _ (size area : ℕ) (big : state-length ≤ size) (file : Bytes) (number 
 module _ (file : Bytes) (s w : Words) where
   abbrev by-length : ℕ → Bool → Bool → Option Read
   by-length n long long′ =
-      choose (not (long and long′)) (some (refuse 16 (meant document-01 s))) (settled (read document-01 n file)) then λ a. some (read-left document-01 s w a)
+      choose (not (long and long′)) (some (refuse 16 (meant document-01 s))) (settled (read document-01 n file))
+      then λ a. some (read-left document-01 s w a)
 
   pub read-short-state : length s < state-length → (n : ℕ) × (_≡_ {A = Option Read} (some (16, 0, s, w)) (read-call document-01 n file s w))
   read-short-state h = (0, sym (ap (λ b. by-length 0 b (leb value-length (length w))) (lt-leb state-length (length s) h)))
 
-  pub read-short-work : state-length ≤ length s → length w < value-length → (n : ℕ) × (_≡_ {A = Option Read} (some (16, 0, s, w)) (read-call document-01 n file s w))
+  pub read-short-work : state-length ≤ length s → length w < value-length → (n : ℕ)
+      × (_≡_ {A = Option Read} (some (16, 0, s, w)) (read-call document-01 n file s w))
   read-short-work l h = (
     0,
-    sym (ap (by-length 0 true) (lt-leb value-length (length w) h)) ∙ sym (ap (λ b. by-length 0 b (leb value-length (length w))) (le-leb state-length (length s) l)),
+    sym (ap (by-length 0 true) (lt-leb value-length (length w) h)) ∙ sym
+        (ap (λ b. by-length 0 b (leb value-length (length w))) (le-leb state-length (length s) l)),
   )
 
-  settled-then : (x : Result State) → T (finished? x) → _≡_ {A = Option Read} (some (settled-words (length s) (length w) x)) (settled x then λ a. some (read-left document-01 s w a))
+  settled-then : (x : Result State) → T (finished? x) → _≡_ {A = Option Read} (some (settled-words (length s) (length w) x))
+      (settled x then λ a. some (read-left document-01 s w a))
   settled-then (done X) t = refl
   settled-then (refused number place value) t = refl
   settled-then unfinished t = absurd t
 
-  pub read-long : state-length ≤ length s → value-length ≤ length w → (n : ℕ) (r : Read) → r ≡ settled-words (length s) (length w) (read document-01 n file)
+  pub read-long : state-length ≤ length s → value-length ≤ length w → (n : ℕ) (r : Read) → r
+      ≡ settled-words (length s) (length w) (read document-01 n file)
       → T (finished? (read document-01 n file)) → (m : ℕ) × (some r ≡ read-call document-01 m file s w)
   read-long l h n r e t = (
     n,
     ap some e ∙ settled-then (read document-01 n file) t
-        ∙ sym (ap (by-length n true) (le-leb value-length (length w) h)) ∙ sym (ap (λ b. by-length n b (leb value-length (length w))) (le-leb state-length (length s) l)),
+        ∙ sym (ap (by-length n true) (le-leb value-length (length w) h))
+        ∙ sym (ap (λ b. by-length n b (leb value-length (length w))) (le-leb state-length (length s) l)),
   )

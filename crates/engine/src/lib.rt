@@ -31,8 +31,10 @@ pub struct Reply {
 
 // The basis that was just read, accepted or refused.
 fn accept(state: &mut [u16], work: &mut [u16]) -> Reply
-    requires { ⌜ Base (now state) 0 × (now state ≡ encode document-01 (length (now state)) (decode document-01 (now state))) × (value-length ≤ length (now work)) ⌝ }
-    ensures { λ r. ⌜ ((n : ℕ) × (read-reply r (now (state .exit)) (now (work .exit)) ≡ accepted-words n (now (state .entry)) (length (now (work .entry)))) × T (finished? (accepted-over (now (state .entry)) n))) ⌝ }
+    requires { ⌜ Base (now state) 0 × (now state ≡ encode document-01 (length (now state)) (decode document-01 (now state)))
+        × (value-length ≤ length (now work)) ⌝ }
+    ensures { λ r. ⌜ ((n : ℕ) × (read-reply r (now (state .exit)) (now (work .exit))
+        ≡ accepted-words n (now (state .entry)) (length (now (work .entry)))) × T (finished? (accepted-over (now (state .entry)) n))) ⌝ }
 {
     match by_runs::accept_level(work, state) {
         Accepted::Yes => {
@@ -57,7 +59,9 @@ fn accept(state: &mut [u16], work: &mut [u16]) -> Reply
 // Buffers long enough.
 fn read_file(file: &[u8], state: &mut [u16], work: &mut [u16]) -> Reply
     requires { ⌜ (state-length ≤ length (now state)) × (value-length ≤ length (now work)) ⌝ }
-    ensures { λ r. ⌜ ((n : ℕ) × (read-reply r (now (state .exit)) (now (work .exit)) ≡ settled-words (length (now (state .entry))) (length (now (work .entry))) (read-definition document-01 n (now (file .entry)))) × T (finished? (read-definition document-01 n (now (file .entry))))) ⌝ }
+    ensures { λ r. ⌜ ((n : ℕ) × (read-reply r (now (state .exit)) (now (work .exit))
+        ≡ settled-words (length (now (state .entry))) (length (now (work .entry))) (read-definition document-01 n (now (file .entry))))
+        × T (finished? (read-definition document-01 n (now (file .entry))))) ⌝ }
 {
     let r = problem::read(file, state);
     let number = r.number;
@@ -73,7 +77,8 @@ fn read_file(file: &[u8], state: &mut [u16], work: &mut [u16]) -> Reply
 
 // "read a file and accept or refuse its basis"
 pub fn read(file: &[u8], state: &mut [u16], work: &mut [u16]) -> Reply
-    ensures { λ r. ⌜ ((n : ℕ) × (some (read-reply r (now (state .exit)) (now (work .exit))) ≡ read-call document-01 n (now (file .entry)) (now (state .entry)) (now (work .entry)))) ⌝ }
+    ensures { λ r. ⌜ ((n : ℕ) × (some (read-reply r (now (state .exit)) (now (work .exit)))
+        ≡ read-call document-01 n (now (file .entry)) (now (state .entry)) (now (work .entry)))) ⌝ }
 {
     if state.len() < words::STATE_LENGTH {
         return Reply {
@@ -112,7 +117,8 @@ fn vector_number(state: &[u16], k: usize, v: usize) -> bool
 
 // Level k is complete.
 fn fetch_level(state: &[u16], out: &mut [u16], k: usize, v: usize) -> Reply
-    requires { ⌜ (state-length ≤ length (now state)) × T (holds-state? document-01 (now state)) × (1 ≤ k) × (k ≤ most-levels) × (k < getD (now state) 4 0) × (vector-length ≤ length (now out)) ⌝ }
+    requires { ⌜ (state-length ≤ length (now state)) × T (holds-state? document-01 (now state)) × (1 ≤ k) × (k ≤ most-levels)
+        × (k < getD (now state) 4 0) × (vector-length ≤ length (now out)) ⌝ }
     ensures { λ r. ⌜ fetch-reply r (now (out .exit)) ≡ fetch-call document-01 k v (now (state .entry)) (now (out .entry)) ⌝ }
 {
     if vector_number(state, k, v) {

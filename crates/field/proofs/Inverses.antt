@@ -23,7 +23,8 @@ inverse-bound zero m p a h k = let z : a ≡ 0 = omega arith in rw z (sym (inver
 inverse-bound (suc n) zero p a h k = let z : a ≡ 0 = omega arith in rw z
 inverse-bound (suc n) (suc m) p a h k = go a h k (λ b x y. inverse-bound n m p b x y)
   where
-    go : (a : ℕ) → a ≤ suc n → a ≤ suc m → ((b : ℕ) → b ≤ n → b ≤ m → inverse-by n p b ≡ inverse-by m p b) → inverse-by (suc n) p a ≡ inverse-by (suc m) p a
+    go : (a : ℕ) → a ≤ suc n → a ≤ suc m → ((b : ℕ) → b ≤ n → b ≤ m → inverse-by n p b ≡ inverse-by m p b) → inverse-by (suc n) p a
+        ≡ inverse-by (suc m) p a
     go zero h k r = refl
     go (suc zero) h k r = refl
     go (suc (suc c)) h k r =

@@ -99,7 +99,8 @@ prime-only p t = record { two = P .big; only = only }
       where
         go : Dec (suc (suc d) ≡ p) → (suc (suc d) ≡ 1) ⊎ (suc (suc d) ≡ p)
         go (yes e) = inr e
-        go (no ne) = absurd (P .alone (suc (suc d)) (omega arith) (let b = P .big in omega (arith, le-of-dvd {m = suc (suc d)} (omega arith) v)) (mod-eq-zero-of-dvd (suc (suc d)) v))
+        go (no ne) = absurd (P .alone (suc (suc d)) (omega arith) (let b = P .big in omega (arith, le-of-dvd {m = suc (suc d)} (omega arith) v))
+            (mod-eq-zero-of-dvd (suc (suc d)) v))
 
 pub only-prime : (p : ℕ) → Only-divisors p → T (prime? p)
 only-prime p h = prime-shows p (record { big = h .two; alone = alone })

@@ -29,7 +29,8 @@ use Rattle.files.proofs.Forms.{greater-is, prime-tested, ranges-tested,
 use Rattle.files.proofs.Taken.{passed, elements-taken}
 use Rattle.files.proofs.Why.{shape-says, or-says, same, sequence-says, sequence-tested, range-says, range-tested, prime-told, prime-shown}
 
-guard-not : {B : Type 0} (b : Bool) (number place : ℕ) (f : Unit {0} → Result B) → ¬ (T b) → (unless-refused b number place >>= f) ≡ refused number place []
+guard-not : {B : Type 0} (b : Bool) (number place : ℕ) (f : Unit {0} → Result B) → ¬ (T b) → (unless-refused b number place >>= f)
+    ≡ refused number place []
 guard-not true number place f n = absurd (n tt)
 guard-not false number place f n = refl
 
@@ -110,7 +111,8 @@ module _ (lim : Limits) (wide : Wide lim) (q : Parameters) (wq : Well-formed-par
   later-refused here f (bad-term {line} {later} {number} i t eight past says why) =
       ap (λ o. by-shape o lim q here (terms-of f) f line later (λ g. body lim q (suc here) (suc (terms-of f)) g later))
       (says-shaped lim letter-T (3 + q .n) line (i ∷ term-fields (q .n) t) (λ e. omega (arith, e)) (λ e. omega (arith, e)) says)
-      ∙ ap (λ r. r >>= λ g. body lim q (suc here) (suc (terms-of f)) g later) (term-refused here f i t number (term-back lim wide q wq i t eight past) why)
+      ∙ ap (λ r. r >>= λ g. body lim q (suc here) (suc (terms-of f)) g later)
+      (term-refused here f i t number (term-back lim wide q wq i t eight past) why)
   later-refused here f (bad-count {line} {later} c says n) =
       ap (λ o. by-shape o lim q here (terms-of f) f line later (λ g. body lim q (suc here) (suc (terms-of f)) g later))
       (ap (shaped (lim .field) letter-T (3 + q .n)) (says-line lim letter-E 1 line (c ∷ []) (λ e. omega (arith, e)) says)
@@ -120,7 +122,8 @@ module _ (lim : Limits) (wide : Wide lim) (q : Parameters) (wq : Well-formed-par
       (λ t. let z : ¬ (c ≡ 0) = λ z. T-not (eqb c 0) (and-left (not (eqb c 0)) (eqb c (terms-of f)) t) (same c 0 z) in
       n (omega (arith, z), eqb→eq c (terms-of f) (and-right (not (eqb c 0)) (eqb c (terms-of f)) t)))
 
-  end-refused : (here : ℕ) (f : Level) (tail : Bytes) (line : Line) (later : List Line) → 1 ≤ terms-of f → terms-of f ≤ lim .t-lines → lines tail ≡ line ∷ later
+  end-refused : (here : ℕ) (f : Level) (tail : Bytes) (line : Line) (later : List Line) → 1 ≤ terms-of f → terms-of f ≤ lim .t-lines → lines tail ≡ line
+      ∷ later
       → body lim q here (terms-of f) f (lines (end-line f ++ tail)) ≡ refused 1 (suc here) []
   end-refused here f tail line later some-term short e =
       ap (body lim q here c f) (lines-printed letter-E (λ e. omega (arith, e)) (c ∷ []) tail)
@@ -147,7 +150,8 @@ module _ (lim : Limits) (wide : Wide lim) (q : Parameters) (wq : Well-formed-par
       ∙ ap (after-r lim (lines later)) (shaped-listed (lim .field) letter-R 4 (λ e. omega (arith, e)) v (parameter-numbers lim wide q wq) refl)
       ∙ ap (λ r. r >>= λ q′. body lim q′ 2 0 [] (lines later) >>= λ g. done (q′, g)) first
       ∙ ap (λ r. r >>= λ g. done (q, g))
-      (elements-taken lim wide q wq (refused number place []) 2 f [] 2 0 (terms-of f) tail (so .elements) (omega (arith, so .few)) (omega arith) (so .short)
+      (elements-taken lim wide q wq (refused number place []) 2 f [] 2 0 (terms-of f) tail (so .elements) (omega (arith, so .few)) (omega arith)
+      (so .short)
       (omega arith) k)
     where
       v : List ℕ
@@ -170,13 +174,15 @@ lines-refused lim wide bytes number place (first-shape n p line later e s) =
     ap (first-line lim) e ∙ ap (after-r lim later) (shaped-none lim letter-R 4 line (λ e. omega (arith, e)) s) ∙ (λ i. refused (sym n i) (sym p i) [])
 lines-refused lim wide bytes number place (first-prime n p line later e x₁ x₂ x₃ x₄ s h) =
     let q : Parameters = record { p = x₁; n = x₂; code = x₃; s = x₄ } in
-    ap (first-line lim) e ∙ ap (after-r lim later) (says-shaped lim letter-R 4 line (x₁ ∷ x₂ ∷ x₃ ∷ x₄ ∷ []) (λ e. omega (arith, e)) (λ e. omega (arith, e)) s)
+    ap (first-line lim) e ∙ ap (after-r lim later) (says-shaped lim letter-R 4 line (x₁ ∷ x₂ ∷ x₃ ∷ x₄ ∷ []) (λ e. omega (arith, e))
+    (λ e. omega (arith, e)) s)
     ∙ ap (λ r. r >>= λ q′. body lim q′ 2 0 [] later >>= λ g. done (q′, g))
     (guard-not (prime-in-range? lim x₁) 2 1 (λ u. unless-refused (in-ranges? lim q) 3 1 >>= λ u′. done q) (λ t. h (prime-told lim wide bytes x₁ t)))
     ∙ (λ i. refused (sym n i) (sym p i) [])
 lines-refused lim wide bytes number place (first-range n p line later e x₁ x₂ x₃ x₄ s h w) =
     let q : Parameters = record { p = x₁; n = x₂; code = x₃; s = x₄ } in
-    ap (first-line lim) e ∙ ap (after-r lim later) (says-shaped lim letter-R 4 line (x₁ ∷ x₂ ∷ x₃ ∷ x₄ ∷ []) (λ e. omega (arith, e)) (λ e. omega (arith, e)) s)
+    ap (first-line lim) e ∙ ap (after-r lim later) (says-shaped lim letter-R 4 line (x₁ ∷ x₂ ∷ x₃ ∷ x₄ ∷ []) (λ e. omega (arith, e))
+    (λ e. omega (arith, e)) s)
     ∙ ap (λ r. r >>= λ q′. body lim q′ 2 0 [] later >>= λ g. done (q′, g))
     (passed (prime-in-range? lim x₁) 2 1 (λ u. unless-refused (in-ranges? lim q) 3 1 >>= λ u′. done q) (prime-shown lim wide bytes x₁ h)
     ∙ guard-not (in-ranges? lim q) 3 1 (λ u′. done q) (λ t. w (parameters-well lim q (prime-shown lim wide bytes x₁ h) t)))
@@ -200,4 +206,5 @@ reason-refused lim wide bytes number place l r =
 
 pub too-long-refused : (lim : Limits) (bytes : Bytes) → lim .file < length bytes → problem lim bytes ≡ refused 1 0 []
 too-long-refused lim bytes l =
-    guard-not (leb (length bytes) (lim .file)) 1 0 (λ u. first-line lim (lines bytes)) (λ t. let k = leb→le (length bytes) (lim .file) t in omega (arith, l, k))
+    guard-not (leb (length bytes) (lim .file)) 1 0 (λ u. first-line lim (lines bytes))
+    (λ t. let k = leb→le (length bytes) (lim .file) t in omega (arith, l, k))

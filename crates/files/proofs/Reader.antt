@@ -58,7 +58,8 @@ module _ (lim : Limits) (wide : Wide lim) (room : Roomy lim) where
         b .is .no-value,
       )
 
-      by-lines : length bytes ≤ lim .file → (r : Result (Parameters × Level)) → problem lim bytes ≡ r → If-refused (Bad-lines lim wide room (lines bytes)) r
+      by-lines : length bytes ≤ lim .file → (r : Result (Parameters × Level)) → problem lim bytes ≡ r
+          → If-refused (Bad-lines lim wide room (lines bytes)) r
           → Answered lim bytes r
       by-lines l (done x) e b = let t = taken-only lim (wide .variables-in-eight) bytes (x .0) (x .1) e in record { text = t .0; well = t .1; fits = l }
       by-lines l (refused number place value) e b = bad-line l number place value e b
@@ -79,7 +80,8 @@ module _ (lim : Limits) (wide : Wide lim) (room : Roomy lim) where
         (file-taken lim wide q f (w .well) (subst (λ b. length b ≤ lim .file) (w .text) (w .fits)));
     refuses = refuses;
     answered = answered;
-    once = λ q r f g w u e. done-only (q, f) (r, g) (sym (lines-taken lim wide q f w) ∙ ap (λ b. first-line lim (lines b)) e ∙ lines-taken lim wide r g u);
+    once = λ q r f g w u e. done-only (q, f) (r, g) (sym (lines-taken lim wide q f w) ∙ ap (λ b. first-line lim (lines b)) e
+        ∙ lines-taken lim wide r g u);
   }
 
 -- there is one first bad line

@@ -39,5 +39,6 @@ pub record Reader-right (lim : Limits) : Type 0 where
 pub data Sheet-right (lim : Limits) (bytes : Bytes) : Type 0 where
   of-elements : (q : Parameters) (f : Level) → Well-formed-file lim bytes q f
       → ((bound : ℕ) → sheet lim bound bytes ≡ sheet-of lim bound (q .n) (accepted lim bound (q, f))) → Sheet-right lim bytes
-  of-refusal : (number place : ℕ) → Refused-right lim bytes number place → ((bound : ℕ) → sheet lim bound bytes ≡ some (printed letter-X (number ∷ place ∷ [])))
+  of-refusal : (number place : ℕ) → Refused-right lim bytes number place
+      → ((bound : ℕ) → sheet lim bound bytes ≡ some (printed letter-X (number ∷ place ∷ [])))
       → Sheet-right lim bytes

@@ -55,7 +55,8 @@ pub data Bad-term (lim : Limits) (q : Parameters) (f : Level) (i : ℕ) (t : Ter
 -- the lines after R and the T lines of f
 pub data Bad-later (lim : Limits) (q : Parameters) (f : Level) : List Line → ℕ → Type 0 where
   absent : Bad-later lim q f [] 1
-  no-shape : {line : Line} {later : List Line} → ((v : List ℕ) → ¬ (Says lim letter-T (3 + q .n) line v)) → ((v : List ℕ) → ¬ (Says lim letter-E 1 line v))
+  no-shape : {line : Line} {later : List Line} → ((v : List ℕ) → ¬ (Says lim letter-T (3 + q .n) line v))
+      → ((v : List ℕ) → ¬ (Says lim letter-E 1 line v))
       → Bad-later lim q f (line ∷ later) 1
   bad-term : {line : Line} {later : List Line} {number : ℕ} (i : ℕ) (t : Term) → length (t .1 .0) ≡ 8 → All (λ x. x ≡ 0) (drop (q .n) (t .1 .0))
       → Says lim letter-T (3 + q .n) line (i ∷ term-fields (q .n) t) → Bad-term lim q f i t number
@@ -66,7 +67,8 @@ pub data Bad-later (lim : Limits) (q : Parameters) (f : Level) : List Line → �
 -- the number and the place of a refusal, with the lines of the file
 pub data Reason (lim : Limits) (bytes : Bytes) (number place : ℕ) : Type 0 where
   no-first : number ≡ 1 → place ≡ 1 → lines bytes ≡ [] → Reason lim bytes number place
-  first-shape : number ≡ 1 → place ≡ 1 → (line : Line) (later : List Line) → lines bytes ≡ line ∷ later → ((v : List ℕ) → ¬ (Says lim letter-R 4 line v))
+  first-shape : number ≡ 1 → place ≡ 1 → (line : Line) (later : List Line) → lines bytes ≡ line ∷ later
+      → ((v : List ℕ) → ¬ (Says lim letter-R 4 line v))
       → Reason lim bytes number place
   first-prime : number ≡ 2 → place ≡ 1 → (line : Line) (later : List Line) → lines bytes ≡ line ∷ later → (p n code s : ℕ)
       → Says lim letter-R 4 line (p ∷ n ∷ code ∷ s ∷ [])

@@ -26,7 +26,8 @@ each-own : (P : Monomial → Type 0) (i : ℕ) → ((g : Exponents) → P (g, i)
 each-own P i p [] = tt
 each-own P i p (g ∷ gs) = (p g, each-own P i p gs)
 
-each-from : (code low high i : ℕ) (before ms : List Monomial) → low ≤ i → i + length ms ≤ high → Each (λ m. (low ≤ m .1) × (m .1 < high)) (frame-from code i before ms)
+each-from : (code low high i : ℕ) (before ms : List Monomial) → low ≤ i → i + length ms ≤ high
+    → Each (λ m. (low ≤ m .1) × (m .1 < high)) (frame-from code i before ms)
 each-from code low high i before [] l h = tt
 each-from code low high i before (m ∷ ms) l h =
     each-both (λ m. (low ≤ m .1) × (m .1 < high)) (frame-of code i before m) (frame-from code (suc i) (m ∷ before) ms)

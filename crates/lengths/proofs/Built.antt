@@ -1,4 +1,5 @@
--- The reckoning over a Gröbner basis: each level's leading monomials are its frame terms. No limit binds it: the leading monomials' exponents stay in range.
+-- The reckoning over a Gröbner basis: each level's leading monomials are its frame terms. No limit binds it: the leading monomials' exponents stay in
+-- range.
 use mathlib.Core.Path.{_≡_, refl, sym, ap, _∙_, subst}
 use mathlib.Core.Logic.{inl, inr}
 use mathlib.Core.Option.{Option, none, some}
@@ -58,7 +59,8 @@ module _ (lim : Limits) (q : Parameters) (P : Prime (q .p)) (eight : q .n ≤ 8)
     b = [];
     back = r .back;
     deep = r .deep;
-    fits = leading-within lim (q .n) (q .p) P (components lim q P eight (f ∷ [])) (tlevel (q .n) f) (here q P eight (tlevel (q .n) f) [] (r .deep) .somes) (r .fits);
+    fits = leading-within lim (q .n) (q .p) P (components lim q P eight (f ∷ [])) (tlevel (q .n) f)
+        (here q P eight (tlevel (q .n) f) [] (r .deep) .somes) (r .fits);
     basis = gröbner-in q P eight (tlevel (q .n) f) [] (r .deep) (subst (λ ls. Gröbner-basis q [] (highest ls)) (sym (r .back)) gb);
   }
     where
@@ -87,7 +89,8 @@ module _ (lim : Limits) (q : Parameters) (P : Prime (q .p)) (eight : q .n ≤ 8)
 
     -- a frame term's exponents are in range
     above-fits : (j : ℕ) → j < length above → Within lim (q .n) (lm (q .n) above j)
-    above-fits j l = term-fits Z lim eight fits (lm (q .n) above j) (subst (λ m. Member m terms) is (member-at terms j (omega (arith, right .count, i))))
+    above-fits j l = term-fits Z lim eight fits (lm (q .n) above j) (subst (λ m. Member m terms) is
+        (member-at terms j (omega (arith, right .count, i))))
       where
         i : j < length (flat (q .n) above)
         i = subst (λ z. j < z) (sym (flat-length (q .n) above)) l
@@ -121,7 +124,8 @@ module _ (lim : Limits) (q : Parameters) (P : Prime (q .p)) (eight : q .n ≤ 8)
       subst (λ ls. Built (g ∷ ls) × (leading-monomials g ≡ frame (lim .numbering (q .code)) (leading-monomials (highest ls)))) (u .back)
       (built-above (u .f) (u .b) (u .deep) (u .fits) (u .basis) N g (subst (λ ls. reckoned-level lim N (q .p) (q .code) ls ≡ some g) (sym (u .back)) e))
 
-  next-reached : (levels : List Monomial.Level) → Built levels → (M : ℕ) × ((g : Monomial.Level) × (reckoned-level lim M (q .p) (q .code) levels ≡ some g))
+  next-reached : (levels : List Monomial.Level) → Built levels → (M : ℕ)
+      × ((g : Monomial.Level) × (reckoned-level lim M (q .p) (q .code) levels ≡ some g))
   next-reached levels u =
       let (M, k) = level-bound (here q P eight (u .f) (u .b) (u .deep)) lim eight (u .fits) in
       let g : Monomial.Level = flat (q .n) (Exact.level-above lim q P eight (u .f) (u .b) (u .deep) (lim .numbering (q .code))) in
@@ -143,7 +147,8 @@ module _ (lim : Limits) (q : Parameters) (P : Prime (q .p)) (eight : q .n ≤ 8)
         let (M, (g, e)) = next-reached levels u in
         (g ∷ levels, ap suc l, tower-up levels g t (M, e), built-next levels u M g e .0)
 
-    pub reckoned-reached : (h : ℕ) → (levels : List Monomial.Level) × (length levels ≡ suc h) × Reckons lim (record { basis = some (q, f); h = h }) levels
+    pub reckoned-reached : (h : ℕ) → (levels : List Monomial.Level) × (length levels ≡ suc h)
+        × Reckons lim (record { basis = some (q, f); h = h }) levels
     reckoned-reached h = let (levels, l, t, u) = reached h in (levels, l, tower-reckons lim q f levels h l t)
 
     -- within any bound they are levels over f's leading monomials

@@ -50,7 +50,8 @@ levels-two = (refl, refl)
 abbrev three : List Monomial
 three = mono 0 1 0 1 ∷ mono 1 0 0 1 ∷ mono 0 0 0 1 ∷ []
 
-levels-three : (frame-terms 1 three ≡ mono 0 1 0 2 ∷ mono 0 1 0 3 ∷ mono 1 0 0 3 ∷ []) × (frame-terms 2 three ≡ mono 0 1 0 3 ∷ []) × (frame-terms 3 three ≡ [])
+levels-three : (frame-terms 1 three ≡ mono 0 1 0 2 ∷ mono 0 1 0 3 ∷ mono 1 0 0 3 ∷ []) × (frame-terms 2 three ≡ mono 0 1 0 3 ∷ [])
+    × (frame-terms 3 three ≡ [])
 levels-three = (refl, refl, refl)
 
 -- ## x, x²: ascending, but one divides the other, so that level n = 1 is not empty

@@ -99,7 +99,8 @@ zero-divides (x ∷ a) (y ∷ b) t =
     let i : x ≡ 0 = zero-here x a t in
     and-both (leb x y) (divides? a b) (le→leb x y (omega arith)) (zero-divides a b (zero-later x a t))
 
-last-divides : (k : ℕ) (a b : Exponents) → lexicographic a b ≡ smaller → T (zero? (take k a)) → T (zero? (take k b)) → T (zero? (drop (suc k) a)) → T (divides? a b)
+last-divides : (k : ℕ) (a b : Exponents) → lexicographic a b ≡ smaller → T (zero? (take k a)) → T (zero? (take k b)) → T (zero? (drop (suc k) a))
+    → T (divides? a b)
 last-divides k [] b e s t u = tt
 last-divides k (x ∷ a) [] e s t u = tt
 last-divides zero (x ∷ a) (y ∷ b) e s t u =
@@ -110,6 +111,7 @@ last-divides (suc k) (x ∷ a) (y ∷ b) e s t u =
     and-both (leb x y) (divides? a b) (le→leb x y (omega arith))
     (last-divides k a b (later-decides x y (lexicographic a b) i j e) (zero-later x (take k a) s) (zero-later y (take k b) t) u)
 
-pub one-variable : (n k : ℕ) → n ≤ suc k → (a b : Exponents) → lexicographic a b ≡ smaller → T (zero? (take k a)) → T (zero? (take k b)) → T (zero? (drop n a))
+pub one-variable : (n k : ℕ) → n ≤ suc k → (a b : Exponents) → lexicographic a b ≡ smaller → T (zero? (take k a)) → T (zero? (take k b))
+    → T (zero? (drop n a))
     → T (divides? a b)
 one-variable n k l a b e s t u = last-divides k a b e s t (zero-drop n (suc k) l a u)

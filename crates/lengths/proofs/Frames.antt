@@ -54,7 +54,8 @@ pairs-places R (m ∷ ms) h =
     (all-places (R m) ms (λ j l. h 0 (suc j) (omega arith) (omega arith)), pairs-places R ms (λ i j a b. h (suc i) (suc j) (omega arith) (omega arith)))
 
 -- .. with what holds of each
-pairs-with : (Q : Monomial → Type 0) (R : Monomial → Monomial → Type 0) (ms : List Monomial) → All Q ms → Pairs R ms → Pairs (λ l m. Q l × Q m × R l m) ms
+pairs-with : (Q : Monomial → Type 0) (R : Monomial → Monomial → Type 0) (ms : List Monomial) → All Q ms → Pairs R ms
+    → Pairs (λ l m. Q l × Q m × R l m) ms
 pairs-with Q R [] h k = tt
 pairs-with Q R (m ∷ ms) h k =
     (all-map₂ Q (R m) (λ x. Q m × Q x × R m x) (λ x a b. (h .0, a, b)) ms (h .1) (k .0), pairs-with Q R ms (h .1) (k .1))
@@ -74,7 +75,8 @@ module _ (code : ℕ) (P : Exponents → Type 0) (R : Monomial → Monomial → 
       turn s (inl e) r = subst P (sym e) (colon l m (h .0) s)
       turn s (inr j) r = r j
 
-      go : (b : Bool) → (T b → l .1 ≡ m .1) → Member g (elim b [ true ↦ into-ascending code c (generators code earlier m) | false ↦ generators code earlier m ])
+      go : (b : Bool) → (T b → l .1 ≡ m .1)
+          → Member g (elim b [ true ↦ into-ascending code c (generators code earlier m) | false ↦ generators code earlier m ])
           → (Member g (generators code earlier m) → P g) → P g
       go true s i r = turn (s tt) (into-either code c (generators code earlier m) g i) r
       go false s i r = r i
@@ -134,13 +136,18 @@ before-apart t u (inl l) h e = absurd (omega arith)
 before-apart t u (inr (k, l)) h e =
     (l, λ d. not-below-itself (u .0) (subst (λ (z : Monomial). lexicographic (z .0) (u .0) ≡ smaller) (h (divides-monomial t u e d)) l))
 
-before-all-apart : (t : Monomial) (us : List Monomial) → Before-all 1 t us → ((u : Monomial) → Member u us → T (divides-monomial? t u) → t ≡ u) → All (Parted t) us
+before-all-apart : (t : Monomial) (us : List Monomial) → Before-all 1 t us → ((u : Monomial) → Member u us → T (divides-monomial? t u) → t ≡ u)
+    → All (Parted t) us
 before-all-apart t [] b h = tt
 before-all-apart t (u ∷ us) b h = (before-apart t u (b .0) (h u (inl refl)), before-all-apart t us (b .1) (λ v i. h v (inr i)))
 
-ascending-pairs : (ts : List Monomial) → Ascending 1 ts → ((t u : Monomial) → Member t ts → Member u ts → T (divides-monomial? t u) → t ≡ u) → Pairs Parted ts
+ascending-pairs : (ts : List Monomial) → Ascending 1 ts → ((t u : Monomial) → Member t ts → Member u ts → T (divides-monomial? t u) → t ≡ u)
+    → Pairs Parted ts
 ascending-pairs [] a h = tt
-ascending-pairs (t ∷ ts) a h = (before-all-apart t ts (a .0) (λ u i. h t u (inl refl) (inr i)), ascending-pairs ts (a .1) (λ u v i j. h u v (inr i) (inr j)))
+ascending-pairs (t ∷ ts) a h = (
+  before-all-apart t ts (a .0) (λ u i. h t u (inl refl) (inr i)),
+  ascending-pairs ts (a .1) (λ u v i j. h u v (inr i) (inr j)),
+)
 
 -- frame terms with the same component stand ascending, and none divides another
 frame-pairs : (ms : List Monomial) → All (λ (m : Monomial). length (m .0) ≡ 8) ms → Pairs Parted (frame 1 ms)
@@ -186,7 +193,8 @@ module _ (n k : ℕ) where
 
   pub frame-none : n ≤ suc k → (ms : List Monomial) → Good n k ms → frame 1 ms ≡ []
   frame-none o ms g = none-there (frame 1 ms) (λ t i.
-      frame-has 1 (λ e. ⊥) (λ l m. Shape n k l × Shape n k m × Parted l m) (colon-none o) ms (pairs-with (Shape n k) Parted ms (g .shapes) (g .pairs)) t i)
+      frame-has 1 (λ e. ⊥) (λ l m. Shape n k l × Shape n k m × Parted l m) (colon-none o) ms
+      (pairs-with (Shape n k) Parted ms (g .shapes) (g .pairs)) t i)
 
   pairs-any : (ms : List Monomial) → Pairs (λ l m. Unit {0}) ms
   pairs-any [] = tt

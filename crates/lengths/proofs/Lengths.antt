@@ -46,10 +46,13 @@ bottom (f ∷ []) = f
 bottom (g ∷ f ∷ below) = bottom (f ∷ below)
 
 module _ (lim : Limits) (q : Parameters) where
-  exact-rising : lim .numbering (q .code) ≡ 1 → (g : Level) (below : List Level) → Exact lim q (g ∷ below) → Rising (leading-monomials (bottom (g ∷ below))) (g ∷ below)
+  exact-rising : lim .numbering (q .code) ≡ 1 → (g : Level) (below : List Level) → Exact lim q (g ∷ below)
+      → Rising (leading-monomials (bottom (g ∷ below))) (g ∷ below)
   exact-rising e g [] x = refl
-  exact-rising e g (f ∷ below) x =
-      (subst (λ c. leading-monomials g ≡ frame c (leading-monomials f)) e (level-leads q (lim .numbering (q .code)) (f ∷ below) g (x .0)), exact-rising e f below (x .1))
+  exact-rising e g (f ∷ below) x = (
+    subst (λ c. leading-monomials g ≡ frame c (leading-monomials f)) e (level-leads q (lim .numbering (q .code)) (f ∷ below) g (x .0)),
+    exact-rising e f below (x .1),
+  )
 
   bottom-sound : (g : Level) (below : List Level) → T (levels-sound? lim q (g ∷ below)) → T (levels-sound? lim q (bottom (g ∷ below) ∷ []))
   bottom-sound g [] s = s
@@ -77,7 +80,8 @@ module _ (lim : Limits) (N p code : ℕ) (f : Level) where
 
   reckoned-bottom : (h : ℕ) → Holds Over (reckoned-levels lim N p code f h)
   reckoned-bottom zero = holds (tt, refl)
-  reckoned-bottom (suc h) = holds-then (reckoned-bottom h) (λ levels o. holds-then (any-value (reckoned-level lim N p code levels)) (λ g u. holds (over-up g levels o)))
+  reckoned-bottom (suc h) = holds-then (reckoned-bottom h) (λ levels o. holds-then (any-value (reckoned-level lim N p code levels))
+      (λ g u. holds (over-up g levels o)))
     where
       any-value : (x : Option Level) → Holds (λ g. Unit {0}) x
       any-value none = Results.nothing
@@ -116,7 +120,8 @@ module _ (lim : Limits) (o : T (sensible? lim)) (one : (code : ℕ) → lim .num
           let (ls, l, k) = reckoned h in (
             ap length (demand-3 lim o .one-reckoning (At h) levels ls (N, r) k) ∙ l,
             rising-ends (q .n) f levels (some-variable lim q (says .ranges)) (basis-in lim q f (says .levels))
-                (holds-at r (reckoned-rising lim q (sound-prime lim o X file-sound) (sound-eight lim o X file-sound) f (says .levels) gb (one (q .code)) N h)),
+                (holds-at r (reckoned-rising lim q (sound-prime lim o X file-sound) (sound-eight lim o X file-sound) f (says .levels) gb
+                (one (q .code)) N h)),
           )
 
       empty-at : (levels : List Level) → length levels ≡ suc (suc (q .n)) → Reckons lim (At (suc (q .n))) levels → Ends-in (q .n) f levels
@@ -159,7 +164,8 @@ module _ (lim : Limits) (o : T (sensible? lim)) (one : (code : ℕ) → lim .num
   held-variables X (inl e) = subst (λ (Y : State). Y .parameters .n ≤ lim .variables) (sym e) (omega arith)
   held-variables X (inr s) =
       let q = X .parameters in
-      between-high 1 (q .n) (lim .variables) (and-left (between 1 (q .n) (lim .variables)) (between 1 (q .code) 3 and between 1 (q .s) (lim .components))
+      between-high 1 (q .n) (lim .variables) (and-left (between 1 (q .n) (lim .variables))
+      (between 1 (q .code) 3 and between 1 (q .s) (lim .components))
       (sound-says lim X s .ranges))
 
   no-20 : (n : ℕ) (state : Words) (cs : List Lent) (ls : List Left) → lent-calls lim n state cs ≡ some ls → Starts state cs ls
@@ -184,11 +190,14 @@ module _ (lim : Limits) (o : T (sensible? lim)) (one : (code : ℕ) → lim .num
 
   listed : (bytes : Bytes) (q : Parameters) (g : Level) (below : List Level) (l : Listed lim bytes q g below) → Ends-in (q .n) (l .basis) (g ∷ below)
   listed bytes q g below l =
-      let e : bottom (g ∷ below) ≡ l .basis = holds-at (l .reckoned .1) (reckoned-bottom lim (l .reckoned .0) (q .p) (q .code) (l .basis) (length below)) .1 in
-      files bytes q (l .basis) (l .well-formed) (subst (Gröbner-basis q []) e (bottom-basis lim q g below (l .exact))) (length below) (g ∷ below) (l .reckoned) .1
+      let e : bottom (g ∷ below) ≡ l .basis = holds-at (l .reckoned .1)
+      (reckoned-bottom lim (l .reckoned .0) (q .p) (q .code) (l .basis) (length below)) .1 in
+      files bytes q (l .basis) (l .well-formed) (subst (Gröbner-basis q []) e (bottom-basis lim q g below (l .exact))) (length below) (g ∷ below)
+      (l .reckoned) .1
 
   -- level m is empty and those below the highest are not, so that the highest is at most level m
-  few-levels : (m : ℕ) (g : Level) (below : List Level) → (m < length (g ∷ below) → level-of (g ∷ below) m ≡ []) → T (every filled? below) → length below ≤ m
+  few-levels : (m : ℕ) (g : Level) (below : List Level) → (m < length (g ∷ below) → level-of (g ∷ below) m ≡ []) → T (every filled? below)
+      → length below ≤ m
   few-levels m g below x t = go (leb (length below) m) (leb→le (length below) m) (nleb→lt (length below) m)
     where
       many : m < length below → ⊥
@@ -214,7 +223,8 @@ module _ (lim : Limits) (o : T (sensible? lim)) (one : (code : ℕ) → lim .num
 
   module _ (bytes : Bytes) where
     -- the last level is empty
-    all-listed : (q : Parameters) (g : Level) (below : List Level) → Listed lim bytes q g below → g ≡ [] → Ended-sheet lim bytes (printed-levels (q .n) (g ∷ below))
+    all-listed : (q : Parameters) (g : Level) (below : List Level) → Listed lim bytes q g below → g ≡ []
+        → Ended-sheet lim bytes (printed-levels (q .n) (g ∷ below))
     all-listed q (v ∷ g) below l e = absurd (is-filled (v ∷ g) tt e)
     all-listed q [] below l e =
         let x : Ends-in (q .n) (l .basis) ([] ∷ below) = listed bytes q [] below l in
@@ -232,7 +242,8 @@ module _ (lim : Limits) (o : T (sensible? lim)) (one : (code : ℕ) → lim .num
         x = listed bytes q g below l
 
         few : length below ≤ q .n
-        few = let h : length below < suc (q .n) = fewer-levels (suc (q .n)) g below (λ m. high-empty (q .n) (l .basis) g below x (omega (arith, m))) n in omega (arith, h)
+        few = let h : length below < suc (q .n) = fewer-levels (suc (q .n)) g below
+            (λ m. high-empty (q .n) (l .basis) g below x (omega (arith, m))) n in omega (arith, h)
 
         fewer : Prepared (leading-monomials (l .basis)) → length below < q .n
         fewer p = fewer-levels (q .n) g below (λ m. sym (highest-is g below) ∙ x .short p (length below) (omega arith) m) n

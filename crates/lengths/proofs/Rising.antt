@@ -62,7 +62,8 @@ Rising ms [] = ⊥
 Rising ms (g ∷ []) = leading-monomials g ≡ ms
 Rising ms (g ∷ b ∷ below) = (leading-monomials g ≡ frame 1 (leading-monomials b)) × Rising ms (b ∷ below)
 
-pub rising-up : (ms : List Monomial) (g : Level) (below : List Level) → leading-monomials g ≡ frame 1 (leading-monomials (highest below)) → Rising ms below
+pub rising-up : (ms : List Monomial) (g : Level) (below : List Level) → leading-monomials g ≡ frame 1 (leading-monomials (highest below))
+    → Rising ms below
     → Rising ms (g ∷ below)
 rising-up ms g [] e r = absurd r
 rising-up ms g (b ∷ below) e r = (e, r)
@@ -86,7 +87,8 @@ rising-level ms levels r k l =
     i : ℕ
     i = length levels - suc k
 
-pub rising-ends : (n : ℕ) (f : Level) (levels : List Level) → 1 ≤ n → T (every (in-variables? n) (leading-monomials f)) → Rising (leading-monomials f) levels
+pub rising-ends : (n : ℕ) (f : Level) (levels : List Level) → 1 ≤ n → T (every (in-variables? n) (leading-monomials f))
+    → Rising (leading-monomials f) levels
     → Ends-in n f levels
 rising-ends n f levels o t r = record {
   framed = framed;
@@ -121,11 +123,13 @@ module _ (lim : Limits) (q : Parameters) where
   all-in (v ∷ f) t =
       let s = vector-sound? lim q (q .s) (lim .t-lines) [] v in
       let ss = every (vector-sound? lim q (q .s) (lim .t-lines) []) f in
-      and-both (in-variables? (q .n) (leading v)) (every (in-variables? (q .n)) (leading-monomials f)) (leading-in v (and-left s ss t)) (all-in f (and-right s ss t))
+      and-both (in-variables? (q .n) (leading v)) (every (in-variables? (q .n)) (leading-monomials f)) (leading-in v (and-left s ss t))
+      (all-in f (and-right s ss t))
 
   pub basis-in : (f : Level) → T (levels-sound? lim q (f ∷ [])) → T (every (in-variables? (q .n)) (leading-monomials f))
   basis-in f t = all-in f (basis-says lim q f t .vectors)
 
   pub some-variable : T (in-ranges? lim q) → 1 ≤ q .n
   some-variable t =
-      between-low 1 (q .n) (lim .variables) (and-left (between 1 (q .n) (lim .variables)) (between 1 (q .code) 3 and between 1 (q .s) (lim .components)) t)
+      between-low 1 (q .n) (lim .variables) (and-left (between 1 (q .n) (lim .variables))
+      (between 1 (q .code) 3 and between 1 (q .s) (lim .components)) t)

@@ -58,7 +58,8 @@ pub data Ended-sheet (lim : Limits) (bytes : Bytes) : Bytes → Type 0 where
       → Ended-sheet lim bytes (x-lines (q .n) number place value)
 
 pub record Levels-end (lim : Limits) : Type 0 where
-  -- "For any accepted file level n + 1 is empty": it is there in the reckoning, which no limit binds. A file is accepted if its elements are a Gröbner basis
+  -- "For any accepted file level n + 1 is empty": it is there in the reckoning, which no limit binds. A file is accepted if its elements are a Gröbner
+  -- basis
   pub empty : (bytes : Bytes) (q : Parameters) (f : Level) → Well-formed-file lim bytes q f → Gröbner-basis q [] f
       → (below : List Level) × Reckons lim (record { basis = some (q, f); h = suc (q .n) }) ([] ∷ below)
   -- the reckoning of such a file has levels up to any number h, and they end so

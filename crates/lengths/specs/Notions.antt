@@ -37,7 +37,8 @@ pub record Prepared (ms : List Monomial) : Type 0 where
   pub sorted : Sorted ms
   pub apart : Apart ms
 
--- The frame terms of level k over LM f_1 .. LM f_r, "with the same component .. numbered by ascending lexicographic monomial, whatever the file's order code".
+-- The frame terms of level k over LM f_1 .. LM f_r, "with the same component .. numbered by ascending lexicographic monomial, whatever the file's order
+-- code".
 -- A level's vectors have its frame terms in front, so that these are the leading monomials over which the next frame is formed.
 abbrev pub frame-terms : ℕ → List Monomial → List Monomial
 frame-terms zero ms = ms

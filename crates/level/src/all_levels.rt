@@ -6,7 +6,19 @@ ghost use mathlib.Core.List.{[]};
 ghost use Prim.Native.Nat.{_≤_};
 ghost use lib.ListN.{length};
 ghost use Rattle.level.specs.by_runs.Stages.{Base, leveled-of};
-ghost use Rattle.level.specs.all_levels.Level.{Liftable, Chosen, way-by, Settles, state-over, stored, told, Lifted-by, Kept-as, Lifted-next, Reached};
+ghost use Rattle.level.specs.all_levels.Level.{
+  Liftable,
+  Chosen,
+  way-by,
+  Settles,
+  state-over,
+  stored,
+  told,
+  Lifted-by,
+  Kept-as,
+  Lifted-next,
+  Reached,
+};
 ghost use Rattle.definitions.specs.Places.{value-length};
 use crate::by_runs;
 use crate::by_runs::Leveled;

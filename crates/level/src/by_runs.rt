@@ -11,7 +11,25 @@ ghost use Rattle.definitions.specs.Places.{row-length, value-length, table-leng
 ghost use Rattle.state.specs.soundness.Places.{count-below};
 ghost use Rattle.runs.specs.frame_terms.Vectors.{frame-terms};
 ghost use Rattle.runs.specs.reduction.Grounds.{tables-length};
-ghost use Rattle.level.specs.by_runs.Stages.{Base, usual, Within, ground-at, joined, Tables-at, stage-at, Framed-by, lifted-over, lift-over, leveled-of, Stored-as, accepted-over, accepted-with, Shown, Left-in, value-in};
+ghost use Rattle.level.specs.by_runs.Stages.{
+  Base,
+  usual,
+  Within,
+  ground-at,
+  joined,
+  Tables-at,
+  stage-at,
+  Framed-by,
+  lifted-over,
+  lift-over,
+  leveled-of,
+  Stored-as,
+  accepted-over,
+  accepted-with,
+  Shown,
+  Left-in,
+  value-in,
+};
 use runs::frame_terms;
 use runs::frame_terms::Accepted;
 use runs::frame_terms::Lifted;
@@ -84,8 +102,10 @@ pub fn ground_of(state: &[u16], j: usize, b: Bounds) -> Ground
 
 // Spans, ends and images behind the heads.
 fn join_tables(tables: &mut [u16], spans: &[u16], ends: &[u16], below: &[u16], above: &[u16])
-    requires { ⌜ (tables-length ≤ length (now tables)) × (spans-length ≤ length (now spans)) × (ends-length ≤ length (now ends)) × (table-length ≤ length (now below)) × (table-length ≤ length (now above)) ⌝ }
-    ensures { λ _. ⌜ now (tables .exit) ≡ joined (now (tables .entry)) (now (spans .entry)) (now (ends .entry)) (now (below .entry)) (now (above .entry)) ⌝ }
+    requires { ⌜ (tables-length ≤ length (now tables)) × (spans-length ≤ length (now spans)) × (ends-length ≤ length (now ends))
+        × (table-length ≤ length (now below)) × (table-length ≤ length (now above)) ⌝ }
+    ensures { λ _. ⌜ now (tables .exit) ≡ joined (now (tables .entry)) (now (spans .entry)) (now (ends .entry)) (now (below .entry))
+        (now (above .entry)) ⌝ }
 {
     terms::copy(tables, reduction::SPANS, spans, words::SPANS_LENGTH);
     terms::copy(tables, reduction::ENDS, ends, words::ENDS_LENGTH);
@@ -119,7 +139,8 @@ fn lift_frame(
     w: Strategy,
     b: Bounds,
 ) -> Lifted
-    requires { ⌜ Base (now state) j × Tables-at (now state) j (now tables) × Framed-by (now state) j count (now frame) × (lifted-length ≤ length (now out)) × (value-length ≤ length (now work)) × Within b ⌝ }
+    requires { ⌜ Base (now state) j × Tables-at (now state) j (now tables) × Framed-by (now state) j count (now frame)
+        × (lifted-length ≤ length (now out)) × (value-length ≤ length (now work)) × Within b ⌝ }
     ensures { λ x. ⌜ lifted-over b (now (state .entry)) j w count (now (frame .entry)) x (now (out .exit)) ⌝ }
 {
     let mut vector = [0u16; words::VECTOR_LENGTH];
@@ -148,8 +169,10 @@ fn lift_with(
     w: Strategy,
     b: Bounds,
 ) -> Leveled
-    requires { ⌜ Base (now state) j × Tables-at (now state) j (now tables) × (lifted-length ≤ length (now out)) × (value-length ≤ length (now work)) × Within b ⌝ }
-    ensures { λ x. ⌜ ((n : ℕ) × (v : Words) × (leveled-of x (now (out .exit)) v ≡ lift-over b (now (state .entry)) j w n)) × Stored-as x (now (out .exit)) ⌝ }
+    requires { ⌜ Base (now state) j × Tables-at (now state) j (now tables) × (lifted-length ≤ length (now out)) × (value-length ≤ length (now work))
+        × Within b ⌝ }
+    ensures { λ x. ⌜ ((n : ℕ) × (v : Words) × (leveled-of x (now (out .exit)) v ≡ lift-over b (now (state .entry)) j w n))
+        × Stored-as x (now (out .exit)) ⌝ }
 {
     let mut framed = [0u16; words::TABLE_LENGTH];
     let mut gens = [0u16; words::TABLE_LENGTH];
@@ -175,7 +198,8 @@ pub fn lift_level(
     b: Bounds,
 ) -> Leveled
     requires { ⌜ Base (now state) j × (lifted-length ≤ length (now out)) × (value-length ≤ length (now work)) × Within b ⌝ }
-    ensures { λ x. ⌜ ((n : ℕ) × (v : Words) × (leveled-of x (now (out .exit)) v ≡ lift-over b (now (state .entry)) j w n)) × Stored-as x (now (out .exit)) ⌝ }
+    ensures { λ x. ⌜ ((n : ℕ) × (v : Words) × (leveled-of x (now (out .exit)) v ≡ lift-over b (now (state .entry)) j w n))
+        × Stored-as x (now (out .exit)) ⌝ }
 {
     let mut tables = [0u16; words::TABLES_LENGTH];
     make_tables(&mut tables, state, j);
@@ -214,8 +238,10 @@ fn accept_frame(
     count: usize,
     tables: &[u16],
 ) -> Accepted
-    requires { ⌜ Base (now state) 0 × Tables-at (now state) 0 (now tables) × Framed-by (now state) 0 count (now frame) × (value-length ≤ length (now work)) ⌝ }
-    ensures { λ x. ⌜ ((n : ℕ) × (v : Vector) × (accepted-with x v ≡ accept-from (stage-at usual (now (state .entry)) 0) n 1 (frame-terms (now (frame .entry)) count)) × Shown x v (now (work .exit))) ⌝ }
+    requires { ⌜ Base (now state) 0 × Tables-at (now state) 0 (now tables) × Framed-by (now state) 0 count (now frame)
+        × (value-length ≤ length (now work)) ⌝ }
+    ensures { λ x. ⌜ ((n : ℕ) × (v : Vector) × (accepted-with x v ≡ accept-from (stage-at usual (now (state .entry)) 0) n 1
+        (frame-terms (now (frame .entry)) count)) × Shown x v (now (work .exit))) ⌝ }
 {
     let mut vector = [0u16; words::VECTOR_LENGTH];
     let g = ground_of(state, 0, usual());

@@ -14,7 +14,8 @@ use Rattle.definitions.specs.Lists.{_and_, _then_, choose, between}
 use Rattle.definitions.specs.Result.{Result, finished?}
 use Rattle.definitions.specs.State.{State, empty, sound?, has-level?, up-to}
 use Rattle.definitions.specs.Calls.{refuse, settled, pick-code?, lift}
-use Rattle.definitions.specs.Layout.{Words, Way, division, hybrid, tree, Lift, lifting-by, work-words, levels-at, encode, decode, holds-state?, meant, lift-left, lift-call}
+use Rattle.definitions.specs.Layout.{Words, Way, division, hybrid, tree, Lift, lifting-by, work-words, levels-at, encode, decode, holds-state?, meant}
+use Rattle.definitions.specs.Layout.{lift-left, lift-call}
 use Rattle.definitions.proofs.Tests.{true-is, is-true, between-low, between-high}
 use Rattle.definitions.proofs.Numbers.{limit-number?}
 use Rattle.definitions.specs.Places.{most-levels, state-length}
@@ -51,18 +52,24 @@ module _ (s w z : Words) (k : ℕ) (way : Way) where
   -- by the tests' values
   abbrev by-tests : ℕ → Bool → Bool → State → Bool → Bool → Bool → Bool → Option Lift
   by-tests n long long′ X sound inside has own =
-      choose (not (long and long′)) (some (refuse 16 X)) (choose (not sound || (inside and not has)) (some (refuse 11 X)) (choose (not (inside and own)) (some (refuse 12 X)) (settled (lift document-01 n X k (lifting-by way z)))))
+      choose (not (long and long′)) (some (refuse 16 X)) (choose (not sound || (inside and not has)) (some (refuse 11 X))
+      (choose (not (inside and own)) (some (refuse 12 X)) (settled (lift document-01 n X k (lifting-by way z)))))
       then λ a. some (lift-left document-01 s w z a)
 
   abbrev at-tests : ℕ → Bool → Bool → State → Option Lift
-  at-tests n long long′ X = by-tests n long long′ X (sound? document-01 X) (between 1 k most-levels) (has-level? X (k - 1)) (pick-code? (lifting-by way z))
+  at-tests n long long′ X = by-tests n long long′ X (sound? document-01 X) (between 1 k most-levels) (has-level? X (k - 1))
+      (pick-code? (lifting-by way z))
 
   -- the call's contract
   abbrev Called : Lift → Type 0
   Called r = (n : ℕ) × (some r ≡ lift-call document-01 n k way s w z)
 
   pub short-state : length s < state-length → Called (16, 0, s, w, z)
-  short-state h = (0, sym (ap (λ b. at-tests 0 b (leb (work-words document-01 way) (length w)) (meant document-01 s)) (lt-leb state-length (length s) h)))
+  short-state h = (
+    0,
+    sym (ap (λ b. at-tests 0 b (leb (work-words document-01 way) (length w)) (meant document-01 s))
+        (lt-leb state-length (length s) h)),
+  )
 
   module _ (long : state-length ≤ length s) where
     pub short-work : length w < work-words document-01 way → Called (16, 0, s, w, z)
@@ -103,7 +110,8 @@ module _ (s w z : Words) (k : ℕ) (way : Way) where
         pub not-complete : true ≡ between 1 k most-levels → getD s 4 0 ≤ k - 1 → Called (11, 0, s, w, z)
         not-complete e h = (
           0,
-          in-state 0 true false (pick-code? (lifting-by way z)) (sym e) (le-ltb (k - 1) (length (levels-at document-01 s (getD s 4 0))) (omega (arith, length-levels s (getD s 4 0), h))) refl,
+          in-state 0 true false (pick-code? (lifting-by way z)) (sym e)
+              (le-ltb (k - 1) (length (levels-at document-01 s (getD s 4 0))) (omega (arith, length-levels s (getD s 4 0), h))) refl,
         )
 
         module _ (inside : between 1 k most-levels ≡ true) (has : k - 1 < getD s 4 0) where
@@ -114,22 +122,35 @@ module _ (s w z : Words) (k : ℕ) (way : Way) where
           no-such-pick e = (0, in-state 0 true true false inside has-it (own-pick-is way z ∙ sym e))
 
           -- no test refuses
-          pub after-tests : true ≡ own-pick? way → (n : ℕ) → (settled (lift document-01 n X k (lifting-by way z)) then λ a. some (lift-left document-01 s w z a)) ≡ lift-call document-01 n k way s w z
+          pub after-tests : true ≡ own-pick? way → (n : ℕ) → (settled (lift document-01 n X k (lifting-by way z))
+              then λ a. some (lift-left document-01 s w z a)) ≡ lift-call document-01 n k way s w z
           after-tests e n = in-state n true true true inside has-it (own-pick-is way z ∙ sym e)
 
           -- the level lifted, stored and settled
-          pub left-is : true ≡ own-pick? way → (number : ℕ) (t w′ z′ : Words) → Lifted-by s k (lifting-by way z) number t → length w′ ≡ length w → length z′ ≡ length z
+          pub left-is : true ≡ own-pick? way → (number : ℕ) (t w′ z′ : Words) → Lifted-by s k (lifting-by way z) number t → length w′ ≡ length w
+              → length z′ ≡ length z
               → Called (left-by number k t w′ z′)
-          left-is e number t w′ z′ (n, p, f) lw lz = (n, go (lifted-to document-01 tt X (holds-sound s holds) k (lifting-by way z) n) p f ∙ after-tests e n)
+          left-is e number t w′ z′ (n, p, f) lw lz = (
+            n,
+            go (lifted-to document-01 tt X (holds-sound s holds) k (lifting-by way z) n) p f
+                ∙ after-tests e n,
+          )
             where
               go : {x : Result State} → Lifted-to document-01 X k x → told number t ≡ stored s x → T (finished? x)
                   → _≡_ {A = Option Lift} (some (left-by number k t w′ z′)) (settled x then λ a. some (lift-left document-01 s w z a))
               go (one-more g r) q f =
                   (λ i. some (left-by (q i .0) k (q i .1) w′ z′))
-                  ∙ (λ i. some (0, 0, encode document-01 (length s) (record { parameters = X .parameters; levels = g ∷ up-to X (k - 1) }), zeroed (length w) w′ lw i, emptied (length z) z′ lz i))
+                  ∙ (λ i. some (
+                    0,
+                    0,
+                    encode document-01 (length s) (record { parameters = X .parameters; levels = g ∷ up-to X (k - 1) }),
+                    zeroed (length w) w′ lw i,
+                    emptied (length z) z′ lz i,
+                  ))
               go (limit-met {number = m} u) q f =
                   (λ i. some (left-by (q i .0) k (q i .1) w′ z′))
-                  ∙ ap (λ b. some (choose b (0, 0, s, cleared w′ 0, cleared z′ 0) (m, k, cleared s 0, cleared w′ 0, cleared z′ 0))) (ne-eqb m 0 (λ v. subst (λ i. T (limit-number? i)) v u))
+                  ∙ ap (λ b. some (choose b (0, 0, s, cleared w′ 0, cleared z′ 0) (m, k, cleared s 0, cleared w′ 0, cleared z′ 0)))
+                  (ne-eqb m 0 (λ v. subst (λ i. T (limit-number? i)) v u))
                   ∙ (λ i. some (m, k, cleared-empties s long i, zeroed (length w) w′ lw i, emptied (length z) z′ lz i))
               go still-lifting q f = absurd f
 
@@ -167,11 +188,13 @@ module _ (s : Words) (k : ℕ) (way : Way) (long : state-length ≤ length s) wh
         at : (i : ℕ) → number ≡ i → Called s w z k way (i, 0, s, w, z) → Called s w z k way (number, 0, s, w, z)
         at i q c = subst (λ j. Called s w z k way (j, 0, s, w, z)) (sym q) c
 
-        go : (a : Bool) → holds-state? document-01 s ≡ a → (b : Bool) → between 1 k most-levels ≡ b → (c : Bool) → leb k (getD s 4 0) ≡ c → (d : Bool) → own-pick? way ≡ d
+        go : (a : Bool) → holds-state? document-01 s ≡ a → (b : Bool) → between 1 k most-levels ≡ b → (c : Bool) → leb k (getD s 4 0) ≡ c → (d : Bool)
+            → own-pick? way ≡ d
             → number ≡ choose a (choose b (choose c (choose d 0 12) 11) 12) 11 → Called s w z k way (number, 0, s, w, z)
         go false p b q c r d t u = at 11 u (no-state s w z k way long wide (sym p))
         go true p false q c r d t u = at 12 u (no-such-level s w z k way long wide (is-true p) (sym q))
         go true p true q false r d t u = at 11 u (not-complete s w z k way long wide (is-true p) (sym q) (omega (arith, leb-false k (getD s 4 0) r)))
         go true p true q true r false t u =
-            at 12 u (no-such-pick s w z k way long wide (is-true p) q (omega (arith, leb-true k (getD s 4 0) r, between-low 1 k most-levels (is-true q))) (sym t))
+            at 12 u (no-such-pick s w z k way long wide (is-true p) q (omega
+            (arith, leb-true k (getD s 4 0) r, between-low 1 k most-levels (is-true q))) (sym t))
         go true p true q true r true t u = absurd (m u)

@@ -78,7 +78,8 @@ pub fn complete(state: &[u16], k: usize, way: Way) -> u16
 
 // "the state is empty and each buffer lent for writing is zeroed" after a refusal; else the state stays.
 fn settle(state: &mut [u16], work: &mut [u16], cache: &mut [u16], k: usize, number: u16) -> Reply
-    ensures { λ r. ⌜ lift-reply r (now (state .exit)) (now (work .exit)) (now (cache .exit)) ≡ left-by number k (now (state .entry)) (now (work .entry)) (now (cache .entry)) ⌝ }
+    ensures { λ r. ⌜ lift-reply r (now (state .exit)) (now (work .exit)) (now (cache .exit))
+        ≡ left-by number k (now (state .entry)) (now (work .entry)) (now (cache .entry)) ⌝ }
 {
     terms::clear(work, 0);
     terms::clear(cache, 0);
@@ -94,7 +95,8 @@ fn settle(state: &mut [u16], work: &mut [u16], cache: &mut [u16], k: usize, numb
 
 // "form the frame of level k and lift all its terms, in number order, by one of three ways"
 pub fn lift(state: &mut [u16], work: &mut [u16], cache: &mut [u16], k: usize, way: Way) -> Reply
-    ensures { λ r. ⌜ ((n : ℕ) × (some (lift-reply r (now (state .exit)) (now (work .exit)) (now (cache .exit))) ≡ lift-call document-01 n k (way-of way) (now (state .entry)) (now (work .entry)) (now (cache .entry)))) ⌝ }
+    ensures { λ r. ⌜ ((n : ℕ) × (some (lift-reply r (now (state .exit)) (now (work .exit)) (now (cache .exit)))
+        ≡ lift-call document-01 n k (way-of way) (now (state .entry)) (now (work .entry)) (now (cache .entry)))) ⌝ }
 {
     if state.len() < words::STATE_LENGTH {
         return Reply {

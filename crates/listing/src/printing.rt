@@ -8,7 +8,15 @@ ghost use lib.ListN.{length, take};
 ghost use Rattle.definitions.specs.Problem.{comma};
 ghost use Rattle.definitions.specs.Sheet.{decimal, printed, term-fields, letter-S, letter-W, s-lines, vector-lines, level-lines, w-lines};
 ghost use Rattle.definitions.specs.Layout.{rows};
-ghost use Rattle.definitions.specs.Places.{most-vectors, row-length, s-line-length, w-line-length, pair-line-length, s-lines-length, level-lines-length};
+ghost use Rattle.definitions.specs.Places.{
+  most-vectors,
+  row-length,
+  s-line-length,
+  w-line-length,
+  pair-line-length,
+  s-lines-length,
+  level-lines-length,
+};
 ghost use Rattle.vectors.specs.terms.Rows.{term-of};
 ghost use Rattle.reducers.specs.tables.Cuts.{Cut, cut-level};
 ghost use Rattle.listing.specs.printing.Lines.{Printed, listed, Short};
@@ -93,7 +101,8 @@ fn term(out: &mut [u8], at: usize, t: Term, n: usize) -> usize
 // `S,level,vector,coefficient,component,e1,..,en`
 fn s_line(out: &mut [u8], at: usize, t: Term, n: usize, k: u16, v: u16) -> usize
     requires { ⌜ (n ≤ 8) × (at + s-line-length ≤ length (now out)) ⌝ }
-    ensures { λ r. ⌜ Printed (now (out .entry)) (now (out .exit)) at r (printed letter-S (k ∷ v ∷ term-fields n (term-of t))) × (r ≤ at + s-line-length) ⌝ }
+    ensures { λ r. ⌜ Printed (now (out .entry)) (now (out .exit)) at r (printed letter-S (k ∷ v ∷ term-fields n (term-of t)))
+        × (r ≤ at + s-line-length) ⌝ }
 {
     let a = byte(out, at, 83);
     let b = word(out, a, k);
@@ -135,7 +144,8 @@ fn s_lines(
     v: u16,
 ) -> usize
     requires { ⌜ (n ≤ 8) × (from ≤ to) × (to * row-length ≤ length (now level)) × (at + (to - from) * s-line-length ≤ length (now out)) ⌝ }
-    ensures { λ r. ⌜ Printed (now (out .entry)) (now (out .exit)) at r (s-lines n k v (rows (now (level .entry)) from (to - from))) × (r ≤ at + (to - from) * s-line-length) ⌝ }
+    ensures { λ r. ⌜ Printed (now (out .entry)) (now (out .exit)) at r (s-lines n k v (rows (now (level .entry)) from (to - from)))
+        × (r ≤ at + (to - from) * s-line-length) ⌝ }
 {
     let mut a = at;
     let mut i = from;
@@ -157,8 +167,10 @@ fn vector_lines(
     n: usize,
     k: u16,
 ) -> usize
-    requires { ⌜ (n ≤ 8) × (count ≤ most-vectors) × Cut count (now level) (now ends) × Short count (now ends) × (at + s-lines-length ≤ length (now out)) ⌝ }
-    ensures { λ r. ⌜ Printed (now (out .entry)) (now (out .exit)) at r (vector-lines n k 1 (cut-level count (now (level .entry)) (now (ends .entry)))) × (r ≤ at + s-lines-length) ⌝ }
+    requires { ⌜ (n ≤ 8) × (count ≤ most-vectors) × Cut count (now level) (now ends) × Short count (now ends)
+        × (at + s-lines-length ≤ length (now out)) ⌝ }
+    ensures { λ r. ⌜ Printed (now (out .entry)) (now (out .exit)) at r (vector-lines n k 1 (cut-level count (now (level .entry)) (now (ends .entry))))
+        × (r ≤ at + s-lines-length) ⌝ }
 {
     let mut a = at;
     let mut start: usize = 0;
@@ -184,8 +196,10 @@ pub fn level_lines(
     n: usize,
     k: u16,
 ) -> usize
-    requires { ⌜ (n ≤ 8) × (count ≤ most-vectors) × Cut count (now level) (now ends) × Short count (now ends) × (at + level-lines-length ≤ length (now out)) ⌝ }
-    ensures { λ r. ⌜ Printed (now (out .entry)) (now (out .exit)) at r (level-lines n k (cut-level count (now (level .entry)) (now (ends .entry)))) × (r ≤ at + level-lines-length) ⌝ }
+    requires { ⌜ (n ≤ 8) × (count ≤ most-vectors) × Cut count (now level) (now ends) × Short count (now ends)
+        × (at + level-lines-length ≤ length (now out)) ⌝ }
+    ensures { λ r. ⌜ Printed (now (out .entry)) (now (out .exit)) at r (level-lines n k (cut-level count (now (level .entry)) (now (ends .entry))))
+        × (r ≤ at + level-lines-length) ⌝ }
 {
     let a = vector_lines(out, at, level, ends, count, n, k);
     pair_line(out, a, 90, k, count)

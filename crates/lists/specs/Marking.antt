@@ -1,4 +1,5 @@
--- A mark that a loop sets where a test holds at some place passed: written so, and not as an early end, the loop becomes one instruction on eight numbers.
+-- A mark that a loop sets where a test holds at some place passed: written so, and not as an early end, the loop becomes one instruction on eight
+-- numbers.
 use mathlib.Core.Path.{_≡_, refl, sym, subst}
 use mathlib.Core.Logic.{_⊎_, inl, inr}
 use mathlib.Core.Bool.{Bool, true, false}

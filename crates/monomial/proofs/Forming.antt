@@ -30,8 +30,11 @@ product-formed q e d component mark lq le ld m f = go mark m (fits-marked most-e
     same m = filled-list (product q e) d (ld ∙ sym size) (λ k h. let l : k < 8 = omega (arith, size) in f k l ∙ mod-eq-of-lt (small k l))
       where
         small : (k : ℕ) → k < 8 → getD (product q e) k 0 < 256
-        small k h = let l = ltb-false most-exponent (getD (product q e) k 0) (unmarked (λ k. ltb most-exponent (getD (product q e) k 0)) 8 0 m refl k h) in omega arith
+        small k h = let l = ltb-false most-exponent (getD (product q e) k 0)
+            (unmarked (λ k. ltb most-exponent (getD (product q e) k 0)) 8 0 m refl k h) in omega arith
 
-    go : (mark : ℕ) → Marked (λ k. ltb most-exponent (getD (product q e) k 0)) 8 mark → eqb mark 0 ≡ fits? most-exponent (product q e) → _≡_ {A = Option definition.Monomial} (choose (eqb mark 0) (some (d, component)) none) (formed q (e, component))
+    go : (mark : ℕ) → Marked (λ k. ltb most-exponent (getD (product q e) k 0)) 8 mark → eqb mark 0 ≡ fits? most-exponent (product q e)
+        → _≡_ {A = Option definition.Monomial} (choose (eqb mark 0) (some (d, component)) none) (formed q (e, component))
     go zero m t = λ i. choose (t i) (some (same m i, component)) none
-    go (suc n) m t = (λ i. choose (eqb·suc-zero n i) (some (d, component)) none) ∙ sym (λ i. choose ((sym t ∙ eqb·suc-zero n) i) (some (product q e, component)) none)
+    go (suc n) m t = (λ i. choose (eqb·suc-zero n i) (some (d, component)) none)
+        ∙ sym (λ i. choose ((sym t ∙ eqb·suc-zero n) i) (some (product q e, component)) none)

@@ -24,7 +24,8 @@ above x y e = lt-leb x y (ltb-true y x e)
 pub divides-all : (a b : Exponents) → length b ≡ length a → ((k : ℕ) → k < length a → ltb (getD b k 0) (getD a k 0) ≡ false) → divides? a b ≡ true
 divides-all [] b e h = refl
 divides-all (x ∷ a) [] e h = absurd (omega arith)
-divides-all (x ∷ a) (y ∷ b) e h = (λ i. not-above x y (h 0 (omega arith)) i and divides? a b) ∙ divides-all a b (omega arith) (λ k l. h (suc k) (omega arith))
+divides-all (x ∷ a) (y ∷ b) e h = (λ i. not-above x y (h 0 (omega arith)) i and divides? a b)
+    ∙ divides-all a b (omega arith) (λ k l. h (suc k) (omega arith))
 
 pub divides-not : (a b : Exponents) (k : ℕ) → length b ≡ length a → k < length a → ltb (getD b k 0) (getD a k 0) ≡ true → divides? a b ≡ false
 divides-not [] b k e h t = absurd (not-suc-le-zero h)
@@ -37,7 +38,8 @@ divides-not (x ∷ a) (y ∷ b) (suc k) e h t = go (leb x y) (divides-not a b k 
     go false f = refl
 
 -- what the mark of a loop over eight places says
-pub divides-marked : (a b : Exponents) (mark : ℕ) → length a ≡ 8 → length b ≡ 8 → Marked (λ k. ltb (getD b k 0) (getD a k 0)) 8 mark → eqb mark 0 ≡ divides? a b
+pub divides-marked : (a b : Exponents) (mark : ℕ) → length a ≡ 8 → length b ≡ 8 → Marked (λ k. ltb (getD b k 0) (getD a k 0)) 8 mark → eqb mark 0
+    ≡ divides? a b
 divides-marked a b mark la lb m = go mark m
   where
     f : ℕ → Bool
@@ -45,7 +47,8 @@ divides-marked a b mark la lb m = go mark m
 
     go : (mark : ℕ) → Marked f 8 mark → eqb mark 0 ≡ divides? a b
     go zero m = sym (divides-all a b (lb ∙ sym la) (λ k h. unmarked f 8 0 m refl k (omega arith)))
-    go (suc n) m = let s = marked-at f 8 (suc n) m (λ e. omega arith) in eqb·suc-zero n ∙ sym (divides-not a b (s .0) (lb ∙ sym la) (omega (arith, s .1)) (s .2))
+    go (suc n) m = let s = marked-at f 8 (suc n) m (λ e. omega arith) in eqb·suc-zero n
+        ∙ sym (divides-not a b (s .0) (lb ∙ sym la) (omega (arith, s .1)) (s .2))
 
 -- ## Fitting
 
@@ -74,7 +77,8 @@ fits-marked limit e mark l m = go mark m
 
 -- ## Equality: what is still to be compared decides
 
-pub same-on : (a b : Exponents) (j : ℕ) → j < length a → j < length b → getD a j 0 ≡ getD b j 0 → same-exponents? (drop j a) (drop j b) ≡ same-exponents? (drop (j + 1) a) (drop (j + 1) b)
+pub same-on : (a b : Exponents) (j : ℕ) → j < length a → j < length b → getD a j 0 ≡ getD b j 0 → same-exponents? (drop j a) (drop j b)
+    ≡ same-exponents? (drop (j + 1) a) (drop (j + 1) b)
 same-on a b j h k e =
     let s : j + 1 ≡ suc j = omega arith in
     (λ i. same-exponents? (drop-cons a j 0 h i) (drop-cons b j 0 k i))
@@ -86,7 +90,8 @@ same-on a b j h k e =
 
 pub same-not : (a b : Exponents) (j : ℕ) → j < length a → j < length b → (getD a j 0 ≡ getD b j 0 → ⊥) → same-exponents? (drop j a) (drop j b) ≡ false
 same-not a b j h k ne =
-    (λ i. same-exponents? (drop-cons a j 0 h i) (drop-cons b j 0 k i)) ∙ (λ i. ne-eqb (getD a j 0) (getD b j 0) ne i and same-exponents? (drop (suc j) a) (drop (suc j) b))
+    (λ i. same-exponents? (drop-cons a j 0 h i) (drop-cons b j 0 k i))
+    ∙ (λ i. ne-eqb (getD a j 0) (getD b j 0) ne i and same-exponents? (drop (suc j) a) (drop (suc j) b))
 
 pub same-end : (a b : Exponents) (j : ℕ) → length a ≤ j → length b ≤ j → same-exponents? (drop j a) (drop j b) ≡ true
 same-end a b j h k = λ i. same-exponents? (drop-of-length-le a h i) (drop-of-length-le b k i)

@@ -6,7 +6,15 @@ ghost use mathlib.Core.Path.{_≡_};
 ghost use Prim.Native.Nat.{_-_, _<_, max};
 ghost use lib.Dec.{ltb};
 ghost use Rattle.lists.specs.Marking.{mark-by};
-ghost use Rattle.definitions.specs.Monomial.{divides?, divides-monomial?, same-exponents?, same-monomial?, quotient as quotient-definition, lcm as lcm-definition, degree as degree-definition};
+ghost use Rattle.definitions.specs.Monomial.{
+  divides?,
+  divides-monomial?,
+  same-exponents?,
+  same-monomial?,
+  quotient as quotient-definition,
+  lcm as lcm-definition,
+  degree as degree-definition,
+};
 ghost use Rattle.monomial.specs.Values.{monomial-of, unit, product-of, formed};
 
 pub struct Monomial {

@@ -71,7 +71,8 @@ compare-tells code t a b h k r e =
 
 -- ## by_code and compare_exponents
 
-pub exponents-tell : (code : ℕ) → T (between 1 code 3) → (x y : Exponents) → length x ≡ length y → (r : Comparison) → comparison-of r ≡ exponents-by code x y
+pub exponents-tell : (code : ℕ) → T (between 1 code 3) → (x y : Exponents) → length x ≡ length y → (r : Comparison) → comparison-of r
+    ≡ exponents-by code x y
     → Tells (Exponents-above code x y) (x ≡ y) (Exponents-above code y x) r
 exponents-tell code t x y l r e = tells r (exponents-by code x y) e (exponents-exactly code t x y l)
 
@@ -133,7 +134,8 @@ swapped-answer Greater = Smaller
 swapped-answer Equal = Equal
 swapped-answer Smaller = Greater
 
-answers-swap : (r r′ : Comparison) (c c′ : definition-order.Comparison) → comparison-of r ≡ c → comparison-of r′ ≡ c′ → c′ ≡ turned c → r′ ≡ swapped-answer r
+answers-swap : (r r′ : Comparison) (c c′ : definition-order.Comparison) → comparison-of r ≡ c → comparison-of r′ ≡ c′ → c′ ≡ turned c → r′
+    ≡ swapped-answer r
 unfolding answer-of
 answers-swap r r′ c c′ e e′ t = told-by r′ (turned c) (e′ ∙ t) ∙ ap (λ d. answer-of (turned d)) (sym e) ∙ go r
   where

@@ -25,10 +25,12 @@ lexicographic-step x y j c h k s =
     (λ i. lexicographic (drop-cons x j 0 h i) (drop-cons y j 0 k i))
     ∙ (λ i. or-at-tie (numbers-are (getD x j 0) (getD y j 0) c s i) (lexicographic (drop (e i) x) (drop (e i) y)))
 
-pub lexicographic-greater : (x y : Exponents) (j : ℕ) → j < length x → j < length y → getD y j 0 < getD x j 0 → lexicographic (drop j x) (drop j y) ≡ greater
+pub lexicographic-greater : (x y : Exponents) (j : ℕ) → j < length x → j < length y → getD y j 0 < getD x j 0 → lexicographic (drop j x) (drop j y)
+    ≡ greater
 lexicographic-greater x y j h k l = lexicographic-step x y j greater h k l
 
-pub lexicographic-smaller : (x y : Exponents) (j : ℕ) → j < length x → j < length y → getD x j 0 < getD y j 0 → lexicographic (drop j x) (drop j y) ≡ smaller
+pub lexicographic-smaller : (x y : Exponents) (j : ℕ) → j < length x → j < length y → getD x j 0 < getD y j 0 → lexicographic (drop j x) (drop j y)
+    ≡ smaller
 lexicographic-smaller x y j h k l = lexicographic-step x y j smaller h k l
 
 pub lexicographic-on : (x y : Exponents) (j : ℕ) → j < length x → j < length y → getD x j 0 ≡ getD y j 0
@@ -68,18 +70,22 @@ first-decides r c d e t = e ∙ sym (tie-decided c d (subst T (sym (ap decided? 
 pub second-decides : (r s c d : Comparison) → s ≡ c → decided? s ≡ false → r ≡ d → r ≡ or-at-tie c d
 second-decides r s c d e t f = f ∙ sym (tie-open c d (ap decided? (sym e) ∙ t))
 
-last-differing-at : (x y : Exponents) (j : ℕ) (c : Comparison) → length y ≡ length x → j < length x → Equal-from (j + 1) x y → Says c (getD y j 0) (getD x j 0) → T (decided? c) → last-differing x y ≡ c
+last-differing-at : (x y : Exponents) (j : ℕ) (c : Comparison) → length y ≡ length x → j < length x → Equal-from (j + 1) x y
+    → Says c (getD y j 0) (getD x j 0) → T (decided? c) → last-differing x y ≡ c
 last-differing-at [] y j c e h f s d = absurd (not-suc-le-zero h)
 last-differing-at (a ∷ x) [] j c e h f s d = absurd (omega arith)
 last-differing-at (a ∷ x) (b ∷ y) zero c e h f s d =
     (λ i. or-at-tie (last-differing-equal x y (omega arith) (λ k h l. f (suc k) (omega arith) (omega arith)) i) (numbers b a)) ∙ numbers-are b a c s
 last-differing-at (a ∷ x) (b ∷ y) (suc j) c e h f s d =
-    (λ i. or-at-tie (last-differing-at x y j c (omega arith) (le-of-suc-le-suc h) (λ k h l. f (suc k) (omega arith) (omega arith)) s d i) (numbers b a)) ∙ tie-decided c (numbers b a) d
+    (λ i. or-at-tie (last-differing-at x y j c (omega arith) (le-of-suc-le-suc h) (λ k h l. f (suc k) (omega arith) (omega arith)) s d i) (numbers b a))
+    ∙ tie-decided c (numbers b a) d
 
-pub last-differing-greater : (x y : Exponents) (j : ℕ) → length y ≡ length x → j < length x → Equal-from (j + 1) x y → getD x j 0 < getD y j 0 → last-differing x y ≡ greater
+pub last-differing-greater : (x y : Exponents) (j : ℕ) → length y ≡ length x → j < length x → Equal-from (j + 1) x y → getD x j 0 < getD y j 0
+    → last-differing x y ≡ greater
 last-differing-greater x y j e h f l = last-differing-at x y j greater e h f l tt
 
-pub last-differing-smaller : (x y : Exponents) (j : ℕ) → length y ≡ length x → j < length x → Equal-from (j + 1) x y → getD y j 0 < getD x j 0 → last-differing x y ≡ smaller
+pub last-differing-smaller : (x y : Exponents) (j : ℕ) → length y ≡ length x → j < length x → Equal-from (j + 1) x y → getD y j 0 < getD x j 0
+    → last-differing x y ≡ smaller
 last-differing-smaller x y j e h f l = last-differing-at x y j smaller e h f l tt
 
 pub equal-from-less : (x y : Exponents) (j k : ℕ) → k + 1 ≡ j → Equal-from j x y → getD x k 0 ≡ getD y k 0 → Equal-from k x y
@@ -101,7 +107,14 @@ pub code-3 : (code : ℕ) (x y : Exponents) → (code ≡ 1 → ⊥) → (code �
 code-3 code x y n m = go (eqb code 1) (eqb code 2) (ne-eqb code 1 n) (ne-eqb code 2 m)
   where
     go : (a b : Bool) → a ≡ false → b ≡ false → _≡_ {A = Comparison}
-        (elim a [ true ↦ lexicographic x y | false ↦ elim b [ true ↦ or-at-tie (degrees x y) (lexicographic x y) | false ↦ or-at-tie (degrees x y) (last-differing x y) ] ])
+        (elim a [
+          | true ↦ lexicographic x y
+          | false ↦ elim b [
+            | true ↦ or-at-tie (degrees x y) (lexicographic x y)
+            | false ↦ or-at-tie (degrees x y)
+                (last-differing x y)
+          ]
+        ])
         (or-at-tie (degrees x y) (last-differing x y))
     go true b e f = let z : _≡_ {A = ℕ} 0 1 = cc in absurd (omega arith)
     go false true e f = let z : _≡_ {A = ℕ} 0 1 = cc in absurd (omega arith)

@@ -47,11 +47,19 @@ key-multiple T e d u = go (looked-up T u)
 
 -- what a component's vector is to the table: the vector's key stands among the keys, or there is no vector
 abbrev Met : List Key → Table → Option (Exponents × ℕ) → Vector → Type 0
-Met all T o v = ((k : Key) × (o ≡ some (k .0, rank all (k .1))) × Stands (k .1) all × (1 ≤ k .1 .1) × ((e : Exponents) → key T (image-by e v) ≡ (product e (k .0), k .1))) ⊎ ((o ≡ none) × (v ≡ []))
+Met all T o v = ((k : Key) × (o ≡ some (k .0, rank all (k .1))) × Stands (k .1) all × (1 ≤ k .1 .1)
+    × ((e : Exponents) → key T (image-by e v) ≡ (product e (k .0), k .1))) ⊎ ((o ≡ none) × (v ≡ []))
 
-met-later : (all : List Key) (T : Table) (f : Level) → Led f → ((t : Tie) → Stands t (leading-keys T f) → Stands t all) → (i : ℕ) → Met all T (getElem? (ranked all (leading-keys T f)) i) (getD f i [])
+met-later : (all : List Key) (T : Table) (f : Level) → Led f → ((t : Tie) → Stands t (leading-keys T f) → Stands t all) → (i : ℕ)
+    → Met all T (getElem? (ranked all (leading-keys T f)) i) (getD f i [])
 met-later all T f no-vectors s i = inr (refl, refl)
-met-later all T f (one-vector {t} {v} h hs) s zero = inl (key T (t .1), refl, s (key T (t .1) .1) (inl refl), first (looked-up T (t .1 .1)), λ e. key-multiple T e (t .1 .0) (t .1 .1))
+met-later all T f (one-vector {t} {v} h hs) s zero = inl (
+  key T (t .1),
+  refl,
+  s (key T (t .1) .1) (inl refl),
+  first (looked-up T (t .1 .1)),
+  λ e. key-multiple T e (t .1 .0) (t .1 .1),
+)
   where
     first : (o : Option (Exponents × ℕ)) → 1 ≤ key-by o (t .1) .1 .1
     first none = h
@@ -109,10 +117,12 @@ no-table : (c : ℕ) → looked-up [] c ≡ none
 no-table zero = refl
 no-table (suc i) = refl
 
-pub table-order-is : (code : ℕ) (below : List Level) → All-led below → (m m′ : Monomial) → table-order code (images below) m m′ ≡ compare-over code below m m′
+pub table-order-is : (code : ℕ) (below : List Level) → All-led below → (m m′ : Monomial) → table-order code (images below) m m′
+    ≡ compare-over code below m m′
 table-order-is code below no-levels m m′ = λ i. compare-keys code (key-by (no-table (m .1) i) m) (key-by (no-table (m′ .1) i) m′)
 table-order-is code below (one-level {f} {below = b} h hs) m m′ =
-    over code (images b) f m m′ (looked-up (table-over (images b) f) (m .1)) (looked-up (table-over (images b) f) (m′ .1)) (vector-of f (m .1)) (vector-of f (m′ .1))
+    over code (images b) f m m′ (looked-up (table-over (images b) f) (m .1)) (looked-up (table-over (images b) f) (m′ .1)) (vector-of f (m .1))
+    (vector-of f (m′ .1))
     (met (images b) f h (m .1)) (met (images b) f h (m′ .1))
     ∙ ap (λ c. or-at-tie c (numbers (m .1) (m′ .1))) (table-order-is code b hs (image f m) (image f m′))
 
@@ -122,7 +132,8 @@ module _ (lim : Limits) (q : Parameters) where
   led-vector : (c most : ℕ) (below : List Level) (v : Vector) (f : Level) → T (vector-sound? lim q c most below v) → Led f → Led (v ∷ f)
   led-vector c most below [] f h k = let l = vector-says lim q c most below [] h .filled in absurd (omega arith)
   led-vector c most below (t ∷ v) f h k =
-      let s = term-says lim q c t (and-left (term-sound? lim q c t) (every (term-sound? lim q c) v) (vector-says lim q c most below (t ∷ v) h .terms)) in
+      let s = term-says lim q c t (and-left (term-sound? lim q c t) (every (term-sound? lim q c) v)
+      (vector-says lim q c most below (t ∷ v) h .terms)) in
       one-vector (between-low 1 (t .1 .1) c (s .component)) k
 
   led-level : (c most : ℕ) (below : List Level) (f : Level) → T (every (vector-sound? lim q c most below) f) → Led f

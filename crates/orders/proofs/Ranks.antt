@@ -85,14 +85,16 @@ lower-le a b h (k ∷ ks) =
 
 lower-lt : (a b : Tie) → Before a b → (ks : List Key) → Stands a ks → lower ks a < lower ks b
 lower-lt a b h [] s = absurd s
-lower-lt a b h (k ∷ ks) (inl e) = go (smaller? (compare-ties (k .1) a)) refl (smaller? (compare-ties (k .1) b)) (subst (λ t. smaller? (compare-ties t b) ≡ true) (sym e) (before-test a b h))
+lower-lt a b h (k ∷ ks) (inl e) = go (smaller? (compare-ties (k .1) a)) refl (smaller? (compare-ties (k .1) b))
+    (subst (λ t. smaller? (compare-ties t b) ≡ true) (sym e) (before-test a b h))
   where
     go : (x : Bool) → smaller? (compare-ties (k .1) a) ≡ x → (y : Bool) → y ≡ true → counted x (lower ks a) < counted y (lower ks b)
     go true t y u = absurd (before-self a (subst (λ z. Before z a) e (test-before (k .1) a t)))
     go false t true u = let l = lower-le a b h ks in omega arith
     go false t false u = let z : _≡_ {A = ℕ} 0 1 = cc in absurd (omega arith)
 lower-lt a b h (k ∷ ks) (inr s) =
-    go (smaller? (compare-ties (k .1) a)) (smaller? (compare-ties (k .1) b)) (λ e. before-test (k .1) b (before-trans (k .1) a b (test-before (k .1) a e) h)) (lower-lt a b h ks s)
+    go (smaller? (compare-ties (k .1) a)) (smaller? (compare-ties (k .1) b))
+    (λ e. before-test (k .1) b (before-trans (k .1) a b (test-before (k .1) a e) h)) (lower-lt a b h ks s)
   where
     go : (x y : Bool) → (x ≡ true → y ≡ true) → lower ks a < lower ks b → counted x (lower ks a) < counted y (lower ks b)
     go true true f l = omega arith

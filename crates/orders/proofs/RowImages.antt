@@ -23,12 +23,20 @@ getD-image s a t b k h = getD-product (exponents-at s a) (exponents-raw t b) k r
 
 -- ## The order code in two parts
 
-pub code-parts : (code : ℕ) (x y : Exponents) (d : ℕ) → d ≡ degree x → or-at-tie (degrees-by code d (degree y)) (places-by code x y) ≡ exponents-by code x y
+pub code-parts : (code : ℕ) (x y : Exponents) (d : ℕ) → d ≡ degree x → or-at-tie (degrees-by code d (degree y)) (places-by code x y)
+    ≡ exponents-by code x y
 code-parts code x y d e = ap (λ n. or-at-tie (degrees-by code n (degree y)) (places-by code x y)) e ∙ go (eqb code 1) (eqb code 2)
   where
     go : (a b : Bool) → _≡_ {A = Comparison}
         (or-at-tie (choose a equal (degrees x y)) (choose a (lexicographic x y) (choose b (lexicographic x y) (last-differing x y))))
-        (elim a [ true ↦ lexicographic x y | false ↦ elim b [ true ↦ or-at-tie (degrees x y) (lexicographic x y) | false ↦ or-at-tie (degrees x y) (last-differing x y) ] ])
+        (elim a [
+          | true ↦ lexicographic x y
+          | false ↦ elim b [
+            | true ↦ or-at-tie (degrees x y) (lexicographic x y)
+            | false ↦ or-at-tie (degrees x y)
+                (last-differing x y)
+          ]
+        ])
     go true b = refl
     go false true = refl
     go false false = refl
@@ -55,19 +63,29 @@ places-last code x y n m =
 
 -- ## The key of a row
 
-row-monomial : (s : Words) (i : ℕ) → _≡_ {A = Monomial} (row-at s i .1) (exponents-at s (i * row-length + exponents-offset), getD s (i * row-length + component-offset) 0)
+row-monomial : (s : Words) (i : ℕ) → _≡_ {A = Monomial} (row-at s i .1)
+    (exponents-at s (i * row-length + exponents-offset), getD s (i * row-length + component-offset) 0)
 unfolding row-at
 row-monomial s i = refl
 
-pub row-key-at-0 : (r : ℕ) (t s : Words) (i : ℕ) → getD s (i * row-length + component-offset) 0 ≡ 0 → _≡_ {A = Key} (exponents-at s (i * row-length + exponents-offset), (0, getD s (i * row-length + component-offset) 0)) (key (table-of r t) (row-at s i .1))
-row-key-at-0 r t s i z = key-at-0 r t (exponents-at s (i * row-length + exponents-offset), getD s (i * row-length + component-offset) 0) (exponents-at s (i * row-length + exponents-offset)) z refl ∙ ap (key (table-of r t)) (sym (row-monomial s i))
+pub row-key-at-0 : (r : ℕ) (t s : Words) (i : ℕ) → getD s (i * row-length + component-offset) 0 ≡ 0
+    → _≡_ {A = Key} (exponents-at s (i * row-length + exponents-offset), (0, getD s (i * row-length + component-offset) 0))
+    (key (table-of r t) (row-at s i .1))
+row-key-at-0 r t s i z = key-at-0 r t (exponents-at s (i * row-length + exponents-offset), getD s (i * row-length + component-offset) 0)
+    (exponents-at s (i * row-length + exponents-offset)) z refl ∙ ap (key (table-of r t)) (sym (row-monomial s i))
 
-pub row-key-beyond : (r : ℕ) (t s : Words) (i : ℕ) → r < getD s (i * row-length + component-offset) 0 → _≡_ {A = Key} (exponents-at s (i * row-length + exponents-offset), (0, getD s (i * row-length + component-offset) 0)) (key (table-of r t) (row-at s i .1))
-row-key-beyond r t s i h = key-beyond r t (exponents-at s (i * row-length + exponents-offset), getD s (i * row-length + component-offset) 0) (exponents-at s (i * row-length + exponents-offset)) h refl ∙ ap (key (table-of r t)) (sym (row-monomial s i))
+pub row-key-beyond : (r : ℕ) (t s : Words) (i : ℕ) → r < getD s (i * row-length + component-offset) 0
+    → _≡_ {A = Key} (exponents-at s (i * row-length + exponents-offset), (0, getD s (i * row-length + component-offset) 0))
+    (key (table-of r t) (row-at s i .1))
+row-key-beyond r t s i h = key-beyond r t (exponents-at s (i * row-length + exponents-offset), getD s (i * row-length + component-offset) 0)
+    (exponents-at s (i * row-length + exponents-offset)) h refl ∙ ap (key (table-of r t)) (sym (row-monomial s i))
 
-pub row-key-inside : (r : ℕ) (t s : Words) (i to : ℕ) → (getD s (i * row-length + component-offset) 0 ≡ 0 → ⊥) → getD s (i * row-length + component-offset) 0 ≤ r → to ≡ getD s (i * row-length + component-offset) 0 * row-length - row-length
-    → _≡_ {A = Key} (row-image s (i * row-length + exponents-offset) t (to + 2), (getD t (to + 1) 0, getD s (i * row-length + component-offset) 0)) (key (table-of r t) (row-at s i .1))
+pub row-key-inside : (r : ℕ) (t s : Words) (i to : ℕ) → (getD s (i * row-length + component-offset) 0 ≡ 0 → ⊥)
+    → getD s (i * row-length + component-offset) 0 ≤ r → to ≡ getD s (i * row-length + component-offset) 0 * row-length - row-length
+    → _≡_ {A = Key} (row-image s (i * row-length + exponents-offset) t (to + 2), (getD t (to + 1) 0, getD s (i * row-length + component-offset) 0))
+    (key (table-of r t) (row-at s i .1))
 row-key-inside r t s i to n h e =
     ap (λ b. (row-image s (i * row-length + exponents-offset) t (b + 2), (getD t (b + 1) 0, getD s (i * row-length + component-offset) 0))) e
-    ∙ key-inside r t (exponents-at s (i * row-length + exponents-offset), getD s (i * row-length + component-offset) 0) (row-image s (i * row-length + exponents-offset) t (getD s (i * row-length + component-offset) 0 * row-length - row-length + 2)) n h refl
+    ∙ key-inside r t (exponents-at s (i * row-length + exponents-offset), getD s (i * row-length + component-offset) 0)
+    (row-image s (i * row-length + exponents-offset) t (getD s (i * row-length + component-offset) 0 * row-length - row-length + 2)) n h refl
     ∙ ap (key (table-of r t)) (sym (row-monomial s i))

@@ -38,7 +38,8 @@ table-at zero s k h = absurd (not-suc-le-zero h)
 table-at (suc r) s k h = go (ℕ-discrete k r) (table-at r s k)
   where
     go : Dec (k ≡ r) → (k < r → getElem? (table-of r s) k ≡ some (entry-at s k)) → getElem? (table-of r s ++ entry-at s r ∷ []) k ≡ some (entry-at s k)
-    go (yes e) f = ap (getElem? (table-of r s ++ entry-at s r ∷ [])) (e ∙ sym (length-table r s)) ∙ element-seam (table-of r s) (entry-at s r) [] ∙ ap (λ j. some (entry-at s j)) (sym e)
+    go (yes e) f = ap (getElem? (table-of r s ++ entry-at s r ∷ [])) (e ∙ sym (length-table r s)) ∙ element-seam (table-of r s) (entry-at s r) []
+        ∙ ap (λ j. some (entry-at s j)) (sym e)
     go (no ne) f = element-left (table-of r s) (entry-at s r ∷ []) k (omega (arith, length-table r s)) ∙ f (omega arith)
 
 -- ## The key of a monomial
@@ -53,11 +54,13 @@ key-beyond r s m e h f = (λ i. (f i, (0, m .1))) ∙ sym (ap (λ o. key-by o m)
     go zero h = absurd (omega arith)
     go (suc c) h = element-beyond (table-of r s) c (omega (arith, length-table r s))
 
-pub key-inside : (r : ℕ) (s : Words) (m : Monomial) (e : Exponents) → (m .1 ≡ 0 → ⊥) → m .1 ≤ r → e ≡ product (m .0) (exponents-raw s (m .1 * row-length - row-length + 2))
+pub key-inside : (r : ℕ) (s : Words) (m : Monomial) (e : Exponents) → (m .1 ≡ 0 → ⊥) → m .1 ≤ r → e
+    ≡ product (m .0) (exponents-raw s (m .1 * row-length - row-length + 2))
     → _≡_ {A = Key} (e, (getD s (m .1 * row-length - row-length + 1) 0, m .1)) (key (table-of r s) m)
 key-inside r s m e n h f = go (m .1) n h f
   where
-    go : (c : ℕ) → (c ≡ 0 → ⊥) → c ≤ r → e ≡ product (m .0) (exponents-raw s (c * row-length - row-length + 2)) → _≡_ {A = Key} (e, (getD s (c * row-length - row-length + 1) 0, m .1)) (key-by (looked-up (table-of r s) c) m)
+    go : (c : ℕ) → (c ≡ 0 → ⊥) → c ≤ r → e ≡ product (m .0) (exponents-raw s (c * row-length - row-length + 2))
+        → _≡_ {A = Key} (e, (getD s (c * row-length - row-length + 1) 0, m .1)) (key-by (looked-up (table-of r s) c) m)
     go zero n h f = absurd (n refl)
     go (suc c) n h f =
         let a : suc c * row-length - row-length ≡ c * row-length = omega arith in

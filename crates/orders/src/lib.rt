@@ -7,11 +7,30 @@ ghost use mathlib.Core.List.{[]};
 ghost use Prim.Native.Nat.{_+_, _*_, _≤_};
 ghost use lib.ListN.{length, getD};
 ghost use Rattle.definitions.specs.Monomial.{degree, product};
-ghost use Rattle.definitions.specs.Order.{numbers as numbers-definition, lexicographic as lexicographic-definition, last-differing as last-differing-definition, exponents-by, compare-over};
+ghost use Rattle.definitions.specs.Order.{
+  numbers as numbers-definition,
+  lexicographic as lexicographic-definition,
+  last-differing as last-differing-definition,
+  exponents-by,
+  compare-over,
+};
 ghost use Rattle.definitions.specs.Layout.{byte, exponents-at, row-at};
 ghost use Rattle.definitions.specs.Places.{row-length, component-offset, exponents-offset, rank-offset};
 ghost use Rattle.monomial.specs.Values.{monomial-of};
-ghost use Rattle.orders.specs.Images.{comparison-of, decided?, exponents-raw, table-of, Bounded, Tabled, key, key-of, compare-keys, row-image, degrees-by, places-by};
+ghost use Rattle.orders.specs.Images.{
+  comparison-of,
+  decided?,
+  exponents-raw,
+  table-of,
+  Bounded,
+  Tabled,
+  key,
+  key-of,
+  compare-keys,
+  row-image,
+  degrees-by,
+  places-by,
+};
 use monomial::Monomial;
 
 pub enum Comparison {
@@ -374,7 +393,10 @@ fn own_image(s: &[u16], at: usize) -> Image
 
 fn against_own(code: u16, a: Image, s: &[u16], at: usize) -> Comparison
     requires { ⌜ at + row-length ≤ length (now s) ⌝ }
-    ensures { λ c. ⌜ comparison-of c ≡ compare-keys code (key-of a) (exponents-at (now (s .entry)) (at + exponents-offset), (0, getD (now (s .entry)) (at + component-offset) 0)) ⌝ }
+    ensures { λ c. ⌜ comparison-of c ≡ compare-keys code (key-of a) (
+      exponents-at (now (s .entry)) (at + exponents-offset),
+      (0, getD (now (s .entry)) (at + component-offset) 0),
+    ) ⌝ }
 {
     let b = own_image(s, at);
     compare_images(code, a, b)
@@ -390,8 +412,13 @@ fn against_tabled(
     table: &[u16],
     to: usize,
 ) -> Comparison
-    requires { ⌜ (at + row-length ≤ length (now s)) × (to + row-length ≤ length (now table)) × Bounded (now table) (to + exponents-offset) × (total ≡ degree (a .exponents)) ⌝ }
-    ensures { λ c. ⌜ comparison-of c ≡ compare-keys code (key-of a) (row-image (now (s .entry)) (at + exponents-offset) (now (table .entry)) (to + exponents-offset), (getD (now (table .entry)) (to + rank-offset) 0, getD (now (s .entry)) (at + component-offset) 0)) ⌝ }
+    requires { ⌜ (at + row-length ≤ length (now s)) × (to + row-length ≤ length (now table)) × Bounded (now table) (to + exponents-offset)
+        × (total ≡ degree (a .exponents)) ⌝ }
+    ensures { λ c. ⌜ comparison-of c ≡ compare-keys code (key-of a) (
+      row-image (now (s .entry)) (at + exponents-offset) (now (table .entry))
+          (to + exponents-offset),
+      (getD (now (table .entry)) (to + rank-offset) 0, getD (now (s .entry)) (at + component-offset) 0),
+    ) ⌝ }
 {
     let x = a.exponents;
     let d = row_by_code(
@@ -429,7 +456,8 @@ pub fn against_row(
     table: &[u16],
     r: usize,
 ) -> Comparison
-    requires { ⌜ (i * row-length + row-length ≤ length (now s)) × (r * row-length ≤ length (now table)) × Tabled r (now table) × (total ≡ degree (a .exponents)) ⌝ }
+    requires { ⌜ (i * row-length + row-length ≤ length (now s)) × (r * row-length ≤ length (now table)) × Tabled r (now table)
+        × (total ≡ degree (a .exponents)) ⌝ }
     ensures { λ c. ⌜ comparison-of c ≡ compare-keys code (key-of a) (key (table-of r (now (table .entry))) (row-at (now (s .entry)) i .1)) ⌝ }
 {
     let at = i * words::ROW_LENGTH;
@@ -525,7 +553,10 @@ fn row_words(s: &[u16], at: usize, table: &[u16], to: usize) -> [u16; words::EXP
 // The image of a row, from word at on, whose component's row in the table begins at word to.
 fn tabled_image(s: &[u16], at: usize, table: &[u16], to: usize) -> Image
     requires { ⌜ (at + row-length ≤ length (now s)) × (to + row-length ≤ length (now table)) × Bounded (now table) (to + exponents-offset) ⌝ }
-    ensures { λ k. ⌜ key-of k ≡ (row-image (now (s .entry)) (at + exponents-offset) (now (table .entry)) (to + exponents-offset), (getD (now (table .entry)) (to + rank-offset) 0, getD (now (s .entry)) (at + component-offset) 0)) ⌝ }
+    ensures { λ k. ⌜ key-of k ≡ (
+      row-image (now (s .entry)) (at + exponents-offset) (now (table .entry)) (to + exponents-offset),
+      (getD (now (table .entry)) (to + rank-offset) 0, getD (now (s .entry)) (at + component-offset) 0),
+    ) ⌝ }
 {
     let w = row_words(
         s,

@@ -22,12 +22,14 @@ use Rattle.comparing.proofs.Comparing.{a2}
 -- ## The image is kept, and the place is the same
 
 module _ (code : ℕ) (f : Level) (below : List Level) where
-  kept : (c : Comparison) (x y : Running) → x .beside ≡ image f (x .monomial) → y .beside ≡ image f (y .monomial) → if-greater c x y .beside ≡ image f (if-greater c x y .monomial)
+  kept : (c : Comparison) (x y : Running) → x .beside ≡ image f (x .monomial) → y .beside ≡ image f (y .monomial) → if-greater c x y .beside
+      ≡ image f (if-greater c x y .monomial)
   kept greater x y h k = h
   kept equal x y h k = k
   kept smaller x y h k = k
 
-  image-kept : (i : ℕ) (x : Running) (v : Vector) → x .beside ≡ image f (x .monomial) → running-from code f below i x v .beside ≡ image f (running-from code f below i x v .monomial)
+  image-kept : (i : ℕ) (x : Running) (v : Vector) → x .beside ≡ image f (x .monomial) → running-from code f below i x v .beside
+      ≡ image f (running-from code f below i x v .monomial)
   image-kept i x [] h = h
   image-kept i x (t ∷ v) h =
       let y = running-at f i (t .1) in
@@ -48,7 +50,8 @@ module _ (code : ℕ) (f : Level) (below : List Level) where
   place-found i x (t ∷ v) h =
       let y = running-at f i (t .1) in
       let c = against code below y x in
-      let e : c ≡ compare-over code (f ∷ below) (t .1) (x .monomial) = λ j. or-at-tie (compare-over code below (image f (t .1)) (h j)) (numbers (t .1 .1) (x .monomial .1)) in
+      let e : c ≡ compare-over code (f ∷ below) (t .1) (x .monomial) =
+      λ j. or-at-tie (compare-over code below (image f (t .1)) (h j)) (numbers (t .1 .1) (x .monomial .1)) in
       place-found (suc i) (if-greater c y x) v (kept c y x refl h)
       ∙ ap (λ b. greatest-from (compare-over code (f ∷ below)) (suc i) b v) (chosen c i (t .1) x ∙ ap (λ d. better d i (t .1) (best-of x)) e)
 
@@ -133,11 +136,13 @@ module _ (code : ℕ) (below : List Level) (A : Answers-exactly code below) wher
         placed = r .placed;
         eight = r .eight;
         tops-first = tops-on (best-from (suc (length u)) b′ v .1) (b′ .1) (b .1) (r .eight) (s .2) h (r .tops-first) (s .0);
-        tops = λ y. ⊎-elim (λ e. subst (Tops (best-from (suc (length u)) b′ v .1)) (sym e) (tops-on (best-from (suc (length u)) b′ v .1) (b′ .1) (t .1) (r .eight) (s .2) (k .0) (r .tops-first) (s .1))) (r .tops y);
+        tops = λ y. ⊎-elim (λ e. subst (Tops (best-from (suc (length u)) b′ v .1)) (sym e)
+            (tops-on (best-from (suc (length u)) b′ v .1) (b′ .1) (t .1) (r .eight) (s .2) (k .0) (r .tops-first) (s .1))) (r .tops y);
         one = ⊎-elim (λ e. ⊎-elim (λ g. inl (e ∙ ap (λ z. z .1) g)) (λ g. inr (inl (e ∙ ap (λ z. z .1) g))) w) (λ i. inr (inr i)) (r .one);
       }
 
-  pub greatest-is : (v : Vector) → All (λ t. Eight (t .1)) v → (i : ℕ) → greatest (compare-over code below) v ≡ some i → Greatest-of code below (monomials v) (getD v i no-term .1)
+  pub greatest-is : (v : Vector) → All (λ t. Eight (t .1)) v → (i : ℕ) → greatest (compare-over code below) v ≡ some i
+      → Greatest-of code below (monomials v) (getD v i no-term .1)
   greatest-is [] k i e = absurd (let z : _≡_ {A = ℕ} 0 1 = cc in omega arith)
   greatest-is (t ∷ v) k i e =
       let b = best-from 1 (0, t .1) v in
@@ -150,7 +155,8 @@ module _ (code : ℕ) (below : List Level) (A : Answers-exactly code below) wher
 
 module _ (lim : Limits) where
   eights : (v : Vector) → T (every (λ t. eqb (length (t .1 .0)) 8) v) → All (λ t. Eight (t .1)) v
-  eights v h = all-map (λ t. T (eqb (length (t .1 .0)) 8)) (λ t. Eight (t .1)) (λ t e. eqb→eq (length (t .1 .0)) 8 e) v (every-all (λ t. eqb (length (t .1 .0)) 8) v h)
+  eights v h = all-map (λ t. T (eqb (length (t .1 .0)) 8)) (λ t. Eight (t .1)) (λ t e. eqb→eq (length (t .1 .0)) 8 e) v
+      (every-all (λ t. eqb (length (t .1 .0)) 8) v h)
 
   pub a3 : A3 lim
   a3 = record {

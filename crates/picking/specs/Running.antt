@@ -53,7 +53,9 @@ pub record A3 (lim : Limits) : Type 0 where
   pub image-kept : (code : ℕ) (f : Level) (below : List Level) (i : ℕ) (x : Running) (v : Vector) → x .beside ≡ image f (x .monomial)
       → running-from code f below i x v .beside ≡ image f (running-from code f below i x v .monomial)
   -- "Nothing seen from outside changes.": the place is that of the definitions' pick code 1
-  pub same-place : (code : ℕ) (f : Level) (below : List Level) (v : Vector) → greatest-beside code f below v ≡ greatest (compare-over code (f ∷ below)) v
+  pub same-place : (code : ℕ) (f : Level) (below : List Level) (v : Vector) → greatest-beside code f below v
+      ≡ greatest (compare-over code (f ∷ below)) v
   -- "and the term found is the greatest of the working value": over levels 0 to k of every sound state, for every value of terms with eight exponents
   pub is-greatest : (X : State) → T (sound? lim X) → (k : ℕ) (v : Vector) → T (every (λ t. eqb (length (t .1 .0)) 8) v)
-      → (i : ℕ) → greatest (compare-over (X .parameters .code) (up-to X k)) v ≡ some i → Greatest-of (X .parameters .code) (up-to X k) (monomials v) (getD v i no-term .1)
+      → (i : ℕ) → greatest (compare-over (X .parameters .code) (up-to X k)) v ≡ some i
+      → Greatest-of (X .parameters .code) (up-to X k) (monomials v) (getD v i no-term .1)

@@ -1,4 +1,5 @@
--- Closed cases of the prime test as sheets. They stand here because each tries thousands of divisors, and an edit of definitions tries all its closed cases.
+-- Closed cases of the prime test as sheets. They stand here because each tries thousands of divisors, and an edit of definitions tries all its closed
+-- cases.
 use mathlib.Core.Path.{_≡_, refl}
 use mathlib.Core.Option.{some}
 use mathlib.Core.List.{List, [], _∷_}

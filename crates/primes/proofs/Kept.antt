@@ -19,8 +19,10 @@ use Rattle.definitions.specs.Problem.{Bytes, Parameters, problem}
 use Rattle.definitions.specs.State.{State, has-level?, up-to, term-sound?, vector-sound?, levels-sound?, sound?}
 use Rattle.definitions.specs.Calls.{Reply, refuse, settled, read, lift, fetch, eleven?, lifts?, fetches?, read-reply, lift-reply, fetch-reply}
 use Rattle.definitions.specs.Sheet.{if-more, level-then, levels-from, variables-of, sheet-of, sheet}
-use Rattle.definitions.specs.Layout.{Words, meant, Way, division, lifting-by, state-words, work-words, out-words, long-enough?, state-after, rows-after, cache-after}
-use Rattle.definitions.specs.Layout.{Read, read-left, read-call, Lift, lift-left, lift-call, Fetch, fetch-left, fetch-call, Lent, read-with, lift-with, fetch-with, Left}
+use Rattle.definitions.specs.Layout.{Words, meant, Way, division, lifting-by, state-words, work-words, out-words, long-enough?, state-after, rows-after}
+use Rattle.definitions.specs.Layout.{cache-after}
+use Rattle.definitions.specs.Layout.{Read, read-left, read-call, Lift, lift-left, lift-call, Fetch, fetch-left, fetch-call, Lent, read-with, lift-with}
+use Rattle.definitions.specs.Layout.{fetch-with, Left}
 use Rattle.definitions.specs.Layout.{lent-call, lent-calls}
 use Rattle.definitions.proofs.Tests.{and-left, and-right, between-low, between-high}
 use Rattle.definitions.proofs.Results.{If-done}
@@ -37,11 +39,13 @@ module _ (lim : Limits) (bound : ℕ) (l : lim .prime-bound ≤ bound) where
 
   -- ## The sheet
 
-  more-same : (b : Bool) (n k : ℕ) (f : Level) (more more′ : Unit {0} → Option Bytes) → more′ tt ≡ more tt → if-more b n k f more′ ≡ if-more b n k f more
+  more-same : (b : Bool) (n k : ℕ) (f : Level) (more more′ : Unit {0} → Option Bytes) → more′ tt ≡ more tt → if-more b n k f more′
+      ≡ if-more b n k f more
   more-same true n k f more more′ h = refl
   more-same false n k f more more′ h = ap (λ (o : Option Bytes). if-more false n k f (λ u. o)) h
 
-  then-same : (n k : ℕ) (more more′ : State → Option Bytes) → ((Y : State) → more′ Y ≡ more Y) → (x : Result State) → level-then n k more′ x ≡ level-then n k more x
+  then-same : (n k : ℕ) (more more′ : State → Option Bytes) → ((Y : State) → more′ Y ≡ more Y) → (x : Result State) → level-then n k more′ x
+      ≡ level-then n k more x
   then-same n k more more′ h (done Y) = more-same (empty? (highest (Y .levels))) n k (highest (Y .levels)) (λ u. more Y) (λ u. more′ Y) (h Y)
   then-same n k more more′ h (refused number place value) = refl
   then-same n k more more′ h unfinished = refl
@@ -77,7 +81,8 @@ module _ (lim : Limits) (bound : ℕ) (l : lim .prime-bound ≤ bound) where
       choose (not long) (some (refuse 16 X)) (choose (eleven-same X h k (k - 1) i) (some (refuse 11 X))
       (choose (not (lifts? lim k way)) (some (refuse 12 X)) (settled (lift-same lim bound n X k way i))))
 
-  fetch-reply-same : (X : State) → X .parameters .p ≤ lim .prime-bound → (long : Bool) (k v : ℕ) → fetch-reply wide X long k v ≡ fetch-reply lim X long k v
+  fetch-reply-same : (X : State) → X .parameters .p ≤ lim .prime-bound → (long : Bool) (k v : ℕ) → fetch-reply wide X long k v
+      ≡ fetch-reply lim X long k v
   fetch-reply-same X h long k v = λ i.
       choose (not long) (refuse 16 X) (choose (eleven-same X h k k i) (refuse 11 X) (choose (not (fetches? lim X k v)) (refuse 12 X) (fetch X k v)))
 
@@ -134,7 +139,8 @@ module _ (lim : Limits) (bound : ℕ) (l : lim .prime-bound ≤ bound) where
   read-keeps state work (refused number place value) h = omega arith
   read-keeps state work unfinished h = tt
 
-  lift-keeps : (state work cache : Words) (x : Result State) → If-done (State-within lim (lim .prime-bound)) x → Kept-p (after-lift state work cache (settled x))
+  lift-keeps : (state work cache : Words) (x : Result State) → If-done (State-within lim (lim .prime-bound)) x
+      → Kept-p (after-lift state work cache (settled x))
   lift-keeps state work cache (done X) h = h
   lift-keeps state work cache (refused number place value) h = omega arith
   lift-keeps state work cache unfinished h = tt
@@ -146,11 +152,13 @@ module _ (lim : Limits) (bound : ℕ) (l : lim .prime-bound ≤ bound) where
   abbrev Lift-keeps : Words → Words → Words → Option Reply → Type 0
   Lift-keeps state work cache o = Kept-p (after-lift state work cache o)
 
-  lift-within : (n : ℕ) (X : State) → X .parameters .p ≤ lim .prime-bound → (k : ℕ) (way : Lifting) → If-done (State-within lim (lim .prime-bound)) (lift lim n X k way)
+  lift-within : (n : ℕ) (X : State) → X .parameters .p ≤ lim .prime-bound → (k : ℕ) (way : Lifting)
+      → If-done (State-within lim (lim .prime-bound)) (lift lim n X k way)
   lift-within n X h k way = go (lift-level lim (X .parameters .p) (X .parameters .code) (up-to X (k - 1)) way n)
     where
       go : (x : Result Level)
-          → If-done (State-within lim (lim .prime-bound)) (at-level k x >>= λ f. done (record { parameters = X .parameters; levels = f ∷ up-to X (k - 1) }))
+          → If-done (State-within lim (lim .prime-bound)) (at-level k x
+          >>= λ f. done (record { parameters = X .parameters; levels = f ∷ up-to X (k - 1) }))
       go (done f) = h
       go (refused number place value) = tt
       go unfinished = tt
@@ -158,7 +166,8 @@ module _ (lim : Limits) (bound : ℕ) (l : lim .prime-bound ≤ bound) where
   module _ (n : ℕ) (state : Words) (h : getD state 0 0 ≤ lim .prime-bound) where
     reading-keeps : (file : Bytes) (work : Words) → prime-of lim file ≤ lim .prime-bound → Kept-p (lent-call lim n state (read-with file work))
     reading-keeps file work k =
-        chosen (λ o. Kept-p (after-read state work o)) (not (long-enough? lim division state work)) (some (refuse 16 (meant lim state))) (settled (read lim n file)) h
+        chosen (λ o. Kept-p (after-read state work o)) (not (long-enough? lim division state work)) (some (refuse 16 (meant lim state)))
+        (settled (read lim n file)) h
         (read-keeps state work (read lim n file) (read-within lim (lim .prime-bound) n file k))
 
     lifting-keeps : (k : ℕ) (way : Way) (work cache : Words) → Kept-p (lent-call lim n state (lift-with k way work cache))
@@ -176,7 +185,8 @@ module _ (lim : Limits) (bound : ℕ) (l : lim .prime-bound ≤ bound) where
   -- the rest of a list, after a call that answers the same
   rest-same : (n : ℕ) (cs : List Lent) → ((state : Words) → getD state 0 0 ≤ lim .prime-bound → lent-calls wide n state cs ≡ lent-calls lim n state cs)
       → (o : Option Left) → Kept-p o
-      → (o then λ a. lent-calls wide n (a .state) cs then λ lefts. some (a ∷ lefts)) ≡ (o then λ a. lent-calls lim n (a .state) cs then λ lefts. some (a ∷ lefts))
+      → (o then λ a. lent-calls wide n (a .state) cs then λ lefts. some (a ∷ lefts))
+      ≡ (o then λ a. lent-calls lim n (a .state) cs then λ lefts. some (a ∷ lefts))
   rest-same n cs ih none h = refl
   rest-same n cs ih (some a) h = ap (λ (o : Option (List Left)). o then λ lefts. some (a ∷ lefts)) (ih (a .state) h)
 

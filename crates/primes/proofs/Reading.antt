@@ -28,11 +28,13 @@ module _ (lim : Limits) (bound : ℕ) (l : lim .prime-bound ≤ bound) where
 
   pub in-range-same : (p : ℕ) → p ≤ lim .prime-bound → prime-in-range? wide p ≡ prime-in-range? lim p
   in-range-same p h = λ i.
-      (true-is (leb p bound) (le→leb p bound (omega (arith, h, l))) ∙ sym (true-is (leb p (lim .prime-bound)) (le→leb p (lim .prime-bound) h))) i and prime? p
+      (true-is (leb p bound) (le→leb p bound (omega (arith, h, l))) ∙ sym (true-is (leb p (lim .prime-bound)) (le→leb p (lim .prime-bound) h))) i
+      and prime? p
 
   r-same : (v : List ℕ) → getD v 0 0 ≤ lim .prime-bound → r-line wide v ≡ r-line lim v
   r-same v h =
-      ap (λ b. unless-refused b 2 1 >>= λ u. unless-refused (in-ranges? lim (parameters-of v)) 3 1 >>= λ u′. done (parameters-of v)) (in-range-same (getD v 0 0) h)
+      ap (λ b. unless-refused b 2 1 >>= λ u. unless-refused (in-ranges? lim (parameters-of v)) 3 1 >>= λ u′. done (parameters-of v))
+      (in-range-same (getD v 0 0) h)
 
   body-same : (q : Parameters) (place count : ℕ) (f : Level) (ls : List Line) → body wide q place count f ls ≡ body lim q place count f ls
   body-same q place count f [] = refl
@@ -56,7 +58,8 @@ module _ (lim : Limits) (bound : ℕ) (l : lim .prime-bound ≤ bound) where
   problem-same bytes h = λ i. unless-refused (leb (length bytes) (lim .file)) 1 0 >>= λ u. first-same (lines bytes) h i
 
   accepted-same : (n : ℕ) (f : Parameters × Level) → accepted wide n f ≡ accepted lim n f
-  accepted-same n f = ap (λ x. x >>= λ u. done (record { parameters = f .0; levels = f .1 ∷ [] })) (accept-same lim bound (f .0 .p) (f .0 .code) (f .1) n)
+  accepted-same n f = ap (λ x. x >>= λ u. done (record { parameters = f .0; levels = f .1 ∷ [] }))
+      (accept-same lim bound (f .0 .p) (f .0 .code) (f .1) n)
 
   pub read-same : (n : ℕ) (bytes : Bytes) → prime-of lim bytes ≤ lim .prime-bound → read wide n bytes ≡ read lim n bytes
   read-same n bytes h = λ i. problem-same bytes h i >>= λ f. accepted-same n f i

@@ -11,7 +11,8 @@ use Rattle.definitions.specs.Lists.{_and_, every, between}
 use Rattle.definitions.specs.Monomial.{Level}
 use Rattle.definitions.specs.Problem.{Parameters, in-ranges?}
 use Rattle.definitions.specs.State.{State, empty, vector-sound?, terms-of, levels-sound?, sound?}
-use Rattle.definitions.specs.Layout.{Words, padded, rows-of, joined, level-rows, rows-place, header-of, counts-of, all-counts, all-rows, encode, level-at, levels-at, decode}
+use Rattle.definitions.specs.Layout.{Words, padded, rows-of, joined, level-rows, rows-place, header-of, counts-of, all-counts, all-rows, encode, level-at}
+use Rattle.definitions.specs.Layout.{levels-at, decode}
 use Rattle.definitions.specs.Layout.{words-sound?, all-words-sound?, holds-state?, meant, Way, division, hybrid, tree, work-words}
 use Rattle.definitions.specs.Places.{row-length}
 use Rattle.primes.specs.Primes.{with-prime-bound}
@@ -32,7 +33,8 @@ module _ (lim : Limits) (bound : ℕ) where
   levels-same q [] = refl
   levels-same q (f ∷ []) = refl
   levels-same q (f ∷ g ∷ below) =
-      ap (λ b. b and leb (length f) (lim .vectors) and leb (terms-of f) (lim .level-terms) and every (vector-sound? lim q (length g) (lim .vector) (g ∷ below)) f)
+      ap (λ b. b and leb (length f) (lim .vectors) and leb (terms-of f) (lim .level-terms)
+      and every (vector-sound? lim q (length g) (lim .vector) (g ∷ below)) f)
       (levels-same q (g ∷ below))
 
   words-same : (s : Words) (k : ℕ) → all-words-sound? wide s k ≡ all-words-sound? lim s k

@@ -16,7 +16,8 @@ use Rattle.definitions.specs.Stage.{Stage, highest}
 use Rattle.definitions.specs.Run.{multiple, hybrid-strategy, division-strategy, accepting-strategy}
 use Rattle.definitions.specs.Tree.{Cache, Sum, Lift-term, Lift-list, cached, finish, add-result, add-subtree, if-product-fits, lift-list, open-subtree, or-open}
 use Rattle.definitions.specs.Tree.{lift-by, lift-term, if-vector-product-fits, lift-vector, tree}
-use Rattle.definitions.specs.Lifting.{Lifting, by-division, by-hybrid, by-tree, lift-one, Lifted, with-vector, lift-all, limited-frame, lift-level, at-frame-term}
+use Rattle.definitions.specs.Lifting.{Lifting, by-division, by-hybrid, by-tree, lift-one, Lifted, with-vector, lift-all, limited-frame, lift-level}
+use Rattle.definitions.specs.Lifting.{at-frame-term}
 use Rattle.definitions.specs.Lifting.{accept-from, accept}
 use Rattle.definitions.specs.State.{State, up-to}
 use Rattle.definitions.specs.Calls.{lift}
@@ -76,21 +77,24 @@ module _ (lim : Limits) (bound : ℕ) where
 
     -- ## The vector
 
-    own-same : (l l′ : Lift-term) → Same-terms l l′ → (b : Bool) (t : Term) (s : Sum) → if-vector-product-fits b S′ l′ t s ≡ if-vector-product-fits b S l t s
+    own-same : (l l′ : Lift-term) → Same-terms l l′ → (b : Bool) (t : Term) (s : Sum) → if-vector-product-fits b S′ l′ t s
+        ≡ if-vector-product-fits b S l t s
     own-same l l′ h false t s = refl
     own-same l l′ h true t s = λ i.
         h 0 (s .1) (t .1) i >>= λ r.
         add-result (S .above) p (lim .vector) 0 (t .0) (r .0) (s .0) >>= λ grown.
         done (grown, r .2)
 
-    vector-same : (l l′ : Lift-term) → Same-terms l l′ → (c : ℕ) (q : Exponents) (f : Vector) (s : Sum) → lift-vector S′ l′ c q f s ≡ lift-vector S l c q f s
+    vector-same : (l l′ : Lift-term) → Same-terms l l′ → (c : ℕ) (q : Exponents) (f : Vector) (s : Sum) → lift-vector S′ l′ c q f s
+        ≡ lift-vector S l c q f s
     vector-same l l′ h c q [] s = refl
     vector-same l l′ h c q (t ∷ f) s = λ i.
         own-same l l′ h (fits? (lim .exponent) (multiple p c q t .1 .0)) (multiple p c q t) s i >>= λ r. vector-same l l′ h c q f r i
 
     tree-same : (room : ℕ) (cache : Cache) (m : Monomial) → tree S′ room cache m ≡ tree S room cache m
     tree-same room cache m =
-        vector-same (lift-term S room (lim .tree)) (lift-term S′ room (lim .tree)) (term-same room (lim .tree)) 1 (m .0) (vector-of (highest below) (m .1))
+        vector-same (lift-term S room (lim .tree)) (lift-term S′ room (lim .tree)) (term-same room (lim .tree)) 1 (m .0)
+        (vector-of (highest below) (m .1))
         ((1, m) ∷ [], cache)
 
     -- ## A level, and acceptance

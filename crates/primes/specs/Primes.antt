@@ -63,7 +63,8 @@ pub record Kept (lim : Limits) (bound : ℕ) : Type 0 where
   pub calls : (n : ℕ) (state : Words) (cs : List Lent) → getD state 0 0 ≤ lim .prime-bound → Files-within lim cs
       → lent-calls (with-prime-bound bound lim) n state cs ≡ lent-calls lim n state cs
   -- "Term buffers kept by callers hold the same widths": their lengths do not depend on the bound, nor does where a level's rows stand ..
-  pub lengths : (state-words (with-prime-bound bound lim) ≡ state-words lim) × ((way : Way) → work-words (with-prime-bound bound lim) way ≡ work-words lim way)
+  pub lengths : (state-words (with-prime-bound bound lim) ≡ state-words lim)
+      × ((way : Way) → work-words (with-prime-bound bound lim) way ≡ work-words lim way)
       × (out-words (with-prime-bound bound lim) ≡ out-words lim) × ((k : ℕ) → rows-place (with-prime-bound bound lim) k ≡ rows-place lim k)
   -- .. and "wherever these hold 65,520": a coefficient is below p, and so in sixteen bits if the bound is
   pub widths : bound ≤ 65_535 → (X : State) → T (sound? (with-prime-bound bound lim) X) → (f : Level) → Member f (X .levels) → (v : Vector) → Member v f

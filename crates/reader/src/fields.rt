@@ -4,7 +4,17 @@
 ghost use mathlib.Core.Path.{_≡_};
 ghost use Prim.Native.Nat.{_≤_, _<_};
 ghost use lib.ListN.{drop};
-ghost use Rattle.reader.specs.fields.Scanning.{digit-or-ten, number-first, number-on, number-zero, numbers-first, shaped-first, field-as, line-as, in-sixteen};
+ghost use Rattle.reader.specs.fields.Scanning.{
+  digit-or-ten,
+  number-first,
+  number-on,
+  number-zero,
+  numbers-first,
+  shaped-first,
+  field-as,
+  line-as,
+  in-sixteen,
+};
 ghost use Rattle.reader.specs.declared.fields.End.the-variants.{Misshapen};
 
 // A number and the position behind it.

@@ -9,7 +9,16 @@ ghost use Rattle.definitions.specs.Limits.{document-01};
 ghost use Rattle.definitions.specs.Monomial.{fits?};
 ghost use Rattle.definitions.specs.Problem.{prime-in-range?, in-ranges?, term-in-range?};
 ghost use Rattle.definitions.specs.Places.{most-exponent, most-rows};
-ghost use Rattle.reader.specs.lines.Tests.{parameters-of, term-in, begins?, follows?, above?, descends? as descends-definition, t-number, r-number};
+ghost use Rattle.reader.specs.lines.Tests.{
+  parameters-of,
+  term-in,
+  begins?,
+  follows?,
+  above?,
+  descends? as descends-definition,
+  t-number,
+  r-number,
+};
 ghost use Rattle.reader.specs.lines.Steps.{r-first, t-first, e-first, line-first, first-as, taken-as};
 ghost use Rattle.reader.specs.declared.lines.Step.the-variants.{Refused};
 use crate::fields;

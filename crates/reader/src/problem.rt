@@ -112,7 +112,8 @@ fn read_lines(file: &[u8], state: &mut [u16]) -> Outcome
     }
 }
 
-// Reads a file. Read, not accepted: the state's words are those of its elements as level 0, which acceptance has still to divide; refused, they are zeros.
+// Reads a file. Read, not accepted: the state's words are those of its elements as level 0, which acceptance has still to divide; refused, they are
+// zeros.
 pub fn read(file: &[u8], state: &mut [u16]) -> Reading
     requires { ⌜ state-length ≤ length (now state) ⌝ }
     ensures { λ r. ⌜ answer-as r (now (state .exit)) ≡ read-as (length (now (state .entry))) (problem-definition document-01 (now (file .entry))) ⌝ }

@@ -12,7 +12,19 @@ ghost use Rattle.definitions.specs.Places.{row-length};
 ghost use Rattle.monomial.specs.Values.{monomial-of};
 ghost use Rattle.orders.specs.Images.{exponents-raw};
 ghost use Rattle.vectors.specs.terms.Rows.{term-of};
-ghost use Rattle.reducers.specs.search.Search.{head-raw, first-from, first-dividing, span-at, span-of, Small, Spanned, searched, answer-of, formed-term, multiple-of};
+ghost use Rattle.reducers.specs.search.Search.{
+  head-raw,
+  first-from,
+  first-dividing,
+  span-at,
+  span-of,
+  Small,
+  Spanned,
+  searched,
+  answer-of,
+  formed-term,
+  multiple-of,
+};
 use monomial::Monomial;
 use vectors::terms;
 use vectors::terms::Term;
@@ -129,7 +141,8 @@ pub fn search(heads: &[u16], r: usize, spans: &[u16], k: usize, m: Monomial) -> 
 
 // The reducer rule.
 pub fn reducer_of(heads: &[u16], r: usize, spans: &[u16], k: usize, p: u16, t: Term) -> Found
-    requires { ⌜ (0 < p) × (r * row-length ≤ length (now heads)) × (k * 2 ≤ length (now spans)) × Small r (now heads) × Spanned k r (now spans) (now heads) ⌝ }
+    requires { ⌜ (0 < p) × (r * row-length ≤ length (now heads)) × (k * 2 ≤ length (now spans)) × Small r (now heads)
+        × Spanned k r (now spans) (now heads) ⌝ }
     ensures { λ x. ⌜ answer-of x ≡ answer-definition p (rows (now (heads .entry)) 0 r) (term-of t) ⌝ }
 {
     let m = t.monomial;

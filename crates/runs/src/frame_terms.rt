@@ -13,7 +13,20 @@ ghost use Rattle.ending.specs.Well.{Well};
 ghost use Rattle.orders.specs.Images.{table-of, table-order};
 ghost use Rattle.runs.specs.reduction.Grounds.{ends-in, below-in, above-in, Tables, Family};
 ghost use Rattle.runs.specs.run.Stages.{order-of, stage-of, strategy-of, Images, Rooms};
-ghost use Rattle.runs.specs.frame_terms.Vectors.{lifted-vectors, Kept, Framed, frame-terms, lifts, lifted-one, one-of, After, lifted-of, Whole, accepted-of, Left};
+ghost use Rattle.runs.specs.frame_terms.Vectors.{
+  lifted-vectors,
+  Kept,
+  Framed,
+  frame-terms,
+  lifts,
+  lifted-one,
+  one-of,
+  After,
+  lifted-of,
+  Whole,
+  accepted-of,
+  Left,
+};
 use crate::reduction::Ground;
 use crate::run;
 use crate::run::Outcome;
@@ -43,8 +56,10 @@ pub enum Accepted {
 
 // The first v rows of value behind the used ones, as vector i, counted from 0.
 fn append(out: &mut [u16], i: usize, used: usize, value: &[u16], v: usize)
-    requires { ⌜ (i < most-vectors) × (used + v < 65536) × ((used + v) * row-length + ends-length ≤ length (now out)) × (v * row-length ≤ length (now value)) ⌝ }
-    ensures { λ _. ⌜ now (out .exit) ≡ set (paste (now (out .entry)) (used * row-length + ends-length) (now (value .entry)) (v * row-length)) i (used + v) ⌝ }
+    requires { ⌜ (i < most-vectors) × (used + v < 65536) × ((used + v) * row-length + ends-length ≤ length (now out))
+        × (v * row-length ≤ length (now value)) ⌝ }
+    ensures { λ _. ⌜ now (out .exit) ≡ set (paste (now (out .entry)) (used * row-length + ends-length) (now (value .entry)) (v * row-length)) i
+        (used + v) ⌝ }
 {
     terms::copy(
         out,
@@ -69,8 +84,14 @@ fn lift_one(
     g: Ground,
     w: Strategy,
 ) -> One
-    requires { ⌜ Tables g (now tables) × Family g (now level) (ends-in (now tables)) × Images (g .images) (below-in (now tables)) × Images (g .r) (above-in (now tables)) × Rooms g (now value) (now vector) × (1 ≤ g .vector) × Well (stage-of g (now level) (now tables) (order-of g (now tables))) × Framed g count (now frame) × (i < count) × (g .room * row-length + ends-length ≤ length (now out)) × (g .room < 65536) × (used ≤ g .room) × Kept i used (now out) ⌝ }
-    ensures { λ x. ⌜ ((k : ℕ) × (one-of x i (now (out .exit)) (now (vector .exit)) ≡ lifted-one (stage-of g (now (level .entry)) (now (tables .entry)) (table-order (g .code) (table-of (g .r) (above-in (now (tables .entry)))))) (strategy-of g (now (tables .entry)) w) k (lifted-vectors (now (out .entry)) i, used) (row-at (now (frame .entry)) i .1))) × After g i x (now (out .exit)) ⌝ }
+    requires { ⌜ Tables g (now tables) × Family g (now level) (ends-in (now tables)) × Images (g .images) (below-in (now tables))
+        × Images (g .r) (above-in (now tables)) × Rooms g (now value) (now vector) × (1 ≤ g .vector)
+        × Well (stage-of g (now level) (now tables) (order-of g (now tables))) × Framed g count (now frame) × (i < count)
+        × (g .room * row-length + ends-length ≤ length (now out)) × (g .room < 65536) × (used ≤ g .room) × Kept i used (now out) ⌝ }
+    ensures { λ x. ⌜ ((k : ℕ) × (one-of x i (now (out .exit)) (now (vector .exit))
+        ≡ lifted-one (stage-of g (now (level .entry)) (now (tables .entry)) (table-order (g .code) (table-of (g .r) (above-in (now (tables .entry))))))
+        (strategy-of g (now (tables .entry)) w) k (lifted-vectors (now (out .entry)) i, used) (row-at (now (frame .entry)) i .1)))
+        × After g i x (now (out .exit)) ⌝ }
 {
     let t = terms::row(frame, i);
     let m = t.monomial;
@@ -99,8 +120,15 @@ pub fn lift_all(
     g: Ground,
     w: Strategy,
 ) -> Lifted
-    requires { ⌜ Tables g (now tables) × Family g (now level) (ends-in (now tables)) × Images (g .images) (below-in (now tables)) × Images (g .r) (above-in (now tables)) × Rooms g (now value) (now vector) × (1 ≤ g .vector) × Well (stage-of g (now level) (now tables) (order-of g (now tables))) × Framed g count (now frame) × (g .room * row-length + ends-length ≤ length (now out)) × (g .room < 65536) ⌝ }
-    ensures { λ x. ⌜ ((k : ℕ) × (lifted-of x count (now (out .exit)) (now (vector .exit)) ≡ lift-all-definition (stage-of g (now (level .entry)) (now (tables .entry)) (table-order (g .code) (table-of (g .r) (above-in (now (tables .entry)))))) (lifts (stage-of g (now (level .entry)) (now (tables .entry)) (table-order (g .code) (table-of (g .r) (above-in (now (tables .entry)))))) (strategy-of g (now (tables .entry)) w) k) ([], 0) [] (frame-terms (now (frame .entry)) count))) × Whole g count x (now (out .exit)) ⌝ }
+    requires { ⌜ Tables g (now tables) × Family g (now level) (ends-in (now tables)) × Images (g .images) (below-in (now tables))
+        × Images (g .r) (above-in (now tables)) × Rooms g (now value) (now vector) × (1 ≤ g .vector)
+        × Well (stage-of g (now level) (now tables) (order-of g (now tables))) × Framed g count (now frame)
+        × (g .room * row-length + ends-length ≤ length (now out)) × (g .room < 65536) ⌝ }
+    ensures { λ x. ⌜ ((k : ℕ) × (lifted-of x count (now (out .exit)) (now (vector .exit))
+        ≡ lift-all-definition (stage-of g (now (level .entry)) (now (tables .entry))
+        (table-order (g .code) (table-of (g .r) (above-in (now (tables .entry))))))
+        (lifts (stage-of g (now (level .entry)) (now (tables .entry)) (table-order (g .code) (table-of (g .r) (above-in (now (tables .entry))))))
+        (strategy-of g (now (tables .entry)) w) k) ([], 0) [] (frame-terms (now (frame .entry)) count))) × Whole g count x (now (out .exit)) ⌝ }
 {
     let mut used: usize = 0;
     let mut i: usize = 0;
@@ -149,8 +177,12 @@ pub fn accept_all(
     tables: &[u16],
     g: Ground,
 ) -> Accepted
-    requires { ⌜ Tables g (now tables) × Family g (now level) (ends-in (now tables)) × Images (g .images) (below-in (now tables)) × Images (g .r) (above-in (now tables)) × Rooms g (now value) (now vector) × (1 ≤ g .vector) × Well (stage-of g (now level) (now tables) (order-of g (now tables))) × Framed g count (now frame) ⌝ }
-    ensures { λ x. ⌜ ((k : ℕ) × (accepted-of x (now (vector .exit)) ≡ accept-from (stage-of g (now (level .entry)) (now (tables .entry)) (table-order (g .code) (table-of (g .r) (above-in (now (tables .entry)))))) k 1 (frame-terms (now (frame .entry)) count))) × Left g x ⌝ }
+    requires { ⌜ Tables g (now tables) × Family g (now level) (ends-in (now tables)) × Images (g .images) (below-in (now tables))
+        × Images (g .r) (above-in (now tables)) × Rooms g (now value) (now vector) × (1 ≤ g .vector)
+        × Well (stage-of g (now level) (now tables) (order-of g (now tables))) × Framed g count (now frame) ⌝ }
+    ensures { λ x. ⌜ ((k : ℕ) × (accepted-of x (now (vector .exit)) ≡ accept-from
+        (stage-of g (now (level .entry)) (now (tables .entry)) (table-order (g .code) (table-of (g .r) (above-in (now (tables .entry)))))) k 1
+        (frame-terms (now (frame .entry)) count))) × Left g x ⌝ }
 {
     let w = Strategy {
         drops: false,

@@ -14,7 +14,18 @@ ghost use Rattle.definitions.specs.Places.{row-length};
 ghost use Rattle.orders.specs.Images.{key, key-of, table-of, table-order, Tabled};
 ghost use Rattle.reducers.specs.search.Search.{answer-of};
 ghost use Rattle.vectors.specs.terms.Rows.{term-of};
-ghost use Rattle.runs.specs.reduction.Grounds.{below-start, reduction-of, ends-in, below-in, Tables, Family, family-of, first-row, added-of, Within};
+ghost use Rattle.runs.specs.reduction.Grounds.{
+  below-start,
+  reduction-of,
+  ends-in,
+  below-in,
+  Tables,
+  Family,
+  family-of,
+  first-row,
+  added-of,
+  Within,
+};
 use monomial::Monomial;
 use orders::Image;
 use reducers::search;
@@ -39,7 +50,8 @@ pub struct Ground {
     pub room: usize,
 }
 
-// Where the tables of a lifting stand in the one slice that has them: 128 heads first, then their spans, the ends of the level's vectors, the images below and above.
+// Where the tables of a lifting stand in the one slice that has them: 128 heads first, then their spans, the ends of the level's vectors, the images
+// below and above.
 pub const SPANS: usize = words::TABLES_SPANS;
 
 pub const ENDS: usize = words::TABLES_ENDS;
@@ -75,7 +87,8 @@ fn add_fitting(
     drops: bool,
 ) -> Added
     requires { ⌜ Tables g (now tables) × (n ≤ g .working) × (g .working * row-length ≤ length (now value)) ⌝ }
-    ensures { λ x. ⌜ (added-of x (now (value .exit)) ≡ unless-dropped (dropped? (reduction-of g (now (tables .entry))) drops (term-of t .1)) (reduction-of g (now (tables .entry))) (term-of t) (rows (now (value .entry)) 0 n)) × Within (g .working) x ⌝ }
+    ensures { λ x. ⌜ (added-of x (now (value .exit)) ≡ unless-dropped (dropped? (reduction-of g (now (tables .entry))) drops (term-of t .1))
+        (reduction-of g (now (tables .entry))) (term-of t) (rows (now (value .entry)) 0 n)) × Within (g .working) x ⌝ }
 {
     if drops {
         let m = t.monomial;
@@ -100,8 +113,10 @@ fn add_product(
     g: Ground,
     drops: bool,
 ) -> Added
-    requires { ⌜ Tables g (now tables) × (n ≤ g .working) × (g .working * row-length ≤ length (now value)) × (i * row-length + row-length ≤ length (now level)) ⌝ }
-    ensures { λ x. ⌜ (added-of x (now (value .exit)) ≡ add-term (reduction-of g (now (tables .entry))) drops (multiple (g .p) c q (row-at (now (level .entry)) i)) (rows (now (value .entry)) 0 n)) × Within (g .working) x ⌝ }
+    requires { ⌜ Tables g (now tables) × (n ≤ g .working) × (g .working * row-length ≤ length (now value))
+        × (i * row-length + row-length ≤ length (now level)) ⌝ }
+    ensures { λ x. ⌜ (added-of x (now (value .exit)) ≡ add-term (reduction-of g (now (tables .entry))) drops
+        (multiple (g .p) c q (row-at (now (level .entry)) i)) (rows (now (value .entry)) 0 n)) × Within (g .working) x ⌝ }
 {
     let x = search::multiplied(level, i, c, q, g.p);
     let fits = x.fits;
@@ -126,7 +141,8 @@ pub fn add_all(
     drops: bool,
 ) -> Added
     requires { ⌜ Tables g (now tables) × (n ≤ g .working) × (g .working * row-length ≤ length (now value)) × (to * row-length ≤ length (now level)) ⌝ }
-    ensures { λ x. ⌜ (added-of x (now (value .exit)) ≡ add-products (reduction-of g (now (tables .entry))) drops c q (rows (now (level .entry)) from (to - from)) (rows (now (value .entry)) 0 n)) × Within (g .working) x ⌝ }
+    ensures { λ x. ⌜ (added-of x (now (value .exit)) ≡ add-products (reduction-of g (now (tables .entry))) drops c q
+        (rows (now (level .entry)) from (to - from)) (rows (now (value .entry)) 0 n)) × Within (g .working) x ⌝ }
 {
     let mut k = n;
     let mut i = from;
@@ -165,8 +181,10 @@ pub fn add_multiple(
     g: Ground,
     drops: bool,
 ) -> Added
-    requires { ⌜ Tables g (now tables) × Family g (now level) (ends-in (now tables)) × (n ≤ g .working) × (g .working * row-length ≤ length (now value)) × (1 ≤ j) × (j ≤ g .r) ⌝ }
-    ensures { λ x. ⌜ (added-of x (now (value .exit)) ≡ add-products (reduction-of g (now (tables .entry))) drops c q (vector-of (family-of g (now (level .entry)) (ends-in (now (tables .entry)))) j) (rows (now (value .entry)) 0 n)) × Within (g .working) x ⌝ }
+    requires { ⌜ Tables g (now tables) × Family g (now level) (ends-in (now tables)) × (n ≤ g .working) × (g .working * row-length ≤ length (now value))
+        × (1 ≤ j) × (j ≤ g .r) ⌝ }
+    ensures { λ x. ⌜ (added-of x (now (value .exit)) ≡ add-products (reduction-of g (now (tables .entry))) drops c q
+        (vector-of (family-of g (now (level .entry)) (ends-in (now (tables .entry)))) j) (rows (now (value .entry)) 0 n)) × Within (g .working) x ⌝ }
 {
     let ends = &tables[ENDS..];
     let from = first_of(ends, j);
@@ -209,8 +227,10 @@ pub fn greatest(value: &[u16], n: usize, code: u16, below: &[u16], images: usize
 
 // The place that the pick code says, of n terms.
 pub fn pick(value: &[u16], n: usize, pick: u16, tables: &[u16], g: Ground) -> usize
-    requires { ⌜ (0 < n) × (n * row-length ≤ length (now value)) × (below-start ≤ length (now tables)) × (g .images * row-length ≤ length (below-in (now tables))) × Tabled (g .images) (below-in (now tables)) ⌝ }
-    ensures { λ r. ⌜ some r ≡ by-code (table-order (g .code) (table-of (g .images) (below-in (now (tables .entry))))) pick (rows (now (value .entry)) 0 n) ⌝ }
+    requires { ⌜ (0 < n) × (n * row-length ≤ length (now value)) × (below-start ≤ length (now tables))
+        × (g .images * row-length ≤ length (below-in (now tables))) × Tabled (g .images) (below-in (now tables)) ⌝ }
+    ensures { λ r. ⌜ some r ≡ by-code (table-order (g .code) (table-of (g .images) (below-in (now (tables .entry))))) pick
+        (rows (now (value .entry)) 0 n) ⌝ }
 {
     match pick {
         1 => greatest(value, n, g.code, &tables[BELOW..], g.images),

@@ -16,7 +16,22 @@ ghost use Rattle.ending.specs.Well.{Well};
 ghost use Rattle.monomial.specs.Values.{monomial-of};
 ghost use Rattle.orders.specs.Images.{table-of, table-order};
 ghost use Rattle.runs.specs.reduction.Grounds.{reduction-of, family-of, ends-in, below-in, above-in, Tables, Family, added-of, Within};
-ghost use Rattle.runs.specs.run.Stages.{order-of, stage-of, strategy-of, run-of, Images, Rooms, reduced-by, without-step, without-words, step-of, Room, ended-of, outcome-of, Ended};
+ghost use Rattle.runs.specs.run.Stages.{
+  order-of,
+  stage-of,
+  strategy-of,
+  run-of,
+  Images,
+  Rooms,
+  reduced-by,
+  without-step,
+  without-words,
+  step-of,
+  Room,
+  ended-of,
+  outcome-of,
+  Ended,
+};
 use crate::reduction;
 use crate::reduction::Added;
 use crate::reduction::Ground;
@@ -61,8 +76,11 @@ fn reduced(
     c: u16,
     q: [u8; words::EXPONENTS_LENGTH],
 ) -> Step
-    requires { ⌜ Tables g (now tables) × Family g (now level) (ends-in (now tables)) × Rooms g (now value) (now vector) × (n ≤ g .working) × (v ≤ g .vector) × (1 ≤ j) × (j ≤ g .r) ⌝ }
-    ensures { λ x. ⌜ ((order : definition.Monomial → definition.Monomial → Comparison) → step-of order (g .p) x (now (value .exit)) (now (vector .exit)) ≡ reduced-by (reduction-of g (now (tables .entry))) (family-of g (now (level .entry)) (ends-in (now (tables .entry)))) drops (run-of (now (value .entry)) n (now (vector .entry)) v) j c q) × Room g x ⌝ }
+    requires { ⌜ Tables g (now tables) × Family g (now level) (ends-in (now tables)) × Rooms g (now value) (now vector) × (n ≤ g .working)
+        × (v ≤ g .vector) × (1 ≤ j) × (j ≤ g .r) ⌝ }
+    ensures { λ x. ⌜ ((order : definition.Monomial → definition.Monomial → Comparison) → step-of order (g .p) x (now (value .exit)) (now (vector .exit))
+        ≡ reduced-by (reduction-of g (now (tables .entry))) (family-of g (now (level .entry)) (ends-in (now (tables .entry)))) drops
+        (run-of (now (value .entry)) n (now (vector .entry)) v) j c q) × Room g x ⌝ }
 {
     let component = j as u16;
     let t = Term {
@@ -114,8 +132,12 @@ fn one_step(
     g: Ground,
     w: Strategy,
 ) -> Step
-    requires { ⌜ Tables g (now tables) × Family g (now level) (ends-in (now tables)) × Images (g .images) (below-in (now tables)) × Rooms g (now value) (now vector) × (0 < n) × (n ≤ g .working) × (v ≤ g .vector) ⌝ }
-    ensures { λ x. ⌜ ((above : definition.Monomial → definition.Monomial → Comparison) → step-of (order-of g (now (tables .entry))) (g .p) x (now (value .exit)) (now (vector .exit)) ≡ step-definition (stage-of g (now (level .entry)) (now (tables .entry)) above) (strategy-of g (now (tables .entry)) w) (run-of (now (value .entry)) n (now (vector .entry)) v)) × Room g x ⌝ }
+    requires { ⌜ Tables g (now tables) × Family g (now level) (ends-in (now tables)) × Images (g .images) (below-in (now tables))
+        × Rooms g (now value) (now vector) × (0 < n) × (n ≤ g .working) × (v ≤ g .vector) ⌝ }
+    ensures { λ x. ⌜ ((above : definition.Monomial → definition.Monomial → Comparison)
+        → step-of (order-of g (now (tables .entry))) (g .p) x (now (value .exit)) (now (vector .exit))
+        ≡ step-definition (stage-of g (now (level .entry)) (now (tables .entry)) above) (strategy-of g (now (tables .entry)) w)
+        (run-of (now (value .entry)) n (now (vector .entry)) v)) × Room g x ⌝ }
 {
     let i = reduction::pick(value, n, w.pick, tables, g);
     let t = terms::row(value, i);
@@ -140,8 +162,13 @@ fn steps(
     g: Ground,
     w: Strategy,
 ) -> Outcome
-    requires { ⌜ Tables g (now tables) × Family g (now level) (ends-in (now tables)) × Images (g .images) (below-in (now tables)) × Rooms g (now value) (now vector) × (start ≤ g .working) × (first ≤ g .vector) × Well (stage-of g (now level) (now tables) (order-of g (now tables))) × T (good? (rows (now value) 0 start)) ⌝ }
-    ensures { λ x. ⌜ ((above : definition.Monomial → definition.Monomial → Comparison) → (k : ℕ) × (ended-of (order-of g (now (tables .entry))) above (g .p) x (now (value .exit)) (now (vector .exit)) ≡ runs (stage-of g (now (level .entry)) (now (tables .entry)) above) (strategy-of g (now (tables .entry)) w) k (run-of (now (value .entry)) start (now (vector .entry)) first))) × Ended g x ⌝ }
+    requires { ⌜ Tables g (now tables) × Family g (now level) (ends-in (now tables)) × Images (g .images) (below-in (now tables))
+        × Rooms g (now value) (now vector) × (start ≤ g .working) × (first ≤ g .vector)
+        × Well (stage-of g (now level) (now tables) (order-of g (now tables))) × T (good? (rows (now value) 0 start)) ⌝ }
+    ensures { λ x. ⌜ ((above : definition.Monomial → definition.Monomial → Comparison) → (k : ℕ)
+        × (ended-of (order-of g (now (tables .entry))) above (g .p) x (now (value .exit)) (now (vector .exit))
+        ≡ runs (stage-of g (now (level .entry)) (now (tables .entry)) above) (strategy-of g (now (tables .entry)) w) k
+        (run-of (now (value .entry)) start (now (vector .entry)) first))) × Ended g x ⌝ }
 {
     let mut n = start;
     let mut v = first;
@@ -160,8 +187,11 @@ fn steps(
 
 // A finished vector descending, in the value's place; a value without a reducer descending, in the vector's.
 fn sorted(value: &mut [u16], vector: &mut [u16], x: Outcome, tables: &[u16], g: Ground) -> Outcome
-    requires { ⌜ Tables g (now tables) × Images (g .images) (below-in (now tables)) × Images (g .r) (above-in (now tables)) × Rooms g (now value) (now vector) × Ended g x ⌝ }
-    ensures { λ y. ⌜ (outcome-of y (now (value .exit)) (now (vector .exit)) ≡ ended-of (order-of g (now (tables .entry))) (table-order (g .code) (table-of (g .r) (above-in (now (tables .entry))))) (g .p) x (now (value .entry)) (now (vector .entry))) × Ended g y ⌝ }
+    requires { ⌜ Tables g (now tables) × Images (g .images) (below-in (now tables)) × Images (g .r) (above-in (now tables))
+        × Rooms g (now value) (now vector) × Ended g x ⌝ }
+    ensures { λ y. ⌜ (outcome-of y (now (value .exit)) (now (vector .exit))
+        ≡ ended-of (order-of g (now (tables .entry))) (table-order (g .code) (table-of (g .r) (above-in (now (tables .entry))))) (g .p) x
+        (now (value .entry)) (now (vector .entry))) × Ended g y ⌝ }
 {
     match x {
         Outcome::Finished(v) => {
@@ -201,8 +231,10 @@ fn started(
     drops: bool,
     m: Monomial,
 ) -> Added
-    requires { ⌜ Tables g (now tables) × Family g (now level) (ends-in (now tables)) × (g .working * row-length ≤ length (now value)) × (1 ≤ monomial-of m .1) × (monomial-of m .1 ≤ g .r) ⌝ }
-    ensures { λ x. ⌜ (added-of x (now (value .exit)) ≡ add-products (reduction-of g (now (tables .entry))) drops 1 (monomial-of m .0) (definition.vector-of (family-of g (now (level .entry)) (ends-in (now (tables .entry)))) (monomial-of m .1)) []) × Within (g .working) x ⌝ }
+    requires { ⌜ Tables g (now tables) × Family g (now level) (ends-in (now tables)) × (g .working * row-length ≤ length (now value))
+        × (1 ≤ monomial-of m .1) × (monomial-of m .1 ≤ g .r) ⌝ }
+    ensures { λ x. ⌜ (added-of x (now (value .exit)) ≡ add-products (reduction-of g (now (tables .entry))) drops 1 (monomial-of m .0)
+        (definition.vector-of (family-of g (now (level .entry)) (ends-in (now (tables .entry)))) (monomial-of m .1)) []) × Within (g .working) x ⌝ }
 {
     let q = m.exponents;
     let i = m.component as usize;
@@ -219,8 +251,13 @@ pub fn run(
     w: Strategy,
     m: Monomial,
 ) -> Outcome
-    requires { ⌜ Tables g (now tables) × Family g (now level) (ends-in (now tables)) × Images (g .images) (below-in (now tables)) × Images (g .r) (above-in (now tables)) × Rooms g (now value) (now vector) × (1 ≤ g .vector) × Well (stage-of g (now level) (now tables) (order-of g (now tables))) × (1 ≤ monomial-of m .1) × (monomial-of m .1 ≤ g .r) ⌝ }
-    ensures { λ x. ⌜ ((k : ℕ) × (outcome-of x (now (value .exit)) (now (vector .exit)) ≡ run-definition (stage-of g (now (level .entry)) (now (tables .entry)) (table-order (g .code) (table-of (g .r) (above-in (now (tables .entry)))))) (strategy-of g (now (tables .entry)) w) k (monomial-of m))) × Ended g x ⌝ }
+    requires { ⌜ Tables g (now tables) × Family g (now level) (ends-in (now tables)) × Images (g .images) (below-in (now tables))
+        × Images (g .r) (above-in (now tables)) × Rooms g (now value) (now vector) × (1 ≤ g .vector)
+        × Well (stage-of g (now level) (now tables) (order-of g (now tables))) × (1 ≤ monomial-of m .1) × (monomial-of m .1 ≤ g .r) ⌝ }
+    ensures { λ x. ⌜ ((k : ℕ) × (outcome-of x (now (value .exit)) (now (vector .exit))
+        ≡ run-definition (stage-of g (now (level .entry)) (now (tables .entry))
+        (table-order (g .code) (table-of (g .r) (above-in (now (tables .entry)))))) (strategy-of g (now (tables .entry)) w) k (monomial-of m)))
+        × Ended g x ⌝ }
 {
     let n = match started(value, level, tables, g, w.drops, m) {
         Added::Rows(n) => n,

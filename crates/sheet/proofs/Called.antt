@@ -19,36 +19,52 @@ use Rattle.level.proofs.all_levels.Lifting.{emptied}
 use Rattle.listing.specs.printing.Lines.{Printed}
 use Rattle.sheet.specs.Sheets.{Told, called}
 
-behind : (out after : Bytes) (r : ℕ) (bytes : Bytes) → Printed out after 0 r bytes → length after ≡ length out → cleared after r ≡ padded (length out) bytes
+behind : (out after : Bytes) (r : ℕ) (bytes : Bytes) → Printed out after 0 r bytes → length after ≡ length out → cleared after r
+    ≡ padded (length out) bytes
 behind out after r bytes p e =
     let d : length after - r ≡ length out - length bytes = omega (arith, e, p .ends) in
     (λ i. p .front i ++ replicate (d i) 0)
 
 module _ (file : Bytes) (state work : Words) (out : Bytes) where
   abbrev by-tests : ℕ → Bool → Bool → Bool → Option Told
-  by-tests n a b c = choose (a and b and c) (sheet document-01 n file then λ bytes. some (0, length bytes, zeros state, zeros work, padded (length out) bytes)) (some (16, 0, state, work, out))
+  by-tests n a b c = choose (a and b and c) (sheet document-01 n file then λ bytes. some
+      (0, length bytes, zeros state, zeros work, padded (length out) bytes)) (some (16, 0, state, work, out))
 
   abbrev pub Called : ℕ → ℕ → Words → Words → Bytes → Type 0
   Called number size s w o = (n : ℕ) × (_≡_ {A = Option Told} (some (number, size, s, w, o)) (called n file state work out))
 
   pub short-state : length state < state-length → Called 16 0 state work out
-  short-state h = (0, sym (ap (λ a. by-tests 0 a (leb value-length (length work)) (leb sheet-length (length out))) (lt-leb state-length (length state) h)))
+  short-state h = (
+    0,
+    sym (ap (λ a. by-tests 0 a (leb value-length (length work)) (leb sheet-length (length out)))
+        (lt-leb state-length (length state) h)),
+  )
 
   module _ (long : state-length ≤ length state) where
     pub short-work : length work < value-length → Called 16 0 state work out
-    short-work h = (0, sym (λ i. by-tests 0 (le-leb state-length (length state) long i) (lt-leb value-length (length work) h i) (leb sheet-length (length out))))
+    short-work h = (
+      0,
+      sym (λ i. by-tests 0 (le-leb state-length (length state) long i) (lt-leb value-length (length work) h i)
+          (leb sheet-length (length out))),
+    )
 
     module _ (wide : value-length ≤ length work) where
       pub short-out : length out < sheet-length → Called 16 0 state work out
-      short-out h = (0, sym (λ i. by-tests 0 (le-leb state-length (length state) long i) (le-leb value-length (length work) wide i) (lt-leb sheet-length (length out) h i)))
+      short-out h = (
+        0,
+        sym (λ i. by-tests 0 (le-leb state-length (length state) long i) (le-leb value-length (length work) wide i)
+            (lt-leb sheet-length (length out) h i)),
+      )
 
-      pub whole-sheet : sheet-length ≤ length out → (n : ℕ) (bytes : Bytes) → some bytes ≡ sheet document-01 n file → (r : ℕ) (s w : Words) (o : Bytes) → Printed out o 0 r bytes
+      pub whole-sheet : sheet-length ≤ length out → (n : ℕ) (bytes : Bytes) → some bytes ≡ sheet document-01 n file → (r : ℕ) (s w : Words) (o : Bytes)
+          → Printed out o 0 r bytes
           → length s ≡ length state → length w ≡ length work → length o ≡ length out → Called 0 r (cleared s 0) (cleared w 0) (cleared o r)
       whole-sheet h n bytes e r s w o p ls lw lo = (
         n,
         (λ i. some (0, sum-none i, emptied (length state) s ls i, emptied (length work) w lw i, behind out o r bytes p lo i))
             ∙ ap (λ x. x then λ bs. some (0, length bs, zeros state, zeros work, padded (length out) bs)) e
-            ∙ sym (λ i. by-tests n (le-leb state-length (length state) long i) (le-leb value-length (length work) wide i) (le-leb sheet-length (length out) h i)),
+            ∙ sym (λ i. by-tests n (le-leb state-length (length state) long i) (le-leb value-length (length work) wide i)
+            (le-leb sheet-length (length out) h i)),
       )
         where
           sum-none : r ≡ length bytes

@@ -28,7 +28,8 @@ fn clear(out: &mut [u8], from: usize)
 
 // "The sheet printed": its bytes in front, zeros after them and in the buffers that were lent for the work.
 pub fn sheet(file: &[u8], state: &mut [u16], work: &mut [u16], out: &mut [u8]) -> Answer
-    ensures { λ r. ⌜ ((n : ℕ) × (told r (now (state .exit)) (now (work .exit)) (now (out .exit)) ≡ called n (now (file .entry)) (now (state .entry)) (now (work .entry)) (now (out .entry)))) ⌝ }
+    ensures { λ r. ⌜ ((n : ℕ) × (told r (now (state .exit)) (now (work .exit)) (now (out .exit))
+        ≡ called n (now (file .entry)) (now (state .entry)) (now (work .entry)) (now (out .entry)))) ⌝ }
 {
     if state.len() < words::STATE_LENGTH {
         return Answer {

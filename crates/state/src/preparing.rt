@@ -1,4 +1,5 @@
-// What the lifting of a level reads of the state, made once a call: the tables of images below and above it, the leading rows of the level below, the spans of their components.
+// What the lifting of a level reads of the state, made once a call: the tables of images below and above it, the leading rows of the level below, the
+// spans of their components.
 // Knows: crate definitions' Stage, through the tables of reducers::tables and soundness.
 // It reads a state whose soundness its caller has tested.
 ghost use mathlib.Core.Path.{_≡_};
@@ -14,7 +15,8 @@ use reducers::tables;
 
 // The tables of images over levels 0 to k − 1, above, and over levels 0 to k − 2, below.
 pub fn fill_tables(below: &mut [u16], above: &mut [u16], state: &[u16], k: usize)
-    requires { ⌜ (state-length ≤ length (now state)) × T (holds-state? document-01 (now state)) × (k ≤ getD (now state) 4 0) × (table-length ≤ length (now below)) × (table-length ≤ length (now above)) ⌝ }
+    requires { ⌜ (state-length ≤ length (now state)) × T (holds-state? document-01 (now state)) × (k ≤ getD (now state) 4 0)
+        × (table-length ≤ length (now below)) × (table-length ≤ length (now above)) ⌝ }
     ensures { λ _. ⌜ Ready-pair (now (state .entry)) k (now (below .exit)) (now (above .exit)) ⌝ }
 {
     let mut j: usize = 0;
@@ -37,7 +39,8 @@ pub fn components_of(state: &[u16], k: usize) -> usize
 
 // The leading rows of level k and the spans of its components.
 pub fn fill_leads(heads: &mut [u16], spans: &mut [u16], state: &[u16], k: usize)
-    requires { ⌜ (state-length ≤ length (now state)) × T (holds-state? document-01 (now state)) × (k < getD (now state) 4 0) × (table-length ≤ length (now heads)) × (spans-length ≤ length (now spans)) ⌝ }
+    requires { ⌜ (state-length ≤ length (now state)) × T (holds-state? document-01 (now state)) × (k < getD (now state) 4 0)
+        × (table-length ≤ length (now heads)) × (spans-length ≤ length (now spans)) ⌝ }
     ensures { λ _. ⌜ Led (now (state .entry)) k (now (heads .exit)) (now (spans .exit)) ⌝ }
 {
     let r = soundness::count_of(state, k);

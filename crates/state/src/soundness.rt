@@ -14,7 +14,19 @@ ghost use Rattle.definitions.specs.Layout.{holds-state?};
 ghost use Rattle.definitions.specs.Places.{most-vectors, all-levels, row-length, header-length, level-length, state-length, table-length};
 ghost use Rattle.orders.specs.Images.{exponents-raw, key-of, compare-keys, table-of, table-order, Tabled};
 ghost use Rattle.state.specs.soundness.Places.{parameters-of, parameters-at, count-at, count-below, rows-from, ends-from};
-ghost use Rattle.state.specs.soundness.Holding.{exponent-limits as limits-definition, limit-at, bounds-of, row-holds?, follows?, all-hold?, vector-holds?, vectors-hold?, level-holds?, level-test?, levels-hold?};
+ghost use Rattle.state.specs.soundness.Holding.{
+  exponent-limits as limits-definition,
+  limit-at,
+  bounds-of,
+  row-holds?,
+  follows?,
+  all-hold?,
+  vector-holds?,
+  vectors-hold?,
+  level-holds?,
+  level-test?,
+  levels-hold?,
+};
 ghost use Rattle.state.specs.soundness.Tabled.{Advanced};
 ghost use Rattle.reducers.specs.tables.Cuts.{Cut};
 use orders::Comparison;
@@ -278,7 +290,8 @@ fn level_holds(
     table: &[u16],
     n: usize,
 ) -> bool
-    requires { ⌜ (state-length ≤ length (now state)) × (k < all-levels) × (high ≤ most-vectors) × (n * row-length ≤ length (now table)) × Tabled n (now table) ⌝ }
+    requires { ⌜ (state-length ≤ length (now state)) × (k < all-levels) × (high ≤ most-vectors) × (n * row-length ≤ length (now table))
+        × Tabled n (now table) ⌝ }
     ensures { λ r. ⌜ r ≡ level-holds? low high most b (table-order code (table-of n (now (table .entry)))) (now (state .entry)) k ⌝ }
 {
     let at = words::HEADER_LENGTH + k * words::COUNTS_LENGTH;
@@ -336,7 +349,9 @@ fn level_test(state: &[u16], k: usize, table: &[u16], n: usize) -> bool
 
 // The table over levels 0 to k − 1 goes from above to below, the one over level k too is made from it.
 pub fn advance(below: &mut [u16], above: &mut [u16], state: &[u16], k: usize)
-    requires { ⌜ (state-length ≤ length (now state)) × (k < all-levels) × (table-length ≤ length (now below)) × (table-length ≤ length (now above)) × (count-below (now state) k ≤ most-vectors) × (count-at (now state) k ≤ most-vectors) × Cut (count-at (now state) k) (rows-from (now state) k) (ends-from (now state) k) × Tabled (count-below (now state) k) (now above) ⌝ }
+    requires { ⌜ (state-length ≤ length (now state)) × (k < all-levels) × (table-length ≤ length (now below)) × (table-length ≤ length (now above))
+        × (count-below (now state) k ≤ most-vectors) × (count-at (now state) k ≤ most-vectors)
+        × Cut (count-at (now state) k) (rows-from (now state) k) (ends-from (now state) k) × Tabled (count-below (now state) k) (now above) ⌝ }
     ensures { λ _. ⌜ Advanced (now (state .entry)) k (now (above .entry)) (now (below .exit)) (now (above .exit)) ⌝ }
 {
     let n = count_under(state, k);

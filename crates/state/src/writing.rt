@@ -34,7 +34,8 @@ pub fn copy_rows(d: &mut [u16], used: usize, value: &[u16], v: usize)
 
 // The first v rows of a value as vector count + 1 of level k, whose vectors so far use so many rows.
 pub fn append(state: &mut [u16], k: usize, count: usize, used: usize, value: &[u16], v: usize)
-    requires { ⌜ (state-length ≤ length (now state)) × (k < all-levels) × (count < most-vectors) × (used + v ≤ most-rows) × (v * row-length ≤ length (now value)) ⌝ }
+    requires { ⌜ (state-length ≤ length (now state)) × (k < all-levels) × (count < most-vectors) × (used + v ≤ most-rows)
+        × (v * row-length ≤ length (now value)) ⌝ }
     ensures { λ _. ⌜ now (state .exit) ≡ appended (now (state .entry)) k count used (rows (now (value .entry)) 0 v) v ⌝ }
 {
     let start = words::ROWS_START + k * words::LEVEL_LENGTH;
@@ -59,7 +60,8 @@ fn end_of(state: &[u16], k: usize, r: usize) -> usize
 
 // The unused places of level k.
 fn tidy_level(state: &mut [u16], k: usize)
-    requires { ⌜ (state-length ≤ length (now state)) × (k < all-levels) × (count-at (now state) k ≤ most-vectors) × (start-of (ends-from (now state) k) (count-at (now state) k) ≤ most-rows) ⌝ }
+    requires { ⌜ (state-length ≤ length (now state)) × (k < all-levels) × (count-at (now state) k ≤ most-vectors)
+        × (start-of (ends-from (now state) k) (count-at (now state) k) ≤ most-rows) ⌝ }
     ensures { λ _. ⌜ now (state .exit) ≡ tidied (now (state .entry)) k ⌝ }
 {
     let r = soundness::count_of(state, k);
@@ -97,7 +99,8 @@ fn settle(state: &mut [u16], h: usize)
 
 // Level k is complete with its vectors so far; levels above it are dropped, unused places zeroed.
 pub fn finish(state: &mut [u16], k: usize, count: usize)
-    requires { ⌜ (state-length ≤ length (now state)) × (k < all-levels) × T (all-words-sound? document-01 (now state) k) × T (words-so-far? (now state) k count) ⌝ }
+    requires { ⌜ (state-length ≤ length (now state)) × (k < all-levels) × T (all-words-sound? document-01 (now state) k)
+        × T (words-so-far? (now state) k count) ⌝ }
     ensures { λ _. ⌜ now (state .exit) ≡ encode document-01 (length (now (state .entry))) (finished (now (state .entry)) k count) ⌝ }
 {
     let r = count as u16;
@@ -120,7 +123,8 @@ fn copy_out(out: &mut [u16], state: &[u16], start: usize, n: usize)
 
 // Vector v of level k in rows from the beginning of out, zeros behind it.
 pub fn fetch_rows(out: &mut [u16], state: &[u16], k: usize, v: usize)
-    requires { ⌜ (state-length ≤ length (now state)) × T (holds-state? document-01 (now state)) × (1 ≤ k) × (k < getD (now state) 4 0) × (1 ≤ v) × (v ≤ count-at (now state) k) × (vector-length ≤ length (now out)) ⌝ }
+    requires { ⌜ (state-length ≤ length (now state)) × T (holds-state? document-01 (now state)) × (1 ≤ k) × (k < getD (now state) 4 0) × (1 ≤ v)
+        × (v ≤ count-at (now state) k) × (vector-length ≤ length (now out)) ⌝ }
     ensures { λ _. ⌜ now (out .exit) ≡ padded (length (now (out .entry))) (rows-of (vector-of (level-at document-01 (now (state .entry)) k) v)) ⌝ }
 {
     let from = end_of(state, k, v - 1);

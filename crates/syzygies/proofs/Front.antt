@@ -33,7 +33,9 @@ module _ (state work : Words) (out : Bytes) (number size : ℕ) (s w : Words) (o
       ((fits, sym (length-take-le size o fits)), ap some ((λ i. take (l i) (p i)) ∙ take-append-seam bytes (replicate (length out - length bytes) 0)))
 
   module _ (n : ℕ) (file : Bytes) (a : state-length ≤ length state) (b : value-length ≤ length work) (c : sheet-length ≤ length out) where
-    pub sheet-in-front : _≡_ {A = Option Told} (some (number, size, s, w, o)) (called n file state work out) → Counts size o × (some (take size o) ≡ sheet document-01 n file)
+    pub sheet-in-front : _≡_ {A = Option Told} (some (number, size, s, w, o)) (called n file state work out) → Counts size o
+        × (some (take size o) ≡ sheet document-01 n file)
     sheet-in-front e =
         from-bytes (sheet document-01 n file)
-        (e ∙ (λ i. choose (le-leb state-length (length state) a i and le-leb value-length (length work) b i and le-leb sheet-length (length out) c i) (left (sheet document-01 n file)) (some (16, 0, state, work, out))))
+        (e ∙ (λ i. choose (le-leb state-length (length state) a i and le-leb value-length (length work) b i and le-leb sheet-length (length out) c i)
+        (left (sheet document-01 n file)) (some (16, 0, state, work, out))))

@@ -31,16 +31,23 @@ module _ (d : Words) (limit : ℕ) (c heads : Words) (r code : ℕ) where
   by a b e f = choose a (refusal 16) (choose b (refusal 16) (choose e (refusal 16) (choose f (refusal 16) given)))
 
   pub too-many : 65535 < r → refusal 16 ≡ called d limit c heads r code
-  too-many h = sym (λ i. by (lt-ltb 65535 r h i) (ltb (length d / row-length) limit) (ltb (length c / row-length) r) (ltb (length heads / row-length) r))
+  too-many h = sym (λ i. by (lt-ltb 65535 r h i) (ltb (length d / row-length) limit) (ltb (length c / row-length) r)
+      (ltb (length heads / row-length) r))
 
   pub short-frame : r ≤ 65535 → length d / row-length < limit → refusal 16 ≡ called d limit c heads r code
-  short-frame h g = sym (λ i. by (le-ltb 65535 r h i) (lt-ltb (length d / row-length) limit g i) (ltb (length c / row-length) r) (ltb (length heads / row-length) r))
+  short-frame h g = sym (λ i. by (le-ltb 65535 r h i) (lt-ltb (length d / row-length) limit g i) (ltb (length c / row-length) r)
+      (ltb (length heads / row-length) r))
 
   pub short-region : r ≤ 65535 → limit ≤ length d / row-length → length c / row-length < r → refusal 16 ≡ called d limit c heads r code
-  short-region h g l = sym (λ i. by (le-ltb 65535 r h i) (le-ltb (length d / row-length) limit g i) (lt-ltb (length c / row-length) r l i) (ltb (length heads / row-length) r))
+  short-region h g l = sym (λ i. by (le-ltb 65535 r h i) (le-ltb (length d / row-length) limit g i) (lt-ltb (length c / row-length) r l i)
+      (ltb (length heads / row-length) r))
 
-  pub short-heads : r ≤ 65535 → limit ≤ length d / row-length → r ≤ length c / row-length → length heads / row-length < r → refusal 16 ≡ called d limit c heads r code
-  short-heads h g l m = sym (λ i. by (le-ltb 65535 r h i) (le-ltb (length d / row-length) limit g i) (le-ltb (length c / row-length) r l i) (lt-ltb (length heads / row-length) r m i))
+  pub short-heads : r ≤ 65535 → limit ≤ length d / row-length → r ≤ length c / row-length → length heads / row-length < r → refusal 16
+      ≡ called d limit c heads r code
+  short-heads h g l m = sym (λ i. by (le-ltb 65535 r h i) (le-ltb (length d / row-length) limit g i) (le-ltb (length c / row-length) r l i)
+      (lt-ltb (length heads / row-length) r m i))
 
-  pub long-enough : r ≤ 65535 → limit ≤ length d / row-length → r ≤ length c / row-length → r ≤ length heads / row-length → given ≡ called d limit c heads r code
-  long-enough h g l m = sym (λ i. by (le-ltb 65535 r h i) (le-ltb (length d / row-length) limit g i) (le-ltb (length c / row-length) r l i) (le-ltb (length heads / row-length) r m i))
+  pub long-enough : r ≤ 65535 → limit ≤ length d / row-length → r ≤ length c / row-length → r ≤ length heads / row-length → given
+      ≡ called d limit c heads r code
+  long-enough h g l m = sym (λ i. by (le-ltb 65535 r h i) (le-ltb (length d / row-length) limit g i) (le-ltb (length c / row-length) r l i)
+      (le-ltb (length heads / row-length) r m i))

@@ -58,7 +58,8 @@ mark-few greater = omega arith
 mark-few equal = omega arith
 mark-few smaller = omega arith
 
-pub descent-is : (code : ℕ) (s : Words) (i r : ℕ) (c : Comparison) (m m′ : Monomial) → r ≡ greater-mark c → c ≡ compare-over code [] m m′ → m ≡ row-at s i .1 → m′ ≡ row-at s (i + 1) .1 → (r ≡ descent code s i) × (r ≤ 1)
+pub descent-is : (code : ℕ) (s : Words) (i r : ℕ) (c : Comparison) (m m′ : Monomial) → r ≡ greater-mark c → c ≡ compare-over code [] m m′ → m
+    ≡ row-at s i .1 → m′ ≡ row-at s (i + 1) .1 → (r ≡ descent code s i) × (r ≤ 1)
 descent-is code s i r c m m′ e h x y = (e ∙ ap greater-mark h ∙ (λ j. greater-mark (compare-over code [] (x j) (y j))), omega (arith, e, mark-few c))
 
 pub product-fits : (b : Bool) (m : Monomial) → b ≡ true → _≡_ {A = Term} (1, m) (product-row (choose b (some m) none))
@@ -67,7 +68,8 @@ product-fits b m e = sym (ap (λ x. product-row (choose x (some m) none)) e)
 pub product-over : (b : Bool) (m u : Monomial) → u ≡ (unit, 0) → b ≡ false → _≡_ {A = Term} (0, u) (product-row (choose b (some m) none))
 product-over b m u h e = ap {A = Monomial} {B = Term} (λ x. (0, x)) h ∙ sym (ap (λ x. product-row (choose x (some m) none)) e)
 
-pub product-is : (s : Words) (i : ℕ) (t : Term) (o : Option Monomial) (q : Exponents) (m : Monomial) → t ≡ product-row o → o ≡ formed q m → q ≡ row-at s (i + 1) .1 .0 → m ≡ row-at s i .1 → t ≡ product-at s i
+pub product-is : (s : Words) (i : ℕ) (t : Term) (o : Option Monomial) (q : Exponents) (m : Monomial) → t ≡ product-row o → o ≡ formed q m → q
+    ≡ row-at s (i + 1) .1 .0 → m ≡ row-at s i .1 → t ≡ product-at s i
 product-is s i t o q m e h x y = e ∙ ap product-row h ∙ (λ j. product-row (formed (x j) (y j)))
 
 -- ## The tests before products
@@ -117,7 +119,8 @@ passed false b e = (refl, e)
 
 pub ready-said : (state : Words) (k : ℕ) (s : Words) (n : ℕ) → ready? state k s n ≡ true → Is-ready state k s n
 ready-said state k s n e =
-    let a = passed (ltb (length state) state-length) (choose (ltb (length s / row-length) n) false (choose (leb (getD state 4 0) k) false (holds-state? document-01 state))) e in
+    let a = passed (ltb (length state) state-length) (choose (ltb (length s / row-length) n) false
+    (choose (leb (getD state 4 0) k) false (holds-state? document-01 state))) e in
     let b = passed (ltb (length s / row-length) n) (choose (leb (getD state 4 0) k) false (holds-state? document-01 state)) (a .1) in
     let c = passed (leb (getD state 4 0) k) (holds-state? document-01 state) (b .1) in
     record {
@@ -129,9 +132,13 @@ ready-said state k s n e =
 
 -- ## What a state's tables are for
 
-pub led-spans : (state : Words) (k r c : ℕ) (leads spans : Words) → r ≡ count-at state k → c ≡ components-at state k → Led state k leads spans → Small r leads × Spanned (c + 1) r spans leads
-led-spans state k r c leads spans er ec l =
-    (subst (λ m. Small m leads) (sym er) (l .small), subst (λ m. Spanned (m + 1) r spans leads) (sym ec) (subst (λ m. Spanned (components-at state k + 1) m spans leads) (sym er) (l .spanned)))
+pub led-spans : (state : Words) (k r c : ℕ) (leads spans : Words) → r ≡ count-at state k → c ≡ components-at state k → Led state k leads spans
+    → Small r leads × Spanned (c + 1) r spans leads
+led-spans state k r c leads spans er ec l = (
+  subst (λ m. Small m leads) (sym er) (l .small),
+  subst (λ m. Spanned (m + 1) r spans leads) (sym ec)
+      (subst (λ m. Spanned (components-at state k + 1) m spans leads) (sym er) (l .spanned)),
+)
 
 -- the table over levels 0 to k
 pub table-ready : (state : Words) (k : ℕ) (below above : Words) → Ready-pair state (k + 1) below above → Ready state (suc k) above

@@ -35,19 +35,25 @@ pub record Fits (s w o : Words) (way : Way) (b : Bounds) : Type 0 where
 
 pub fits-says : (s work out : Words) (way : Way) (b : Bounds) → T (fits? s work out way b) → Fits s work out way b
 fits-says s work out way b t =
-    let t1 = and-right (leb state-length (length s)) (leb (work-words document-01 way) (length work) and leb grown-length (length out) and within? b) t in
+    let t1 = and-right (leb state-length (length s)) (leb (work-words document-01 way) (length work) and leb grown-length (length out) and within? b)
+    t in
     let t2 = and-right (leb (work-words document-01 way) (length work)) (leb grown-length (length out) and within? b) t1 in
     let t3 = and-right (leb grown-length (length out)) (within? b) t2 in
-    let t4 = and-right (leb (b .working) most-terms) (leb (b .vector) most-terms and leb 1 (b .vector) and leb (b .tree) most-tree-terms and leb (b .room) most-rows) t3 in
+    let t4 = and-right (leb (b .working) most-terms) (leb (b .vector) most-terms and leb 1 (b .vector) and leb (b .tree) most-tree-terms
+    and leb (b .room) most-rows) t3 in
     let t5 = and-right (leb (b .vector) most-terms) (leb 1 (b .vector) and leb (b .tree) most-tree-terms and leb (b .room) most-rows) t4 in
     let t6 = and-right (leb 1 (b .vector)) (leb (b .tree) most-tree-terms and leb (b .room) most-rows) t5 in
     record {
-      state = leb→le state-length (length s) (and-left (leb state-length (length s)) (leb (work-words document-01 way) (length work) and leb grown-length (length out) and within? b) t);
-      work = leb→le (work-words document-01 way) (length work) (and-left (leb (work-words document-01 way) (length work)) (leb grown-length (length out) and within? b) t1);
+      state = leb→le state-length (length s) (and-left (leb state-length (length s))
+          (leb (work-words document-01 way) (length work) and leb grown-length (length out) and within? b) t);
+      work = leb→le (work-words document-01 way) (length work) (and-left (leb (work-words document-01 way) (length work))
+          (leb grown-length (length out) and within? b) t1);
       out = leb→le grown-length (length out) (and-left (leb grown-length (length out)) (within? b) t2);
       within = record {
-        working = leb→le (b .working) most-terms (and-left (leb (b .working) most-terms) (leb (b .vector) most-terms and leb 1 (b .vector) and leb (b .tree) most-tree-terms and leb (b .room) most-rows) t3);
-        vector = leb→le (b .vector) most-terms (and-left (leb (b .vector) most-terms) (leb 1 (b .vector) and leb (b .tree) most-tree-terms and leb (b .room) most-rows) t4);
+        working = leb→le (b .working) most-terms (and-left (leb (b .working) most-terms)
+            (leb (b .vector) most-terms and leb 1 (b .vector) and leb (b .tree) most-tree-terms and leb (b .room) most-rows) t3);
+        vector = leb→le (b .vector) most-terms (and-left (leb (b .vector) most-terms)
+            (leb 1 (b .vector) and leb (b .tree) most-tree-terms and leb (b .room) most-rows) t4);
         filled = leb→le 1 (b .vector) (and-left (leb 1 (b .vector)) (leb (b .tree) most-tree-terms and leb (b .room) most-rows) t5);
         tree = leb→le (b .tree) most-tree-terms (and-left (leb (b .tree) most-tree-terms) (leb (b .room) most-rows) t6);
         room = leb→le (b .room) most-rows (and-right (leb (b .tree) most-tree-terms) (leb (b .room) most-rows) t6);
@@ -60,19 +66,23 @@ limited : (number : ℕ) → Numbered limit-number? (refusal {A = Level} number)
 limited number (numbers.refuses t) z = subst (λ i. T (limit-number? i)) z t
 limited number (numbers.stops t) z = absurd t
 
-answered : (b : Bounds) (s cache out : Words) (k : ℕ) (way : Way) (n : ℕ) (x : Leveled) (v : Words) → leveled-of x out v ≡ lifted-within b s k way cache n
+answered : (b : Bounds) (s cache out : Words) (k : ℕ) (way : Way) (n : ℕ) (x : Leveled) (v : Words) → leveled-of x out v
+    ≡ lifted-within b s k way cache n
     → (u : Vector) × (told (number-of x) (count-of x) out u ≡ lifted-within b s k way cache n)
 answered b s cache out k way n (Vectors count used) v e = ([], e)
 answered b s cache out k way n (Refused number) v e =
-    let m = limited number (subst (Numbered limit-number?) (sym e) (lift-level-number (limits-with b) (getD s 0 0) (getD s 2 0) (levels-at document-01 s (suc (k - 1))) (lifting-by way cache) n)) in
+    let m = limited number (subst (Numbered limit-number?) (sym e) (lift-level-number (limits-with b) (getD s 0 0) (getD s 2 0)
+    (levels-at document-01 s (suc (k - 1))) (lifting-by way cache) n)) in
     ([], ap (λ t. choose t (done (lifted-vectors out 0)) (refused number 0 [])) (ne-eqb number 0 m) ∙ e)
 answered b s cache out k way n (Stopped i) v e = (rows v 0 i, e)
 
-counted : (b : Bounds) (s cache out : Words) (k : ℕ) (way : Way) (n : ℕ) (x : Leveled) (v : Words) → leveled-of x out v ≡ lifted-within b s k way cache n → Stored-as x out
+counted : (b : Bounds) (s cache out : Words) (k : ℕ) (way : Way) (n : ℕ) (x : Leveled) (v : Words) → leveled-of x out v
+    ≡ lifted-within b s k way cache n → Stored-as x out
     → Counted (number-of x) (count-of x) (used-of x) out
 counted b s cache out k way n (Vectors count used) v e h = (λ z. h .1, λ m. absurd (m refl))
 counted b s cache out k way n (Refused number) v e h =
-    let m = limited number (subst (Numbered limit-number?) (sym e) (lift-level-number (limits-with b) (getD s 0 0) (getD s 2 0) (levels-at document-01 s (suc (k - 1))) (lifting-by way cache) n)) in
+    let m = limited number (subst (Numbered limit-number?) (sym e) (lift-level-number (limits-with b) (getD s 0 0) (getD s 2 0)
+    (levels-at document-01 s (suc (k - 1))) (lifting-by way cache) n)) in
     (λ z. absurd (m z), λ o. (refl, refl))
 counted b s cache out k way n (Stopped i) v e h = (λ z. absurd (not-suc-le-zero {n = 0} (omega (arith, z))), λ o. (refl, refl))
 
@@ -102,8 +112,11 @@ module _ (b : Bounds) (s work out cache : Words) (k : ℕ) (way : Way) where
       none-counted number m z,
     )
 
-    pub lifted : 0 ≡ complete-number s k way → (x : Leveled) (number count used n : ℕ) (z v : Words) → number ≡ number-of x → count ≡ count-of x → used ≡ used-of x → Stored-as x z
+    pub lifted : 0 ≡ complete-number s k way → (x : Leveled) (number count used n : ℕ) (z v : Words) → number ≡ number-of x → count ≡ count-of x → used
+        ≡ used-of x → Stored-as x z
         → leveled-of x z v ≡ lifted-within b s k way cache n → Called number count used z
     lifted e x number count used n z v p q u g h =
-        let a = answered b s cache z k way n x v h in
-        ((n, a .0, (λ i. told (p i) (q i) z (a .0)) ∙ a .1 ∙ (λ i. by-tests n (fit i) (e i))), subst₃ (λ number count used. Counted number count used z) (sym p) (sym q) (sym u) (counted b s cache z k way n x v h g))
+        let a = answered b s cache z k way n x v h in (
+          (n, a .0, (λ i. told (p i) (q i) z (a .0)) ∙ a .1 ∙ (λ i. by-tests n (fit i) (e i))),
+          subst₃ (λ number count used. Counted number count used z) (sym p) (sym q) (sym u) (counted b s cache z k way n x v h g),
+        )

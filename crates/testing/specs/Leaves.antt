@@ -63,7 +63,8 @@ products s d n = choose (leb (length s / row-length) n) d (choose (ltb (length d
 
 -- the state is sound and has level k; there are n rows
 abbrev pub ready? : Words → ℕ → Words → ℕ → Bool
-ready? state k s n = choose (ltb (length state) state-length) false (choose (ltb (length s / row-length) n) false (choose (leb (getD state 4 0) k) false (holds-state? document-01 state)))
+ready? state k s n = choose (ltb (length state) state-length) false (choose (ltb (length s / row-length) n) false
+    (choose (leb (getD state 4 0) k) false (holds-state? document-01 state)))
 
 abbrev pub lower-mark : Answer → ℕ
 lower-mark (Reducer j c) = 0
@@ -71,8 +72,10 @@ lower-mark LowerOrder = 1
 
 -- how many of n rows are of lower order by level k
 abbrev pub lower : Words → ℕ → Words → ℕ → ℕ
-lower state k s n = choose (ready? state k s n) (counted (λ i. lower-mark (searched (heads (getD state 0 0) (level-at document-01 state k)) (row-at s i .1))) n) 0
+lower state k s n = choose (ready? state k s n) (counted (λ i. lower-mark
+    (searched (heads (getD state 0 0) (level-at document-01 state k)) (row-at s i .1))) n) 0
 
 -- n rows descending in the order of the module over level k
 abbrev pub sorted : Words → ℕ → Words → ℕ → Vector
-sorted state k s n = choose (ready? state k s n) (descending (table-order (getD state 2 0) (images (levels-at document-01 state (suc k)))) (getD state 0 0) (rows s 0 n)) []
+sorted state k s n = choose (ready? state k s n) (descending (table-order (getD state 2 0) (images (levels-at document-01 state (suc k))))
+    (getD state 0 0) (rows s 0 n)) []

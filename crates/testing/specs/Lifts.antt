@@ -24,7 +24,8 @@ bounds-by working vector tree room = record { working = working; vector = vector
 
 -- at most document 01's limits; a vector has room for its frame term
 abbrev pub within? : Bounds → Bool
-within? b = leb (b .working) most-terms and leb (b .vector) most-terms and leb 1 (b .vector) and leb (b .tree) most-tree-terms and leb (b .room) most-rows
+within? b = leb (b .working) most-terms and leb (b .vector) most-terms and leb 1 (b .vector) and leb (b .tree) most-tree-terms
+    and leb (b .room) most-rows
 
 abbrev pub fits? : Words → Words → Words → Way → Bounds → Bool
 fits? s work out way b = leb state-length (length s) and leb (work-words document-01 way) (length work) and leb grown-length (length out) and within? b
@@ -59,4 +60,5 @@ Counted number count used out = (number ≡ 0 → Kept count used out) × ((numb
 -- 16, then 11 and 12, then the level
 abbrev pub called : Bounds → Words → Words → Words → Words → ℕ → Way → ℕ → Result Level
 called b s work out cache k way n =
-    choose (fits? s work out way b) (choose (eqb (complete-number s k way) 0) (lifted-within b s k way cache n) (refused (complete-number s k way) 0 [])) (refused 16 0 [])
+    choose (fits? s work out way b) (choose (eqb (complete-number s k way) 0) (lifted-within b s k way cache n)
+    (refused (complete-number s k way) 0 [])) (refused 16 0 [])

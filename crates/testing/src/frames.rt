@@ -21,7 +21,8 @@ fn tell(x: Stored, count: &mut usize) -> u16
     }
 }
 
-// The frame terms of r leading rows, numbered by the order code, into the rows of d; stores how many they are. 15 where they are more than the limit, 16 where a slice is too short.
+// The frame terms of r leading rows, numbered by the order code, into the rows of d; stores how many they are. 15 where they are more than the limit,
+// 16 where a slice is too short.
 #[no_mangle]
 pub extern "C" fn frames_form(
     d: &mut [u16],

@@ -13,7 +13,20 @@ ghost use Rattle.monomial.specs.Values.{product-of};
 ghost use Rattle.orders.specs.Images.{comparison-of};
 ghost use Rattle.reducers.specs.search.Search.{Small, Spanned, searched};
 ghost use Rattle.vectors.specs.terms.Rows.{term-of};
-ghost use Rattle.testing.specs.Leaves.{greater-mark, descent, counted, descents, product-row, product-at as product-at-definition, filled, products, ready?, lower-mark, lower, sorted};
+ghost use Rattle.testing.specs.Leaves.{
+  greater-mark,
+  descent,
+  counted,
+  descents,
+  product-row,
+  product-at as product-at-definition,
+  filled,
+  products,
+  ready?,
+  lower-mark,
+  lower,
+  sorted,
+};
 use monomial::Monomial;
 use monomial::Product;
 use orders::Comparison;
@@ -154,7 +167,8 @@ fn mark_lower(a: Answer) -> usize
 
 // How many of n rows none of the heads divides.
 fn count_lower(heads: &[u16], r: usize, spans: &[u16], k: usize, s: &[u16], n: usize) -> usize
-    requires { ⌜ (r * row-length ≤ length (now heads)) × (k * 2 ≤ length (now spans)) × Small r (now heads) × Spanned k r (now spans) (now heads) × (n * row-length ≤ length (now s)) ⌝ }
+    requires { ⌜ (r * row-length ≤ length (now heads)) × (k * 2 ≤ length (now spans)) × Small r (now heads) × Spanned k r (now spans) (now heads)
+        × (n * row-length ≤ length (now s)) ⌝ }
     ensures { λ x. ⌜ x ≡ counted (λ i. lower-mark (searched (rows (now (heads .entry)) 0 r) (row-at (now (s .entry)) i .1))) n ⌝ }
 {
     let mut x: usize = 0;
@@ -186,10 +200,12 @@ pub extern "C" fn leaves_lower(state: &[u16], k: usize, s: &[u16], n: usize) -> 
 
 // ## Insertion
 
-// The terms of n rows one by one into an empty sum that descends in the order of the module over level k; the number of its rows, none where the state or the rows are not as they must be.
+// The terms of n rows one by one into an empty sum that descends in the order of the module over level k; the number of its rows, none where the state
+// or the rows are not as they must be.
 #[no_mangle]
 pub extern "C" fn leaves_sort(d: &mut [u16], s: &[u16], n: usize, state: &[u16], k: usize) -> usize
-    ensures { λ x. ⌜ rows (now (d .exit)) 0 x ≡ choose (ltb (length (now (d .entry)) / row-length) n) [] (sorted (now (state .entry)) k (now (s .entry)) n) ⌝ }
+    ensures { λ x. ⌜ rows (now (d .exit)) 0 x ≡ choose (ltb (length (now (d .entry)) / row-length) n) []
+        (sorted (now (state .entry)) k (now (s .entry)) n) ⌝ }
 {
     if d.len() / words::ROW_LENGTH < n {
         return 0;

@@ -1,4 +1,5 @@
-// Levels lifted within limits that may be smaller than document 01's, for programs in other languages: tests against the unrelated implementation meet 13 to 15 at every place.
+// Levels lifted within limits that may be smaller than document 01's, for programs in other languages: tests against the unrelated implementation meet
+// 13 to 15 at every place.
 // Knows: level::by_runs and ways::by_tree, and the tests of crate lift_call.
 // No code of the engine calls it.
 ghost use mathlib.Core.Path.{_≡_};
@@ -48,8 +49,10 @@ fn lift_by(
     way: Way,
     b: Bounds,
 ) -> Leveled
-    requires { ⌜ Base (now state) (k - 1) × (1 ≤ k) × (k ≤ most-levels) × (grown-length ≤ length (now out)) × (work-words document-01 (way-of way) ≤ length (now work)) × Within b ⌝ }
-    ensures { λ x. ⌜ ((n : ℕ) × (v : Words) × (leveled-of x (now (out .exit)) v ≡ lifted-within b (now (state .entry)) k (way-of way) (now (cache .entry)) n)) × Stored-as x (now (out .exit)) ⌝ }
+    requires { ⌜ Base (now state) (k - 1) × (1 ≤ k) × (k ≤ most-levels) × (grown-length ≤ length (now out))
+        × (work-words document-01 (way-of way) ≤ length (now work)) × Within b ⌝ }
+    ensures { λ x. ⌜ ((n : ℕ) × (v : Words) × (leveled-of x (now (out .exit)) v
+        ≡ lifted-within b (now (state .entry)) k (way-of way) (now (cache .entry)) n)) × Stored-as x (now (out .exit)) ⌝ }
 {
     match way {
         Way::Division => {
@@ -128,7 +131,9 @@ pub extern "C" fn lifts_level(
     count: &mut usize,
     used: &mut usize,
 ) -> u16
-    ensures { λ x. ⌜ ((n : ℕ) × (v : Vector) × (told x (now (count .exit)) (now (out .exit)) v ≡ called (bounds-by working vector tree room) (now (state .entry)) (now (work .entry)) (now (out .entry)) (now (cache .entry)) level (coded-way way pick) n)) × Counted x (now (count .exit)) (now (used .exit)) (now (out .exit)) ⌝ }
+    ensures { λ x. ⌜ ((n : ℕ) × (v : Vector) × (told x (now (count .exit)) (now (out .exit)) v
+        ≡ called (bounds-by working vector tree room) (now (state .entry)) (now (work .entry)) (now (out .entry)) (now (cache .entry)) level
+        (coded-way way pick) n)) × Counted x (now (count .exit)) (now (used .exit)) (now (out .exit)) ⌝ }
 {
     let b = Bounds {
         working,

@@ -57,5 +57,6 @@ module _ (S : Scalars) {M : Monoid} (G : Stage S M) where
       zero : (k : ℕ) → (w : Vec S (M .E × ℕ)) × Divides S (G .L) (fam S G) (G .reducer) (term S G k) w []
           → Same S (ψ S (G .L) (G .A .f) (reckoned S G (term S G k))) []
       zero k (w, D) =
-          Vec.same-trans S (Vec.same-lin S (times S (G .L) (G .A .f)) (Vec.same-sym S (run-reckons S (G .L) (fam S G) (G .reducer) (term S G k) w (D .run))))
+          Vec.same-trans S (Vec.same-lin S (times S (G .L) (G .A .f)) (Vec.same-sym S
+          (run-reckons S (G .L) (fam S G) (G .reducer) (term S G k) w (D .run))))
           (run-even S (G .L) (fam S G) (G .reducer) (D .run) (D .whole) (start-even S (G .L) (fam S G) (G .reducer) (term S G k)))

@@ -159,7 +159,8 @@ module _ {M : Monoid} (D : Division M) (ltb : M .E → M .E → Bool) where
         at-r : j ≡ r → L .act n (lm r) ≡ L .act m (lm i)
         at-r k = subst (λ z. L .act n (lm z) ≡ L .act m (lm i)) k e
 
-        go : (o : Option E) → Colon L (lm r) (lm i) o → Tri (j < r) (j ≡ r) (r < j) → (j < r → Over m (gens L Q lm i r)) → Over m (maybe o (gens L Q lm i r))
+        go : (o : Option E) → Colon L (lm r) (lm i) o → Tri (j < r) (j ≡ r) (r < j) → (j < r → Over m (gens L Q lm i r))
+            → Over m (maybe o (gens L Q lm i r))
         go none q (below k) ih = ih k
         go none q (same k) ih = absurd (q m n (at-r k))
         go none q (above k) ih = absurd (omega arith)
@@ -171,7 +172,8 @@ module _ {M : Monoid} (D : Division M) (ltb : M .E → M .E → Bool) where
     at-some i j h m n e =
         sort-some (λ g. Divides g m) (minimal D ltb (gens L Q lm i i)) (minimal-covers (gens L Q lm i i) m (gens-some i i j h m n e))
 
-    list-some : (m : E) (r i : ℕ) → i < r → Over m (frame-at D ltb L Q lm i) → Some (λ (t : E × ℕ). (t .1 ≡ i) × Divides (t .0) m) (frame-list D ltb L Q lm r)
+    list-some : (m : E) (r i : ℕ) → i < r → Over m (frame-at D ltb L Q lm i)
+        → Some (λ (t : E × ℕ). (t .1 ≡ i) × Divides (t .0) m) (frame-list D ltb L Q lm r)
     list-some m zero i h s = absurd (omega arith)
     list-some m (suc r) i h s = go (nat-tri i r) (λ k. list-some m r i k s)
       where
@@ -237,6 +239,7 @@ module _ {M : Monoid} (D : Division M) (ltb : M .E → M .E → Bool) where
       terms = frames;
       covers = frame-covers;
       real = λ k h.
-          let R : Listed L Q (A .lm) (A .count) (term-at M frames k) = every-at (M .ε, 0) (Listed L Q (A .lm) (A .count)) frames (list-every L Q (A .lm) (A .count)) k h in
+          let R : Listed L Q (A .lm) (A .count) (term-at M frames k) =
+          every-at (M .ε, 0) (Listed L Q (A .lm) (A .count)) frames (list-every L Q (A .lm) (A .count)) k h in
           (R .0, ((R .1 .2 .0, R .1 .0), R .1 .1, R .1 .2 .1));
     }

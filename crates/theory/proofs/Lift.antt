@@ -67,7 +67,8 @@ module _ (S : Scalars) {M : Monoid} (L : Level M) (F : Family S L) (reducer : Re
       go : Normal (t .1) → Normals v → Normals (t ∷ v)
       go N T = record {
         rest = scale S (t .0) (N .rest) ++ T .rest;
-        lower = Vec.all-append S (Lower S L F) (scale S (t .0) (N .rest)) (T .rest) (Vec.all-scale S (Lower S L F) (t .0) (N .rest) (N .lower)) (T .lower);
+        lower = Vec.all-append S (Lower S L F) (scale S (t .0) (N .rest)) (T .rest) (Vec.all-scale S (Lower S L F) (t .0) (N .rest) (N .lower))
+            (T .lower);
         same = record {
           at = λ φ.
               ap (add (mul (t .0) (φ (t .1)))) (Vec.ev-append S φ v (ψ S L f (lin S up (t ∷ v)))
@@ -79,7 +80,8 @@ module _ (S : Scalars) {M : Monoid} (L : Level M) (F : Family S L) (reducer : Re
       }
 
   -- b with −q · f_j added leaves the other terms of −q · f_j
-  reducer-cancels : (b : B) (r : Reducer S L F b) (w : Vec S B) → Same S ((𝟙, b) ∷ (scale S (turned S L F r) (times S L f (r .at)) ++ w)) (others S L F r ++ w)
+  reducer-cancels : (b : B) (r : Reducer S L F b) (w : Vec S B) → Same S ((𝟙, b) ∷ (scale S (turned S L F r) (times S L f (r .at)) ++ w))
+      (others S L F r ++ w)
   reducer-cancels b r w = record {
     at = λ φ.
         ap (add (mul 𝟙 (φ b))) (Vec.ev-term S φ (turned S L F r) (act (r .at .0)) (f (r .at .1)) w
@@ -130,7 +132,8 @@ module _ (S : Scalars) {M : Monoid} (L : Level M) (F : Family S L) (reducer : Re
       go (inr n) e = rw e tt
       go (inl r) e = rw e (
         (r .dom, inr (r .hits, r .lowest)),
-        Vec.all-lin S (λ x. Lt x b) (Under b) up (λ y l. Vec.all-map S (Under y) (Under b) (lower y l) (up y) (ih y l)) (others S L F r) (others-small S L F r),
+        Vec.all-lin S (λ x. Lt x b) (Under b) up (λ y l. Vec.all-map S (Under y) (Under b) (lower y l) (up y) (ih y l)) (others S L F r)
+            (others-small S L F r),
       )
 
   pub under : (b : B) → All S (Under b) (up b)

@@ -104,7 +104,8 @@ module _ (S : Scalars) {M : Monoid} (L : Level M) (F : Family S L) (reducer : Re
     at = λ φ.
         Vec.ev-append S φ g (scale S (mul c (turned S L F r)) (times S L f (r .at))) ∙ add-comm _ _
         ∙ ap₂ (λ x y. add x y) (Vec.ev-scale S φ (mul c (turned S L F r)) (times S L f (r .at)) ∙ ap (mul (mul c (turned S L F r)))
-        (Vec.ev-map S φ m (f (r .at .1)) ∙ l .split .at (λ x. φ (m x)) ∙ ap (λ z. add (mul (l .coef) (φ z)) (ev S (λ x. φ (m x)) (l .rest))) (r .hits))) (e .at φ)
+        (Vec.ev-map S φ m (f (r .at .1)) ∙ l .split .at (λ x. φ (m x)) ∙ ap (λ z. add (mul (l .coef) (φ z)) (ev S (λ x. φ (m x)) (l .rest))) (r .hits)))
+        (e .at φ)
         ∙ even S c (l .coef) (φ b) (ev S (λ x. φ (m x)) (l .rest)) (ev S φ kept) (l .nonzero)
         ∙ sym (Vec.ev-append S φ kept (scale S c (others S L F r)) ∙ ap (add (ev S φ kept)) (Vec.ev-scale S φ c (others S L F r) ∙ ap (mul c)
         (Vec.ev-scale S φ (turned S L F r) (mapB S m (l .rest)) ∙ ap (mul (turned S L F r)) (Vec.ev-map S φ m (l .rest)))));
@@ -133,7 +134,8 @@ module _ (S : Scalars) {M : Monoid} (L : Level M) (F : Family S L) (reducer : Re
   drop-even : {g g′ : Vec S B} (d : Drop S L F reducer g g′) → d .low ≡ [] → Same S g g′
   drop-even {g} {g′} d e = record { at = λ φ. sym (Vec.same-nil S g′ .at φ ∙ ap (λ z. ev S φ (g′ ++ z)) (sym e) ∙ d .split .at φ) }
 
-  pub run-even : {v w : Vec S (E × ℕ)} {g h : Vec S B} (r : Run S L F reducer v g w h) → Whole S L F reducer r → Same S (ψ S L f v) g → Same S (ψ S L f w) h
+  pub run-even : {v w : Vec S (E × ℕ)} {g h : Vec S B} (r : Run S L F reducer v g w h) → Whole S L F reducer r → Same S (ψ S L f v) g
+      → Same S (ψ S L f w) h
   run-even stop c k = k
   run-even (turn s r) c k = run-even r (c .1) (step-even s (c .0) k)
   run-even (drop d r) c k = run-even r (c .1) (Vec.same-trans S k (drop-even d (c .0)))

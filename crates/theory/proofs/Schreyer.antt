@@ -45,7 +45,8 @@ module _ (S : Scalars) {M : Monoid} (L : Level M) (F : Family S L) where
   open Family F using (f, lm, lead)
 
   -- terms of m · f_i but the leading one lie below its image
-  pub multiple-small : (c : K) (x : E × ℕ) (d : In S L F x) → All S (λ (b : B). Lt b (image L lm x)) (scale S c (mapB S (act (x .0)) (lead (x .1) d .rest)))
+  pub multiple-small : (c : K) (x : E × ℕ) (d : In S L F x) → All S (λ (b : B). Lt b (image L lm x))
+      (scale S c (mapB S (act (x .0)) (lead (x .1) d .rest)))
   multiple-small c x d =
       Vec.all-scale S Small c (mapB S (act (x .0)) (lead (x .1) d .rest))
       (Vec.all-mapB S (λ (b : B). Lt b (lm (x .1))) Small (act (x .0)) (λ b k. L .compat (x .0) _ _ k) (lead (x .1) d .rest) (lead (x .1) d .smaller))
@@ -70,7 +71,8 @@ module _ (S : Scalars) {M : Monoid} (L : Level M) (F : Family S L) where
       tail = scale S (t .0) (mapB S (act (t .1 .0)) (l .rest))
 
       under : All S (λ (x : B). Lt x b) tail
-      under = Vec.all-map S (λ x. Lt x (image L lm (t .1))) (λ x. Lt x b) (λ x k. L .trans _ _ _ k (ps .0 .1)) tail (multiple-small (t .0) (t .1) (ps .0 .0))
+      under = Vec.all-map S (λ x. Lt x (image L lm (t .1))) (λ x. Lt x b) (λ x k. L .trans _ _ _ k (ps .0 .1)) tail
+          (multiple-small (t .0) (t .1) (ps .0 .0))
 
       go : Pushed b v → Pushed b (t ∷ v)
       go T = record {
@@ -94,7 +96,8 @@ module _ (S : Scalars) {M : Monoid} (L : Level M) (F : Family S L) where
     coef = mul (C .coef) (l .coef);
     rest = scale S (C .coef) (mapB S (act (b .0)) (l .rest)) ++ R .rest;
     nonzero = Vec.nonzero-mul S (C .coef) (l .coef) nz (l .nonzero);
-    smaller = Vec.all-append S (λ (x : B). Lt x (image L lm b)) (scale S (C .coef) (mapB S (act (b .0)) (l .rest))) (R .rest) (multiple-small (C .coef) b d) (R .small);
+    smaller = Vec.all-append S (λ (x : B). Lt x (image L lm b)) (scale S (C .coef) (mapB S (act (b .0)) (l .rest))) (R .rest)
+        (multiple-small (C .coef) b d) (R .small);
     split = Vec.same-trans S (Vec.same-lin S (times S L f) (C .split)) (Vec.same-term S (C .coef) (act (b .0)) (l .split) (R .same));
   }
     where
@@ -188,7 +191,8 @@ module _ (S : Scalars) {M : Monoid} (L : Level M) (F : Family S L) where
         let T : Top S (Up S L F) (Below b) (t .1) r = top S (Up S L F) (Below b) (t .1) r (ps .0) (ps .1) in
         ih (T .at) (T .ok .1) (T .ok .0) (t ∷ r) (
           (ps .0 .0, T .head),
-          Vec.all-map S (λ x. Below b x × Le S (Up S L F) x (T .at)) (λ x. In S L F x × Le S (Up S L F) x (T .at)) (λ x h. (h .0 .0, h .1)) r (T .bound),
+          Vec.all-map S (λ x. Below b x × Le S (Up S L F) x (T .at)) (λ x. In S L F x × Le S (Up S L F) x (T .at)) (λ x h. (h .0 .0, h .1)) r
+              (T .bound),
         )
 
     step : (b : E × ℕ) → ((y : E × ℕ) → IndLt L lm y b → In S L F y → UpTo y) → In S L F b → UpTo b

@@ -151,7 +151,8 @@ module _ (S : Scalars) {M : Monoid} (G : Stage S M) where
     combination-in : (w : Vec S (E × ℕ)) → All S (λ (x : E × ℕ). x .1 < size S G) w → All S (In S (G .L) F) (ψ S Top (vector S G) w)
     combination-in w ps =
         Vec.all-lin S (λ x. x .1 < size S G) (In S (G .L) F) (times S Top (vector S G))
-        (λ x d. Vec.all-mapB S (In S (G .L) F) (In S (G .L) F) (indAct (G .L) (G .A .lm) (x .0)) (λ y i. i) (vector S G (x .1)) (vector-in (x .1) d)) w ps
+        (λ x d. Vec.all-mapB S (In S (G .L) F) (In S (G .L) F) (indAct (G .L) (G .A .lm) (x .0)) (λ y i. i) (vector S G (x .1)) (vector-in (x .1) d)) w
+        ps
 
     -- the vectors are a Gröbner basis for the induced order
     pub gröbner-above : Gröbner S Top (family S Top next)

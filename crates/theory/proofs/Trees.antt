@@ -37,7 +37,8 @@ module _ (S : Scalars) {M : Monoid} (L : Level M) (F : Family S L) (reducer : Re
       go b′ w′ (inr a) = k b′ w′ a
 
   -- whatever the cache keeps and loses on the way, the tree gives the liftings of the terms, and a right cache stays right
-  pub tree-lifts : {C D : Cache S L F reducer} {g : Vec S B} {u : Vec S (E × ℕ)} → Tree S L F reducer C g u D → Right C → Same S u (lin S up g) × Right D
+  pub tree-lifts : {C D : Cache S L F reducer} {g : Vec S B} {u : Vec S (E × ℕ)} → Tree S L F reducer C g u D → Right C → Same S u (lin S up g)
+      × Right D
   tree-lifts empty k = (Vec.same-refl S, k)
   tree-lifts (lower {c = c} {b = b} {g = g} {u = u} n t) k =
       let (e, i) = tree-lifts t k in

@@ -42,7 +42,8 @@ module _ (p : ℕ) where
   module _ (P : Prime p) where
     pub minus-times : (a b : ℕ) → plus p (times p (minus p a) b) (times p a b) ≡ 0
     minus-times a b =
-        ap (λ z. z % p) (add-comm _ _) ∙ ap (λ z. plus p z (times p (minus p a) b)) (times-comm a b) ∙ ap (plus p (times p b a)) (times-comm (minus p a) b)
+        ap (λ z. z % p) (add-comm _ _) ∙ ap (λ z. plus p z (times p (minus p a) b)) (times-comm a b)
+        ∙ ap (plus p (times p b a)) (times-comm (minus p a) b)
         ∙ sym (times-plus b a (minus p a)) ∙ ap (times p b) (plus-minus p P a) ∙ times-zero b
 
     abbrev pub ModP : Scalars

@@ -46,8 +46,11 @@ fn add_result<'a>(
     tables: &[u16],
     g: Ground,
 ) -> Sum
-    requires { ⌜ Tables g (now tables) × (n ≤ g .vector) × (g .vector * row-length ≤ length (now vector)) × (g .tree * row-length ≤ length (now work)) × (room * row-length ≤ length (now cache)) × Sized 0 (g .tree) room s × Images (g .r) (above-in (now tables)) ⌝ }
-    ensures { λ z. ⌜ (sum-of 0 z (now (cache .entry)) (now (vector .exit)) ≡ added-vector (table-order (g .code) (table-of (g .r) (above-in (now (tables .entry))))) (g .p) (g .vector) c (rows (now (vector .entry)) 0 n) (subtree-of (g .tree) s (now (cache .entry)) (now (work .entry)))) × Fits 0 (g .vector) room z ⌝ }
+    requires { ⌜ Tables g (now tables) × (n ≤ g .vector) × (g .vector * row-length ≤ length (now vector)) × (g .tree * row-length ≤ length (now work))
+        × (room * row-length ≤ length (now cache)) × Sized 0 (g .tree) room s × Images (g .r) (above-in (now tables)) ⌝ }
+    ensures { λ z. ⌜ (sum-of 0 z (now (cache .entry)) (now (vector .exit))
+        ≡ added-vector (table-order (g .code) (table-of (g .r) (above-in (now (tables .entry))))) (g .p) (g .vector) c (rows (now (vector .entry)) 0 n)
+        (subtree-of (g .tree) s (now (cache .entry)) (now (work .entry)))) × Fits 0 (g .vector) room z ⌝ }
 {
     let above = &tables[reduction::ABOVE..];
     match s {
@@ -80,8 +83,14 @@ fn lift_vector(
     tables: &[u16],
     g: Ground,
 ) -> Sum
-    requires { ⌜ Lent g used room (now cache) (now work) (now level) (now tables) × (n ≤ g .vector) × (g .vector * row-length ≤ length (now vector)) × (to * row-length ≤ length (now level)) × (to < 65536) ⌝ }
-    ensures { λ z. ⌜ (sum-of 0 z (now (cache .exit)) (now (vector .exit)) ≡ vector-definition (stage-of g (now (level .entry)) (now (tables .entry)) (table-order (g .code) (table-of (g .r) (above-in (now (tables .entry)))))) (lift-term (stage-of g (now (level .entry)) (now (tables .entry)) (table-order (g .code) (table-of (g .r) (above-in (now (tables .entry)))))) room (g .tree)) 1 q (rows (now (level .entry)) from (to - from)) (rows (now (vector .entry)) 0 n, cache-of used (now (cache .entry)))) × Fits 0 (g .vector) room z ⌝ }
+    requires { ⌜ Lent g used room (now cache) (now work) (now level) (now tables) × (n ≤ g .vector) × (g .vector * row-length ≤ length (now vector))
+        × (to * row-length ≤ length (now level)) × (to < 65536) ⌝ }
+    ensures { λ z. ⌜ (sum-of 0 z (now (cache .exit)) (now (vector .exit))
+        ≡ vector-definition (stage-of g (now (level .entry)) (now (tables .entry))
+        (table-order (g .code) (table-of (g .r) (above-in (now (tables .entry))))))
+        (lift-term (stage-of g (now (level .entry)) (now (tables .entry)) (table-order (g .code) (table-of (g .r) (above-in (now (tables .entry))))))
+        room (g .tree)) 1 q (rows (now (level .entry)) from (to - from)) (rows (now (vector .entry)) 0 n, cache-of used (now (cache .entry))))
+        × Fits 0 (g .vector) room z ⌝ }
 {
     let mut k = n;
     let mut v = used;
@@ -129,8 +138,12 @@ fn lift_frame_term(
     tables: &[u16],
     g: Ground,
 ) -> Sum
-    requires { ⌜ Lent g used room (now cache) (now work) (now level) (now tables) × (1 ≤ g .vector) × (g .vector * row-length ≤ length (now vector)) × (1 ≤ m .component) × (m .component ≤ g .r) ⌝ }
-    ensures { λ z. ⌜ (sum-of 0 z (now (cache .exit)) (now (vector .exit)) ≡ tree-definition (stage-of g (now (level .entry)) (now (tables .entry)) (table-order (g .code) (table-of (g .r) (above-in (now (tables .entry)))))) room (cache-of used (now (cache .entry))) (monomial-of m)) × Fits 0 (g .vector) room z ⌝ }
+    requires { ⌜ Lent g used room (now cache) (now work) (now level) (now tables) × (1 ≤ g .vector) × (g .vector * row-length ≤ length (now vector))
+        × (1 ≤ m .component) × (m .component ≤ g .r) ⌝ }
+    ensures { λ z. ⌜ (sum-of 0 z (now (cache .exit)) (now (vector .exit))
+        ≡ tree-definition (stage-of g (now (level .entry)) (now (tables .entry))
+        (table-order (g .code) (table-of (g .r) (above-in (now (tables .entry)))))) room (cache-of used (now (cache .entry))) (monomial-of m))
+        × Fits 0 (g .vector) room z ⌝ }
 {
     terms::put(
         vector,
@@ -176,8 +189,12 @@ fn lift_one(
     tables: &[u16],
     g: Ground,
 ) -> One
-    requires { ⌜ Lent g u room (now cache) (now work) (now level) (now tables) × (1 ≤ g .vector) × Framed g count (now frame) × (i < count) × ((g .room + g .vector) * row-length + ends-length ≤ length (now out)) × (g .room < 65536) × (used ≤ g .room) × Kept i used (now out) ⌝ }
-    ensures { λ x. ⌜ (one-of x i (now (out .exit)) (now (cache .exit)) ≡ lifted-one (stage-of g (now (level .entry)) (now (tables .entry)) (table-order (g .code) (table-of (g .r) (above-in (now (tables .entry)))))) room (lifted-vectors (now (out .entry)) i, used) (cache-of u (now (cache .entry))) (row-at (now (frame .entry)) i .1)) × After g i room x (now (out .exit)) ⌝ }
+    requires { ⌜ Lent g u room (now cache) (now work) (now level) (now tables) × (1 ≤ g .vector) × Framed g count (now frame) × (i < count)
+        × ((g .room + g .vector) * row-length + ends-length ≤ length (now out)) × (g .room < 65536) × (used ≤ g .room) × Kept i used (now out) ⌝ }
+    ensures { λ x. ⌜ (one-of x i (now (out .exit)) (now (cache .exit))
+        ≡ lifted-one (stage-of g (now (level .entry)) (now (tables .entry)) (table-order (g .code) (table-of (g .r) (above-in (now (tables .entry))))))
+        room (lifted-vectors (now (out .entry)) i, used) (cache-of u (now (cache .entry))) (row-at (now (frame .entry)) i .1))
+        × After g i room x (now (out .exit)) ⌝ }
 {
     let t = terms::row(frame, i);
     let m = t.monomial;
@@ -217,8 +234,14 @@ pub fn lift_all(
     tables: &[u16],
     g: Ground,
 ) -> Lifted
-    requires { ⌜ Tables g (now tables) × Family g (now level) (ends-in (now tables)) × Images (g .r) (above-in (now tables)) × Framed g count (now frame) × (g .tree * row-length ≤ length (now work)) × (g .tree < 65536) × (1 ≤ g .vector) × ((g .room + g .vector) * row-length + ends-length ≤ length (now out)) × (g .room < 65536) ⌝ }
-    ensures { λ x. ⌜ (lifted-of x count (now (out .exit)) [] ≡ lift-all-definition (stage-of g (now (level .entry)) (now (tables .entry)) (table-order (g .code) (table-of (g .r) (above-in (now (tables .entry)))))) (tree-definition (stage-of g (now (level .entry)) (now (tables .entry)) (table-order (g .code) (table-of (g .r) (above-in (now (tables .entry)))))) (length (now (cache .entry)) / row-length)) ([], 0) [] (frame-terms (now (frame .entry)) count)) × Whole g count x (now (out .exit)) × Unstopped x ⌝ }
+    requires { ⌜ Tables g (now tables) × Family g (now level) (ends-in (now tables)) × Images (g .r) (above-in (now tables))
+        × Framed g count (now frame) × (g .tree * row-length ≤ length (now work)) × (g .tree < 65536) × (1 ≤ g .vector)
+        × ((g .room + g .vector) * row-length + ends-length ≤ length (now out)) × (g .room < 65536) ⌝ }
+    ensures { λ x. ⌜ (lifted-of x count (now (out .exit)) [] ≡ lift-all-definition
+        (stage-of g (now (level .entry)) (now (tables .entry)) (table-order (g .code) (table-of (g .r) (above-in (now (tables .entry))))))
+        (tree-definition (stage-of g (now (level .entry)) (now (tables .entry))
+        (table-order (g .code) (table-of (g .r) (above-in (now (tables .entry)))))) (length (now (cache .entry)) / row-length)) ([], 0) []
+        (frame-terms (now (frame .entry)) count)) × Whole g count x (now (out .exit)) × Unstopped x ⌝ }
 {
     let room = cache.len() / words::ROW_LENGTH;
     let mut used: usize = 0;

@@ -52,7 +52,8 @@ fn first_of(ends: &[u16], j: usize) -> usize
 // The rows of f_j, all of them.
 pub fn rows_of(tables: &[u16], j: usize) -> Span
     requires { ⌜ (1 ≤ j) × (ends-start ≤ length (now tables)) × (j ≤ length (ends-in (now tables))) ⌝ }
-    ensures { λ x. ⌜ (x .from ≡ first-row (ends-in (now (tables .entry))) j) × (x .to ≡ getD (ends-in (now (tables .entry))) (j - 1) 0) × (x .from < 65536) × (x .to < 65536) ⌝ }
+    ensures { λ x. ⌜ (x .from ≡ first-row (ends-in (now (tables .entry))) j) × (x .to ≡ getD (ends-in (now (tables .entry))) (j - 1) 0)
+        × (x .from < 65536) × (x .to < 65536) ⌝ }
 {
     let ends = &tables[reduction::ENDS..];
     let from = first_of(ends, j);
@@ -92,8 +93,11 @@ fn add_subtree(
     tables: &[u16],
     g: Ground,
 ) -> Sum
-    requires { ⌜ Tables g (now tables) × (a + n ≤ g .tree) × (g .tree * row-length ≤ length (now work)) × (room * row-length ≤ length (now cache)) × Sized (a + n) (g .tree) room s × Images (g .r) (above-in (now tables)) ⌝ }
-    ensures { λ z. ⌜ (sum-of a z (now (cache .entry)) (now (work .exit)) ≡ added-to (table-order (g .code) (table-of (g .r) (above-in (now (tables .entry))))) (g .p) (g .tree) a c (rows (now (work .entry)) a n) (subtree-of (g .tree) s (now (cache .entry)) (now (work .entry)))) × Fits a (g .tree) room z × Keeps a (now (work .entry)) (now (work .exit)) ⌝ }
+    requires { ⌜ Tables g (now tables) × (a + n ≤ g .tree) × (g .tree * row-length ≤ length (now work)) × (room * row-length ≤ length (now cache))
+        × Sized (a + n) (g .tree) room s × Images (g .r) (above-in (now tables)) ⌝ }
+    ensures { λ z. ⌜ (sum-of a z (now (cache .entry)) (now (work .exit))
+        ≡ added-to (table-order (g .code) (table-of (g .r) (above-in (now (tables .entry))))) (g .p) (g .tree) a c (rows (now (work .entry)) a n)
+        (subtree-of (g .tree) s (now (cache .entry)) (now (work .entry)))) × Fits a (g .tree) room z × Keeps a (now (work .entry)) (now (work .exit)) ⌝ }
 {
     let above = &tables[reduction::ABOVE..];
     match s {
@@ -153,7 +157,10 @@ pub fn lift_term(
     left: usize,
 ) -> Subtree
     requires { ⌜ Lent g used room (now cache) (now work) (now level) (now tables) × (a ≤ g .tree) ⌝ }
-    ensures { λ x. ⌜ (subtree-of (g .tree) x (now (cache .exit)) (now (work .exit)) ≡ term-definition (stage-of g (now (level .entry)) (now (tables .entry)) (table-order (g .code) (table-of (g .r) (above-in (now (tables .entry)))))) room left a (cache-of used (now (cache .entry))) (monomial-of m)) × Sized a (g .tree) room x × Keeps a (now (work .entry)) (now (work .exit)) ⌝ }
+    ensures { λ x. ⌜ (subtree-of (g .tree) x (now (cache .exit)) (now (work .exit))
+        ≡ term-definition (stage-of g (now (level .entry)) (now (tables .entry))
+        (table-order (g .code) (table-of (g .r) (above-in (now (tables .entry)))))) room left a (cache-of used (now (cache .entry))) (monomial-of m))
+        × Sized a (g .tree) room x × Keeps a (now (work .entry)) (now (work .exit)) ⌝ }
 {
     let f = reduction::reducer_of(
         tables,
@@ -206,7 +213,12 @@ fn open_subtree(
     left: usize,
 ) -> Subtree
     requires { ⌜ Lent g used room (now cache) (now work) (now level) (now tables) × (a ≤ g .tree) × (1 ≤ j) × (j ≤ g .r) ⌝ }
-    ensures { λ x. ⌜ (subtree-of (g .tree) x (now (cache .exit)) (now (work .exit)) ≡ open-definition (ltb a (g .tree)) (stage-of g (now (level .entry)) (now (tables .entry)) (table-order (g .code) (table-of (g .r) (above-in (now (tables .entry)))))) room (list-at (stage-of g (now (level .entry)) (now (tables .entry)) (table-order (g .code) (table-of (g .r) (above-in (now (tables .entry)))))) room left) a (cache-of used (now (cache .entry))) (monomial-of m) j (minus (g .p) c) q) × Sized a (g .tree) room x × Keeps a (now (work .entry)) (now (work .exit)) ⌝ }
+    ensures { λ x. ⌜ (subtree-of (g .tree) x (now (cache .exit)) (now (work .exit))
+        ≡ open-definition (ltb a (g .tree)) (stage-of g (now (level .entry)) (now (tables .entry))
+        (table-order (g .code) (table-of (g .r) (above-in (now (tables .entry)))))) room
+        (list-at (stage-of g (now (level .entry)) (now (tables .entry)) (table-order (g .code) (table-of (g .r) (above-in (now (tables .entry)))))) room
+        left) a (cache-of used (now (cache .entry))) (monomial-of m) j (minus (g .p) c) q) × Sized a (g .tree) room x
+        × Keeps a (now (work .entry)) (now (work .exit)) ⌝ }
 {
     if g.tree <= a {
         return Subtree::Refused(14);
@@ -269,8 +281,14 @@ fn lift_list(
     g: Ground,
     left: usize,
 ) -> Sum
-    requires { ⌜ Lent g used room (now cache) (now work) (now level) (now tables) × (a + n ≤ g .tree) × (to * row-length ≤ length (now level)) × (to < 65536) ⌝ }
-    ensures { λ z. ⌜ (sum-of a z (now (cache .exit)) (now (work .exit)) ≡ list-definition (stage-of g (now (level .entry)) (now (tables .entry)) (table-order (g .code) (table-of (g .r) (above-in (now (tables .entry)))))) (term-definition (stage-of g (now (level .entry)) (now (tables .entry)) (table-order (g .code) (table-of (g .r) (above-in (now (tables .entry)))))) room left) a c q (rows (now (level .entry)) from (to - from)) (rows (now (work .entry)) a n, cache-of used (now (cache .entry)))) × Fits a (g .tree) room z × Keeps a (now (work .entry)) (now (work .exit)) ⌝ }
+    requires { ⌜ Lent g used room (now cache) (now work) (now level) (now tables) × (a + n ≤ g .tree) × (to * row-length ≤ length (now level))
+        × (to < 65536) ⌝ }
+    ensures { λ z. ⌜ (sum-of a z (now (cache .exit)) (now (work .exit))
+        ≡ list-definition (stage-of g (now (level .entry)) (now (tables .entry))
+        (table-order (g .code) (table-of (g .r) (above-in (now (tables .entry))))))
+        (term-definition (stage-of g (now (level .entry)) (now (tables .entry))
+        (table-order (g .code) (table-of (g .r) (above-in (now (tables .entry)))))) room left) a c q (rows (now (level .entry)) from (to - from))
+        (rows (now (work .entry)) a n, cache-of used (now (cache .entry)))) × Fits a (g .tree) room z × Keeps a (now (work .entry)) (now (work .exit)) ⌝ }
 {
     let mut k = n;
     let mut v = used;

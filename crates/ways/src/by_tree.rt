@@ -28,7 +28,8 @@ fn lift_frame(
     tables: &[u16],
     b: Bounds,
 ) -> Lifted
-    requires { ⌜ Base (now state) j × Tables-at (now state) j (now tables) × Framed-by (now state) j count (now frame) × (grown-length ≤ length (now out)) × (tree-length ≤ length (now work)) × Within b ⌝ }
+    requires { ⌜ Base (now state) j × Tables-at (now state) j (now tables) × Framed-by (now state) j count (now frame)
+        × (grown-length ≤ length (now out)) × (tree-length ≤ length (now work)) × Within b ⌝ }
     ensures { λ x. ⌜ framed-over b (now (state .entry)) j (length (now (cache .entry)) / row-length) count (now (frame .entry)) x (now (out .exit)) ⌝ }
 {
     let g = by_runs::ground_of(state, j, b);
@@ -46,8 +47,10 @@ fn lift_with(
     tables: &[u16],
     b: Bounds,
 ) -> Leveled
-    requires { ⌜ Base (now state) j × Tables-at (now state) j (now tables) × (grown-length ≤ length (now out)) × (tree-length ≤ length (now work)) × Within b ⌝ }
-    ensures { λ x. ⌜ (leveled-of x (now (out .exit)) [] ≡ tree-over b (now (state .entry)) j (length (now (cache .entry)) / row-length)) × Stored-as x (now (out .exit)) ⌝ }
+    requires { ⌜ Base (now state) j × Tables-at (now state) j (now tables) × (grown-length ≤ length (now out)) × (tree-length ≤ length (now work))
+        × Within b ⌝ }
+    ensures { λ x. ⌜ (leveled-of x (now (out .exit)) [] ≡ tree-over b (now (state .entry)) j (length (now (cache .entry)) / row-length))
+        × Stored-as x (now (out .exit)) ⌝ }
 {
     let mut framed = [0u16; words::TABLE_LENGTH];
     let mut gens = [0u16; words::TABLE_LENGTH];
@@ -73,7 +76,8 @@ pub fn lift_level(
     b: Bounds,
 ) -> Leveled
     requires { ⌜ Base (now state) j × (grown-length ≤ length (now out)) × (tree-length ≤ length (now work)) × Within b ⌝ }
-    ensures { λ x. ⌜ (leveled-of x (now (out .exit)) [] ≡ tree-over b (now (state .entry)) j (length (now (cache .entry)) / row-length)) × Stored-as x (now (out .exit)) ⌝ }
+    ensures { λ x. ⌜ (leveled-of x (now (out .exit)) [] ≡ tree-over b (now (state .entry)) j (length (now (cache .entry)) / row-length))
+        × Stored-as x (now (out .exit)) ⌝ }
 {
     let mut tables = [0u16; words::TABLES_LENGTH];
     by_runs::make_tables(&mut tables, state, j);

@@ -1,4 +1,5 @@
-// The numbers of the layout as the code names them, and what every crate does with a word: it is a place, a wider number, an exponent; it is in a range.
+// The numbers of the layout as the code names them, and what every crate does with a word: it is a place, a wider number, an exponent; it is in a
+// range.
 // Knows: crate definitions' Places, whose names these are, in capitals.
 // `numbers` and `word_numbers` hold each of them to the definitions' one.
 ghost use mathlib.Core.Path.{_≡_};
@@ -6,7 +7,51 @@ ghost use mathlib.Core.List.{_∷_, []};
 ghost use Prim.Native.Nat.{_≤_, _<_};
 ghost use Rattle.definitions.specs.Layout.{byte};
 ghost use Rattle.definitions.specs.Lists.{between as between-definition};
-ghost use Rattle.definitions.specs.Places.{exponents-length, most-exponent, most-variables, most-components, most-elements, most-vectors, most-rows, most-terms, most-tree-terms, most-levels, all-levels, row-length, component-offset, exponents-offset, rank-offset, header-length, counts-length, ends-start, rows-start, level-length, state-length, value-length, tree-length, vector-length, table-length, spans-length, tables-spans, tables-ends, tables-below, tables-above, tables-length, ends-length, lifted-length, grown-length, file-length, read-length, s-line-length, w-line-length, pair-line-length, s-lines-length, level-lines-length, all-lines-length, sheet-length};
+ghost use Rattle.definitions.specs.Places.{
+  exponents-length,
+  most-exponent,
+  most-variables,
+  most-components,
+  most-elements,
+  most-vectors,
+  most-rows,
+  most-terms,
+  most-tree-terms,
+  most-levels,
+  all-levels,
+  row-length,
+  component-offset,
+  exponents-offset,
+  rank-offset,
+  header-length,
+  counts-length,
+  ends-start,
+  rows-start,
+  level-length,
+  state-length,
+  value-length,
+  tree-length,
+  vector-length,
+  table-length,
+  spans-length,
+  tables-spans,
+  tables-ends,
+  tables-below,
+  tables-above,
+  tables-length,
+  ends-length,
+  lifted-length,
+  grown-length,
+  file-length,
+  read-length,
+  s-line-length,
+  w-line-length,
+  pair-line-length,
+  s-lines-length,
+  level-lines-length,
+  all-lines-length,
+  sheet-length,
+};
 
 // ## Limits
 
@@ -109,7 +154,11 @@ pub const SHEET_LENGTH: usize = 1400000;
 // ## Held to the definitions
 
 pub fn numbers() -> [usize; 39]
-    ensures { λ r. ⌜ r ≡ exponents-length ∷ most-vectors ∷ most-rows ∷ most-terms ∷ most-tree-terms ∷ most-levels ∷ all-levels ∷ component-offset ∷ exponents-offset ∷ rank-offset ∷ row-length ∷ header-length ∷ counts-length ∷ ends-start ∷ rows-start ∷ level-length ∷ state-length ∷ value-length ∷ tree-length ∷ vector-length ∷ table-length ∷ spans-length ∷ ends-length ∷ tables-spans ∷ tables-ends ∷ tables-below ∷ tables-above ∷ tables-length ∷ lifted-length ∷ grown-length ∷ file-length ∷ read-length ∷ s-line-length ∷ w-line-length ∷ pair-line-length ∷ s-lines-length ∷ level-lines-length ∷ all-lines-length ∷ sheet-length ∷ [] ⌝ }
+    ensures { λ r. ⌜ r ≡ exponents-length ∷ most-vectors ∷ most-rows ∷ most-terms ∷ most-tree-terms ∷ most-levels ∷ all-levels ∷ component-offset
+        ∷ exponents-offset ∷ rank-offset ∷ row-length ∷ header-length ∷ counts-length ∷ ends-start ∷ rows-start ∷ level-length ∷ state-length
+        ∷ value-length ∷ tree-length ∷ vector-length ∷ table-length ∷ spans-length ∷ ends-length ∷ tables-spans ∷ tables-ends ∷ tables-below
+        ∷ tables-above ∷ tables-length ∷ lifted-length ∷ grown-length ∷ file-length ∷ read-length ∷ s-line-length ∷ w-line-length ∷ pair-line-length
+        ∷ s-lines-length ∷ level-lines-length ∷ all-lines-length ∷ sheet-length ∷ [] ⌝ }
 {
     [
         EXPONENTS_LENGTH,

@@ -49,10 +49,13 @@ returns c =
     let W = a .work .now in
     let N = a .top * row-length - a .a * row-length in
     let under : a .a ≤ a .top = omega (arith, P .1) in
-    let long : length (x .last .0) ≡ a .top * row-length - a .a * row-length = x .kept .0 ∙ length-part W (a .a * row-length) (a .top * row-length - a .a * row-length) (omega (arith, P .2)) in
-    let g = grown-in O (a .p) (a .a) (a .top) (term-of (a .t)) (rows W (a .a) (a .n)) under (x .last .0) (back W (x .last .0) (a .a) (a .top) (P .2) under long) (x .result)
+    let long : length (x .last .0) ≡ a .top * row-length - a .a * row-length = x .kept .0
+    ∙ length-part W (a .a * row-length) (a .top * row-length - a .a * row-length) (omega (arith, P .2)) in
+    let g = grown-in O (a .p) (a .a) (a .top) (term-of (a .t)) (rows W (a .a) (a .n)) under (x .last .0)
+    (back W (x .last .0) (a .a) (a .top) (P .2) under long) (x .result)
     (back-inside W (x .last .0) (a .a) (a .top) (P .2) under long)
-    (x .ensures ∙ ap (inserted-within O (a .p) (a .top - a .a) (term-of (a .t))) (part-rows W (a .a) (a .top * row-length - a .a * row-length) (a .n) (omega (arith, P .1)))) in
+    (x .ensures ∙ ap (inserted-within O (a .p) (a .top - a .a) (term-of (a .t)))
+    (part-rows W (a .a) (a .top * row-length - a .a * row-length) (a .n) (omega (arith, P .1)))) in
     (g .0, g .1, back-keeps W (x .last .0) (a .a) (a .top) (P .2) under long, back-leaves W (x .last .0) (a .a) (a .top) (P .2) under long)
 
 pub insert-row-spec : {M : Type 1} → statement M

@@ -65,11 +65,16 @@ same-length-2 c = search needs
 
 returns : tie.Need-returns
 returns c =
-    let a = c .before .before .before .before .before .before .before .before .before .before .before .before .before .args in
-    let P = c .before .before .before .before .before .before .before .before .before .before .before .before .before .pre in
+    let at-8 = c .before .before .before .before .before .before .before .before in
+    let a = at-8 .before .before .before .before .before .args in
+    let P = at-8 .before .before .before .before .before .pre in
     let cp = c .before .before .before .before .before .before .copy in
-    let pt = c .before .before .put in
-    (ap done (entered-words (a .used) (a .n) (a .a) (a .room) (monomial-of (a .m)) (a .cache .now) (a .work .now) (cp .last .0) (pt .last .0) (cp .ensures) (pt .ensures .0) (pt .ensures .1) (P .1) (omega (arith, P .2, P .3)) (cp .kept .0) (c .before .before .before .before .before .before .before .before .before .before .if1 .taken)), (omega arith, omega (arith, c .before .before .before .before .before .before .before .before .before .before .if1 .taken)), λ k h. refl)
+    let pt = c .before .before .put in (
+      ap done (entered-words (a .used) (a .n) (a .a) (a .room) (monomial-of (a .m)) (a .cache .now) (a .work .now) (cp .last .0) (pt .last .0)
+          (cp .ensures) (pt .ensures .0) (pt .ensures .1) (P .1) (omega (arith, P .2, P .3)) (cp .kept .0) (at-8 .before .before .if1 .taken)),
+      (omega arith, omega (arith, at-8 .before .before .if1 .taken)),
+      λ k h. refl,
+    )
 
 mul-move-up : tie.Need-mul-move-up
 mul-move-up c = search needs
@@ -93,8 +98,12 @@ returns-2 : tie.Need-returns-2
 returns-2 c =
     let a = c .before .before .before .before .before .before .before .args in
     let P = c .before .before .before .before .before .before .before .pre in
-    let mv = c .before .before .move-up in
-    (ap done (waits (a .used) (a .n) (a .a) (a .limit - a .n) (a .room) (monomial-of (a .m)) (a .cache .now) (a .work .now) (mv .last .0) (moved-rows (a .work .now) (mv .last .0) (a .a) (a .n) (a .limit - a .n) (mv .ensures .1)) (c .before .before .before .before .if1 .left)), (P .2, P .0), kept-rows (a .work .now) (mv .last .0) (a .a) (a .limit - a .n) (omega (arith, P .2)) (mv .ensures .0))
+    let mv = c .before .before .move-up in (
+      ap done (waits (a .used) (a .n) (a .a) (a .limit - a .n) (a .room) (monomial-of (a .m)) (a .cache .now) (a .work .now) (mv .last .0)
+          (moved-rows (a .work .now) (mv .last .0) (a .a) (a .n) (a .limit - a .n) (mv .ensures .1)) (c .before .before .before .before .if1 .left)),
+      (P .2, P .0),
+      kept-rows (a .work .now) (mv .last .0) (a .a) (a .limit - a .n) (omega (arith, P .2)) (mv .ensures .0),
+    )
 
 pub keep-spec : {M : Type 1} → statement M
 keep-spec =

@@ -54,8 +54,12 @@ sub-t15 c = omega arith
 returns : tie.Need-returns Inv-loop μ-loop
 returns c =
     let a = c .before .before .before .before .before .before .before .before .args in
-    let l = c .before .before .before .before .before .before .loop in
-    (sym (l .inv .1 ∙ found (monomial-of (a .m)) (l .k) (a .cache .now) (c .before .before .before .place .result) (c .before .before .less .result) (omega arith) (c .before .before .before .place .ensures .0) (c .before .before .less .ensures) (sym (c .before .same-row .ensures) ∙ c .if1 .taken)), omega (arith, l .inv .0, c .before .before .less .ensures))
+    let l = c .before .before .before .before .before .before .loop in (
+      sym (l .inv .1 ∙ found (monomial-of (a .m)) (l .k) (a .cache .now) (c .before .before .before .place .result) (c .before .before .less .result)
+          (omega arith) (c .before .before .before .place .ensures .0) (c .before .before .less .ensures)
+          (sym (c .before .same-row .ensures) ∙ c .if1 .taken)),
+      omega (arith, l .inv .0, c .before .before .less .ensures),
+    )
 
 loop-less : tie.Need-loop-less Inv-loop μ-loop
 loop-less c = omega arith
@@ -63,8 +67,13 @@ loop-less c = omega arith
 loop-again : tie.Need-loop-again Inv-loop μ-loop
 loop-again c =
     let a = c .before .before .before .before .before .before .before .before .args in
-    let l = c .before .before .before .before .before .before .loop in
-    (omega (arith, l .inv .0, c .before .before .less .ensures), l .inv .1 ∙ not-found (monomial-of (a .m)) (l .k) (a .cache .now) (c .before .before .before .place .result) (c .before .before .less .result) (omega arith) (c .before .before .before .place .ensures .0) (c .before .before .less .ensures) (sym (c .before .same-row .ensures) ∙ c .if1 .left))
+    let l = c .before .before .before .before .before .before .loop in (
+      omega (arith, l .inv .0, c .before .before .less .ensures),
+      l .inv .1
+          ∙ not-found (monomial-of (a .m)) (l .k) (a .cache .now) (c .before .before .before .place .result) (c .before .before .less .result)
+          (omega arith) (c .before .before .before .place .ensures .0) (c .before .before .less .ensures)
+          (sym (c .before .same-row .ensures) ∙ c .if1 .left),
+    )
 
 returns-2 : tie.Need-returns-2 Inv-loop μ-loop
 returns-2 c =

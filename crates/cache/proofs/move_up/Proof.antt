@@ -44,8 +44,13 @@ loop-again : tie.Need-loop-again Inv-loop μ-loop
 loop-again c =
     let a = c .before .before .before .args in
     let l = c .before .before .loop in
-    let room : a .b + a .n ≤ length (l .s) = omega (arith, c .before .before .before .pre .1, l .inv .1) in
-    (omega arith, omega (arith, l .inv .1, length-set (l .s) (a .b + (l .k - 1)) (getD (l .s) (a .a + (l .k - 1)) 0)), kept-again (a .a) (a .b) (l .k) (a .n) (a .s .now) (l .s) (omega arith) (l .inv .0) (c .before .before .before .pre .0) room (l .inv .2), moved-again (a .a) (a .b) (l .k) (a .n) (a .s .now) (l .s) (omega arith) (l .inv .0) (c .before .before .before .pre .0) room (l .inv .2) (l .inv .3))
+    let room : a .b + a .n ≤ length (l .s) = omega (arith, c .before .before .before .pre .1, l .inv .1) in (
+      omega arith,
+      omega (arith, l .inv .1, length-set (l .s) (a .b + (l .k - 1)) (getD (l .s) (a .a + (l .k - 1)) 0)),
+      kept-again (a .a) (a .b) (l .k) (a .n) (a .s .now) (l .s) (omega arith) (l .inv .0) (c .before .before .before .pre .0) room (l .inv .2),
+      moved-again (a .a) (a .b) (l .k) (a .n) (a .s .now) (l .s) (omega arith) (l .inv .0) (c .before .before .before .pre .0) room (l .inv .2)
+          (l .inv .3),
+    )
 
 same-length : tie.Need-same-length Inv-loop μ-loop
 same-length c = omega arith

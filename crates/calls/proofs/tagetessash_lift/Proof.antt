@@ -24,8 +24,11 @@ same-length-3 c = search needs
 returns : tie.Need-returns
 returns c =
     let a = c .before .before .before .before .before .before .before .before .before .before .before .before .before .before .args in
-    let L = c .before .before .before .before .before .before .lift in
-    (L .ensures .0, L .ensures .1 ∙ ap (λ w. lift-call document-01 (L .ensures .0) (a .level) w (a .state .now) (a .work .now) (a .cache .now)) (c .before .before .before .before .before .before .before .before .before .before .way-by .ensures))
+    let L = c .before .before .before .before .before .before .lift in (
+      L .ensures .0,
+      L .ensures .1 ∙ ap (λ w. lift-call document-01 (L .ensures .0) (a .level) w (a .state .now) (a .work .now) (a .cache .now))
+          (c .before .before .before .before .before .before .before .before .before .before .way-by .ensures),
+    )
 
 pub tagetessash-lift-spec : {M : Type 1} → statement M
 tagetessash-lift-spec =

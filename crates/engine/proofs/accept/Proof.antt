@@ -46,8 +46,12 @@ returns c =
     let n = x .ensures .0 in
     let v = x .ensures .1 in
     let area = length (a .work .now) in
-    let w = x .last .0 in
-    (n, ap (λ z. (0, 0, s, z)) (c .before .before .clear .ensures) ∙ accept-yes s (P .0 .long) (P .1) area n v w (omega arith) (sym (ap (λ y. accepted-with y v) (c .before .before .before .before .enum-told .given .1)) ∙ x .ensures .2), accept-over s (P .0 .long) (P .1) area n v (x .result) (x .ensures .2))
+    let w = x .last .0 in (
+      n,
+      ap (λ z. (0, 0, s, z)) (c .before .before .clear .ensures) ∙ accept-yes s (P .0 .long) (P .1) area n v w (omega arith)
+          (sym (ap (λ y. accepted-with y v) (c .before .before .before .before .enum-told .given .1)) ∙ x .ensures .2),
+      accept-over s (P .0 .long) (P .1) area n v (x .result) (x .ensures .2),
+    )
 
 same-length-3 : tie.Need-same-length-3
 same-length-3 c = search needs
@@ -66,8 +70,14 @@ returns-2 c =
     let area = length (a .work .now) in
     let w = x .last .0 in
     let number = c .before .before .before .before .before .before .before .before .before .number .given .0 .0 in
-    let place = c .before .before .before .before .before .before .before .before .before .number .given .0 .1 .0 in
-    (n, (λ i. (number, place, c .before .before .before .before .before .before .clear2 .ensures i, c .before .before .clear3 .ensures i)) ∙ accept-refused s (P .0 .long) (P .1) area n v number place w (omega arith) (sym (ap (λ y. accepted-with y v) (c .before .before .before .before .before .before .before .before .before .number .given .1)) ∙ x .ensures .2), accept-over s (P .0 .long) (P .1) area n v (x .result) (x .ensures .2))
+    let place = c .before .before .before .before .before .before .before .before .before .number .given .0 .1 .0 in (
+      n,
+      (λ i. (number, place, c .before .before .before .before .before .before .clear2 .ensures i, c .before .before .clear3 .ensures i))
+          ∙ accept-refused s (P .0 .long) (P .1) area n v number place w (omega arith)
+          (sym (ap (λ y. accepted-with y v) (c .before .before .before .before .before .before .before .before .before .number .given .1))
+          ∙ x .ensures .2),
+      accept-over s (P .0 .long) (P .1) area n v (x .result) (x .ensures .2),
+    )
 
 same-length-5 : tie.Need-same-length-5
 same-length-5 c = search needs
@@ -85,8 +95,13 @@ returns-3 c =
     let v = x .ensures .1 in
     let area = length (a .work .now) in
     let w = x .last .0 in
-    let place = c .before .before .before .before .before .place .given .0 .0 in
-    (n, (λ i. (9, place, c .before .before .clear4 .ensures i, w)) ∙ accept-stopped s (P .0 .long) (P .1) area n v place w (omega arith) (subst (λ y. Shown y v w) (c .before .before .before .before .before .place .given .1) (x .ensures .3) .0) (sym (ap (λ y. accepted-with y v) (c .before .before .before .before .before .place .given .1)) ∙ x .ensures .2), accept-over s (P .0 .long) (P .1) area n v (x .result) (x .ensures .2))
+    let place = c .before .before .before .before .before .place .given .0 .0 in (
+      n,
+      (λ i. (9, place, c .before .before .clear4 .ensures i, w)) ∙ accept-stopped s (P .0 .long) (P .1) area n v place w (omega arith)
+          (subst (λ y. Shown y v w) (c .before .before .before .before .before .place .given .1) (x .ensures .3) .0)
+          (sym (ap (λ y. accepted-with y v) (c .before .before .before .before .before .place .given .1)) ∙ x .ensures .2),
+      accept-over s (P .0 .long) (P .1) area n v (x .result) (x .ensures .2),
+    )
 
 pub accept-spec : {M : Type 1} → statement M
 accept-spec =

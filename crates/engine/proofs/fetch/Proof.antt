@@ -25,7 +25,8 @@ returns-3 : tie.Need-returns-3
 returns-3 c = search needs
 
 returns-4 : tie.Need-returns-4
-returns-4 c = let a = c .before .before .before .before .before .before .args in no-state (a .state .now) (a .out .now) (a .k) (a .v) (omega arith) (omega arith) (sym (c .if3 .left) ∙ c .before .sound .ensures)
+returns-4 c = let a = c .before .before .before .before .before .before .args in
+    no-state (a .state .now) (a .out .now) (a .k) (a .v) (omega arith) (omega arith) (sym (c .if3 .left) ∙ c .before .sound .ensures)
 
 pub fetch-spec : {M : Type 1} → statement M
 fetch-spec =

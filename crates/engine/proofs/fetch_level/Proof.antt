@@ -25,13 +25,18 @@ returns : tie.Need-returns
 returns c =
     let a = c .before .before .before .before .before .before .before .before .args in
     let P = c .before .before .before .before .before .before .before .before .pre in
-    fetched (a .state .now) (a .out .now) (a .k) (a .v) (P .0) (P .5) (P .1) (true-is (between 1 (a .k) most-levels) (between-shown 1 (a .k) most-levels (P .2) (P .3))) (P .4) (sym (c .before .before .before .before .if1 .taken) ∙ c .before .before .before .before .before .vector-number .ensures) (c .before .before .fetch-rows .last .0) (c .before .before .fetch-rows .ensures)
+    fetched (a .state .now) (a .out .now) (a .k) (a .v) (P .0) (P .5) (P .1)
+    (true-is (between 1 (a .k) most-levels) (between-shown 1 (a .k) most-levels (P .2) (P .3))) (P .4)
+    (sym (c .before .before .before .before .if1 .taken) ∙ c .before .before .before .before .before .vector-number .ensures)
+    (c .before .before .fetch-rows .last .0) (c .before .before .fetch-rows .ensures)
 
 returns-2 : tie.Need-returns-2
 returns-2 c =
     let a = c .before .before .before .before .args in
     let P = c .before .before .before .before .pre in
-    no-such-vector (a .state .now) (a .out .now) (a .k) (a .v) (P .0) (P .5) (P .1) (true-is (between 1 (a .k) most-levels) (between-shown 1 (a .k) most-levels (P .2) (P .3))) (P .4) (sym (c .if1 .left) ∙ c .before .vector-number .ensures)
+    no-such-vector (a .state .now) (a .out .now) (a .k) (a .v) (P .0) (P .5) (P .1)
+    (true-is (between 1 (a .k) most-levels) (between-shown 1 (a .k) most-levels (P .2) (P .3))) (P .4)
+    (sym (c .if1 .left) ∙ c .before .vector-number .ensures)
 
 pub fetch-level-spec : {M : Type 1} → statement M
 fetch-level-spec =

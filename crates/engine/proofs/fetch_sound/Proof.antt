@@ -20,7 +20,9 @@ returns : tie.Need-returns
 returns c =
     let a = c .before .before .before .before .before .before .before .args in
     let P = c .before .before .before .before .before .before .before .pre in
-    not-complete (a .state .now) (a .out .now) (a .k) (a .v) (P .0) (P .2) (P .1) (sym (c .before .before .before .if1 .taken) ∙ c .before .before .before .before .level-number .ensures) (omega (arith, c .before .place .ensures .0))
+    not-complete (a .state .now) (a .out .now) (a .k) (a .v) (P .0) (P .2) (P .1)
+    (sym (c .before .before .before .if1 .taken) ∙ c .before .before .before .before .level-number .ensures)
+    (omega (arith, c .before .place .ensures .0))
 
 fetch-level-requires : tie.Need-fetch-level-requires
 fetch-level-requires c κs =

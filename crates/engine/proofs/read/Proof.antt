@@ -9,7 +9,8 @@ returns : tie.Need-returns
 returns c = let a = c .before .before .before .before .args in read-short-state (a .file .now) (a .state .now) (a .work .now) (omega arith)
 
 returns-2 : tie.Need-returns-2
-returns-2 c = let a = c .before .before .before .before .before .args in read-short-work (a .file .now) (a .state .now) (a .work .now) (omega arith) (omega arith)
+returns-2 c = let a = c .before .before .before .before .before .args in
+    read-short-work (a .file .now) (a .state .now) (a .work .now) (omega arith) (omega arith)
 
 read-file-requires : tie.Need-read-file-requires
 read-file-requires c κs = search needs
@@ -24,7 +25,8 @@ returns-3 : tie.Need-returns-3
 returns-3 c =
     let a = c .before .before .before .before .before .before .before .before .before .before .before .before .args in
     let x = c .before .before .before .before .read-file in
-    read-long (a .file .now) (a .state .now) (a .work .now) (omega arith) (omega arith) (x .ensures .0) (read-reply (x .result) (x .last .1 .0) (x .last .1 .1 .0)) (x .ensures .1) (x .ensures .2)
+    read-long (a .file .now) (a .state .now) (a .work .now) (omega arith) (omega arith) (x .ensures .0)
+    (read-reply (x .result) (x .last .1 .0) (x .last .1 .1 .0)) (x .ensures .1) (x .ensures .2)
 
 pub read-spec : {M : Type 1} → statement M
 read-spec =

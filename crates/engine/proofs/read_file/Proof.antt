@@ -41,8 +41,12 @@ returns c =
     let zero = zero-is-read size file (sym (ap (λ t. t .0) (r .ensures)) ∙ (omega arith)) in
     let f = zero .0 in
     let words : r .last .1 .0 ≡ words-read size f = ap (λ t. t .2) (r .ensures ∙ ap (read-as size) (zero .1)) in
-    let x = c .before .before .before .before .accept in
-    (x .ensures .0, read-accepted size (P .0) file f (zero .1) (r .last .1 .0) words (length (a .work .now)) (x .ensures .0) (read-reply (x .result) (x .last .0) (x .last .1 .0)) (x .ensures .1), read-over size (P .0) file f (zero .1) (r .last .1 .0) words (x .ensures .0) (x .ensures .2))
+    let x = c .before .before .before .before .accept in (
+      x .ensures .0,
+      read-accepted size (P .0) file f (zero .1) (r .last .1 .0) words (length (a .work .now)) (x .ensures .0)
+          (read-reply (x .result) (x .last .0) (x .last .1 .0)) (x .ensures .1),
+      read-over size (P .0) file f (zero .1) (r .last .1 .0) words (x .ensures .0) (x .ensures .2),
+    )
 
 clear-requires : tie.Need-clear-requires
 clear-requires c κs = search needs
@@ -58,7 +62,8 @@ returns-2 c =
     let a = c .before .before .before .before .before .before .before .before .before .before .before .before .args in
     let P = c .before .before .before .before .before .before .before .before .before .before .before .before .pre in
     let r = c .before .before .before .before .before .before .before .read in
-    let z = file-refused (length (a .state .now)) (length (a .work .now)) (P .0) (a .file .now) (r .result .number) (r .result .place) (r .last .1 .0) (λ e. omega (arith, e)) (r .ensures) (a .work .now) refl in
+    let z = file-refused (length (a .state .now)) (length (a .work .now)) (P .0) (a .file .now) (r .result .number) (r .result .place) (r .last .1 .0)
+    (λ e. omega (arith, e)) (r .ensures) (a .work .now) refl in
     (0, ap (λ w. (r .result .number, r .result .place, r .last .1 .0, w)) (c .before .before .clear .ensures) ∙ z .words, z .over)
 
 pub read-file-spec : {M : Type 1} → statement M

@@ -25,7 +25,8 @@ rem-if2 : tie.Need-rem-if2 Inv-loop μ-loop
 rem-if2 c = omega arith
 
 returns-2 : tie.Need-returns-2 Inv-loop μ-loop
-returns-2 c = let l = c .before .before .loop in prime-false (c .before .before .before .before .args .p) (l .d) (l .inv .1) (c .before .loop-test .taken) (c .if2 .taken)
+returns-2 c = let l = c .before .before .loop in prime-false (c .before .before .before .before .args .p) (l .d) (l .inv .1)
+    (c .before .loop-test .taken) (c .if2 .taken)
 
 add-d : tie.Need-add-d Inv-loop μ-loop
 add-d c = omega arith

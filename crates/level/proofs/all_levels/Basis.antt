@@ -22,7 +22,8 @@ use Rattle.state.proofs.preparing.Complete.{highest-is}
 use Rattle.reader.specs.problem.Reading.{words-read}
 use Rattle.level.specs.by_runs.Stages.{Base, accepted-over}
 
-module _ (size : ℕ) (big : state-length ≤ size) (file : Bytes) (f : Parameters × Level) (e : problem document-01 file ≡ done f) (s : Words) (w : s ≡ words-read size f) where
+module _ (size : ℕ) (big : state-length ≤ size) (file : Bytes) (f : Parameters × Level) (e : problem document-01 file ≡ done f) (s : Words)
+    (w : s ≡ words-read size f) where
   abbrev X : State
   X = basis-state f
 

@@ -51,7 +51,8 @@ module _ (s : Words) (k : ℕ) (h : Liftable s k) where
   pub next-of : (number : ℕ) (t : Words) (L : Lifted-next s k number t) → number ≡ 0 → Next (L .bound) t
   next-of number t L z = go (lifted-to document-01 tt X sound-is k (by-hybrid 2) (L .bound)) refl (L .gives) (L .finishes)
     where
-      go : {x : Result State} → Lifted-to document-01 X k x → lift document-01 (L .bound) X k (by-hybrid 2) ≡ x → told-of number t ≡ kept X x → T (finished? x) → Next (L .bound) t
+      go : {x : Result State} → Lifted-to document-01 X k x → lift document-01 (L .bound) X k (by-hybrid 2) ≡ x → told-of number t ≡ kept X x
+          → T (finished? x) → Next (L .bound) t
       go (one-more g r) p q f =
           let d : decode document-01 t ≡ record { parameters = X .parameters; levels = g ∷ up-to X (k - 1) } = ap (λ o. o .1) q in
           let l = height-up-to document-01 X sound-is (k - 1) tall in
@@ -73,7 +74,8 @@ module _ (s : Words) (k : ℕ) (h : Liftable s k) where
   pub stays-of : (number : ℕ) (t : Words) (L : Lifted-next s k number t) → (number ≡ 0 → ⊥) → Stays (L .bound) number t
   stays-of number t L z = go (lifted-to document-01 tt X sound-is k (by-hybrid 2) (L .bound)) refl (L .gives) (L .finishes)
     where
-      go : {x : Result State} → Lifted-to document-01 X k x → lift document-01 (L .bound) X k (by-hybrid 2) ≡ x → told-of number t ≡ kept X x → T (finished? x) → Stays (L .bound) number t
+      go : {x : Result State} → Lifted-to document-01 X k x → lift document-01 (L .bound) X k (by-hybrid 2) ≡ x → told-of number t ≡ kept X x
+          → T (finished? x) → Stays (L .bound) number t
       go (one-more g r) p q f = absurd (z (ap (λ o. o .0) q))
       go (limit-met u) p q f = record { refuses = p ∙ sym (ap (λ o. refused (o .0) k []) q); same = ap (λ o. o .1) q }
       go still-lifting p q f = absurd f
@@ -82,14 +84,16 @@ module _ (s : Words) (k : ℕ) (h : Liftable s k) where
 
 -- so far: whatever the bound, if it is large enough, the rest from level k on is the whole
 abbrev pub Going : Words → Words → ℕ → Type 0
-Going s t k = (n : ℕ) × ((m : ℕ) → reached document-01 (n + m) (decode document-01 s) ≡ reached-from document-01 (n + m) (all-levels - k) k (decode document-01 t))
+Going s t k = (n : ℕ) × ((m : ℕ) → reached document-01 (n + m) (decode document-01 s)
+    ≡ reached-from document-01 (n + m) (all-levels - k) k (decode document-01 t))
 
 pub going-first : (s : Words) → Going s s 1
 going-first s = (0, λ m. refl)
 
 -- what all levels gave
 abbrev Ended-as : Words → ℕ → ℕ → Words → Type 0
-Ended-as s number place t = (n : ℕ) × (_≡_ {A = Option Levels} (some (number, place, decode document-01 t)) (reached document-01 n (decode document-01 s)))
+Ended-as s number place t = (n : ℕ) × (_≡_ {A = Option Levels} (some (number, place, decode document-01 t))
+    (reached document-01 n (decode document-01 s)))
 
 none-in : (f : Level) → length f ≡ 0 → empty? f ≡ true
 none-in [] e = refl
@@ -110,14 +114,17 @@ module _ (s₀ s : Words) (k : ℕ) (h : Liftable s k) (g : Going s₀ s k) wher
   on n x = then-levels S (λ Y. reached-from document-01 n (most-levels - k) (suc k) Y) x
 
   -- the step at a bound that suffices for the levels before and for this one
-  here : (n m : ℕ) → T (finished? (lift document-01 n S k (by-hybrid 2))) → reached document-01 (g .0 + (n + m)) (decode document-01 s₀) ≡ on (g .0 + (n + m)) (lift document-01 n S k (by-hybrid 2))
+  here : (n m : ℕ) → T (finished? (lift document-01 n S k (by-hybrid 2))) → reached document-01 (g .0 + (n + m)) (decode document-01 s₀)
+      ≡ on (g .0 + (n + m)) (lift document-01 n S k (by-hybrid 2))
   here n m t =
       let e : g .0 + (n + m) ≡ n + (g .0 + m) = omega arith in
       g .1 (n + m)
       ∙ ap (λ l. reached-from document-01 (g .0 + (n + m)) l k S) one-left
-      ∙ ap (on (g .0 + (n + m))) (ap (λ i. lift document-01 i S k (by-hybrid 2)) e ∙ steady-from finished? (λ i. lift document-01 i S k (by-hybrid 2)) (lift-steady document-01 S k (by-hybrid 2)) n (g .0 + m) t)
+      ∙ ap (on (g .0 + (n + m))) (ap (λ i. lift document-01 i S k (by-hybrid 2)) e
+      ∙ steady-from finished? (λ i. lift document-01 i S k (by-hybrid 2)) (lift-steady document-01 S k (by-hybrid 2)) n (g .0 + m) t)
 
-  pub going-refused : (n number : ℕ) (t : Words) → Stays s k h n number t → T (finished? (lift document-01 n S k (by-hybrid 2))) → Ended-as s₀ number k t
+  pub going-refused : (n number : ℕ) (t : Words) → Stays s k h n number t → T (finished? (lift document-01 n S k (by-hybrid 2)))
+      → Ended-as s₀ number k t
   going-refused n number t r f = (
     g .0 + (n + 0),
     (λ i. some (number, k, r .same i))
@@ -186,8 +193,10 @@ lifted-reached lim n (suc left) k X = go (lift lim n X k (by-hybrid 2)) (lift-nu
     more true Y e = refl
     more false Y e = e
 
-    go : (x : Result State) → Numbered limit-number? x → ((Y : State) → lifted-from lim n left (suc k) Y ≡ result-of (reached-from lim n left (suc k) Y))
-        → (x >>= λ Y. unless-empty (empty? (highest (Y .levels))) Y (λ Z. lifted-from lim n left (suc k) Z)) ≡ result-of (then-levels X (λ Z. reached-from lim n left (suc k) Z) x)
+    go : (x : Result State) → Numbered limit-number? x → ((Y : State) → lifted-from lim n left (suc k) Y
+        ≡ result-of (reached-from lim n left (suc k) Y))
+        → (x >>= λ Y. unless-empty (empty? (highest (Y .levels))) Y (λ Z. lifted-from lim n left (suc k) Z))
+        ≡ result-of (then-levels X (λ Z. reached-from lim n left (suc k) Z) x)
     go (done Y) t e = more (empty? (highest (Y .levels))) Y (e Y)
     go (refused number place value) t e = limited X number place value t
     go unfinished t e = refl

@@ -40,10 +40,12 @@ use Rattle.level.specs.declared.by_runs.Leveled.the-variants.{Vectors, R
 use Rattle.level.proofs.by_runs.GroundOfLevel.{sound-levels, prime-at}
 use Rattle.level.specs.storing.Stored.{Kept-apart, with-level, Added}
 use Rattle.state.proofs.preparing.Complete.{up-to-is, length-levels, holds-sound}
-use Rattle.level.specs.all_levels.Level.{Liftable, Chosen, by-picks, by-leading, way-by, Settles, state-over, stored, told, Lifted-by, kept, Kept-as, Lifted-next}
+use Rattle.level.specs.all_levels.Level.{Liftable, Chosen, by-picks, by-leading, way-by, Settles, state-over, stored, told, Lifted-by, kept, Kept-as}
+use Rattle.level.specs.all_levels.Level.{Lifted-next}
 
 pub few-variables : (s : Words) → state-length ≤ length s → T (holds-state? document-01 s) → getD s 1 0 ≤ 8
-few-variables s long holds = between-high 1 (getD s 1 0) 8 (and-left (between 1 (getD s 1 0) 8) (between 1 (getD s 2 0) 3 and between 1 (getD s 3 0) 16) (holds-said s long holds .3))
+few-variables s long holds = between-high 1 (getD s 1 0) 8 (and-left (between 1 (getD s 1 0) 8) (between 1 (getD s 2 0) 3 and between 1 (getD s 3 0) 16)
+    (holds-said s long holds .3))
 
 module _ (s : Words) (j : ℕ) (b : Base s j) where
   abbrev below : List Level
@@ -59,7 +61,8 @@ module _ (s : Words) (j : ℕ) (b : Base s j) where
 
   right : (way : Lifting) (n : ℕ) → Right (lift-level document-01 (q .p) (q .code) below way n)
   right way n =
-      go (over document-01 q (prime-says (q .p) (prime-at s j b)) (few-variables s (b .long) (b .holds)) (omega arith) below (sound-levels s j b) .lifts way n)
+      go (over document-01 q (prime-says (q .p) (prime-at s j b)) (few-variables s (b .long) (b .holds)) (omega arith) below
+      (sound-levels s j b) .lifts way n)
       (lift-level-number document-01 (q .p) (q .code) below way n)
     where
       go : {x : Result Level} → Gives (Lift-right document-01 q below) x → Numbered limit-number? x → Right x
@@ -73,12 +76,14 @@ module _ (s : Words) (j : ℕ) (b : Base s j) where
   chosen-is w (by-picks d e) n =
       (λ i.
       limited-frame document-01 (q .code) (level-at document-01 s j) >>= λ ms.
-      lift-all (stage-at usual s j) (lifts (stage-at usual s j) (record { drops = d i; pick = by-code (stage-at usual s j .below) (w .pick); stops = e i }) n) ([], 0) [] ms)
+      lift-all (stage-at usual s j)
+      (lifts (stage-at usual s j) (record { drops = d i; pick = by-code (stage-at usual s j .below) (w .pick); stops = e i }) n) ([], 0) [] ms)
       ∙ ap (λ t. lift-level document-01 (q .p) (q .code) below (choose t (by-hybrid (w .pick)) by-division) n) (sym d)
   chosen-is w (by-leading d p e) n =
       (λ i.
       limited-frame document-01 (q .code) (level-at document-01 s j) >>= λ ms.
-      lift-all (stage-at usual s j) (lifts (stage-at usual s j) (record { drops = d i; pick = by-code (stage-at usual s j .below) (p i); stops = e i }) n) ([], 0) [] ms)
+      lift-all (stage-at usual s j) (lifts (stage-at usual s j) (record { drops = d i; pick = by-code (stage-at usual s j .below) (p i); stops = e i })
+      n) ([], 0) [] ms)
       ∙ ap (λ t. lift-level document-01 (q .p) (q .code) below (choose t (by-hybrid (w .pick)) by-division) n) (sym d)
 
 pub lowest : (s : Words) (j : ℕ) → Base s j → Base s 0
@@ -91,15 +96,20 @@ before a es zero = a
 before a es (suc i) = getD es i 0
 
 module _ (q : Parameters) (components : ℕ) (below : List Level) where
-  filled-from : (z : Words) (a : ℕ) (es : Words) → T (every (vector-sound? document-01 q components most-terms below) (vectors-at z a es)) → (j : ℕ) → j < length es → before a es j < getD es j 0
+  filled-from : (z : Words) (a : ℕ) (es : Words) → T (every (vector-sound? document-01 q components most-terms below) (vectors-at z a es)) → (j : ℕ)
+      → j < length es → before a es j < getD es j 0
   filled-from z a [] t j h = absurd (not-suc-le-zero h)
   filled-from z a (e ∷ es) t zero h =
-      let v = vector-says document-01 q components most-terms below (rows z a (e - a)) (and-left (vector-sound? document-01 q components most-terms below (rows z a (e - a))) (every (vector-sound? document-01 q components most-terms below) (vectors-at z e es)) t) in
+      let v = vector-says document-01 q components most-terms below (rows z a (e - a))
+      (and-left (vector-sound? document-01 q components most-terms below (rows z a (e - a)))
+      (every (vector-sound? document-01 q components most-terms below) (vectors-at z e es)) t) in
       omega (arith, v .filled, length-rows z a (e - a))
   filled-from z a (e ∷ es) t (suc zero) h =
-      filled-from z e es (and-right (vector-sound? document-01 q components most-terms below (rows z a (e - a))) (every (vector-sound? document-01 q components most-terms below) (vectors-at z e es)) t) zero (omega arith)
+      filled-from z e es (and-right (vector-sound? document-01 q components most-terms below (rows z a (e - a)))
+      (every (vector-sound? document-01 q components most-terms below) (vectors-at z e es)) t) zero (omega arith)
   filled-from z a (e ∷ es) t (suc (suc j)) h =
-      filled-from z e es (and-right (vector-sound? document-01 q components most-terms below (rows z a (e - a))) (every (vector-sound? document-01 q components most-terms below) (vectors-at z e es)) t) (suc j) (omega arith)
+      filled-from z e es (and-right (vector-sound? document-01 q components most-terms below (rows z a (e - a)))
+      (every (vector-sound? document-01 q components most-terms below) (vectors-at z e es)) t) (suc j) (omega arith)
 
 start-before : (out : Words) (n j : ℕ) → j < n → before 0 (take n out) j ≡ start-of out j
 start-before out n zero h = refl
@@ -112,7 +122,8 @@ apart s j b n used out l u k t = record {
   long = omega (arith, l);
   filled = λ i h.
       let x = level-says document-01 (parameters-at s) (lifted-vectors out n) (level-at document-01 s j) (levels-at document-01 s j) t .vectors in
-      let y = filled-from (parameters-at s) (length (level-at document-01 s j)) (levels-at document-01 s (suc j)) (drop ends-length out) 0 (take n out) x i (omega (arith, length-take-le n out (omega (arith, l, k .few)))) in
+      let y = filled-from (parameters-at s) (length (level-at document-01 s j)) (levels-at document-01 s (suc j)) (drop ends-length out) 0
+      (take n out) x i (omega (arith, length-take-le n out (omega (arith, l, k .few)))) in
       omega (arith, y, start-before out n i h, getD-take n out i 0 h);
   room = λ i h. omega (arith, k .inside i h, u);
 }
@@ -136,7 +147,8 @@ module _ (s : Words) (j : ℕ) (b : Base s j) (out : Words) (long : lifted-lengt
   over-finished (Stopped n) v = tt
 
   -- what a lifting left, any way
-  pub way-settles : (way : Lifting) (n : ℕ) (x : Leveled) (v : Words) → leveled-of x out v ≡ lift-level document-01 (getD s 0 0) (getD s 2 0) (levels-at document-01 s (suc j)) way n
+  pub way-settles : (way : Lifting) (n : ℕ) (x : Leveled) (v : Words) → leveled-of x out v
+      ≡ lift-level document-01 (getD s 0 0) (getD s 2 0) (levels-at document-01 s (suc j)) way n
       → Stored-as x out → Settles x out
   way-settles way n x v e k = settles x v (subst (Right s j b) (sym e) (right s j b way n)) k
 
@@ -149,12 +161,14 @@ module _ (s : Words) (j : ℕ) (b : Base s j) (out : Words) (long : lifted-lengt
 module _ (s : Words) (k : ℕ) (h : Liftable s k) where
   -- the levels below, as the state has them
   pub lift-is : (way : Lifting) (n : ℕ)
-      → state-over s k (lift-level document-01 (getD s 0 0) (getD s 2 0) (levels-at document-01 s (suc (k - 1))) way n) ≡ lift document-01 n (decode document-01 s) k way
+      → state-over s k (lift-level document-01 (getD s 0 0) (getD s 2 0) (levels-at document-01 s (suc (k - 1))) way n)
+      ≡ lift document-01 n (decode document-01 s) k way
   lift-is way n =
       let e : k ≡ suc (k - 1) = omega (arith, h .low) in
       ap (λ m. at-level k (lift-level document-01 (getD s 0 0) (getD s 2 0) (levels-at document-01 s (suc (k - 1))) way n) >>= λ f.
       done (record { parameters = parameters-at s; levels = f ∷ levels-at document-01 s m })) e
-      ∙ ap (λ ls. at-level k (lift-level document-01 (getD s 0 0) (getD s 2 0) ls way n) >>= λ f. done (record { parameters = parameters-at s; levels = f ∷ ls })) (sym (up-to-is s (k - 1) (h .base .has)))
+      ∙ ap (λ ls. at-level k (lift-level document-01 (getD s 0 0) (getD s 2 0) ls way n)
+      >>= λ f. done (record { parameters = parameters-at s; levels = f ∷ ls })) (sym (up-to-is s (k - 1) (h .base .has)))
 
   at-finished : (x : Result Level) → T (finished? x) → T (finished? (state-over s k x))
   at-finished (done f) t = tt
@@ -170,7 +184,8 @@ module _ (s : Words) (k : ℕ) (h : Liftable s k) where
       let f = valueless s (k - 1) (h .base) out long x v settled ∙ e in (
         n,
         p ∙ ap (λ y. stored s (state-over s k y)) f ∙ ap (stored s) (lift-is way n),
-        subst (λ y. T (finished? y)) (lift-is way n) (at-finished (lift-level document-01 (getD s 0 0) (getD s 2 0) (levels-at document-01 s (suc (k - 1))) way n) (subst (λ y. T (finished? y)) e (over-finished s (k - 1) (h .base) out long x v))),
+        subst (λ y. T (finished? y)) (lift-is way n) (at-finished (lift-level document-01 (getD s 0 0) (getD s 2 0)
+            (levels-at document-01 s (suc (k - 1))) way n) (subst (λ y. T (finished? y)) e (over-finished s (k - 1) (h .base) out long x v))),
       )
 
   -- ## Kept without zeroing
@@ -194,7 +209,8 @@ module _ (s : Words) (k : ℕ) (h : Liftable s k) where
       go : {x : Result State} → Lifted-to document-01 here k x → x ≡ done Y → T (sound? document-01 Y)
       go (one-more g r) p =
           subst (λ Z. T (sound? document-01 Z)) (ap or-here p)
-          (level-above document-01 here (holds-sound s (h .base .holds)) k (between-shown 1 k most-levels (h .low) (h .high)) (omega (arith, length-levels s (getD s 4 0), h .base .has)) g (r .sound))
+          (level-above document-01 here (holds-sound s (h .base .holds)) k (between-shown 1 k most-levels (h .low) (h .high))
+          (omega (arith, length-levels s (getD s 4 0), h .base .has)) g (r .sound))
       go (limit-met u) p = absurd (subst (λ x. T (is-done x)) (sym p) tt)
       go still-lifting p = absurd (subst (λ x. T (is-done x)) (sym p) tt)
 
@@ -204,14 +220,18 @@ module _ (s : Words) (k : ℕ) (h : Liftable s k) where
       record {
         long = omega (arith, A .long, h .base .long);
         holds =
-            and-both (leb (getD t 4 0) all-levels) (all-words-sound? document-01 t (getD t 4 0) and sound? document-01 (decode document-01 t)) (le→leb (getD t 4 0) all-levels tall)
-            (and-both (all-words-sound? document-01 t (getD t 4 0)) (sound? document-01 (decode document-01 t)) (subst (λ i. T (all-words-sound? document-01 t i)) (sym (A .height)) (A .words)) (subst (λ Z. T (sound? document-01 Z)) (sym (A .state)) sound));
+            and-both (leb (getD t 4 0) all-levels) (all-words-sound? document-01 t (getD t 4 0) and sound? document-01 (decode document-01 t))
+            (le→leb (getD t 4 0) all-levels tall)
+            (and-both (all-words-sound? document-01 t (getD t 4 0)) (sound? document-01 (decode document-01 t))
+            (subst (λ i. T (all-words-sound? document-01 t i)) (sym (A .height)) (A .words))
+            (subst (λ Z. T (sound? document-01 Z)) (sym (A .state)) sound));
         has = omega (arith, A .height);
         low = omega arith;
       }
 
   next-of : (n : ℕ) (out : Words) (x : Leveled) (number : ℕ) (t : Words) → Kept-as s k x out number t
-      → leveled-of x out [] ≡ lift-level document-01 (getD s 0 0) (getD s 2 0) (levels-at document-01 s (suc (k - 1))) (by-hybrid 2) n → Lifted-next s k number t
+      → leveled-of x out [] ≡ lift-level document-01 (getD s 0 0) (getD s 2 0) (levels-at document-01 s (suc (k - 1))) (by-hybrid 2) n
+      → Lifted-next s k number t
   next-of n out (Vectors count used) number t (z, A) e =
       let p : lift document-01 n here k (by-hybrid 2) ≡ done (with-level s k count out) = sym (lift-is (by-hybrid 2) n) ∙ ap (state-over s k) (sym e) in
       record {
@@ -243,7 +263,8 @@ module _ (s : Words) (k : ℕ) (h : Liftable s k) where
   pub kept-none : (x : Leveled) (number : ℕ) (out : Words) → x ≡ Refused number → Kept-as s k x out number s
   kept-none x number out e = subst (λ y. Kept-as s k y out number s) (sym e) (refl, refl)
 
-  pub stored-words : (x : Leveled) (count used : ℕ) (out t : Words) → x ≡ Vectors count used → t ≡ encode document-01 (length s) (with-level s k count out)
+  pub stored-words : (x : Leveled) (count used : ℕ) (out t : Words) → x ≡ Vectors count used → t
+      ≡ encode document-01 (length s) (with-level s k count out)
       → told 0 t ≡ stored s (state-over s k (leveled-of x out []))
   stored-words x count used out t e p = ap (told 0) p ∙ ap (λ y. stored s (state-over s k (leveled-of y out []))) (sym e)
 

@@ -43,12 +43,14 @@ ends-part s j = let e : ends-offset j ≡ suc (count-offset j) = omega arith in 
 module _ (s : Words) (j : ℕ) (b : Base s j) where
   -- ## Sound levels
 
-  lower : (h : ℕ) → j < h → T (levels-sound? document-01 (parameters-at s) (levels-at document-01 s h)) → T (levels-sound? document-01 (parameters-at s) (levels-at document-01 s (suc j)))
+  lower : (h : ℕ) → j < h → T (levels-sound? document-01 (parameters-at s) (levels-at document-01 s h))
+      → T (levels-sound? document-01 (parameters-at s) (levels-at document-01 s (suc j)))
   lower zero l t = absurd (not-suc-le-zero l)
   lower (suc zero) l t = let e : 1 ≡ suc j = omega arith in subst (λ n. T (levels-sound? document-01 (parameters-at s) (levels-at document-01 s n))) e t
   lower (suc (suc h)) l t = go (ℕ-discrete (suc h) j) (lower (suc h))
     where
-      go : Dec (suc h ≡ j) → (j < suc h → T (levels-sound? document-01 (parameters-at s) (levels-at document-01 s (suc h))) → T (levels-sound? document-01 (parameters-at s) (levels-at document-01 s (suc j))))
+      go : Dec (suc h ≡ j) → (j < suc h → T (levels-sound? document-01 (parameters-at s) (levels-at document-01 s (suc h)))
+          → T (levels-sound? document-01 (parameters-at s) (levels-at document-01 s (suc j))))
           → T (levels-sound? document-01 (parameters-at s) (levels-at document-01 s (suc j)))
       go (yes e) ih = subst (λ n. T (levels-sound? document-01 (parameters-at s) (levels-at document-01 s (suc n)))) e t
       go (no ne) ih =
@@ -74,12 +76,21 @@ module _ (s : Words) (j : ℕ) (b : Base s j) where
 
   module _ (tables : Words) (t : Tables-at s j tables) where
     pub images-below : Images (count-below s j) (below-in tables)
-    images-below = record { fits = omega (arith, t .below .few, length-part tables-below tables, t .long); tabled = ready-tabled s j (below-in tables) (omega (arith, b .low)) (t .below) }
+    images-below = record {
+      fits = omega (arith, t .below .few, length-part tables-below tables, t .long);
+      tabled =
+          ready-tabled s j (below-in tables) (omega (arith, b .low)) (t .below);
+    }
 
     pub images-above : Images (count-at s j) (above-in tables)
-    images-above = record { fits = omega (arith, few-vectors, length-part tables-above tables, t .long); tabled = ready-tabled s (suc j) (above-in tables) (omega (arith, b .low)) (t .above) }
+    images-above = record {
+      fits = omega (arith, few-vectors, length-part tables-above tables, t .long);
+      tabled =
+          ready-tabled s (suc j) (above-in tables) (omega (arith, b .low)) (t .above);
+    }
 
-  pub above-is : (above : Words) → Ready s (suc j) above → table-order (getD s 2 0) (table-of (count-at s j) above) ≡ compare-over (getD s 2 0) (levels-at document-01 s (suc j))
+  pub above-is : (above : Words) → Ready s (suc j) above → table-order (getD s 2 0) (table-of (count-at s j) above)
+      ≡ compare-over (getD s 2 0) (levels-at document-01 s (suc j))
   above-is above r =
       ap (table-order (getD s 2 0)) (r .made) ∙ (λ i m m′. table-order-is (getD s 2 0) (levels-at document-01 s (suc j)) led-levels m m′ i)
 
@@ -100,17 +111,23 @@ module _ (s : Words) (j : ℕ) (b : Base s j) (lim : Bounds) where
     }
 
     same-end : (i : ℕ) → i < count-at s j → getD (ends-in tables) i 0 ≡ getD (ends-from s j) i 0
-    same-end i h = sym (getD-take (count-at s j) (ends-in tables) i 0 h) ∙ ap (λ l. getD l i 0) (t .ends) ∙ getD-take (count-at s j) (ends-from s j) i 0 h
+    same-end i h = sym (getD-take (count-at s j) (ends-in tables) i 0 h) ∙ ap (λ l. getD l i 0) (t .ends)
+        ∙ getD-take (count-at s j) (ends-from s j) i 0 h
 
     pub family-in : Family (ground-at lim s j) (rows-from s j) (ends-in tables)
-    family-in = record { ends-fit = omega (arith, few-vectors s j b, length-part tables-ends tables, t .long); rows-fit = λ i h. omega (arith, same-end i h, family-at .rows-fit i h) }
+    family-in = record {
+      ends-fit = omega (arith, few-vectors s j b, length-part tables-ends tables, t .long);
+      rows-fit =
+          λ i h. omega (arith, same-end i h, family-at .rows-fit i h);
+    }
 
     -- ## The stage
 
     pub below-is : order-of (ground-at lim s j) tables ≡ compare-over (getD s 2 0) (levels-at document-01 s j)
     below-is =
         ap (table-order (getD s 2 0)) (t .below .made)
-        ∙ (λ i m m′. table-order-is (getD s 2 0) (levels-at document-01 s j) (led-below s j b (levels-at document-01 s j) (level-at document-01 s j) (led-levels s j b)) m m′ i)
+        ∙ (λ i m m′. table-order-is (getD s 2 0) (levels-at document-01 s j)
+        (led-below s j b (levels-at document-01 s j) (level-at document-01 s j) (led-levels s j b)) m m′ i)
 
     stage-by : (order : Monomial → Monomial → Comparison) → order ≡ compare-over (getD s 2 0) (levels-at document-01 s (suc j))
         → stage-of (ground-at lim s j) (rows-from s j) tables order ≡ stage-at lim s j
@@ -121,13 +138,15 @@ module _ (s : Words) (j : ℕ) (b : Base s j) (lim : Bounds) where
       above = e i;
     }
 
-    pub stage-is : stage-of (ground-at lim s j) (rows-from s j) tables (table-order (getD s 2 0) (table-of (count-at s j) (above-in tables))) ≡ stage-at lim s j
+    pub stage-is : stage-of (ground-at lim s j) (rows-from s j) tables (table-order (getD s 2 0) (table-of (count-at s j) (above-in tables)))
+        ≡ stage-at lim s j
     stage-is = stage-by (table-order (getD s 2 0) (table-of (count-at s j) (above-in tables))) (above-is s j b (above-in tables) (t .above))
 
     well-over : Well (stage-of (ground-at lim s j) (rows-from s j) tables (compare-over (getD s 2 0) (levels-at document-01 s (suc j))))
     well-over =
         let w = sound-well document-01 (parameters-at s) (levels-at document-01 s (suc j)) (prime-at s j b) (omega arith) (sound-levels s j b) in
-        subst Well (sym (stage-by (compare-over (getD s 2 0) (levels-at document-01 s (suc j))) refl)) (record { prime = w .prime; small = w .small; heads-are = w .heads-are; order = w .order; family = w .family })
+        subst Well (sym (stage-by (compare-over (getD s 2 0) (levels-at document-01 s (suc j))) refl))
+        (record { prime = w .prime; small = w .small; heads-are = w .heads-are; order = w .order; family = w .family })
 
     pub well-at : Well (stage-of (ground-at lim s j) (rows-from s j) tables (order-of (ground-at lim s j) tables))
     well-at = let w = well-over in record { prime = w .prime; small = w .small; heads-are = w .heads-are; order = w .order; family = w .family }

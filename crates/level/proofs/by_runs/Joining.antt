@@ -7,7 +7,8 @@ use lib.ListN.{length, getD, take}
 use lib.Seq.{paste, length-paste, getD-take, getD-drop, length-take-le, ext-getD}
 use Rattle.definitions.specs.Layout.{Words}
 use Rattle.definitions.proofs.Rows.{rows-same}
-use Rattle.definitions.specs.Places.{most-vectors, row-length, component-offset, exponents-offset, table-length, spans-length, tables-spans, tables-ends, tables-below, tables-above, tables-length, ends-length}
+use Rattle.definitions.specs.Places.{most-vectors, row-length, component-offset, exponents-offset, table-length, spans-length, tables-spans, tables-ends}
+use Rattle.definitions.specs.Places.{tables-below, tables-above, tables-length, ends-length}
 use Rattle.orders.specs.Images.{entry-at, table-of}
 use Rattle.vectors.proofs.terms.Moving.{getD-paste-in, getD-paste-below}
 use Rattle.vectors.proofs.terms.Stored.{same-row}
@@ -32,12 +33,18 @@ table-same (suc n) s z h = λ i. table-same n s z (λ j l. h j (omega arith)) i 
 ready-same : (s : Words) (k : ℕ) (t z : Words) → ((i : ℕ) → i < table-length → getD z i 0 ≡ getD t i 0) → Ready s k t → Ready s k z
 ready-same s k t z w r = record {
   few = r .few;
-  made = table-same (count-below s k) t z (λ i h x. (raw-same t z (i * row-length + exponents-offset) (λ j l. w (i * row-length + exponents-offset + j) (omega (arith, r .few))) x, w (i * row-length + component-offset) (omega (arith, r .few)) x)) ∙ r .made;
+  made = table-same (count-below s k) t z (λ i h x. (
+    raw-same t z (i * row-length + exponents-offset)
+        (λ j l. w (i * row-length + exponents-offset + j) (omega (arith, r .few))) x,
+    w (i * row-length + component-offset) (omega (arith, r .few)) x,
+  ))
+      ∙ r .made;
   capped = λ i h j l. omega (arith, w (i * row-length + exponents-offset + j) (omega (arith, r .few)), r .capped i h j l);
 }
 
 led-same : (s : Words) (k : ℕ) (t z spans spans′ : Words) → count-at s k ≤ most-vectors → components-at s k ≤ most-vectors
-    → ((i : ℕ) → i < table-length → getD z i 0 ≡ getD t i 0) → ((i : ℕ) → i < spans-length → getD spans′ i 0 ≡ getD spans i 0) → Led s k t spans → Led s k z spans′
+    → ((i : ℕ) → i < table-length → getD z i 0 ≡ getD t i 0) → ((i : ℕ) → i < spans-length → getD spans′ i 0 ≡ getD spans i 0) → Led s k t spans
+    → Led s k z spans′
 led-same s k t z spans spans′ few kinds w v l = record {
   made = rows-same t z 0 0 (count-at s k) (λ i h. same-row t z (0 + i) (0 + i) (λ j m. w ((0 + i) * row-length + j) (omega arith))) ∙ l .made;
   small = λ i h j m. omega (arith, w (i * row-length + exponents-offset + j) (omega arith), l .small i h j m);
@@ -51,7 +58,8 @@ led-same s k t z spans spans′ few kinds w v l = record {
 
 -- ## The parts
 
-module _ (t spans ends below above : Words) (long : tables-length ≤ length t) (hs : spans-length ≤ length spans) (he : ends-length ≤ length ends) (hb : table-length ≤ length below) (ha : table-length ≤ length above) where
+module _ (t spans ends below above : Words) (long : tables-length ≤ length t) (hs : spans-length ≤ length spans) (he : ends-length ≤ length ends)
+    (hb : table-length ≤ length below) (ha : table-length ≤ length above) where
   abbrev t₁ : Words
   t₁ = paste t tables-spans spans spans-length
 
@@ -91,12 +99,14 @@ module _ (t spans ends below above : Words) (long : tables-length ≤ length t) 
   pub spans-word : (k : ℕ) → k < spans-length → getD (spans-in (joined t spans ends below above)) k 0 ≡ getD spans k 0
   spans-word k h =
       part-word tables-spans (joined t spans ends below above) k
-      ∙ off₄ (tables-spans + k) (omega arith) ∙ off₃ (tables-spans + k) (omega arith) ∙ off₂ (tables-spans + k) (omega arith) ∙ getD-paste-in t tables-spans spans spans-length k 0 (omega arith) hs h
+      ∙ off₄ (tables-spans + k) (omega arith) ∙ off₃ (tables-spans + k) (omega arith) ∙ off₂ (tables-spans + k) (omega arith)
+      ∙ getD-paste-in t tables-spans spans spans-length k 0 (omega arith) hs h
 
   pub ends-word : (k : ℕ) → k < most-vectors → getD (ends-in (joined t spans ends below above)) k 0 ≡ getD ends k 0
   ends-word k h =
       part-word tables-ends (joined t spans ends below above) k
-      ∙ off₄ (tables-ends + k) (omega arith) ∙ off₃ (tables-ends + k) (omega arith) ∙ getD-paste-in t₁ tables-ends ends ends-length k 0 (omega (arith, l₁)) he h
+      ∙ off₄ (tables-ends + k) (omega arith) ∙ off₃ (tables-ends + k) (omega arith)
+      ∙ getD-paste-in t₁ tables-ends ends ends-length k 0 (omega (arith, l₁)) he h
 
   pub below-word : (k : ℕ) → k < table-length → getD (below-in (joined t spans ends below above)) k 0 ≡ getD below k 0
   below-word k h =
@@ -104,19 +114,24 @@ module _ (t spans ends below above : Words) (long : tables-length ≤ length t) 
       ∙ off₄ (tables-below + k) (omega arith) ∙ getD-paste-in t₂ tables-below below table-length k 0 (omega (arith, l₂)) hb h
 
   pub above-word : (k : ℕ) → k < table-length → getD (above-in (joined t spans ends below above)) k 0 ≡ getD above k 0
-  above-word k h = part-word tables-above (joined t spans ends below above) k ∙ getD-paste-in t₃ tables-above above table-length k 0 (omega (arith, l₃)) ha h
+  above-word k h = part-word tables-above (joined t spans ends below above) k
+      ∙ getD-paste-in t₃ tables-above above table-length k 0 (omega (arith, l₃)) ha h
 
-  pub tables-joined : (s : Words) (j : ℕ) → count-at s j ≤ most-vectors → components-at s j ≤ most-vectors → Led s j t spans → ends ≡ ends-from s j → Ready s j below → Ready s (suc j) above
+  pub tables-joined : (s : Words) (j : ℕ) → count-at s j ≤ most-vectors → components-at s j ≤ most-vectors → Led s j t spans → ends ≡ ends-from s j
+      → Ready s j below → Ready s (suc j) above
       → Tables-at s j (joined t spans ends below above)
   tables-joined s j few kinds l e rb ra =
       let z = joined t spans ends below above in
-      let n : length (take (count-at s j) (ends-in z)) ≡ count-at s j = length-take-le (count-at s j) (ends-in z) (omega (arith, length-part tables-ends z, length-joined)) in
+      let n : length (take (count-at s j) (ends-in z)) ≡ count-at s j =
+      length-take-le (count-at s j) (ends-in z) (omega (arith, length-part tables-ends z, length-joined)) in
       let m : length (take (count-at s j) ends) ≡ count-at s j = length-take-le (count-at s j) ends (omega arith) in
       record {
         long = omega (arith, length-joined);
         led = led-same s j t z spans (spans-in z) few kinds heads-word spans-word l;
         ends =
-            ext-getD 0 (take (count-at s j) (ends-in z)) (take (count-at s j) ends) (n ∙ sym m) (λ k h. getD-take (count-at s j) (ends-in z) k 0 (omega (arith, n)) ∙ ends-word k (omega (arith, n)) ∙ sym (getD-take (count-at s j) ends k 0 (omega (arith, n))))
+            ext-getD 0 (take (count-at s j) (ends-in z)) (take (count-at s j) ends) (n ∙ sym m)
+            (λ k h. getD-take (count-at s j) (ends-in z) k 0 (omega (arith, n)) ∙ ends-word k (omega (arith, n))
+            ∙ sym (getD-take (count-at s j) ends k 0 (omega (arith, n))))
             ∙ ap (take (count-at s j)) e;
         below = ready-same s j below (below-in z) below-word rb;
         above = ready-same s (suc j) above (above-in z) above-word ra;

@@ -47,7 +47,8 @@ length-leading [] = refl
 length-leading (f ∷ fs) = ap suc (length-leading fs)
 
 module _ (s : Words) (j : ℕ) (b : Base s j) where
-  pub leading-at : (leads spans : Words) → Led s j leads spans → monomials-of (rows leads 0 (count-at s j)) ≡ leading-monomials (level-at document-01 s j)
+  pub leading-at : (leads spans : Words) → Led s j leads spans → monomials-of (rows leads 0 (count-at s j))
+      ≡ leading-monomials (level-at document-01 s j)
   leading-at leads spans l = ap monomials-of (l .made) ∙ monomials-heads (getD s 0 0) (level-at document-01 s j)
 
   length-level : length (leading-monomials (level-at document-01 s j)) ≡ count-at s j
@@ -68,10 +69,12 @@ module _ (s : Words) (j : ℕ) (b : Base s j) where
 
   -- ## What lifting asks for
 
-  module _ (tables : Words) (t : Tables-at s j tables) (lim : Bounds) (g : Ground) (level : Words) (eg : g ≡ ground-at lim s j) (el : level ≡ rows-from s j) where
+  module _ (tables : Words) (t : Tables-at s j tables) (lim : Bounds) (g : Ground) (level : Words) (eg : g ≡ ground-at lim s j)
+      (el : level ≡ rows-from s j) where
     abbrev Asked : ℕ → Words → Ground → Words → Type 0
     Asked count words g level =
-        Tables g tables × Family g level (ends-in tables) × Images (g .images) (below-in tables) × Images (g .r) (above-in tables) × Well (stage-of g level tables (order-of g tables)) ×
+        Tables g tables × Family g level (ends-in tables) × Images (g .images) (below-in tables) × Images (g .r) (above-in tables)
+        × Well (stage-of g level tables (order-of g tables)) ×
         Framed g count words × (g .working ≡ lim .working) × (g .vector ≡ lim .vector) × (g .room ≡ lim .room)
 
     pub asked : (count : ℕ) (words : Words) → Framed-by s j count words → Asked count words g level
@@ -95,7 +98,8 @@ module _ (s : Words) (j : ℕ) (b : Base s j) where
 
     strategy-same : (w : Strategy) → strategy-of g tables w ≡ strategy-at lim s j w
     strategy-same w =
-        (λ i. strategy-of (eg i) tables w) ∙ (λ i. record { drops = w .drops; pick = by-code (below-is s j b lim tables t i) (w .pick); stops = w .stops })
+        (λ i. strategy-of (eg i) tables w)
+        ∙ (λ i. record { drops = w .drops; pick = by-code (below-is s j b lim tables t i) (w .pick); stops = w .stops })
 
     pub lifted-same : (w : Strategy) (n : ℕ) (ms : List Monomial) (x : Result Level)
         → x ≡ lift-all (stage-of g level tables (table-order (g .code) (table-of (g .r) (above-in tables))))
@@ -104,7 +108,8 @@ module _ (s : Words) (j : ℕ) (b : Base s j) where
     lifted-same w n ms x e = e ∙ (λ i. lift-all (stage-same i) (lifts (stage-same i) (strategy-same w i) n) ([], 0) [] ms)
 
     pub accepted-same : (n : ℕ) (ms : List Monomial) (x : Result (Unit {0}))
-        → x ≡ accept-from (stage-of g level tables (table-order (g .code) (table-of (g .r) (above-in tables)))) n 1 ms → x ≡ accept-from (stage-at lim s j) n 1 ms
+        → x ≡ accept-from (stage-of g level tables (table-order (g .code) (table-of (g .r) (above-in tables)))) n 1 ms → x
+        ≡ accept-from (stage-at lim s j) n 1 ms
     accepted-same n ms x e = e ∙ (λ i. accept-from (stage-same i) n 1 ms)
 
 -- ## The frame first
@@ -132,12 +137,14 @@ says F true = refl
 says F false = tt
 
 -- the frame's terms are all of them
-pub whole-frame : (code : ℕ) (F G ms : List Monomial) → F ≡ G → done ms ≡ if-few (leb (length (frame code F)) most-vectors) (frame code F) → ms ≡ frame code G
+pub whole-frame : (code : ℕ) (F G ms : List Monomial) → F ≡ G → done ms ≡ if-few (leb (length (frame code F)) most-vectors) (frame code F) → ms
+    ≡ frame code G
 whole-frame code F G ms e h = subst (Says (frame code F)) (sym h) (says (frame code F) (leb (length (frame code F)) most-vectors)) ∙ ap (frame code) e
 
 -- ## A value without a reducer
 
-pub left-room : (g : Ground) (x : Accepted) (vector work : Words) → g .working ≡ most-terms → Left g x → value-length ≤ length vector → value-length ≤ length work → Left-in x vector work
+pub left-room : (g : Ground) (x : Accepted) (vector work : Words) → g .working ≡ most-terms → Left g x → value-length ≤ length vector
+    → value-length ≤ length work → Left-in x vector work
 left-room g Yes vector work e l h k = tt
 left-room g (Accepted-refused number place) vector work e l h k = tt
 left-room g (Accepted-stopped i n) vector work e l h k = (omega (arith, l, e), omega (arith, l, e), omega (arith, l, e))

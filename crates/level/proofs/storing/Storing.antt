@@ -26,7 +26,8 @@ rows-there out used n =
     sym (rows-same (drop ends-length out) (drop (ends-length + used * row-length) out) used 0 n λ k h.
     same-row (drop ends-length out) (drop (ends-length + used * row-length) out) (used + k) (0 + k) λ j l.
     let e : ends-length + used * row-length + ((0 + k) * row-length + j) ≡ ends-length + ((used + k) * row-length + j) = omega arith in
-    getD-drop (ends-length + used * row-length) out ((0 + k) * row-length + j) 0 ∙ ap (λ i. getD out i 0) e ∙ sym (getD-drop ends-length out ((used + k) * row-length + j) 0))
+    getD-drop (ends-length + used * row-length) out ((0 + k) * row-length + j) 0 ∙ ap (λ i. getD out i 0) e
+    ∙ sym (getD-drop ends-length out ((used + k) * row-length + j) 0))
 
 module _ (s out : Words) (k count : ℕ) (long : state-length ≤ length s) (inside : k < all-levels) (a : Kept-apart count out) where
   -- what the loop has come to
@@ -37,7 +38,8 @@ module _ (s out : Words) (k count : ℕ) (long : state-length ≤ length s) (ins
       → part ≡ drop (ends-length + used * row-length) out → z′ ≡ appended z k i used (rows part 0 (end - used)) (end - used) → Storing z′ (i + 1) end
   storing-on z i used end part z′ h (m, u, g) e p w =
       let more : lifted-vectors out (i + 1) ≡ lifted-vectors out i ++ rows part 0 (end - used) ∷ [] =
-      cut-more i (drop ends-length out) out (omega (arith, a .few, a .long)) ∙ (λ j. lifted-vectors out i ++ rows (drop ends-length out) (u′ j) (e′ j - u′ j) ∷ [])
+      cut-more i (drop ends-length out) out (omega (arith, a .few, a .long))
+      ∙ (λ j. lifted-vectors out i ++ rows (drop ends-length out) (u′ j) (e′ j - u′ j) ∷ [])
       ∙ ap (λ v. lifted-vectors out i ++ v ∷ []) (rows-there out used (end - used) ∙ ap (λ d. rows d 0 (end - used)) (sym p)) in
       let full : used + (end - used) ≡ end = omega (arith, fill, e′′) in
       let next : end ≡ start-of out (i + 1) = e ∙ ap (start-of out) one in (
@@ -46,7 +48,8 @@ module _ (s out : Words) (k count : ℕ) (long : state-length ≤ length s) (ins
         subst (λ y. Grown s y k (i + 1) end (lifted-vectors out (i + 1))) (sym w)
             (subst (λ n. Grown s (appended z k i used (rows part 0 (end - used)) (end - used)) k (i + 1) n (lifted-vectors out (i + 1))) full
             (subst (λ f. Grown s (appended z k i used (rows part 0 (end - used)) (end - used)) k (i + 1) (used + (end - used)) f) (sym more)
-            (grown-more s z k i used (lifted-vectors out i) part (end - used) long inside (omega (arith, a .few)) (omega (arith, full, a .room i h, e)) (omega (arith, fill, e′′)) g))),
+            (grown-more s z k i used (lifted-vectors out i) part (end - used) long inside (omega (arith, a .few)) (omega (arith, full, a .room i h, e))
+            (omega (arith, fill, e′′)) g))),
       )
     where
       u′ : start-of out i ≡ used

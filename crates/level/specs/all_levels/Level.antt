@@ -60,7 +60,8 @@ told number t = (number, t)
 -- level k of the state that the words hold, lifted this way and stored
 abbrev pub Lifted-by : Words → ℕ → Lifting → ℕ → Words → Type 0
 Lifted-by s k way number t =
-    (n : ℕ) × (told number t ≡ stored s (lift document-01 n (decode document-01 s) k way)) × T (finished? (lift document-01 n (decode document-01 s) k way))
+    (n : ℕ) × (told number t ≡ stored s (lift document-01 n (decode document-01 s) k way))
+    × T (finished? (lift document-01 n (decode document-01 s) k way))
 
 -- the same of the state that the words hold: 0 and the new state, or a refusal's number and the state as it was
 abbrev pub kept : State → Result State → ℕ × State

@@ -14,7 +14,8 @@ use Rattle.definitions.specs.Run.{by-code}
 use Rattle.definitions.specs.Frame.{frame}
 use Rattle.definitions.specs.Lifting.{limited-frame, lift-all, accept}
 use Rattle.definitions.specs.Layout.{Words, rows, rows-of, padded, level-at, levels-at, holds-state?}
-use Rattle.definitions.specs.Places.{most-exponent, most-vectors, most-rows, most-terms, most-tree-terms, all-levels, row-length, ends-start, state-length, table-length, spans-length, tables-length, ends-length}
+use Rattle.definitions.specs.Places.{most-exponent, most-vectors, most-rows, most-terms, most-tree-terms, all-levels, row-length, ends-start, state-length}
+use Rattle.definitions.specs.Places.{table-length, spans-length, tables-length, ends-length}
 use Rattle.state.specs.soundness.Places.{count-at, count-below, ends-from}
 use Rattle.state.specs.soundness.Tabled.{Ready}
 use Rattle.state.specs.preparing.Prepared.{components-at, Led}
@@ -92,7 +93,8 @@ strategy-at b s j w = record { drops = w .drops; pick = by-code (stage-at b s j 
 
 -- behind the heads
 abbrev pub joined : Words → Words → Words → Words → Words → Words
-joined heads spans ends below above = paste (paste (paste (paste heads spans-start spans spans-length) ends-start ends ends-length) below-start below table-length) above-start above table-length
+joined heads spans ends below above = paste (paste (paste (paste heads spans-start spans spans-length) ends-start ends ends-length) below-start below
+    table-length) above-start above table-length
 
 pub record Tables-at (s : Words) (j : ℕ) (tables : Words) : Type 0 where
   pub long : tables-length ≤ length tables
@@ -110,7 +112,8 @@ pub record Framed-by (s : Words) (j count : ℕ) (words : Words) : Type 0 where
 -- what lifting these frame terms gives; the value of one without a reducer is not kept
 abbrev pub lifted-over : Bounds → Words → ℕ → Strategy → ℕ → Words → Lifted → Words → Type 0
 lifted-over b s j w count words x out =
-    ((n : ℕ) × (v : Words) × (lifted-of x count out v ≡ lift-all (stage-at b s j) (lifts (stage-at b s j) (strategy-at b s j w) n) ([], 0) [] (frame-terms words count))) × Whole (ground-at b s j) count x out
+    ((n : ℕ) × (v : Words) × (lifted-of x count out v ≡ lift-all (stage-at b s j) (lifts (stage-at b s j) (strategy-at b s j w) n) ([], 0) []
+    (frame-terms words count))) × Whole (ground-at b s j) count x out
 
 -- the frame formed first: 15; then its terms
 abbrev pub lift-over : Bounds → Words → ℕ → Strategy → ℕ → Result Level
@@ -140,7 +143,8 @@ accepted-with (Accepted-stopped i n) v = refused 9 i v
 abbrev pub Shown : Accepted → Vector → Words → Type 0
 Shown Yes v work = Unit {0}
 Shown (Accepted-refused number place) v work = Unit {0}
-Shown (Accepted-stopped i n) v work = (work ≡ padded (length work) (rows-of v)) × (v ≡ rows work 0 n) × (n * row-length ≤ length work) × (n ≤ most-terms)
+Shown (Accepted-stopped i n) v work = (work ≡ padded (length work) (rows-of v)) × (v ≡ rows work 0 n) × (n * row-length ≤ length work)
+    × (n ≤ most-terms)
 
 -- the value where division stopped
 abbrev pub value-in : Accepted → Words → Vector

@@ -28,7 +28,9 @@ returns : tie.Need-returns
 returns c =
     let a = c .before .before .before .before .before .before .before .before .args in
     let s = a .state .now in
-    sym (λ i. choose ((sym (c .before .before .before .before .before .before .sound .ensures) ∙ c .before .before .before .before .before .if1 .taken) i) (choose ((sym (c .before .before .before .before .level-number .ensures) ∙ c .before .before .before .if2 .taken) i) (choose (lt-leb (a .k) (getD s 4 0) (omega (arith, c .before .place .ensures .0)) i) (choose (own-pick? (way-of (a .way))) 0 12) 11) 12) 11)
+    sym (λ i. choose ((sym (c .before .before .before .before .before .before .sound .ensures) ∙ c .before .before .before .before .before .if1 .taken)
+    i) (choose ((sym (c .before .before .before .before .level-number .ensures) ∙ c .before .before .before .if2 .taken) i)
+    (choose (lt-leb (a .k) (getD s 4 0) (omega (arith, c .before .place .ensures .0)) i) (choose (own-pick? (way-of (a .way))) 0 12) 11) 12) 11)
 
 own-pick-requires : tie.Need-own-pick-requires
 own-pick-requires c κs = search needs
@@ -37,25 +39,38 @@ returns-2 : tie.Need-returns-2
 returns-2 c =
     let a = c .before .before .before .before .before .before .before .before .before .before .args in
     let s = a .state .now in
-    sym (λ i. choose ((sym (c .before .before .before .before .before .before .before .before .sound .ensures) ∙ c .before .before .before .before .before .before .before .if1 .taken) i) (choose ((sym (c .before .before .before .before .before .before .level-number .ensures) ∙ c .before .before .before .before .before .if2 .taken) i) (choose (le-leb (a .k) (getD s 4 0) (omega (arith, c .before .before .before .place .ensures .0)) i) (choose ((sym (c .before .own-pick .ensures) ∙ c .if4 .taken) i) 0 12) 11) 12) 11)
+    sym (λ i. choose ((sym (c .before .before .before .before .before .before .before .before .sound .ensures)
+    ∙ c .before .before .before .before .before .before .before .if1 .taken) i)
+    (choose ((sym (c .before .before .before .before .before .before .level-number .ensures)
+    ∙ c .before .before .before .before .before .if2 .taken) i) (choose
+    (le-leb (a .k) (getD s 4 0) (omega (arith, c .before .before .before .place .ensures .0)) i)
+    (choose ((sym (c .before .own-pick .ensures) ∙ c .if4 .taken) i) 0 12) 11) 12) 11)
 
 returns-3 : tie.Need-returns-3
 returns-3 c =
     let a = c .before .before .before .before .before .before .before .before .before .before .args in
     let s = a .state .now in
-    sym (λ i. choose ((sym (c .before .before .before .before .before .before .before .before .sound .ensures) ∙ c .before .before .before .before .before .before .before .if1 .taken) i) (choose ((sym (c .before .before .before .before .before .before .level-number .ensures) ∙ c .before .before .before .before .before .if2 .taken) i) (choose (le-leb (a .k) (getD s 4 0) (omega (arith, c .before .before .before .place .ensures .0)) i) (choose ((sym (c .before .own-pick .ensures) ∙ c .if4 .left) i) 0 12) 11) 12) 11)
+    sym (λ i. choose ((sym (c .before .before .before .before .before .before .before .before .sound .ensures)
+    ∙ c .before .before .before .before .before .before .before .if1 .taken) i)
+    (choose ((sym (c .before .before .before .before .before .before .level-number .ensures)
+    ∙ c .before .before .before .before .before .if2 .taken) i) (choose
+    (le-leb (a .k) (getD s 4 0) (omega (arith, c .before .before .before .place .ensures .0)) i)
+    (choose ((sym (c .before .own-pick .ensures) ∙ c .if4 .left) i) 0 12) 11) 12) 11)
 
 returns-4 : tie.Need-returns-4
 returns-4 c =
     let a = c .before .before .before .before .before .args in
     let s = a .state .now in
-    sym (λ i. choose ((sym (c .before .before .before .sound .ensures) ∙ c .before .before .if1 .taken) i) (choose ((sym (c .before .level-number .ensures) ∙ c .if2 .left) i) (choose (leb (a .k) (getD s 4 0)) (choose (own-pick? (way-of (a .way))) 0 12) 11) 12) 11)
+    sym (λ i. choose ((sym (c .before .before .before .sound .ensures) ∙ c .before .before .if1 .taken) i)
+    (choose ((sym (c .before .level-number .ensures) ∙ c .if2 .left) i)
+    (choose (leb (a .k) (getD s 4 0)) (choose (own-pick? (way-of (a .way))) 0 12) 11) 12) 11)
 
 returns-5 : tie.Need-returns-5
 returns-5 c =
     let a = c .before .before .before .args in
     let s = a .state .now in
-    sym (λ i. choose ((sym (c .before .sound .ensures) ∙ c .if1 .left) i) (choose (between 1 (a .k) most-levels) (choose (leb (a .k) (getD s 4 0)) (choose (own-pick? (way-of (a .way))) 0 12) 11) 12) 11)
+    sym (λ i. choose ((sym (c .before .sound .ensures) ∙ c .if1 .left) i)
+    (choose (between 1 (a .k) most-levels) (choose (leb (a .k) (getD s 4 0)) (choose (own-pick? (way-of (a .way))) 0 12) 11) 12) 11)
 
 pub complete-spec : {M : Type 1} → statement M
 complete-spec =

@@ -60,7 +60,8 @@ returns-3 c =
     let P = passed s (a .k) (way-of (a .way)) long (sym (m .complete .ensures) ∙ (omega arith)) in
     let b = P .liftable .base in
     let L = l .lift-by in
-    let u = left-is s (a .work .now) (a .cache .now) (a .k) (way-of (a .way)) long wide (b .holds) (P .inside) (b .has) (P .own) (L .result) (L .last .0) (L .last .1 .0) (L .last .1 .1 .0) (L .ensures) (omega arith) (omega arith) in
+    let u = left-is s (a .work .now) (a .cache .now) (a .k) (way-of (a .way)) long wide (b .holds) (P .inside) (b .has) (P .own) (L .result)
+    (L .last .0) (L .last .1 .0) (L .last .1 .1 .0) (L .ensures) (omega arith) (omega arith) in
     (u .0, ap some (t .settle .ensures) ∙ u .1)
 
 same-length-4 : tie.Need-same-length-4
@@ -71,7 +72,8 @@ returns-4 c =
     let m = c .before in
     let a = m .before .before .before .before .before .before .before .before .args in
     let wide : work-words document-01 (way-of (a .way)) ≤ length (a .work .now) = omega (arith, m .before .before .before .work-length .ensures) in
-    refused-early (a .state .now) (a .k) (way-of (a .way)) (omega arith) (a .work .now) (a .cache .now) wide (m .complete .result) (m .complete .ensures) (λ z. not-suc-le-zero {n = 0} (omega (arith, z)))
+    refused-early (a .state .now) (a .k) (way-of (a .way)) (omega arith) (a .work .now) (a .cache .now) wide (m .complete .result)
+    (m .complete .ensures) (λ z. not-suc-le-zero {n = 0} (omega (arith, z)))
 
 pub lift-spec : {M : Type 1} → statement M
 lift-spec =

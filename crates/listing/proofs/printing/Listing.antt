@@ -44,7 +44,8 @@ pub length-cut : (j : ℕ) (level ends : Words) → j ≤ length ends → length
 length-cut j level ends h = length-vectors level 0 (take j ends) ∙ length-take-le j ends h
 
 pub vector-more : (n k j : ℕ) (level ends : Words) → j < length ends
-    → vector-lines n k 1 (cut-level j level ends) ++ s-lines n k (j + 1) (rows level (start-of ends j) (getD ends j 0 - start-of ends j)) ≡ vector-lines n k 1 (cut-level (j + 1) level ends)
+    → vector-lines n k 1 (cut-level j level ends) ++ s-lines n k (j + 1) (rows level (start-of ends j) (getD ends j 0 - start-of ends j))
+    ≡ vector-lines n k 1 (cut-level (j + 1) level ends)
 vector-more n k j level ends h =
     let f = rows level (start-of ends j) (getD ends j 0 - start-of ends j) in
     let e : j + 1 ≡ 1 + length (cut-level j level ends) = omega (arith, length-cut j level ends (omega arith)) in

@@ -37,7 +37,8 @@ digits-enough (suc n) zero v h k = absurd (omega arith)
 digits-enough (suc n) (suc m) v h k = go (ltb v 10) refl (digits-enough n m (v / 10))
   where
     go : (b : Bool) → ltb v 10 ≡ b → (v / 10 < n → v / 10 < m → digits n (v / 10) ≡ digits m (v / 10))
-        → _≡_ {A = Bytes} (elim b [ true ↦ (48 + v) ∷ [] | false ↦ digits n (v / 10) ++ (48 + v % 10) ∷ [] ]) (elim b [ true ↦ (48 + v) ∷ [] | false ↦ digits m (v / 10) ++ (48 + v % 10) ∷ [] ])
+        → _≡_ {A = Bytes} (elim b [ true ↦ (48 + v) ∷ [] | false ↦ digits n (v / 10) ++ (48 + v % 10) ∷ [] ])
+        (elim b [ true ↦ (48 + v) ∷ [] | false ↦ digits m (v / 10) ++ (48 + v % 10) ∷ [] ])
     go true e ih = refl
     go false e ih = let l = ltb-false v 10 e in ap (λ d. d ++ (48 + v % 10) ∷ []) (ih (omega (arith, l, h)) (omega (arith, l, k)))
 
@@ -76,7 +77,8 @@ fields-listed (v ∷ vs) = ap (λ z. 44 ∷ decimal v ++ z) (fields-listed vs) �
 
 pub listed-append : (xs ys : List ℕ) → listed (xs ++ ys) ≡ listed xs ++ listed ys
 listed-append [] ys = refl
-listed-append (x ∷ xs) ys = ap (λ z. 44 ∷ decimal x ++ z) (listed-append xs ys) ∙ ap (λ z. 44 ∷ z) (sym (append-assoc (decimal x) (listed xs) (listed ys)))
+listed-append (x ∷ xs) ys = ap (λ z. 44 ∷ decimal x ++ z) (listed-append xs ys)
+    ∙ ap (λ z. 44 ∷ z) (sym (append-assoc (decimal x) (listed xs) (listed ys)))
 
 pub listed-more : (e : List ℕ) (j : ℕ) → j < length e → listed (take j e) ++ 44 ∷ decimal (getD e j 0) ≡ listed (take (j + 1) e)
 listed-more e j h =

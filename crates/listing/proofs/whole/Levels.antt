@@ -17,7 +17,8 @@ use Rattle.definitions.specs.Result.{Result, done, refused, unfinished, at-leve
 use Rattle.definitions.specs.Lifting.{by-hybrid, lift-level}
 use Rattle.definitions.specs.Problem.{Bytes}
 use Rattle.definitions.specs.State.{State, up-to}
-use Rattle.definitions.specs.Layout.{Words, decode, level-at, levels-at, ends-at, holds-state?, words-sound?, all-words-sound?, ascending?, exponents-fit?, last-end}
+use Rattle.definitions.specs.Layout.{Words, decode, level-at, levels-at, ends-at, holds-state?, words-sound?, all-words-sound?, ascending?, exponents-fit?}
+use Rattle.definitions.specs.Layout.{last-end}
 use Rattle.definitions.specs.Sheet.{printed, letter-X, x-lines, level-lines, if-more, level-then, levels-from}
 use Rattle.definitions.proofs.Tests.{and-left, and-right}
 use Rattle.definitions.proofs.Numbers as numbers
@@ -33,19 +34,23 @@ use Rattle.listing.specs.whole.Listed.{lines-of, lines-to, all-lines-of,
 
 ascends-each : (limit a : ℕ) (es : Words) → T (ascending? limit a es) → (j : ℕ) → j < length es → getD es j 0 ≤ limit
 ascends-each limit a [] t j h = absurd (not-suc-le-zero h)
-ascends-each limit a (e ∷ es) t zero h = leb→le e limit (and-left (leb e limit) (ascending? limit e es) (and-right (ltb a e) (leb e limit and ascending? limit e es) t))
+ascends-each limit a (e ∷ es) t zero h = leb→le e limit (and-left (leb e limit) (ascending? limit e es)
+    (and-right (ltb a e) (leb e limit and ascending? limit e es) t))
 ascends-each limit a (e ∷ es) t (suc j) h =
-    ascends-each limit e es (and-right (leb e limit) (ascending? limit e es) (and-right (ltb a e) (leb e limit and ascending? limit e es) t)) j (omega arith)
+    ascends-each limit e es (and-right (leb e limit) (ascending? limit e es) (and-right (ltb a e) (leb e limit and ascending? limit e es) t)) j
+    (omega arith)
 
 abbrev small : Words → ℕ → Bool
 small s k = exponents-fit? (drop (rows-offset k) s) (last-end (last (ends-at document-01 s k)))
 
-pub short-level : (s : Words) → state-length ≤ length s → T (holds-state? document-01 s) → (k : ℕ) → k < getD s 4 0 → count-at s k ≤ length (ends-from s k) → Short (count-at s k) (ends-from s k)
+pub short-level : (s : Words) → state-length ≤ length s → T (holds-state? document-01 s) → (k : ℕ) → k < getD s 4 0
+    → count-at s k ≤ length (ends-from s k) → Short (count-at s k) (ends-from s k)
 short-level s long holds k h f j l =
     let w = words-below s long holds (suc k) h in
     let t = and-left (words-sound? document-01 s k) (all-words-sound? document-01 s k) w in
     let u = and-right (leb (count-at s k) most-vectors) (ascending? most-rows 0 (ends-at document-01 s k) and small s k) t in
-    let v = ascends-each most-rows 0 (ends-at document-01 s k) (and-left (ascending? most-rows 0 (ends-at document-01 s k)) (small s k) u) j (omega (arith, length-take-le (count-at s k) (ends-from s k) f)) in
+    let v = ascends-each most-rows 0 (ends-at document-01 s k) (and-left (ascending? most-rows 0 (ends-at document-01 s k)) (small s k) u) j
+    (omega (arith, length-take-le (count-at s k) (ends-from s k) f)) in
     subst (λ e. e ≤ most-rows) (getD-take (count-at s k) (ends-from s k) j 0 l) v
 
 -- ## The lines of all levels
@@ -64,11 +69,13 @@ one-over : (n k : ℕ) (f : Level) (ls : List Level) → 1 ≤ k → length ls �
 one-over n k f [] h e = absurd (not-suc-le-zero {n = 0} (omega (arith, h, e)))
 one-over n k f (g ∷ fs) h e = ap (λ i. lines-over n (g ∷ fs) ++ level-lines n i f) e
 
-behind : (o : Option Bytes) (a b : Bytes) → ((o then λ bytes. some (b ++ bytes)) then λ bytes. some (a ++ bytes)) ≡ (o then λ bytes. some ((a ++ b) ++ bytes))
+behind : (o : Option Bytes) (a b : Bytes) → ((o then λ bytes. some (b ++ bytes)) then λ bytes. some (a ++ bytes))
+    ≡ (o then λ bytes. some ((a ++ b) ++ bytes))
 behind none a b = refl
 behind (some bytes) a b = ap some (sym (append-assoc a b bytes))
 
-x-line : (v k number place : ℕ) (value : Vector) → Numbered {A = Level} limit-number? (refused number place value) → x-lines v number k value ≡ refusal-line number k
+x-line : (v k number place : ℕ) (value : Vector) → Numbered {A = Level} limit-number? (refused number place value) → x-lines v number k value
+    ≡ refusal-line number k
 x-line v k number place value (numbers.refuses u) =
     append-nil (printed letter-X (number ∷ k ∷ []))
     ∙ sym (ap (λ b. choose b [] (printed letter-X (number ∷ k ∷ []))) (ne-eqb number 0 (λ z. subst (λ i. T (limit-number? i)) z u)))
@@ -102,10 +109,12 @@ module _ (lim : Limits) (n left k : ℕ) (X : State) (h : 1 ≤ k) (e : length (
 
   abbrev Next-is : Level → Type 0
   Next-is f =
-      _≡_ {A = Option Bytes} (levels-from lim n left (suc k) (with-next f) then λ bytes. some (lines-over v (f ∷ up-to X (k - 1)) ++ bytes)) (all-lines (reached-from lim n left (suc k) (with-next f)))
+      _≡_ {A = Option Bytes} (levels-from lim n left (suc k) (with-next f) then λ bytes. some (lines-over v (f ∷ up-to X (k - 1)) ++ bytes))
+      (all-lines (reached-from lim n left (suc k) (with-next f)))
 
   more : (b : Bool) (f : Level) → Next-is f
-      → _≡_ {A = Option Bytes} (if-more b v k f (λ u. levels-from lim n left (suc k) (with-next f)) then λ bytes. some (lines-over v (X .levels) ++ bytes))
+      → _≡_ {A = Option Bytes} (if-more b v k f (λ u. levels-from lim n left (suc k) (with-next f))
+      then λ bytes. some (lines-over v (X .levels) ++ bytes))
       (all-lines (unless-last b (with-next f) (λ Y. reached-from lim n left (suc k) Y)))
   more true f i = ap some (sym (over f) ∙ sym (append-nil (lines-over v (f ∷ up-to X (k - 1)))))
   more false f i =
@@ -121,11 +130,14 @@ module _ (lim : Limits) (n left k : ℕ) (X : State) (h : 1 ≤ k) (e : length (
 
 -- the levels printed one after the other are the lines of those that are reached, and the refusal's
 pub listed : (lim : Limits) (n left k : ℕ) (X : State) → 1 ≤ k → length (X .levels) ≡ k
-    → _≡_ {A = Option Bytes} (levels-from lim n left k X then λ bytes. some (lines-over (X .parameters .n) (X .levels) ++ bytes)) (all-lines (reached-from lim n left k X))
+    → _≡_ {A = Option Bytes} (levels-from lim n left k X then λ bytes. some (lines-over (X .parameters .n) (X .levels) ++ bytes))
+    (all-lines (reached-from lim n left k X))
 listed lim n zero k X h e = refl
 listed lim n (suc left) k X h e =
-    next-listed lim n left k X h e (lift-level lim (X .parameters .p) (X .parameters .code) (up-to X (k - 1)) (by-hybrid 2) n) (lift-level-number lim (X .parameters .p) (X .parameters .code) (up-to X (k - 1)) (by-hybrid 2) n)
-    λ f. listed lim n left (suc k) (record { parameters = X .parameters; levels = f ∷ up-to X (k - 1) }) (omega arith) (ap suc (stay lim n left k X h e))
+    next-listed lim n left k X h e (lift-level lim (X .parameters .p) (X .parameters .code) (up-to X (k - 1)) (by-hybrid 2) n)
+    (lift-level-number lim (X .parameters .p) (X .parameters .code) (up-to X (k - 1)) (by-hybrid 2) n)
+    λ f. listed lim n left (suc k) (record { parameters = X .parameters; levels = f ∷ up-to X (k - 1) }) (omega arith)
+    (ap suc (stay lim n left k X h e))
 
 -- ## In the words
 
@@ -150,8 +162,10 @@ module _ (s t : Words) (n number place : ℕ) (one : getD s 4 0 ≡ 1) (tall : 0
   lifted-lines =
       let X = decode document-01 s in
       let up : suc (getD t 4 0 - 1) ≡ getD t 4 0 = omega (arith, tall) in
-      let none-yet : lines-over (getD s 1 0) (levels-at document-01 s (getD s 4 0)) ≡ [] = ap (λ h. lines-over (getD s 1 0) (levels-at document-01 s h)) one in
-      ap (λ l. some (l ++ refusal-line number place)) (sym (words-over t (getD t 4 0 - 1)) ∙ ap (λ h. lines-over (getD t 1 0) (levels-at document-01 t h)) up)
+      let none-yet : lines-over (getD s 1 0) (levels-at document-01 s (getD s 4 0))
+      ≡ [] = ap (λ h. lines-over (getD s 1 0) (levels-at document-01 s h)) one in
+      ap (λ l. some (l ++ refusal-line number place)) (sym (words-over t (getD t 4 0 - 1))
+      ∙ ap (λ h. lines-over (getD t 1 0) (levels-at document-01 t h)) up)
       ∙ ap all-lines r
       ∙ sym (listed document-01 n 9 1 X (omega arith) (length-levels s (getD s 4 0) ∙ one))
       ∙ ap (λ l. levels-from document-01 n most-levels 1 X then λ bytes. some (l ++ bytes)) none-yet
@@ -161,6 +175,7 @@ module _ (s t : Words) (n number place : ℕ) (one : getD s 4 0 ≡ 1) (tall : 0
   whole-lines e =
       ap some (sym (append-nil (all-lines-of t)) ∙ ap (λ m. all-lines-of t ++ refusal-line m place) (sym e)) ∙ lifted-lines
 
-  pub refused-lines : (number ≡ 0 → ⊥) → some (all-lines-of t ++ printed letter-X (number ∷ place ∷ [])) ≡ levels-from document-01 n most-levels 1 (decode document-01 s)
+  pub refused-lines : (number ≡ 0 → ⊥) → some (all-lines-of t ++ printed letter-X (number ∷ place ∷ []))
+      ≡ levels-from document-01 n most-levels 1 (decode document-01 s)
   refused-lines m =
       sym (ap (λ b. some (all-lines-of t ++ choose b [] (printed letter-X (number ∷ place ∷ [])))) (ne-eqb number 0 m)) ∙ lifted-lines

@@ -30,25 +30,30 @@ module _ (s : Words) (n : ℕ) where
   abbrev from-accepted : ℕ → Result (Unit {0}) → Option Bytes
   from-accepted m r = sheet-of document-01 m (getD s 1 0) (r >>= λ u. done (decode document-01 s))
 
-  pub accepted-yes : done tt ≡ accepted-over s n → (m : ℕ) (bytes : Bytes) → some bytes ≡ levels-from document-01 m most-levels 1 (decode document-01 s) → some bytes ≡ accepted-sheet (n + m) s
+  pub accepted-yes : done tt ≡ accepted-over s n → (m : ℕ) (bytes : Bytes) → some bytes ≡ levels-from document-01 m most-levels 1 (decode document-01 s)
+      → some bytes ≡ accepted-sheet (n + m) s
   accepted-yes e m bytes h =
       let X = decode document-01 s in
       let over : accepted-over s (n + m) ≡ accepted-over s n =
-      steady-from finished? (accepted-over s) (accept-steady document-01 (getD s 0 0) (getD s 2 0) (level-at document-01 s 0)) n m (subst (λ x. T (finished? x)) e tt) in
+      steady-from finished? (accepted-over s) (accept-steady document-01 (getD s 0 0) (getD s 2 0) (level-at document-01 s 0)) n m
+      (subst (λ x. T (finished? x)) e tt) in
       h
-      ∙ sym (steady-from answered? (λ i. levels-from document-01 i most-levels 1 X) (levels-from-steady document-01 most-levels 1 X) m n (subst (λ o. T (answered? o)) h tt))
+      ∙ sym (steady-from answered? (λ i. levels-from document-01 i most-levels 1 X) (levels-from-steady document-01 most-levels 1 X) m n
+      (subst (λ o. T (answered? o)) h tt))
       ∙ ap (λ i. levels-from document-01 i most-levels 1 X) (add-comm m n)
       ∙ ap (from-accepted (n + m)) (e ∙ sym over)
 
   pub accepted-refused : (number place : ℕ) → refused number place [] ≡ accepted-over s n → some (printed 88 (number ∷ place ∷ [])) ≡ accepted-sheet n s
   accepted-refused number place e = ap some (sym (append-nil (printed 88 (number ∷ place ∷ [])))) ∙ ap (from-accepted n) e
 
-  pub accepted-stopped : (i : ℕ) (v : Vector) → refused 9 i v ≡ accepted-over s n → some (printed 88 (9 ∷ i ∷ []) ++ w-lines (getD s 1 0) v) ≡ accepted-sheet n s
+  pub accepted-stopped : (i : ℕ) (v : Vector) → refused 9 i v ≡ accepted-over s n → some (printed 88 (9 ∷ i ∷ []) ++ w-lines (getD s 1 0) v)
+      ≡ accepted-sheet n s
   accepted-stopped i v e = ap (from-accepted n) e
 
 -- ## A file
 
-module _ (size : ℕ) (big : state-length ≤ size) (file : Bytes) (f : Parameters × Level) (e : problem document-01 file ≡ done f) (s : Words) (w : s ≡ words-read size f) where
+module _ (size : ℕ) (big : state-length ≤ size) (file : Bytes) (f : Parameters × Level) (e : problem document-01 file ≡ done f) (s : Words)
+    (w : s ≡ words-read size f) where
   pub one-level : getD s 4 0 ≡ 1
   one-level = sym (length-levels s (getD s 4 0)) ∙ ap (λ X. length (X .levels)) (decoded size big file f e s w)
 
@@ -59,7 +64,8 @@ module _ (size : ℕ) (big : state-length ≤ size) (file : Bytes) (f : Paramete
   read-sheet n = λ i. sheet-of document-01 n (variables-are i) (accepted-is size big file f e s w n i)
 
 module _ (size : ℕ) (file : Bytes) (number place : ℕ) (s : Words) (some-number : number ≡ 0 → ⊥) where
-  pub refused-sheet : _≡_ {A = ℕ × ℕ × Words} (number, place, s) (read-as size (problem document-01 file)) → some (printed 88 (number ∷ place ∷ [])) ≡ sheet document-01 0 file
+  pub refused-sheet : _≡_ {A = ℕ × ℕ × Words} (number, place, s) (read-as size (problem document-01 file)) → some (printed 88 (number ∷ place ∷ []))
+      ≡ sheet document-01 0 file
   refused-sheet e = go (problem document-01 file) refl (document-reader .answered file) e
     where
       go : (x : Result (Parameters × Level)) → problem document-01 file ≡ x → Answered document-01 file x

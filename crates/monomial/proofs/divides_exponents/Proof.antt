@@ -45,14 +45,16 @@ loop-again c =
     let x = c .before .before .before .before .before .args .t1 in
     let y = c .before .before .before .before .before .args .t2 in
     let f : ℕ → Bool = λ k. ltb (getD y k 0) (getD x k 0) in
-    let e : ltb (c .before .wide2 .result) (c .before .before .wide .result) ≡ ltb (getD y (l .j) 0) (getD x (l .j) 0) = λ i. ltb (c .before .wide2 .ensures .0 i) (c .before .before .wide .ensures .0 i) in
+    let e : ltb (c .before .wide2 .result) (c .before .before .wide .result)
+    ≡ ltb (getD y (l .j) 0) (getD x (l .j) 0) = λ i. ltb (c .before .wide2 .ensures .0 i) (c .before .before .wide .ensures .0 i) in
     (omega arith, l .inv .1, l .inv .2, subst (Marked f (l .j + 1)) (sym (c .mark-above .ensures)) (marked-more f (l .j) (l .mark) _ e (l .inv .3)))
 
 returns : tie.Need-returns Inv-loop μ-loop
 returns c =
     let l = c .before .loop in
     let e : l .j ≡ 8 = omega arith in
-    divides-marked (c .before .before .args .t1) (c .before .before .args .t2) (l .mark) (l .inv .1) (l .inv .2) (subst (λ n. Marked (λ k. ltb (getD (c .before .before .args .t2) k 0) (getD (c .before .before .args .t1) k 0)) n (l .mark)) e (l .inv .3))
+    divides-marked (c .before .before .args .t1) (c .before .before .args .t2) (l .mark) (l .inv .1) (l .inv .2)
+    (subst (λ n. Marked (λ k. ltb (getD (c .before .before .args .t2) k 0) (getD (c .before .before .args .t1) k 0)) n (l .mark)) e (l .inv .3))
 
 pub divides-exponents-spec : {M : Type 1} → statement M
 divides-exponents-spec =

@@ -45,7 +45,8 @@ loop-again c =
       l .inv .1,
       l .inv .2,
       simp length-set (l .inv .3),
-      filled-more (λ k. getD (lcm x y) k 0) (l .j) (c .larger .result) (l .e) (omega arith) (c .larger .ensures ∙ sym (getD-lcm x y (l .j) (omega arith) (omega arith))) (l .inv .4),
+      filled-more (λ k. getD (lcm x y) k 0) (l .j) (c .larger .result) (l .e) (omega arith)
+          (c .larger .ensures ∙ sym (getD-lcm x y (l .j) (omega arith) (omega arith))) (l .inv .4),
     )
 
 returns : tie.Need-returns Inv-loop μ-loop

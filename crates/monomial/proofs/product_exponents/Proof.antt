@@ -16,7 +16,8 @@ use Rattle.monomial.proofs.product_exponents.Statement.{statement}
 use Rattle.monomial.proofs.product_exponents.Tie as tie
 
 abbrev Inv-loop : tie.InvT-loop
-Inv-loop component q e d₀ mark₀ j₀ d mark j = (j ≤ 8) × (length q ≡ 8) × (length e ≡ 8) × (length d ≡ 8) × Marked (λ k. ltb most-exponent (getD (product q e) k 0)) j mark × Filled (λ k. getD (product q e) k 0 % 256) j d
+Inv-loop component q e d₀ mark₀ j₀ d mark j = (j ≤ 8) × (length q ≡ 8) × (length e ≡ 8) × (length d ≡ 8)
+    × Marked (λ k. ltb most-exponent (getD (product q e) k 0)) j mark × Filled (λ k. getD (product q e) k 0 % 256) j d
 
 abbrev μ-loop : tie.MeasureT-loop
 μ-loop component q e d₀ mark₀ j₀ d mark j = 8 - j
@@ -60,7 +61,8 @@ loop-again c =
     let q = c .before .before .before .before .before .args .t1 in
     let e = c .before .before .before .before .before .args .t2 in
     let x = c .before .before .wide .result + c .before .wide2 .result in
-    let s : x ≡ getD (product q e) (l .j) 0 = (λ i. c .before .before .wide .ensures .0 i + c .before .wide2 .ensures .0 i) ∙ sym (getD-product q e (l .j) (omega arith) (omega arith)) in
+    let s : x ≡ getD (product q e) (l .j) 0 = (λ i. c .before .before .wide .ensures .0 i + c .before .wide2 .ensures .0 i)
+    ∙ sym (getD-product q e (l .j) (omega arith) (omega arith)) in
     let f : ℕ → Bool = λ k. ltb most-exponent (getD (product q e) k 0) in (
       omega arith,
       l .inv .1,
@@ -74,7 +76,8 @@ returns : tie.Need-returns Inv-loop μ-loop
 returns c =
     let l = c .before .loop in
     let j : l .j ≡ 8 = omega arith in
-    product-formed (c .before .before .args .t1) (c .before .before .args .t2) (l .d) (c .before .before .args .component) (l .mark) (l .inv .1) (l .inv .2) (l .inv .3) (rw j at (l .inv .4)) (rw j at (l .inv .5))
+    product-formed (c .before .before .args .t1) (c .before .before .args .t2) (l .d) (c .before .before .args .component) (l .mark) (l .inv .1)
+    (l .inv .2) (l .inv .3) (rw j at (l .inv .4)) (rw j at (l .inv .5))
 
 pub product-exponents-spec : {M : Type 1} → statement M
 product-exponents-spec =

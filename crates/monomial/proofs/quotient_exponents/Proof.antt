@@ -45,7 +45,8 @@ loop-again c =
       l .inv .1,
       l .inv .2,
       simp length-set (l .inv .3),
-      filled-more (λ k. getD (quotient x y) k 0) (l .j) (c .less .result) (l .e) (omega arith) (c .less .ensures ∙ sym (getD-quotient x y (l .j) (omega arith) (omega arith))) (l .inv .4),
+      filled-more (λ k. getD (quotient x y) k 0) (l .j) (c .less .result) (l .e) (omega arith)
+          (c .less .ensures ∙ sym (getD-quotient x y (l .j) (omega arith) (omega arith))) (l .inv .4),
     )
 
 returns : tie.Need-returns Inv-loop μ-loop

@@ -25,7 +25,8 @@ array-read-if1-2 c = omega arith
 returns : tie.Need-returns Inv-loop μ-loop
 returns c =
     let l = c .before .before .loop in
-    sym (l .inv .3 ∙ same-not (c .before .before .before .args .t1) (c .before .before .before .args .t2) (l .j) (omega arith) (omega arith) (c .if1 .taken))
+    sym (l .inv .3 ∙ same-not (c .before .before .before .args .t1) (c .before .before .before .args .t2) (l .j) (omega arith) (omega arith)
+    (c .if1 .taken))
 
 add-j : tie.Need-add-j Inv-loop μ-loop
 add-j c = omega arith
@@ -35,8 +36,13 @@ loop-less c = omega arith
 
 loop-again : tie.Need-loop-again Inv-loop μ-loop
 loop-again c =
-    let l = c .before .before .loop in
-    (omega arith, l .inv .1, l .inv .2, l .inv .3 ∙ same-on (c .before .before .before .args .t1) (c .before .before .before .args .t2) (l .j) (omega arith) (omega arith) (c .if1 .left))
+    let l = c .before .before .loop in (
+      omega arith,
+      l .inv .1,
+      l .inv .2,
+      l .inv .3 ∙ same-on (c .before .before .before .args .t1) (c .before .before .before .args .t2) (l .j)
+          (omega arith) (omega arith) (c .if1 .left),
+    )
 
 returns-2 : tie.Need-returns-2 Inv-loop μ-loop
 returns-2 c =

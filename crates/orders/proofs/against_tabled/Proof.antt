@@ -23,7 +23,9 @@ decided-requires c κs = search needs
 returns : tie.Need-returns
 returns c =
     let a = c .before .before .before .before .before .before .args in
-    first-decides _ _ (or-at-tie (numbers (a .a .rank) (getD (a .table .now) (a .to + 1) 0)) (numbers (a .a .component) (getD (a .s .now) (a .at + 1) 0))) (c .before .before .row-by-code .ensures) (sym (c .before .decided .ensures) ∙ c .if1 .taken)
+    first-decides _ _ (or-at-tie (numbers (a .a .rank) (getD (a .table .now) (a .to + 1) 0))
+    (numbers (a .a .component) (getD (a .s .now) (a .at + 1) 0))) (c .before .before .row-by-code .ensures)
+    (sym (c .before .decided .ensures) ∙ c .if1 .taken)
 
 wider-requires : tie.Need-wider-requires
 wider-requires c κs = search needs
@@ -48,9 +50,15 @@ decided-requires-2 c κs = search needs
 
 returns-2 : tie.Need-returns-2
 returns-2 c =
-    let a = c .before .before .before .before .before .before .before .before .before .before .before .before .args in
-    let t : comparison-of (c .before .before .numbers .result) ≡ numbers (a .a .rank) (getD (a .table .now) (a .to + 1) 0) = c .before .before .numbers .ensures ∙ (λ i. numbers (c .before .before .before .before .before .wider .ensures .0 i) (c .before .before .before .wider2 .ensures .0 i)) in
-    second-decides _ _ _ _ (c .before .before .before .before .before .before .before .before .row-by-code .ensures) (sym (c .before .before .before .before .before .before .before .decided .ensures) ∙ c .before .before .before .before .before .before .if1 .left) (first-decides _ _ (numbers (a .a .component) (getD (a .s .now) (a .at + 1) 0)) t (sym (c .before .decided2 .ensures) ∙ c .if2 .taken))
+    let at-8 = c .before .before .before .before .before .before .before .before in
+    let a = at-8 .before .before .before .before .args in
+    let t : comparison-of (c .before .before .numbers .result) ≡ numbers (a .a .rank) (getD (a .table .now) (a .to + 1) 0) =
+    c .before .before .numbers .ensures ∙ (λ i. numbers (c .before .before .before .before .before .wider .ensures .0 i)
+    (c .before .before .before .wider2 .ensures .0 i)) in
+    second-decides _ _ _ _ (c .before .before .before .before .before .before .before .before .row-by-code .ensures)
+    (sym (c .before .before .before .before .before .before .before .decided .ensures)
+    ∙ c .before .before .before .before .before .before .if1 .left)
+    (first-decides _ _ (numbers (a .a .component) (getD (a .s .now) (a .at + 1) 0)) t (sym (c .before .decided2 .ensures) ∙ c .if2 .taken))
 
 wider-requires-3 : tie.Need-wider-requires-3
 wider-requires-3 c κs = search needs
@@ -72,10 +80,16 @@ numbers-requires-2 c κs = search needs
 
 returns-3 : tie.Need-returns-3
 returns-3 c =
-    let a = c .before .before .before .before .before .before .before .before .before .before .before .before .before .before .before .before .args in
-    let t : comparison-of (c .before .before .before .before .before .before .numbers .result) ≡ numbers (a .a .rank) (getD (a .table .now) (a .to + 1) 0) = c .before .before .before .before .before .before .numbers .ensures ∙ (λ i. numbers (c .before .before .before .before .before .before .before .before .before .wider .ensures .0 i) (c .before .before .before .before .before .before .before .wider2 .ensures .0 i)) in
-    let n : comparison-of (c .numbers2 .result) ≡ numbers (a .a .component) (getD (a .s .now) (a .at + 1) 0) = c .numbers2 .ensures ∙ (λ i. numbers (c .before .before .before .wider3 .ensures .0 i) (c .before .wider4 .ensures .0 i)) in
-    second-decides _ _ _ _ (c .before .before .before .before .before .before .before .before .before .before .before .before .row-by-code .ensures) (sym (c .before .before .before .before .before .before .before .before .before .before .before .decided .ensures) ∙ c .before .before .before .before .before .before .before .before .before .before .if1 .left) (second-decides _ _ _ _ t (sym (c .before .before .before .before .before .decided2 .ensures) ∙ c .before .before .before .before .if2 .left) n)
+    let at-8 = c .before .before .before .before .before .before .before .before in
+    let a = at-8 .before .before .before .before .before .before .before .before .args in
+    let t : comparison-of (c .before .before .before .before .before .before .numbers .result)
+    ≡ numbers (a .a .rank) (getD (a .table .now) (a .to + 1) 0) = c .before .before .before .before .before .before .numbers .ensures
+    ∙ (λ i. numbers (at-8 .before .wider .ensures .0 i) (c .before .before .before .before .before .before .before .wider2 .ensures .0 i)) in
+    let n : comparison-of (c .numbers2 .result) ≡ numbers (a .a .component) (getD (a .s .now) (a .at + 1) 0) = c .numbers2 .ensures
+    ∙ (λ i. numbers (c .before .before .before .wider3 .ensures .0 i) (c .before .wider4 .ensures .0 i)) in
+    second-decides _ _ _ _ (at-8 .before .before .before .before .row-by-code .ensures)
+    (sym (at-8 .before .before .before .decided .ensures) ∙ at-8 .before .before .if1 .left)
+    (second-decides _ _ _ _ t (sym (c .before .before .before .before .before .decided2 .ensures) ∙ c .before .before .before .before .if2 .left) n)
 
 pub against-tabled-spec : {M : Type 1} → statement M
 against-tabled-spec =

@@ -24,8 +24,10 @@ decided-requires c κs = search needs
 returns : tie.Need-returns
 returns c =
     let a = c .before .before .before .before .before .before .args in
-    let d : comparison-of (c .before .before .numbers .result) ≡ degrees (a .x) (a .y) = c .before .before .numbers .ensures ∙ (λ i. numbers (c .before .before .before .before .total .ensures i) (c .before .before .before .total2 .ensures i)) in
-    first-decides _ _ (lexicographic (a .x) (a .y)) d (sym (c .before .decided .ensures) ∙ c .if1 .taken) ∙ sym (code-2 (a .code) (a .x) (a .y) (c .before .before .before .before .before .match .keys2))
+    let d : comparison-of (c .before .before .numbers .result) ≡ degrees (a .x) (a .y) = c .before .before .numbers .ensures
+    ∙ (λ i. numbers (c .before .before .before .before .total .ensures i) (c .before .before .before .total2 .ensures i)) in
+    first-decides _ _ (lexicographic (a .x) (a .y)) d (sym (c .before .decided .ensures) ∙ c .if1 .taken)
+    ∙ sym (code-2 (a .code) (a .x) (a .y) (c .before .before .before .before .before .match .keys2))
 
 lexicographic-requires-2 : tie.Need-lexicographic-requires-2
 lexicographic-requires-2 c κs = search needs
@@ -45,8 +47,11 @@ decided-requires-2 c κs = search needs
 returns-2 : tie.Need-returns-2
 returns-2 c =
     let a = c .before .before .before .before .before .before .args in
-    let d : comparison-of (c .before .before .numbers2 .result) ≡ degrees (a .x) (a .y) = c .before .before .numbers2 .ensures ∙ (λ i. numbers (c .before .before .before .before .total3 .ensures i) (c .before .before .before .total4 .ensures i)) in
-    first-decides _ _ (last-differing (a .x) (a .y)) d (sym (c .before .decided2 .ensures) ∙ c .if2 .taken) ∙ sym (code-3 (a .code) (a .x) (a .y) (c .before .before .before .before .before .match .rest .0 .1) (c .before .before .before .before .before .match .rest .1))
+    let d : comparison-of (c .before .before .numbers2 .result) ≡ degrees (a .x) (a .y) = c .before .before .numbers2 .ensures
+    ∙ (λ i. numbers (c .before .before .before .before .total3 .ensures i) (c .before .before .before .total4 .ensures i)) in
+    first-decides _ _ (last-differing (a .x) (a .y)) d (sym (c .before .decided2 .ensures) ∙ c .if2 .taken)
+    ∙ sym (code-3 (a .code) (a .x) (a .y) (c .before .before .before .before .before .match .rest .0 .1)
+    (c .before .before .before .before .before .match .rest .1))
 
 last-differing-requires : tie.Need-last-differing-requires
 last-differing-requires c κs = search needs
@@ -57,14 +62,19 @@ returns-3 c = let a = c .before .before .args in c .lexicographic .ensures ∙ s
 returns-4 : tie.Need-returns-4
 returns-4 c =
     let a = c .before .before .before .before .before .before .before .args in
-    let d : comparison-of (c .before .before .before .numbers .result) ≡ degrees (a .x) (a .y) = c .before .before .before .numbers .ensures ∙ (λ i. numbers (c .before .before .before .before .before .total .ensures i) (c .before .before .before .before .total2 .ensures i)) in
-    second-decides _ _ _ _ d (sym (c .before .before .decided .ensures) ∙ c .before .if1 .left) (c .lexicographic2 .ensures) ∙ sym (code-2 (a .code) (a .x) (a .y) (c .before .before .before .before .before .before .match .keys2))
+    let d : comparison-of (c .before .before .before .numbers .result) ≡ degrees (a .x) (a .y) = c .before .before .before .numbers .ensures
+    ∙ (λ i. numbers (c .before .before .before .before .before .total .ensures i) (c .before .before .before .before .total2 .ensures i)) in
+    second-decides _ _ _ _ d (sym (c .before .before .decided .ensures) ∙ c .before .if1 .left) (c .lexicographic2 .ensures)
+    ∙ sym (code-2 (a .code) (a .x) (a .y) (c .before .before .before .before .before .before .match .keys2))
 
 returns-5 : tie.Need-returns-5
 returns-5 c =
     let a = c .before .before .before .before .before .before .before .args in
-    let d : comparison-of (c .before .before .before .numbers2 .result) ≡ degrees (a .x) (a .y) = c .before .before .before .numbers2 .ensures ∙ (λ i. numbers (c .before .before .before .before .before .total3 .ensures i) (c .before .before .before .before .total4 .ensures i)) in
-    second-decides _ _ _ _ d (sym (c .before .before .decided2 .ensures) ∙ c .before .if2 .left) (c .last-differing .ensures) ∙ sym (code-3 (a .code) (a .x) (a .y) (c .before .before .before .before .before .before .match .rest .0 .1) (c .before .before .before .before .before .before .match .rest .1))
+    let d : comparison-of (c .before .before .before .numbers2 .result) ≡ degrees (a .x) (a .y) = c .before .before .before .numbers2 .ensures
+    ∙ (λ i. numbers (c .before .before .before .before .before .total3 .ensures i) (c .before .before .before .before .total4 .ensures i)) in
+    second-decides _ _ _ _ d (sym (c .before .before .decided2 .ensures) ∙ c .before .if2 .left) (c .last-differing .ensures)
+    ∙ sym (code-3 (a .code) (a .x) (a .y) (c .before .before .before .before .before .before .match .rest .0 .1)
+    (c .before .before .before .before .before .before .match .rest .1))
 
 pub by-code-spec : {M : Type 1} → statement M
 by-code-spec =

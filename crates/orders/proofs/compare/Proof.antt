@@ -21,7 +21,9 @@ decided-requires c κs = search needs
 returns : tie.Need-returns
 returns c =
     let a = c .before .before .before .before .before .before .before .args in
-    let d : comparison-of (c .before .before .by-code .result) ≡ exponents-by (a .code) (a .a .exponents) (a .b .exponents) = c .before .before .by-code .ensures ∙ (λ i. exponents-by (a .code) (c .before .before .before .before .widened .ensures i) (c .before .before .before .widened2 .ensures i)) in
+    let d : comparison-of (c .before .before .by-code .result) ≡ exponents-by (a .code) (a .a .exponents) (a .b .exponents) =
+    c .before .before .by-code .ensures ∙ (λ i. exponents-by (a .code) (c .before .before .before .before .widened .ensures i)
+    (c .before .before .before .widened2 .ensures i)) in
     first-decides _ _ (numbers (a .a .component) (a .b .component)) d (sym (c .before .decided .ensures) ∙ c .if1 .taken)
 
 wider-requires : tie.Need-wider-requires
@@ -35,9 +37,14 @@ numbers-requires c κs = search needs
 
 returns-2 : tie.Need-returns-2
 returns-2 c =
-    let a = c .before .before .before .before .before .before .before .before .before .before .args in
-    let d : comparison-of (c .before .before .before .before .before .by-code .result) ≡ exponents-by (a .code) (a .a .exponents) (a .b .exponents) = c .before .before .before .before .before .by-code .ensures ∙ (λ i. exponents-by (a .code) (c .before .before .before .before .before .before .before .widened .ensures i) (c .before .before .before .before .before .before .widened2 .ensures i)) in
-    second-decides _ _ _ _ d (sym (c .before .before .before .before .decided .ensures) ∙ c .before .before .before .if1 .left) (c .numbers .ensures ∙ (λ i. numbers (c .before .before .wider .ensures .0 i) (c .before .wider2 .ensures .0 i)))
+    let at-8 = c .before .before .before .before .before .before .before .before in
+    let a = at-8 .before .before .args in
+    let d : comparison-of (c .before .before .before .before .before .by-code .result)
+    ≡ exponents-by (a .code) (a .a .exponents) (a .b .exponents) = c .before .before .before .before .before .by-code .ensures
+    ∙ (λ i. exponents-by (a .code) (c .before .before .before .before .before .before .before .widened .ensures i)
+    (c .before .before .before .before .before .before .widened2 .ensures i)) in
+    second-decides _ _ _ _ d (sym (c .before .before .before .before .decided .ensures) ∙ c .before .before .before .if1 .left)
+    (c .numbers .ensures ∙ (λ i. numbers (c .before .before .wider .ensures .0 i) (c .before .wider2 .ensures .0 i)))
 
 pub compare-spec : {M : Type 1} → statement M
 compare-spec =

@@ -14,7 +14,8 @@ by-code-requires : tie.Need-by-code-requires
 by-code-requires c κs = search needs
 
 returns : tie.Need-returns
-returns c = let a = c .before .before .before .args in c .by-code .ensures ∙ (λ i. exponents-by (a .code) (c .before .before .widened .ensures i) (c .before .widened2 .ensures i))
+returns c = let a = c .before .before .before .args in c .by-code .ensures
+    ∙ (λ i. exponents-by (a .code) (c .before .before .widened .ensures i) (c .before .widened2 .ensures i))
 
 pub compare-exponents-spec : {M : Type 1} → statement M
 compare-exponents-spec =

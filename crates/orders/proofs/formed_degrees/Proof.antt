@@ -20,7 +20,8 @@ returns c =
 returns-2 : tie.Need-returns-2
 returns-2 c =
     let a = c .before .before .before .args in
-    c .numbers .ensures ∙ ap (numbers (a .d)) (c .before .total .ensures) ∙ sym (degrees-rest (a .code) (a .d) (degree (a .y)) (c .before .before .match .rest .1))
+    c .numbers .ensures ∙ ap (numbers (a .d)) (c .before .total .ensures)
+    ∙ sym (degrees-rest (a .code) (a .d) (degree (a .y)) (c .before .before .match .rest .1))
 
 pub formed-degrees-spec : {M : Type 1} → statement M
 formed-degrees-spec = tie.close (tie.spec total-requires numbers-requires returns returns-2)

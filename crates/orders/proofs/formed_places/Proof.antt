@@ -21,7 +21,8 @@ returns c =
 returns-2 : tie.Need-returns-2
 returns-2 c =
     let a = c .before .before .args in
-    let n : (k : ℕ) → 1 ≤ k → k < 3 → a .code ≡ k → ⊥ = λ k h l q. ⊎-elim (λ t. let z : a .code < 1 = t .taken in omega arith) (λ t. let z : 3 ≤ a .code = t .1 .left in omega arith) (c .before .if1 .came) in
+    let n : (k : ℕ) → 1 ≤ k → k < 3 → a .code ≡ k → ⊥ = λ k h l q. ⊎-elim (λ t. let z : a .code < 1 = t .taken in omega arith)
+    (λ t. let z : 3 ≤ a .code = t .1 .left in omega arith) (c .before .if1 .came) in
     c .last-differing .ensures ∙ sym (places-last (a .code) (a .x) (a .y) (n 1 (omega arith) (omega arith)) (n 2 (omega arith) (omega arith)))
 
 pub formed-places-spec : {M : Type 1} → statement M

@@ -29,7 +29,8 @@ array-read-if1-2 : tie.Need-array-read-if1-2 Inv-loop μ-loop
 array-read-if1-2 c = omega arith
 
 returns : tie.Need-returns Inv-loop μ-loop
-returns c = let l = c .before .before .loop in sym (l .inv .3 ∙ lexicographic-greater (c .before .before .before .args .t1) (c .before .before .before .args .t2) (l .j) (omega arith) (omega arith) (c .if1 .taken))
+returns c = let l = c .before .before .loop in sym (l .inv .3 ∙ lexicographic-greater (c .before .before .before .args .t1)
+    (c .before .before .before .args .t2) (l .j) (omega arith) (omega arith) (c .if1 .taken))
 
 mul-if2 : tie.Need-mul-if2 Inv-loop μ-loop
 mul-if2 c = omega arith
@@ -44,7 +45,9 @@ array-read-if2-2 : tie.Need-array-read-if2-2 Inv-loop μ-loop
 array-read-if2-2 c = omega arith
 
 returns-2 : tie.Need-returns-2 Inv-loop μ-loop
-returns-2 c = let l = c .before .before .before .loop in sym (l .inv .3 ∙ lexicographic-smaller (c .before .before .before .before .args .t1) (c .before .before .before .before .args .t2) (l .j) (omega arith) (omega arith) (c .if2 .taken))
+returns-2 c = let l = c .before .before .before .loop in sym (l .inv .3
+    ∙ lexicographic-smaller (c .before .before .before .before .args .t1) (c .before .before .before .before .args .t2) (l .j) (omega arith)
+    (omega arith) (c .if2 .taken))
 
 add-j : tie.Need-add-j Inv-loop μ-loop
 add-j c = omega arith
@@ -61,7 +64,8 @@ loop-again c =
     (omega arith, l .inv .1, l .inv .2, l .inv .3 ∙ lexicographic-on x y (l .j) (omega arith) (omega arith) e)
 
 returns-3 : tie.Need-returns-3 Inv-loop μ-loop
-returns-3 c = let l = c .before .loop in sym (l .inv .3 ∙ lexicographic-end (c .before .before .args .t1) (c .before .before .args .t2) (l .j) (omega arith) (omega arith))
+returns-3 c = let l = c .before .loop in sym (l .inv .3 ∙ lexicographic-end (c .before .before .args .t1) (c .before .before .args .t2) (l .j)
+    (omega arith) (omega arith))
 
 pub lexicographic-spec : {M : Type 1} → statement M
 lexicographic-spec =

@@ -16,7 +16,8 @@ returns : tie.Need-returns
 returns c =
     let a = c .before .before .before .before .before .args in
     let y = row-image (a .s .now) (a .at) (a .table .now) (a .to) in
-    first-decides _ _ (places-by (a .code) (a .x) y) (c .before .before .row-degrees .ensures) (sym (c .before .decided .ensures) ∙ c .if1 .taken) ∙ code-parts (a .code) (a .x) y (a .total) (c .before .before .before .before .before .pre .3)
+    first-decides _ _ (places-by (a .code) (a .x) y) (c .before .before .row-degrees .ensures) (sym (c .before .decided .ensures) ∙ c .if1 .taken)
+    ∙ code-parts (a .code) (a .x) y (a .total) (c .before .before .before .before .before .pre .3)
 
 row-places-requires : tie.Need-row-places-requires
 row-places-requires c κs = search needs
@@ -25,7 +26,8 @@ returns-2 : tie.Need-returns-2
 returns-2 c =
     let a = c .before .before .before .before .before .before .args in
     let y = row-image (a .s .now) (a .at) (a .table .now) (a .to) in
-    second-decides _ _ _ _ (c .before .before .before .row-degrees .ensures) (sym (c .before .before .decided .ensures) ∙ c .before .if1 .left) (c .row-places .ensures) ∙ code-parts (a .code) (a .x) y (a .total) (c .before .before .before .before .before .before .pre .3)
+    second-decides _ _ _ _ (c .before .before .before .row-degrees .ensures) (sym (c .before .before .decided .ensures) ∙ c .before .if1 .left)
+    (c .row-places .ensures) ∙ code-parts (a .code) (a .x) y (a .total) (c .before .before .before .before .before .before .pre .3)
 
 pub row-by-code-spec : {M : Type 1} → statement M
 row-by-code-spec =

@@ -21,7 +21,8 @@ returns c =
 returns-2 : tie.Need-returns-2
 returns-2 c =
     let a = c .before .before .before .before .before .args in
-    c .numbers .ensures ∙ ap (numbers (a .total)) (c .before .row-total .ensures) ∙ sym (degrees-rest (a .code) (a .total) (degree (row-image (a .s .now) (a .at) (a .table .now) (a .to))) (c .before .before .match .rest .1))
+    c .numbers .ensures ∙ ap (numbers (a .total)) (c .before .row-total .ensures)
+    ∙ sym (degrees-rest (a .code) (a .total) (degree (row-image (a .s .now) (a .at) (a .table .now) (a .to))) (c .before .before .match .rest .1))
 
 pub row-degrees-spec : {M : Type 1} → statement M
 row-degrees-spec = tie.close (tie.spec row-total-requires numbers-requires returns returns-2)

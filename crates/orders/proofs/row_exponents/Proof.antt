@@ -45,8 +45,12 @@ loop-less c = omega arith
 loop-again : tie.Need-loop-again Inv-loop μ-loop
 loop-again c =
     let l = c .before .before .before .loop in
-    let a = c .before .before .before .before .before .args in
-    (omega arith, simp length-set (l .inv .1), filled-more _ (l .j) (c .clamped .result) (l .w) (omega arith) (c .clamped .ensures .0 ∙ sym (getD-exponents (a .s .now) (a .at) (l .j) (omega arith))) (l .inv .2))
+    let a = c .before .before .before .before .before .args in (
+      omega arith,
+      simp length-set (l .inv .1),
+      filled-more _ (l .j) (c .clamped .result) (l .w) (omega arith)
+          (c .clamped .ensures .0 ∙ sym (getD-exponents (a .s .now) (a .at) (l .j) (omega arith))) (l .inv .2),
+    )
 
 returns : tie.Need-returns Inv-loop μ-loop
 returns c =

@@ -54,7 +54,8 @@ returns c =
     let y = row-image (a .s .now) (a .at) (a .table .now) (a .to) in
     let e = getD-image (a .s .now) (a .at) (a .table .now) (a .to) (l .j - 1) (omega arith) in
     let z : l .j - 1 + 1 ≡ l .j = omega arith in
-    sym (last-differing-greater (a .t1) y (l .j - 1) (omega arith) (omega arith) (rw z (l .inv .2)) (omega (arith, e, c .before .word-of .ensures .0, c .if1 .taken)))
+    sym (last-differing-greater (a .t1) y (l .j - 1) (omega arith) (omega arith) (rw z (l .inv .2))
+    (omega (arith, e, c .before .word-of .ensures .0, c .if1 .taken)))
 
 mul-if2 : tie.Need-mul-if2 Inv-loop μ-loop
 mul-if2 c = omega arith
@@ -64,23 +65,32 @@ array-read-if2 c = omega arith
 
 returns-2 : tie.Need-returns-2 Inv-loop μ-loop
 returns-2 c =
+    let at-8 = c .before .before .before .before .before .before .before .before in
     let l = c .before .before .before .before .before .before .loop in
-    let a = c .before .before .before .before .before .before .before .before .before .args in
+    let a = at-8 .before .args in
     let y = row-image (a .s .now) (a .at) (a .table .now) (a .to) in
     let e = getD-image (a .s .now) (a .at) (a .table .now) (a .to) (l .j - 1) (omega arith) in
     let z : l .j - 1 + 1 ≡ l .j = omega arith in
-    sym (last-differing-smaller (a .t1) y (l .j - 1) (omega arith) (omega arith) (rw z (l .inv .2)) (omega (arith, e, c .before .before .word-of .ensures .0, c .if2 .taken)))
+    sym (last-differing-smaller (a .t1) y (l .j - 1) (omega arith) (omega arith) (rw z (l .inv .2))
+    (omega (arith, e, c .before .before .word-of .ensures .0, c .if2 .taken)))
 
 loop-less : tie.Need-loop-less Inv-loop μ-loop
 loop-less c = omega arith
 
 loop-again : tie.Need-loop-again Inv-loop μ-loop
 loop-again c =
+    let at-8 = c .before .before .before .before .before .before .before .before in
     let l = c .before .before .before .before .before .before .loop in
-    let a = c .before .before .before .before .before .before .before .before .before .args in
+    let a = at-8 .before .args in
     let y = row-image (a .s .now) (a .at) (a .table .now) (a .to) in
     let e = getD-image (a .s .now) (a .at) (a .table .now) (a .to) (l .j - 1) (omega arith) in
-    let q : getD (a .t1) (l .j - 1) 0 ≡ getD y (l .j - 1) 0 = omega (arith, e, c .before .before .word-of .ensures .0, c .if2 .left, c .before .if1 .left) in
+    let q : getD (a .t1) (l .j - 1) 0 ≡ getD y (l .j - 1) 0 = omega (
+      arith,
+      e,
+      c .before .before .word-of .ensures .0,
+      c .if2 .left,
+      c .before .if1 .left,
+    ) in
     (omega arith, l .inv .1, equal-from-less (a .t1) y (l .j) (l .j - 1) (omega arith) (l .inv .2) q)
 
 returns-3 : tie.Need-returns-3 Inv-loop μ-loop

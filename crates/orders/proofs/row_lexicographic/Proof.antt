@@ -10,7 +10,8 @@ use Rattle.orders.proofs.row_lexicographic.Statement.{statement}
 use Rattle.orders.proofs.row_lexicographic.Tie as tie
 
 abbrev Inv-loop : tie.InvT-loop
-Inv-loop s at table to x j₀ j = (j ≤ 8) × (length x ≡ 8) × (lexicographic x (row-image s at table to) ≡ lexicographic (drop j x) (drop j (row-image s at table to)))
+Inv-loop s at table to x j₀ j = (j ≤ 8) × (length x ≡ 8) × (lexicographic x (row-image s at table to)
+    ≡ lexicographic (drop j x) (drop j (row-image s at table to)))
 
 abbrev μ-loop : tie.MeasureT-loop
 μ-loop s at table to x j₀ j = 8 - j
@@ -51,7 +52,8 @@ returns c =
     let a = c .before .before .before .before .before .before .before .before .args in
     let y = row-image (a .s .now) (a .at) (a .table .now) (a .to) in
     let e = getD-image (a .s .now) (a .at) (a .table .now) (a .to) (l .j) (omega arith) in
-    sym (l .inv .2 ∙ lexicographic-greater (a .t1) y (l .j) (omega arith) (omega arith) (omega (arith, e, c .before .word-of .ensures .0, c .if1 .taken)))
+    sym (l .inv .2 ∙ lexicographic-greater (a .t1) y (l .j) (omega arith) (omega arith)
+    (omega (arith, e, c .before .word-of .ensures .0, c .if1 .taken)))
 
 mul-if2 : tie.Need-mul-if2 Inv-loop μ-loop
 mul-if2 c = omega arith
@@ -61,11 +63,13 @@ array-read-if2 c = omega arith
 
 returns-2 : tie.Need-returns-2 Inv-loop μ-loop
 returns-2 c =
+    let at-8 = c .before .before .before .before .before .before .before .before in
     let l = c .before .before .before .before .before .before .loop in
-    let a = c .before .before .before .before .before .before .before .before .before .args in
+    let a = at-8 .before .args in
     let y = row-image (a .s .now) (a .at) (a .table .now) (a .to) in
     let e = getD-image (a .s .now) (a .at) (a .table .now) (a .to) (l .j) (omega arith) in
-    sym (l .inv .2 ∙ lexicographic-smaller (a .t1) y (l .j) (omega arith) (omega arith) (omega (arith, e, c .before .before .word-of .ensures .0, c .if2 .taken)))
+    sym (l .inv .2 ∙ lexicographic-smaller (a .t1) y (l .j) (omega arith) (omega arith)
+    (omega (arith, e, c .before .before .word-of .ensures .0, c .if2 .taken)))
 
 add-j : tie.Need-add-j Inv-loop μ-loop
 add-j c = omega arith
@@ -75,8 +79,9 @@ loop-less c = omega arith
 
 loop-again : tie.Need-loop-again Inv-loop μ-loop
 loop-again c =
+    let at-8 = c .before .before .before .before .before .before .before .before in
     let l = c .before .before .before .before .before .before .loop in
-    let a = c .before .before .before .before .before .before .before .before .before .args in
+    let a = at-8 .before .args in
     let y = row-image (a .s .now) (a .at) (a .table .now) (a .to) in
     let e = getD-image (a .s .now) (a .at) (a .table .now) (a .to) (l .j) (omega arith) in
     let q : getD (a .t1) (l .j) 0 ≡ getD y (l .j) 0 = omega (arith, e, c .before .before .word-of .ensures .0, c .if2 .left, c .before .if1 .left) in

@@ -54,8 +54,12 @@ loop-less c = omega arith
 loop-again : tie.Need-loop-again Inv-loop μ-loop
 loop-again c =
     let l = c .before .before .before .before .loop in
-    let a = c .before .before .before .before .before .before .before .args in
-    (omega arith, simp length-set (l .inv .1), filled-more _ (l .j) (c .word-of .result) (l .w) (omega arith) (c .word-of .ensures .0 ∙ sym (getD-image (a .s .now) (a .at) (a .table .now) (a .to) (l .j) (omega arith))) (l .inv .2))
+    let a = c .before .before .before .before .before .before .before .args in (
+      omega arith,
+      simp length-set (l .inv .1),
+      filled-more _ (l .j) (c .word-of .result) (l .w) (omega arith)
+          (c .word-of .ensures .0 ∙ sym (getD-image (a .s .now) (a .at) (a .table .now) (a .to) (l .j) (omega arith))) (l .inv .2),
+    )
 
 returns : tie.Need-returns Inv-loop μ-loop
 returns c =

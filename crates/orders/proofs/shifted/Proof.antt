@@ -56,7 +56,8 @@ loop-again c =
     let a = c .before .before .before .before .before .args in
     let t = exponents-raw (a .table .now) (a .at) in
     let s : c .before .wide .result + getD (a .table .now) (a .at + l .j) 0 ≡ getD (product (a .t1) t) (l .j) 0 =
-    (λ i. c .before .wide .ensures .0 i + sym (getD-raw (a .table .now) (a .at) (l .j) (omega arith)) i) ∙ sym (getD-product (a .t1) t (l .j) (omega arith) (omega arith)) in
+    (λ i. c .before .wide .ensures .0 i + sym (getD-raw (a .table .now) (a .at) (l .j) (omega arith)) i)
+    ∙ sym (getD-product (a .t1) t (l .j) (omega arith) (omega arith)) in
     (omega arith, l .inv .1, simp length-set (l .inv .2), filled-more _ (l .j) _ (l .w) (omega arith) s (l .inv .3))
 
 returns : tie.Need-returns Inv-loop μ-loop

@@ -37,4 +37,5 @@ returns c =
     λ i. (c .before .before .row-words .ensures i, (getD (a .table .now) (a .to + 1) 0, getD (a .s .now) (a .at + 1) 0))
 
 pub tabled-image-spec : {M : Type 1} → statement M
-tabled-image-spec = tie.close (tie.spec add-row-words add-row-words-2 row-words-requires add-t6 mul-t7 shared-slice-read-t9 add-t10 mul-t11 shared-slice-read-t13 returns)
+tabled-image-spec = tie.close (tie.spec add-row-words add-row-words-2 row-words-requires add-t6 mul-t7 shared-slice-read-t9 add-t10 mul-t11
+    shared-slice-read-t13 returns)

@@ -22,8 +22,10 @@ misshapen-as r file e = ap (λ (x : End). end-as x (r .numbers) file) e
 abbrev pub so-far : Words → ℕ → Option (List ℕ × Bytes) → Option (List ℕ × Bytes)
 so-far numbers i o = o then λ r. some (take i numbers ++ r .0, r .1)
 
-pub none-so-far : (numbers : Words) (count : ℕ) (bytes : Bytes) → numbers-first 65535 count bytes ≡ so-far numbers 0 (numbers-first 65535 (count - 0) bytes)
-none-so-far numbers count bytes = let k : count ≡ count - 0 = omega arith in ap (λ n. numbers-first 65535 n bytes) k ∙ go (numbers-first 65535 (count - 0) bytes)
+pub none-so-far : (numbers : Words) (count : ℕ) (bytes : Bytes) → numbers-first 65535 count bytes
+    ≡ so-far numbers 0 (numbers-first 65535 (count - 0) bytes)
+none-so-far numbers count bytes = let k : count ≡ count - 0 = omega arith in ap (λ n. numbers-first 65535 n bytes) k
+    ∙ go (numbers-first 65535 (count - 0) bytes)
   where
     go : (o : Option (List ℕ × Bytes)) → o ≡ so-far numbers 0 o
     go none = refl
@@ -68,7 +70,8 @@ module _ (numbers : Words) (count i : ℕ) (bytes : Bytes) where
       → some (numbers, rest) ≡ in-sixteen (so-far numbers i (numbers-first 65535 (count - i) bytes))
   all-fields rest h k few n z e =
       let q : count - i ≡ 0 = omega arith in
-      sym (ap (λ m. in-sixteen (so-far numbers i (numbers-first 65535 m bytes))) q ∙ ap (λ o. in-sixteen (so-far numbers i o)) e ∙ ap (λ (l : List ℕ). some (l, rest)) whole)
+      sym (ap (λ m. in-sixteen (so-far numbers i (numbers-first 65535 m bytes))) q ∙ ap (λ o. in-sixteen (so-far numbers i o)) e
+      ∙ ap (λ (l : List ℕ). some (l, rest)) whole)
     where
       short : length (take i numbers) ≡ i
       short = length-take-le i numbers (omega arith)

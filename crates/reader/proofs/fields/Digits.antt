@@ -103,7 +103,8 @@ number-over limit v bytes h =
 
 -- ## From the first digit on
 
-number-said : (limit : ℕ) (field : Bytes) → written? field ≡ true → number limit field ≡ kept (leb (value-from 0 field) limit) (some (value-from 0 field))
+number-said : (limit : ℕ) (field : Bytes) → written? field ≡ true → number limit field
+    ≡ kept (leb (value-from 0 field) limit) (some (value-from 0 field))
 number-said limit field e = go (leb (value-from 0 field) limit) refl
   where
     go : (t : Bool) → leb (value-from 0 field) limit ≡ t → number limit field ≡ kept t (some (value-from 0 field))
@@ -111,7 +112,8 @@ number-said limit field e = go (leb (value-from 0 field) limit) refl
     go false l = let a : (written? field and leb (value-from 0 field) limit) ≡ false = λ i. e i and l i in rw (a, number)
 
 pub number-unwritten : (limit : ℕ) (field : Bytes) → written? field ≡ false → number limit field ≡ none
-number-unwritten limit field e = let a : (written? field and leb (value-from 0 field) limit) ≡ false = λ i. e i and leb (value-from 0 field) limit in rw (a, number)
+number-unwritten limit field e = let a : (written? field and leb (value-from 0 field) limit) ≡ false = λ i. e i
+    and leb (value-from 0 field) limit in rw (a, number)
 
 handed-if : (t : Bool) (v : ℕ) (bytes : Bytes) → handed (kept t (some v)) bytes ≡ taken t v bytes
 handed-if true v bytes = refl
@@ -123,7 +125,8 @@ number-none limit b bytes e = λ i. handed (number limit (digits-none b bytes e 
 pub number-begins : (limit b : ℕ) (bytes : Bytes) → digit? b ≡ true → (b ≡ 48 → ⊥) → number-first limit (b ∷ bytes) ≡ number-on limit (b - 48) bytes
 number-begins limit b bytes e n =
     (λ i. handed (number limit (digits-on b bytes e i)) (past-on b bytes e i))
-    ∙ ap (λ o. handed o (past-digits bytes)) (number-said limit (b ∷ digits bytes) (λ i. (e i and all-digits bytes i) and (not (ne-eqb b 48 n i) || empty? (digits bytes))))
+    ∙ ap (λ o. handed o (past-digits bytes)) (number-said limit (b ∷ digits bytes)
+    (λ i. (e i and all-digits bytes i) and (not (ne-eqb b 48 n i) || empty? (digits bytes))))
     ∙ handed-if (leb v limit) v (past-digits bytes)
     ∙ (λ i. taken (leb (value-from (first i) (digits bytes)) limit) (value-from (first i) (digits bytes)) (past-digits bytes))
   where

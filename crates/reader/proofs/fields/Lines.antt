@@ -138,7 +138,8 @@ split-some : (s : ℕ) (bytes : Bytes) → (f : Bytes) × (fs : List Bytes) × (
 split-some s [] = ([], [], refl)
 split-some s (b ∷ bytes) = go (eqb b s) refl (split-some s bytes)
   where
-    go : (t : Bool) → eqb b s ≡ t → (f : Bytes) × (fs : List Bytes) × (split s bytes ≡ f ∷ fs) → (f : Bytes) × (fs : List Bytes) × (split s (b ∷ bytes) ≡ f ∷ fs)
+    go : (t : Bool) → eqb b s ≡ t → (f : Bytes) × (fs : List Bytes) × (split s bytes ≡ f ∷ fs) → (f : Bytes) × (fs : List Bytes)
+        × (split s (b ∷ bytes) ≡ f ∷ fs)
     go true e h = ([], split s bytes, split-here b bytes s e)
     go false e (f, fs, h) = (b ∷ f, fs, split-on b bytes s e ∙ ap (onto b) h)
 
@@ -216,7 +217,8 @@ module _ (g : Head) (limit : ℕ) where
 -- neither a comma nor byte 10
 numbers-neither : (limit count b : ℕ) (bytes : Bytes) → eqb b newline ≡ false → eqb b comma ≡ false → numbers-first limit count (b ∷ bytes) ≡ none
 numbers-neither limit zero b bytes e c = λ i. kept (e i) (some ([], bytes))
-numbers-neither limit (suc count) b bytes e c = λ i. kept (c i) (number-first limit bytes) then λ f. numbers-first limit count (f .1) then λ r. some (f .0 ∷ r .0, r .1)
+numbers-neither limit (suc count) b bytes e c = λ i. kept (c i) (number-first limit bytes) then λ f. numbers-first limit count (f .1)
+    then λ r. some (f .0 ∷ r .0, r .1)
 
 -- ## A first field of digits
 
@@ -225,7 +227,8 @@ with-rest rest o = o then λ v. some (v, rest)
 
 number-of-digits : (limit : ℕ) (f : Bytes) → every digit? f ≡ false → a-number limit f ≡ none
 number-of-digits limit [] e = refl
-number-of-digits limit (b ∷ f) e = ap (λ n. n then λ v. some (λ (vs : List ℕ). v ∷ vs)) (number-unwritten limit (b ∷ f) (λ i. e i and (not (eqb b 48) || empty? f)))
+number-of-digits limit (b ∷ f) e = ap (λ n. n then λ v. some (λ (vs : List ℕ). v ∷ vs))
+    (number-unwritten limit (b ∷ f) (λ i. e i and (not (eqb b 48) || empty? f)))
 
 -- only a field of digits is good
 abbrev Of-digits : Head → Type 0
@@ -251,7 +254,8 @@ line-digits limit count g o (b ∷ bytes) =
     Later : Type 0
     Later = (c : ℕ) (h : Head) → Of-digits h → line-by h limit c bytes ≡ joined (h (digits bytes)) (numbers-first limit c (past-digits bytes))
 
-    number-then : (c : ℕ) → joined (a-number limit (digits bytes)) (numbers-first limit c (past-digits bytes)) ≡ numbers-first limit (suc c) (44 ∷ bytes)
+    number-then : (c : ℕ) → joined (a-number limit (digits bytes)) (numbers-first limit c (past-digits bytes))
+        ≡ numbers-first limit (suc c) (44 ∷ bytes)
     number-then c = each (number limit (digits bytes))
       where
         each : (n : Option ℕ) → joined (n then λ v. some (λ vs. v ∷ vs)) (numbers-first limit c (past-digits bytes))
@@ -274,7 +278,8 @@ line-digits limit count g o (b ∷ bytes) =
         field-goes-on g limit count b bytes (ne-eqb b 10 e) (ne-eqb b 44 d)
         ∙ never (λ f. g (b ∷ f)) limit count bytes (λ f. o (b ∷ f) (λ i. q i and every digit? f))
         ∙ sym (joined-none (g []))
-        ∙ sym (λ i. joined (g (digits-none b bytes q i)) ((ap (numbers-first limit count) (past-none b bytes q) ∙ numbers-neither limit count b bytes (ne-eqb b 10 e) (ne-eqb b 44 d)) i))
+        ∙ sym (λ i. joined (g (digits-none b bytes q i)) ((ap (numbers-first limit count) (past-none b bytes q)
+        ∙ numbers-neither limit count b bytes (ne-eqb b 10 e) (ne-eqb b 44 d)) i))
 
 -- ## A letter, then numbers
 
@@ -285,16 +290,20 @@ then-some : (o : Option (List ℕ)) → (o then λ v. some v) ≡ o
 then-some none = refl
 then-some (some v) = refl
 
-letter-fields : (limit letter count : ℕ) (pieces : List Bytes) → shaped-fields limit letter count pieces ≡ fields-by (a-letter letter) limit count pieces
+letter-fields : (limit letter count : ℕ) (pieces : List Bytes) → shaped-fields limit letter count pieces
+    ≡ fields-by (a-letter letter) limit count pieces
 letter-fields limit letter count [] = refl
 letter-fields limit letter count (head ∷ fields) = go (letter? letter head) refl (eqb (length fields) count) refl
   where
     go : (l : Bool) → letter? letter head ≡ l → (t : Bool) → eqb (length fields) count ≡ t
         → shaped-fields limit letter count (head ∷ fields) ≡ kept t (with-head (kept l (some (λ vs. vs))) (all-numbers limit fields))
-    go true e true q = let a : (letter? letter head and eqb (length fields) count) ≡ true = (λ i. e i and q i) in rw (a, shaped-fields) (sym (then-some (all-numbers limit fields)))
+    go true e true q = let a : (letter? letter head and eqb (length fields) count)
+        ≡ true = (λ i. e i and q i) in rw (a, shaped-fields) (sym (then-some (all-numbers limit fields)))
     go true e false q = let a : (letter? letter head and eqb (length fields) count) ≡ false = (λ i. e i and q i) in rw (a, shaped-fields)
-    go false e true q = let a : (letter? letter head and eqb (length fields) count) ≡ false = (λ i. e i and eqb (length fields) count) in rw (a, shaped-fields)
-    go false e false q = let a : (letter? letter head and eqb (length fields) count) ≡ false = (λ i. e i and eqb (length fields) count) in rw (a, shaped-fields)
+    go false e true q = let a : (letter? letter head and eqb (length fields) count)
+        ≡ false = (λ i. e i and eqb (length fields) count) in rw (a, shaped-fields)
+    go false e false q = let a : (letter? letter head and eqb (length fields) count)
+        ≡ false = (λ i. e i and eqb (length fields) count) in rw (a, shaped-fields)
 
 -- the letter alone: nothing may stand behind it in its field
 abbrev alone : Head
@@ -314,7 +323,8 @@ module _ (limit letter count : ℕ) (after-digits : 57 < letter) where
 
       go : (t : Bool) → ended? all ≡ t → paired (behind all) (shaped limit letter count (before all, ended? all))
           ≡ kept t (paired (behind all) (fields-by (a-letter letter) limit count (split comma (before all))))
-      go true e = let a : shaped limit letter count (before all, ended? all) ≡ shaped-fields limit letter count (split comma (before all)) = rw (e, shaped) in
+      go true e = let a : shaped limit letter count (before all, ended? all)
+          ≡ shaped-fields limit letter count (split comma (before all)) = rw (e, shaped) in
           ap (paired (behind all)) (a ∙ letter-fields limit letter count (split comma (before all)))
       go false e = let a : shaped limit letter count (before all, ended? all) ≡ none = rw (e, shaped) in ap (paired (behind all)) a
 
@@ -345,11 +355,13 @@ module _ (limit letter count : ℕ) (after-digits : 57 < letter) where
       same none = refl
       same (some r) = refl
 
-      go : (t : Bool) → digit? b ≡ t → joined (alone (digits (b ∷ bytes))) (numbers-first limit count (past-digits (b ∷ bytes))) ≡ numbers-first limit count (b ∷ bytes)
+      go : (t : Bool) → digit? b ≡ t → joined (alone (digits (b ∷ bytes))) (numbers-first limit count (past-digits (b ∷ bytes)))
+          ≡ numbers-first limit count (b ∷ bytes)
       go true e =
           (λ i. joined (alone (digits-on b bytes e i)) (numbers-first limit count (past-on b bytes e i)))
           ∙ sym (numbers-neither limit count b bytes (digit-parts-nothing b e .0) (digit-parts-nothing b e .1))
-      go false e = (λ i. joined (alone (digits-none b bytes e i)) (numbers-first limit count (past-none b bytes e i))) ∙ same (numbers-first limit count (b ∷ bytes))
+      go false e = (λ i. joined (alone (digits-none b bytes e i)) (numbers-first limit count (past-none b bytes e i)))
+          ∙ same (numbers-first limit count (b ∷ bytes))
 
   -- the letter in front
   pub letter-stands : (b : ℕ) (bytes : Bytes) → b ≡ letter → shaped-first limit letter count (b ∷ bytes) ≡ numbers-first limit count bytes
@@ -377,13 +389,15 @@ numbers-count limit zero (b ∷ bytes) = go (eqb b newline)
     go true = refl
     go false = tt
 numbers-count limit (suc count) bytes =
-    if-some-then (λ f. Unit {0}) (Counts (suc count)) (field-first limit bytes) (λ f. numbers-first limit count (f .1) then λ r. some (f .0 ∷ r .0, r .1))
+    if-some-then (λ f. Unit {0}) (Counts (suc count)) (field-first limit bytes)
+    (λ f. numbers-first limit count (f .1) then λ r. some (f .0 ∷ r .0, r .1))
     (if-some-always (λ f. Unit {0}) (λ f. tt) (field-first limit bytes)) λ f u.
     if-some-then (Counts count) (Counts (suc count)) (numbers-first limit count (f .1)) (λ r. some (f .0 ∷ r .0, r .1))
     (numbers-count limit count (f .1)) (λ r e. ap suc e)
 
 -- a line has as many numbers as its shape asks for
-pub shaped-count : (limit letter count : ℕ) → 57 < letter → (bytes : Bytes) → If-some (λ (r : List ℕ × Bytes). length (r .0) ≡ count) (shaped-first limit letter count bytes)
+pub shaped-count : (limit letter count : ℕ) → 57 < letter → (bytes : Bytes)
+    → If-some (λ (r : List ℕ × Bytes). length (r .0) ≡ count) (shaped-first limit letter count bytes)
 shaped-count limit letter count h [] = tt
 shaped-count limit letter count h (b ∷ bytes) = go (ℕ-discrete b letter)
   where

@@ -11,7 +11,8 @@ use lib.Seq.{drop-cons}
 use borrow.Author.Tests.{eq-eqb, ne-eqb}
 use Rattle.definitions.specs.Problem.{Bytes, digit?, comma}
 use Rattle.reader.specs.fields.Scanning.{digit-or-ten, number-first, kept, number-on, number-zero, field-first, line-end, numbers-first, shaped-first}
-use Rattle.reader.proofs.fields.Digits.{digit-is, digit-is-none, digit-zero, number-more, number-ends, number-ends-file, number-none, number-begins, zero-first}
+use Rattle.reader.proofs.fields.Digits.{digit-is, digit-is-none, digit-zero, number-more, number-ends, number-ends-file, number-none, number-begins}
+use Rattle.reader.proofs.fields.Digits.{zero-first}
 use Rattle.reader.proofs.fields.Lines.{letter-differs, letter-stands}
 
 -- nothing is left
@@ -45,7 +46,8 @@ module _ (file : Bytes) (at : ℕ) where
     zero-digit l = sym (ap number-zero (byte-left file at h) ∙ (λ i. kept (not (a-digit l i)) (some (0, getD file at 0 ∷ drop (at + 1) file))))
 
     pub on-other : (v : ℕ) → v ≤ 65535 → 9 < d → some (v, drop at file) ≡ number-on 65535 v (drop at file)
-    on-other v k l = subst (λ (w : Bytes). some (v, w) ≡ number-on 65535 v w) (sym (byte-left file at h)) (sym (number-ends 65535 v (getD file at 0) (drop (at + 1) file) (no-digit l) k))
+    on-other v k l = subst (λ (w : Bytes). some (v, w) ≡ number-on 65535 v w) (sym (byte-left file at h))
+        (sym (number-ends 65535 v (getD file at 0) (drop (at + 1) file) (no-digit l) k))
 
     pub on-more : (v : ℕ) → d ≤ 9 → number-on 65535 v (drop at file) ≡ number-on 65535 (v * 10 + d) (drop (at + 1) file)
     on-more v l =
@@ -79,10 +81,12 @@ module _ (file : Bytes) (at : ℕ) where
   field-end h = ap (field-first 65535) (nothing-left file at h)
 
   pub field-comma : at < length file → getD file at 0 ≡ 44 → field-first 65535 (drop at file) ≡ number-first 65535 (drop (at + 1) file)
-  field-comma h e = ap (field-first 65535) (byte-left file at h) ∙ (λ i. kept (eq-eqb (getD file at 0) 44 e i) (number-first 65535 (drop (at + 1) file)))
+  field-comma h e = ap (field-first 65535) (byte-left file at h) ∙ (λ i. kept (eq-eqb (getD file at 0) 44 e i)
+      (number-first 65535 (drop (at + 1) file)))
 
   pub field-other : at < length file → (getD file at 0 ≡ 44 → ⊥) → field-first 65535 (drop at file) ≡ none
-  field-other h n = ap (field-first 65535) (byte-left file at h) ∙ (λ i. kept (ne-eqb (getD file at 0) 44 n i) (number-first 65535 (drop (at + 1) file)))
+  field-other h n = ap (field-first 65535) (byte-left file at h) ∙ (λ i. kept (ne-eqb (getD file at 0) 44 n i)
+      (number-first 65535 (drop (at + 1) file)))
 
   pub end-end : length file ≤ at → line-end (drop at file) ≡ none
   end-end h = ap line-end (nothing-left file at h)
@@ -100,7 +104,10 @@ module _ (file : Bytes) (at : ℕ) where
     line-none h = ap (shaped-first 65535 letter count) (nothing-left file at h)
 
     pub line-other : at < length file → (getD file at 0 ≡ letter → ⊥) → shaped-first 65535 letter count (drop at file) ≡ none
-    line-other h n = ap (shaped-first 65535 letter count) (byte-left file at h) ∙ letter-differs 65535 letter count after-digits (getD file at 0) (drop (at + 1) file) n
+    line-other h n = ap (shaped-first 65535 letter count) (byte-left file at h)
+        ∙ letter-differs 65535 letter count after-digits (getD file at 0) (drop (at + 1) file) n
 
-    pub line-letter : at < length file → getD file at 0 ≡ letter → shaped-first 65535 letter count (drop at file) ≡ numbers-first 65535 count (drop (at + 1) file)
-    line-letter h e = ap (shaped-first 65535 letter count) (byte-left file at h) ∙ letter-stands 65535 letter count after-digits (getD file at 0) (drop (at + 1) file) e
+    pub line-letter : at < length file → getD file at 0 ≡ letter → shaped-first 65535 letter count (drop at file)
+        ≡ numbers-first 65535 count (drop (at + 1) file)
+    line-letter h e = ap (shaped-first 65535 letter count) (byte-left file at h)
+        ∙ letter-stands 65535 letter count after-digits (getD file at 0) (drop (at + 1) file) e

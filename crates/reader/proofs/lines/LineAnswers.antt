@@ -27,7 +27,8 @@ refused-as r file number place e = ap (λ (x : Step). step-as x (r .numbers) fil
 
 -- ## The shape
 
-module _ {A : Type 0} (o : Option (Words × Bytes)) (place : ℕ) (tests : Words × Bytes → Result A) (file : Bytes) (l : Line) (said : line-as l file ≡ o) where
+module _ {A : Type 0} (o : Option (Words × Bytes)) (place : ℕ) (tests : Words × Bytes → Result A) (file : Bytes) (l : Line)
+    (said : line-as l file ≡ o) where
   pub no-shape : l .end ≡ Misshapen → refused 1 place [] ≡ with-shape o place tests
   no-shape e = sym (ap (λ x. with-shape x place tests) (sym said ∙ ap (λ (x : line-end.End). end-as x (l .numbers) file) e))
 
@@ -82,10 +83,12 @@ module _ (q : Parameters) (count r : ℕ) (before : Words) (file : Bytes) (at : 
 
   module _ (h : at < length file) where
     abbrev decided : Bool → Bool → Result Said
-    decided t e = by-letter t e (t-first q count r before (getD file at 0 ∷ drop (at + 1) file)) (e-first count (getD file at 0 ∷ drop (at + 1) file)) (refused 1 (count + 2) [])
+    decided t e = by-letter t e (t-first q count r before (getD file at 0 ∷ drop (at + 1) file)) (e-first count (getD file at 0 ∷ drop (at + 1) file))
+        (refused 1 (count + 2) [])
 
     pub letter-T : getD file at 0 ≡ 84 → t-first q count r before (drop at file) ≡ line-first q count r before (drop at file)
-    letter-T e = subst (λ (l : Bytes). t-first q count r before l ≡ line-first q count r before l) (sym (byte-left file at h)) (sym (λ i. decided (eq-eqb (getD file at 0) 84 e i) (eqb (getD file at 0) 69)))
+    letter-T e = subst (λ (l : Bytes). t-first q count r before l ≡ line-first q count r before l) (sym (byte-left file at h))
+        (sym (λ i. decided (eq-eqb (getD file at 0) 84 e i) (eqb (getD file at 0) 69)))
 
     pub letter-E : getD file at 0 ≡ 69 → e-first count (drop at file) ≡ line-first q count r before (drop at file)
     letter-E e = subst (λ (l : Bytes). e-first count l ≡ line-first q count r before l) (sym (byte-left file at h))

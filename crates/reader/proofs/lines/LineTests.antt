@@ -36,16 +36,20 @@ between-from a b c h = sym (λ i. le-leb a b h i and leb b c)
 
 module _ (q : Parameters) (w : Words) where
   pub coefficient-zero : getD w 1 0 ≡ 0 → false ≡ term-in-range? document-01 q (term-in w)
-  coefficient-zero e = sym (λ i. (lt-leb 1 (getD w 1 0) (omega arith) i and leb (getD w 1 0) (q .p - 1)) and between 1 (getD w 2 0) (q .s) and fits? most-exponent (take 8 (drop 3 w)))
+  coefficient-zero e = sym (λ i. (lt-leb 1 (getD w 1 0) (omega arith) i and leb (getD w 1 0) (q .p - 1)) and between 1 (getD w 2 0) (q .s)
+      and fits? most-exponent (take 8 (drop 3 w)))
 
   pub coefficient-large : (getD w 1 0 ≡ 0 → ⊥) → q .p ≤ getD w 1 0 → false ≡ term-in-range? document-01 q (term-in w)
   coefficient-large n h =
-      sym ((λ i. (leb 1 (getD w 1 0) and lt-leb (getD w 1 0) (q .p - 1) (omega arith) i) and between 1 (getD w 2 0) (q .s) and fits? most-exponent (take 8 (drop 3 w)))
+      sym ((λ i. (leb 1 (getD w 1 0) and lt-leb (getD w 1 0) (q .p - 1) (omega arith) i) and between 1 (getD w 2 0) (q .s)
+      and fits? most-exponent (take 8 (drop 3 w)))
       ∙ ap (λ t. t and between 1 (getD w 2 0) (q .s) and fits? most-exponent (take 8 (drop 3 w))) (and-no (leb 1 (getD w 1 0))))
 
-  pub coefficient-good : (getD w 1 0 ≡ 0 → ⊥) → getD w 1 0 < q .p → term-in-range? document-01 q (term-in w) ≡ (between 1 (getD w 2 0) (q .s) and fits? most-exponent (take 8 (drop 3 w)))
+  pub coefficient-good : (getD w 1 0 ≡ 0 → ⊥) → getD w 1 0 < q .p → term-in-range? document-01 q (term-in w)
+      ≡ (between 1 (getD w 2 0) (q .s) and fits? most-exponent (take 8 (drop 3 w)))
   coefficient-good n h =
-      λ i. (le-leb 1 (getD w 1 0) (omega arith) i and le-leb (getD w 1 0) (q .p - 1) (omega arith) i) and between 1 (getD w 2 0) (q .s) and fits? most-exponent (take 8 (drop 3 w))
+      λ i. (le-leb 1 (getD w 1 0) (omega arith) i and le-leb (getD w 1 0) (q .p - 1) (omega arith) i) and between 1 (getD w 2 0) (q .s)
+      and fits? most-exponent (take 8 (drop 3 w))
 
 -- ## The sequence of elements
 

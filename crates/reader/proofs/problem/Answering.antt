@@ -46,7 +46,8 @@ module _ (size : ℕ) (file : Bytes) where
   pub read-barred : (number : ℕ) → length file ≤ file-length → r-first file ≡ refused number 1 [] → refused number 1 [] ≡ problem-words size file
   read-barred number h e = sym (ap worded (problem-step file h ∙ ap (λ x. x >>= goes-on-body) e))
 
-  pub read-on : (q : Parameters) (rest : Bytes) → length file ≤ file-length → r-first file ≡ done (q, rest) → body-words size q rest ≡ problem-words size file
+  pub read-on : (q : Parameters) (rest : Bytes) → length file ≤ file-length → r-first file ≡ done (q, rest) → body-words size q rest
+      ≡ problem-words size file
   read-on q rest h e = sym (ap worded (problem-step file h ∙ ap (λ x. x >>= goes-on-body) e) ∙ go (body document-01 q 2 0 [] (lines rest)))
     where
       go : (x : Result Level) → worded (x >>= λ f. done (q, f)) ≡ (x >>= λ f. done (words-read size (q, f)))
@@ -60,24 +61,29 @@ pub outcome-is : (s : Words) {r r′ : Outcome} → r ≡ r′ → outcome-as r 
 outcome-is s e = ap (λ (x : Outcome). outcome-as x s) e
 
 module _ (size : ℕ) where
-  pub answer-done : (x : Result (Parameters × Level)) (s : Words) → done s ≡ (x >>= λ f. done (words-read size f)) → _≡_ {A = ℕ × ℕ × Words} (0, 0, s) (read-as size x)
+  pub answer-done : (x : Result (Parameters × Level)) (s : Words) → done s ≡ (x >>= λ f. done (words-read size f))
+      → _≡_ {A = ℕ × ℕ × Words} (0, 0, s) (read-as size x)
   answer-done (done f) s e = let w : s ≡ words-read size f = cc in λ i. (0, 0, w i)
   answer-done (refused number place value) s e = let z : _≡_ {A = ℕ} 0 1 = cc in absurd (omega arith)
   answer-done unfinished s e = let z : _≡_ {A = ℕ} 0 1 = cc in absurd (omega arith)
 
-  pub answer-refused : (x : Result (Parameters × Level)) (number place : ℕ) (s : Words) → s ≡ replicate size 0 → refused number place [] ≡ (x >>= λ f. done (words-read size f))
+  pub answer-refused : (x : Result (Parameters × Level)) (number place : ℕ) (s : Words) → s ≡ replicate size 0 → refused number place []
+      ≡ (x >>= λ f. done (words-read size f))
       → _≡_ {A = ℕ × ℕ × Words} (number, place, s) (read-as size x)
   answer-refused (done f) number place s z e = let y : _≡_ {A = ℕ} 0 1 = cc in absurd (omega arith)
-  answer-refused (refused number′ place′ value) number place s z e = let a : number ≡ number′ = cc in let b : place ≡ place′ = cc in λ i. (a i, b i, z i)
+  answer-refused (refused number′ place′ value) number place s z e = let a : number ≡ number′ = cc in let b : place
+      ≡ place′ = cc in λ i. (a i, b i, z i)
   answer-refused unfinished number place s z e = let y : _≡_ {A = ℕ} 0 1 = cc in absurd (omega arith)
 
   -- ## A refused file leaves nothing of itself behind
 
-  pub refused-leaves-zeros : (file : Bytes) (number place : ℕ) (value : Vector) → problem document-01 file ≡ refused number place value → (read-as size (problem document-01 file)) .2 ≡ replicate size 0
+  pub refused-leaves-zeros : (file : Bytes) (number place : ℕ) (value : Vector) → problem document-01 file ≡ refused number place value
+      → (read-as size (problem document-01 file)) .2 ≡ replicate size 0
   refused-leaves-zeros file number place value e = ap (λ x. (read-as size x) .2) e
 
   -- the same by the answer alone: where the number is not 0
-  pub a-number-leaves-zeros : (file : Bytes) → ((read-as size (problem document-01 file)) .0 ≡ 0 → ⊥) → (read-as size (problem document-01 file)) .2 ≡ replicate size 0
+  pub a-number-leaves-zeros : (file : Bytes) → ((read-as size (problem document-01 file)) .0 ≡ 0 → ⊥) → (read-as size (problem document-01 file)) .2
+      ≡ replicate size 0
   a-number-leaves-zeros file n = go (problem document-01 file) n
     where
       go : (x : Result (Parameters × Level)) → ((read-as size x) .0 ≡ 0 → ⊥) → (read-as size x) .2 ≡ replicate size 0
@@ -90,7 +96,8 @@ module _ (size : ℕ) where
   pub zero-is-read : (file : Bytes) → (read-as size (problem document-01 file)) .0 ≡ 0 → (f : Parameters × Level) × (problem document-01 file ≡ done f)
   zero-is-read file z = go (problem-number document-01 file) (problem-finished document-01 file) z
     where
-      go : {x : Result (Parameters × Level)} → Numbered line-number? x → T (finished? x) → (read-as size x) .0 ≡ 0 → (f : Parameters × Level) × (x ≡ done f)
+      go : {x : Result (Parameters × Level)} → Numbered line-number? x → T (finished? x) → (read-as size x) .0 ≡ 0 → (f : Parameters × Level)
+          × (x ≡ done f)
       go (gives {a}) t e = (a, refl)
       go (refuses {number} h) t e = let l : 1 ≤ number = between-low 1 number 8 h in absurd (omega arith)
       go (stops h) t e = absurd h

@@ -31,7 +31,9 @@ paste-behind : (s w : Words) (m n at : ℕ) → length s ≡ at → length w ≡
 paste-behind s w m n at ls lw h =
     let e : m ≡ n + (m - n) = omega arith in
     let c : at + n ≡ length s + n = omega arith in
-    (λ i. (take-at s (replicate m 0) at ls i ++ take-all n w (omega arith) i) ++ (ap (λ k. drop k (s ++ replicate m 0)) c ∙ drop-append-add s (replicate m 0) n ∙ ap (λ k. drop n (replicate k 0)) e ∙ zeros-drop n (m - n)) i)
+    (λ i. (take-at s (replicate m 0) at ls i ++ take-all n w (omega arith) i)
+    ++ (ap (λ k. drop k (s ++ replicate m 0)) c ∙ drop-append-add s (replicate m 0) n ∙ ap (λ k. drop n (replicate k 0)) e ∙ zeros-drop n (m - n))
+    i)
     ∙ append-assoc s w (replicate (m - n) 0)
 
 -- ## Changed words
@@ -41,7 +43,8 @@ module _ (q : Parameters) (size : ℕ) where
   laid-begun h =
       let e : size ≡ suc (suc (suc (suc (suc (suc (size - ends-start)))))) = omega arith in
       let z : 1289 - 0 + (size - rows-start - 0) ≡ size - ends-start = omega arith in
-      ap (λ n. begun (replicate n 0) q) e ∙ ap (λ l. q .p ∷ q .n ∷ q .code ∷ q .s ∷ 1 ∷ 0 ∷ l) (sym (zeros-meet (1289 - 0) (size - rows-start - 0) (size - ends-start) z))
+      ap (λ n. begun (replicate n 0) q) e ∙ ap (λ l. q .p ∷ q .n ∷ q .code ∷ q .s ∷ 1 ∷ 0 ∷ l)
+      (sym (zeros-meet (1289 - 0) (size - rows-start - 0) (size - ends-start) z))
 
   module _ (r : ℕ) (ends rows : Words) (room : length ends ≤ most-vectors) where
     front : Words
@@ -52,7 +55,8 @@ module _ (q : Parameters) (size : ℕ) where
     length-front = omega (arith, length-append ends (replicate (1289 - length ends) 0), length-replicate {A = ℕ} (1289 - length ends) 0)
 
     -- a row more
-    pub laid-row : (w : Words) (at : ℕ) → length w ≡ row-length → at ≡ rows-start + length rows → at + row-length ≤ size → paste (laid q r ends rows size) at w row-length ≡ laid q r ends (rows ++ w) size
+    pub laid-row : (w : Words) (at : ℕ) → length w ≡ row-length → at ≡ rows-start + length rows → at + row-length ≤ size
+        → paste (laid q r ends rows size) at w row-length ≡ laid q r ends (rows ++ w) size
     unfolding front
     laid-row w at lw e h =
         let m : ℕ = size - rows-start - length rows in
@@ -61,7 +65,8 @@ module _ (q : Parameters) (size : ℕ) where
         ap (λ s. paste s at w row-length) (sym (append-assoc front rows (replicate (size - rows-start - length rows) 0)))
         ∙ paste-behind (front ++ rows) w (size - rows-start - length rows) row-length at ls lw (omega arith)
         ∙ append-assoc front rows (w ++ replicate (size - rows-start - length rows - row-length) 0)
-        ∙ ap (λ l. front ++ l) (sym (append-assoc rows w (replicate (size - rows-start - length rows - row-length) 0)) ∙ ap (λ k. (rows ++ w) ++ replicate k 0) n)
+        ∙ ap (λ l. front ++ l) (sym (append-assoc rows w (replicate (size - rows-start - length rows - row-length) 0))
+        ∙ ap (λ k. (rows ++ w) ++ replicate k 0) n)
 
     -- the end of the last element, or of a new one
     pub laid-end : (e x : ℕ) → 1 ≤ e → e - 1 ≤ length ends → length ends ≤ e → e ≤ most-vectors
@@ -71,7 +76,8 @@ module _ (q : Parameters) (size : ℕ) where
         ap (λ k. set (laid q r ends rows size) k x) c
         ∙ ap (λ l. q .p ∷ q .n ∷ q .code ∷ q .s ∷ 1 ∷ r ∷ l)
         (set-append-left (ends ++ zeros) behind (e - 1) x (omega (arith, length-append ends zeros, length-replicate {A = ℕ} (1289 - length ends) 0))
-        ∙ ap (λ l. l ++ behind) (split ∙ (λ i. take (e - 1) ends ++ x ∷ zeros-left i) ∙ sym (append-assoc (take (e - 1) ends) (x ∷ []) (replicate (1289 - length (take (e - 1) ends ++ x ∷ [])) 0))))
+        ∙ ap (λ l. l ++ behind) (split ∙ (λ i. take (e - 1) ends ++ x ∷ zeros-left i)
+        ∙ sym (append-assoc (take (e - 1) ends) (x ∷ []) (replicate (1289 - length (take (e - 1) ends ++ x ∷ [])) 0))))
       where
         zeros : Words
         zeros = replicate (1289 - length ends) 0
@@ -103,14 +109,18 @@ ten-words : (s : Words) (at : ℕ) (w : Words) → paste s at w row-length ≡ p
 ten-words s at w = ap (λ z. (take at s ++ z) ++ drop (at + row-length) s) (sym (take-take row-length row-length w (omega arith)))
 
 -- a term stored: a row more, the end of its element, the count of elements
-pub laid-stored : (q : Parameters) (size r : ℕ) (ends rows : Words) (count : ℕ) (w : Words) → state-length ≤ size → length ends ≤ most-vectors → length w ≡ 16 → length rows ≡ count * row-length → count < most-rows
+pub laid-stored : (q : Parameters) (size r : ℕ) (ends rows : Words) (count : ℕ) (w : Words) → state-length ≤ size → length ends ≤ most-vectors
+    → length w ≡ 16 → length rows ≡ count * row-length → count < most-rows
     → 1 ≤ getD w 0 0 → getD w 0 0 - 1 ≤ length ends → length ends ≤ getD w 0 0 → getD w 0 0 ≤ most-vectors
-    → stored (laid q r ends rows size) count w ≡ laid q (getD w 0 0) (take (getD w 0 0 - 1) ends ++ (count + 1) ∷ []) (rows ++ take row-length (drop 1 w)) size
+    → stored (laid q r ends rows size) count w ≡ laid q (getD w 0 0) (take (getD w 0 0 - 1) ends ++ (count + 1) ∷ [])
+    (rows ++ take row-length (drop 1 w)) size
 laid-stored q size r ends rows count w h room lw lr few one low high most =
     ap (λ s. set (set s (header-length + getD w 0 0) (count + 1)) header-length (getD w 0 0))
     (ten-words (laid q r ends rows size) (rows-start + count * row-length) (drop 1 w)
-    ∙ laid-row q size r ends rows room (take row-length (drop 1 w)) (rows-start + count * row-length) (length-take-le row-length (drop 1 w) (omega (arith, length-drop 1 w))) (omega arith) (omega arith))
-    ∙ ap (λ s. set s header-length (getD w 0 0)) (laid-end q size r ends (rows ++ take row-length (drop 1 w)) room (getD w 0 0) (count + 1) one low high most)
+    ∙ laid-row q size r ends rows room (take row-length (drop 1 w)) (rows-start + count * row-length)
+    (length-take-le row-length (drop 1 w) (omega (arith, length-drop 1 w))) (omega arith) (omega arith))
+    ∙ ap (λ s. set s header-length (getD w 0 0)) (laid-end q size r ends (rows ++ take row-length (drop 1 w)) room (getD w 0 0)
+    (count + 1) one low high most)
 
 -- ## The definitions' words
 
@@ -120,17 +130,20 @@ laid-level q f size = laid q (length f) (ends-from 0 f) (rows-of (joined f)) siz
 
 -- zeros that meet are one list of zeros
 flat : (ends rows : Words) (a b c d m n : ℕ) → a + b ≡ m → c + d ≡ n
-    → ((((ends ++ replicate a 0) ++ []) ++ replicate b 0) ++ ((rows ++ replicate c 0) ++ [])) ++ replicate d 0 ≡ (ends ++ replicate m 0) ++ (rows ++ replicate n 0)
+    → ((((ends ++ replicate a 0) ++ []) ++ replicate b 0) ++ ((rows ++ replicate c 0) ++ [])) ++ replicate d 0 ≡ (ends ++ replicate m 0)
+    ++ (rows ++ replicate n 0)
 flat ends rows a b c d m n e k =
     (λ i. ((append-nil (ends ++ replicate a 0) i ++ replicate b 0) ++ append-nil (rows ++ replicate c 0) i) ++ replicate d 0)
     ∙ append-assoc ((ends ++ replicate a 0) ++ replicate b 0) (rows ++ replicate c 0) (replicate d 0)
     ∙ (λ i. (append-assoc ends (replicate a 0) (replicate b 0) ∙ ap (λ l. ends ++ l) (zeros-meet a b m e)) i
     ++ (append-assoc rows (replicate c 0) (replicate d 0) ∙ ap (λ l. rows ++ l) (zeros-meet c d n k)) i)
 
-pub words-laid : (q : Parameters) (f : Level) (size : ℕ) → state-length ≤ size → length (ends-from 0 f) ≤ most-vectors → length (rows-of (joined f)) ≤ level-length → words-read size (q, f) ≡ laid-level q f size
+pub words-laid : (q : Parameters) (f : Level) (size : ℕ) → state-length ≤ size → length (ends-from 0 f) ≤ most-vectors
+    → length (rows-of (joined f)) ≤ level-length → words-read size (q, f) ≡ laid-level q f size
 words-laid q f size h le lr =
     ap (λ l. q .p ∷ q .n ∷ q .code ∷ q .s ∷ 1 ∷ length f ∷ l)
-    (flat ends rows (most-vectors - length ends) (rows-start - length header) (level-length - length rows) (size - length (padded rows-start header ++ all-rows document-01 (f ∷ []))) (1289 - length ends) (size - rows-start - length rows)
+    (flat ends rows (most-vectors - length ends) (rows-start - length header) (level-length - length rows)
+    (size - length (padded rows-start header ++ all-rows document-01 (f ∷ []))) (1289 - length ends) (size - rows-start - length rows)
     (omega (arith, header-long)) (omega (arith, all-length)))
   where
     ends : Words
@@ -144,10 +157,13 @@ words-laid q f size h le lr =
 
     header-long : length header ≡ header-length + counts-length
     header-long =
-        let n : length ((ends ++ replicate (most-vectors - length ends) 0) ++ []) ≡ most-vectors = ap length (append-nil (ends ++ replicate (most-vectors - length ends) 0)) ∙ length-padded most-vectors ends le in
+        let n : length ((ends ++ replicate (most-vectors - length ends) 0) ++ [])
+        ≡ most-vectors = ap length (append-nil (ends ++ replicate (most-vectors - length ends) 0)) ∙ length-padded most-vectors ends le in
         omega arith
 
     all-length : length (padded rows-start header ++ all-rows document-01 (f ∷ [])) ≡ 21775
     all-length =
-        let n : length ((rows ++ replicate (level-length - length rows) 0) ++ []) ≡ level-length = ap length (append-nil (rows ++ replicate (level-length - length rows) 0)) ∙ length-padded level-length rows lr in
-        length-append (padded rows-start header) (all-rows document-01 (f ∷ [])) ∙ omega (arith, length-padded rows-start header (omega (arith, header-long)))
+        let n : length ((rows ++ replicate (level-length - length rows) 0) ++ [])
+        ≡ level-length = ap length (append-nil (rows ++ replicate (level-length - length rows) 0)) ∙ length-padded level-length rows lr in
+        length-append (padded rows-start header) (all-rows document-01 (f ∷ []))
+        ∙ omega (arith, length-padded rows-start header (omega (arith, header-long)))

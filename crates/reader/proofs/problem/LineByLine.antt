@@ -89,7 +89,8 @@ guarded : {A : Type 0} → Bool → Bool → Bool → Bool → ℕ → A → Res
 guarded a b c d place x =
     unless-refused a 8 place >>= λ u₁. unless-refused b 5 place >>= λ u₂. unless-refused c 4 place >>= λ u₃. unless-refused d 6 place >>= λ u₄. done x
 
-guarded-number : {A : Type 0} (a b c d : Bool) (place : ℕ) (x : A) → guarded a b c d place x ≡ judged (unless a 8 (unless b 5 (unless c 4 (unless d 6 0)))) place x
+guarded-number : {A : Type 0} (a b c d : Bool) (place : ℕ) (x : A) → guarded a b c d place x
+    ≡ judged (unless a 8 (unless b 5 (unless c 4 (unless d 6 0)))) place x
 unfolding guarded
 guarded-number false b c d place x = refl
 guarded-number true false c d place x = refl
@@ -120,7 +121,8 @@ module _ (q : Parameters) (few : q .n ≤ 8) (count : ℕ) (f : Level) (r : ℕ)
   abbrev more : Words → Level
   more w = with-term (begins? r (getD w 0 0)) f (term-in w)
 
-  descends-same : (w : Words) → follows? r (getD w 0 0) ≡ true → (begins? r (getD w 0 0) || below? (q .code) (last-term (last f)) (term-in w)) ≡ descends? (q .code) r before w
+  descends-same : (w : Words) → follows? r (getD w 0 0) ≡ true → (begins? r (getD w 0 0) || below? (q .code) (last-term (last f)) (term-in w))
+      ≡ descends? (q .code) r before w
   descends-same w s = go (begins? r (getD w 0 0)) (follows-says r (getD w 0 0) (begins? r (getD w 0 0)) refl s)
     where
       go : (b : Bool) → (b ≡ true → getD w 0 0 ≡ suc r) × (b ≡ false → (getD w 0 0 ≡ r) × (r ≡ 0 → ⊥)) × (getD w 0 0 ≤ most-elements)
@@ -132,11 +134,15 @@ module _ (q : Parameters) (few : q .n ≤ 8) (count : ℕ) (f : Level) (r : ℕ)
       → t-line document-01 q place count f v ≡ judged (t-number q count r before (padded 16 v)) place (more (padded 16 v))
   unfolding guarded
   t-line-judged place v l =
-      (λ i. guarded (ltb count most-rows) ((eqb (first i) (suc (held .elements i)) || (eqb (first i) (held .elements i) and not (none-yet i))) and leb (first i) most-elements)
+      (λ i. guarded (ltb count most-rows) ((eqb (first i) (suc (held .elements i)) || (eqb (first i) (held .elements i) and not (none-yet i)))
+      and leb (first i) most-elements)
       (term-in-range? document-01 q (term i)) (eqb (first i) (suc (held .elements i)) || below? (q .code) (last-term (last f)) (term i)) place
       (with-term (eqb (first i) (suc (held .elements i))) f (term i)))
-      ∙ guarded-same (ltb count most-rows) (follows? r (getD w 0 0)) (term-in-range? document-01 q (term-in w)) (begins? r (getD w 0 0) || below? (q .code) (last-term (last f)) (term-in w)) (descends? (q .code) r before w) place (more w) (descends-same w)
-      ∙ guarded-number (ltb count most-rows) (follows? r (getD w 0 0)) (term-in-range? document-01 q (term-in w)) (descends? (q .code) r before w) place (more w)
+      ∙ guarded-same (ltb count most-rows) (follows? r (getD w 0 0)) (term-in-range? document-01 q (term-in w))
+      (begins? r (getD w 0 0) || below? (q .code) (last-term (last f)) (term-in w)) (descends? (q .code) r before w) place (more w)
+      (descends-same w)
+      ∙ guarded-number (ltb count most-rows) (follows? r (getD w 0 0)) (term-in-range? document-01 q (term-in w)) (descends? (q .code) r before w) place
+      (more w)
     where
       w : Words
       w = padded 16 v
@@ -168,12 +174,14 @@ module _ (q : Parameters) (few : q .n ≤ 8) (count : ℕ) (f : Level) (r : ℕ)
   term-step : (v : Words) (rest : Bytes) → length v ≡ 3 + q .n
       → (t-line document-01 q (count + 2) count f v >>= λ grown. body document-01 q (suc (count + 2)) (suc count) grown (lines rest))
       ≡ (t-judged q count r before (padded 16 v, rest) >>= goes-on)
-  term-step v rest l = ap (λ x. x >>= λ grown. body document-01 q (suc (count + 2)) (suc count) grown (lines rest)) (t-line-judged (count + 2) v l) ∙ go (t-number q count r before (padded 16 v))
+  term-step v rest l = ap (λ x. x >>= λ grown. body document-01 q (suc (count + 2)) (suc count) grown (lines rest)) (t-line-judged (count + 2) v l)
+      ∙ go (t-number q count r before (padded 16 v))
     where
       next : suc (count + 2) ≡ count + 3
       next = omega arith
 
-      go : (number : ℕ) → (judged number (count + 2) (more (padded 16 v)) >>= λ grown. body document-01 q (suc (count + 2)) (suc count) grown (lines rest))
+      go : (number : ℕ) → (judged number (count + 2) (more (padded 16 v))
+          >>= λ grown. body document-01 q (suc (count + 2)) (suc count) grown (lines rest))
           ≡ (judged {A = Said} number (count + 2) (some (padded 16 v, rest)) >>= goes-on)
       go zero = ap (λ place. body document-01 q place (suc count) (more (padded 16 v)) (lines rest)) next
       go (suc number) = refl
@@ -207,7 +215,8 @@ module _ (q : Parameters) (few : q .n ≤ 8) (count : ℕ) (f : Level) (r : ℕ)
     other letter n h d = unpaired (behind (b ∷ bytes)) (shaped 65535 letter n line) (sym (first letter n) ∙ letter-differs 65535 letter n h b bytes d)
 
     abbrev stepped : Option Words → Result Level
-    stepped o = by-shape o document-01 q (count + 2) count f line (lines (behind (b ∷ bytes))) (λ grown. body document-01 q (suc (count + 2)) (suc count) grown (lines (behind (b ∷ bytes))))
+    stepped o = by-shape o document-01 q (count + 2) count f line (lines (behind (b ∷ bytes)))
+        (λ grown. body document-01 q (suc (count + 2)) (suc count) grown (lines (behind (b ∷ bytes))))
 
     abbrev decided : Bool → Bool → Result Level
     decided t u = by-letter t u (t-first q count r before (b ∷ bytes)) (e-first count (b ∷ bytes)) (refused 1 (count + 2) []) >>= goes-on
@@ -217,7 +226,8 @@ module _ (q : Parameters) (few : q .n ≤ 8) (count : ℕ) (f : Level) (r : ℕ)
 
     on-T : b ≡ 84 → stepped (shaped 65535 84 (3 + q .n) line) ≡ (t-first q count r before (b ∷ bytes) >>= goes-on)
     on-T t =
-        go (shaped 65535 84 (3 + q .n) line) (subst (If-some (λ (p : Words × Bytes). length (p .0) ≡ 3 + q .n)) (first 84 (3 + q .n)) (shaped-count 65535 84 (3 + q .n) (omega arith) (b ∷ bytes)))
+        go (shaped 65535 84 (3 + q .n) line) (subst (If-some (λ (p : Words × Bytes). length (p .0) ≡ 3 + q .n)) (first 84 (3 + q .n))
+        (shaped-count 65535 84 (3 + q .n) (omega arith) (b ∷ bytes)))
         ∙ ap (λ o. with-shape (in-sixteen o) (count + 2) (t-judged q count r before) >>= goes-on) (sym (first 84 (3 + q .n)))
       where
         go : (o : Option Words) → If-some (λ (p : Words × Bytes). length (p .0) ≡ 3 + q .n) (paired (behind (b ∷ bytes)) o)
@@ -230,7 +240,8 @@ module _ (q : Parameters) (few : q .n ≤ 8) (count : ℕ) (f : Level) (r : ℕ)
         ap stepped (other 84 (3 + q .n) (omega arith) t) ∙ go (shaped 65535 69 1 line)
         ∙ ap (λ o. with-shape (in-sixteen o) (count + 2) (e-judged count) >>= goes-on) (sym (first 69 1))
       where
-        go : (o : Option Words) → e-line (count + 2) count (lines (behind (b ∷ bytes))) f o ≡ (with-shape (in-sixteen (paired (behind (b ∷ bytes)) o)) (count + 2) (e-judged count) >>= goes-on)
+        go : (o : Option Words) → e-line (count + 2) count (lines (behind (b ∷ bytes))) f o
+            ≡ (with-shape (in-sixteen (paired (behind (b ∷ bytes)) o)) (count + 2) (e-judged count) >>= goes-on)
         go none = refl
         go (some v) = end-step v (behind (b ∷ bytes))
 
@@ -246,7 +257,8 @@ module _ (q : Parameters) (few : q .n ≤ 8) (count : ℕ) (f : Level) (r : ℕ)
   body-step [] = refl
   body-step (b ∷ bytes) = parted (first-of b bytes)
     where
-      parted : (line : Line) × (lines (b ∷ bytes) ≡ line ∷ lines (behind (b ∷ bytes))) → body document-01 q (count + 2) count f (lines (b ∷ bytes)) ≡ (line-first q count r before (b ∷ bytes) >>= goes-on)
+      parted : (line : Line) × (lines (b ∷ bytes) ≡ line ∷ lines (behind (b ∷ bytes))) → body document-01 q (count + 2) count f (lines (b ∷ bytes))
+          ≡ (line-first q count r before (b ∷ bytes) >>= goes-on)
       parted (line, e) = ap (body document-01 q (count + 2) count f) e ∙ by-byte b bytes line e (ℕ-discrete b 84) (ℕ-discrete b 69)
 
 -- ## What a term that is taken has passed
@@ -258,7 +270,8 @@ Passed count r (some line) = (ltb count most-rows ≡ true) × (follows? r (getD
 module _ (q : Parameters) (count r : ℕ) (before : Words) where
   judged-passed : (line : Words × Bytes) → If-done (Passed count r) (t-judged q count r before line)
   judged-passed line =
-      go (ltb count most-rows) refl (follows? r (getD (line .0) 0 0)) refl (unless (term-in-range? document-01 q (term-in (line .0))) 4 (unless (descends? (q .code) r before (line .0)) 6 0))
+      go (ltb count most-rows) refl (follows? r (getD (line .0) 0 0)) refl
+      (unless (term-in-range? document-01 q (term-in (line .0))) 4 (unless (descends? (q .code) r before (line .0)) 6 0))
     where
       go : (a : Bool) → ltb count most-rows ≡ a → (b : Bool) → follows? r (getD (line .0) 0 0) ≡ b → (n : ℕ)
           → If-done (Passed count r) (judged (unless a 8 (unless b 5 n)) (count + 2) (some line))
@@ -284,7 +297,8 @@ module _ (q : Parameters) (count r : ℕ) (before : Words) where
   line-passed [] = tt
   line-passed (b ∷ bytes) = go (eqb b 84) (eqb b 69)
     where
-      go : (t e : Bool) → If-done (Passed count r) (by-letter t e (t-first q count r before (b ∷ bytes)) (e-first count (b ∷ bytes)) (refused 1 (count + 2) []))
+      go : (t e : Bool) → If-done (Passed count r) (by-letter t e (t-first q count r before (b ∷ bytes)) (e-first count (b ∷ bytes))
+          (refused 1 (count + 2) []))
       go true e = shape-passed (in-sixteen (shaped-first 65535 84 (3 + q .n) (b ∷ bytes)))
       go false true = end-passed (in-sixteen (shaped-first 65535 69 1 (b ∷ bytes)))
       go false false = tt
@@ -299,13 +313,16 @@ goes-on-body a = body document-01 (a .0) 2 0 [] (lines (a .1)) >>= λ f. done (a
 r-guarded : Bool → Bool → Parameters → Result Parameters
 r-guarded a b q = unless-refused a 2 1 >>= λ u. unless-refused b 3 1 >>= λ u′. done q
 
-r-step : (v : Words) (rest : Bytes) → (r-line document-01 v >>= λ q. body document-01 q 2 0 [] (lines rest) >>= λ f. done (q, f)) ≡ (r-judged (padded 16 v, rest) >>= goes-on-body)
+r-step : (v : Words) (rest : Bytes) → (r-line document-01 v >>= λ q. body document-01 q 2 0 [] (lines rest) >>= λ f. done (q, f))
+    ≡ (r-judged (padded 16 v, rest) >>= goes-on-body)
 unfolding r-guarded
 r-step v rest =
-    ap (λ (q : Parameters). r-guarded (prime-in-range? document-01 (q .p)) (in-ranges? document-01 q) q >>= λ q. body document-01 q 2 0 [] (lines rest) >>= λ f. done (q, f)) (sym (parameters-padded v))
+    ap (λ (q : Parameters). r-guarded (prime-in-range? document-01 (q .p)) (in-ranges? document-01 q) q >>= λ q. body document-01 q 2 0 [] (lines rest)
+    >>= λ f. done (q, f)) (sym (parameters-padded v))
     ∙ go (parameters-of (padded 16 v)) (prime-in-range? document-01 (getD (padded 16 v) 0 0)) (in-ranges? document-01 (parameters-of (padded 16 v)))
   where
-    go : (q : Parameters) (a b : Bool) → (r-guarded a b q >>= λ q. body document-01 q 2 0 [] (lines rest) >>= λ f. done (q, f)) ≡ (judged (unless a 2 (unless b 3 0)) 1 (q, rest) >>= goes-on-body)
+    go : (q : Parameters) (a b : Bool) → (r-guarded a b q >>= λ q. body document-01 q 2 0 [] (lines rest) >>= λ f. done (q, f))
+        ≡ (judged (unless a 2 (unless b 3 0)) 1 (q, rest) >>= goes-on-body)
     go q false b = refl
     go q true false = refl
     go q true true = refl
@@ -314,12 +331,14 @@ pub first-step : (file : Bytes) → first-line document-01 (lines file) ≡ (r-f
 first-step [] = refl
 first-step (b ∷ bytes) = parted (first-of b bytes)
   where
-    parted : (line : Line) × (lines (b ∷ bytes) ≡ line ∷ lines (behind (b ∷ bytes))) → first-line document-01 (lines (b ∷ bytes)) ≡ (r-first (b ∷ bytes) >>= goes-on-body)
+    parted : (line : Line) × (lines (b ∷ bytes) ≡ line ∷ lines (behind (b ∷ bytes))) → first-line document-01 (lines (b ∷ bytes))
+        ≡ (r-first (b ∷ bytes) >>= goes-on-body)
     parted (line, e) =
         ap (first-line document-01) e ∙ go (shaped 65535 82 4 line)
         ∙ ap (λ ls. with-shape (in-sixteen (shaped-of 65535 82 4 ls then λ v. some (v, behind (b ∷ bytes)))) 1 r-judged >>= goes-on-body) (sym e)
       where
-        go : (o : Option Words) → after-r document-01 (lines (behind (b ∷ bytes))) o ≡ (with-shape (in-sixteen (o then λ v. some (v, behind (b ∷ bytes)))) 1 r-judged >>= goes-on-body)
+        go : (o : Option Words) → after-r document-01 (lines (behind (b ∷ bytes))) o
+            ≡ (with-shape (in-sixteen (o then λ v. some (v, behind (b ∷ bytes)))) 1 r-judged >>= goes-on-body)
         go none = refl
         go (some v) = r-step v (behind (b ∷ bytes))
 
@@ -333,11 +352,14 @@ problem-step file h = (λ i. unless-refused (le-leb (length file) file-length h 
 pub few-variables : (file : Bytes) → If-done (λ (a : Parameters × Bytes). a .0 .n ≤ 8) (r-first file)
 few-variables file = shape (in-sixteen (shaped-first 65535 82 4 file))
   where
-    judge : (q : Parameters) (rest : Bytes) (a b : Bool) → in-ranges? document-01 q ≡ b → If-done (λ (a : Parameters × Bytes). a .0 .n ≤ 8) (judged (unless a 2 (unless b 3 0)) 1 (q, rest))
+    judge : (q : Parameters) (rest : Bytes) (a b : Bool) → in-ranges? document-01 q ≡ b
+        → If-done (λ (a : Parameters × Bytes). a .0 .n ≤ 8) (judged (unless a 2 (unless b 3 0)) 1 (q, rest))
     judge q rest false b e = tt
     judge q rest true false e = tt
-    judge q rest true true e = between-high 1 (q .n) most-variables (and-left (between 1 (q .n) most-variables) (between 1 (q .code) 3 and between 1 (q .s) most-components) (is-true e))
+    judge q rest true true e = between-high 1 (q .n) most-variables (and-left (between 1 (q .n) most-variables)
+        (between 1 (q .code) 3 and between 1 (q .s) most-components) (is-true e))
 
     shape : (o : Option (Words × Bytes)) → If-done (λ (a : Parameters × Bytes). a .0 .n ≤ 8) (with-shape o 1 r-judged)
     shape none = tt
-    shape (some line) = judge (parameters-of (line .0)) (line .1) (prime-in-range? document-01 (getD (line .0) 0 0)) (in-ranges? document-01 (parameters-of (line .0))) refl
+    shape (some line) = judge (parameters-of (line .0)) (line .1) (prime-in-range? document-01 (getD (line .0) 0 0))
+        (in-ranges? document-01 (parameters-of (line .0))) refl

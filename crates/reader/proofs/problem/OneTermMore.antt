@@ -63,14 +63,16 @@ ends-append a (v ∷ f) t =
     let e : a + length v + terms-of f + 1 ≡ a + (length v + terms-of f) + 1 = omega arith in
     ap (λ l. (a + length v) ∷ l) (ends-append (a + length v) f t ∙ ap (λ n. ends-from (a + length v) f ++ n ∷ []) e)
 
-ends-extend : (a : ℕ) (f : Level) (t : Term) → (length f ≡ 0 → ⊥) → ends-from a (extend f t) ≡ take (length f - 1) (ends-from a f) ++ (a + terms-of f + 1) ∷ []
+ends-extend : (a : ℕ) (f : Level) (t : Term) → (length f ≡ 0 → ⊥) → ends-from a (extend f t) ≡ take (length f - 1) (ends-from a f)
+    ++ (a + terms-of f + 1) ∷ []
 ends-extend a [] t n = absurd (n refl)
 ends-extend a (v ∷ []) t n = let e : a + length (v ++ t ∷ []) ≡ a + (length v + 0) + 1 = omega (arith, length-append v (t ∷ [])) in ap (λ k. k ∷ []) e
 ends-extend a (v ∷ w ∷ f) t n =
     let e : a + length v + terms-of (w ∷ f) + 1 ≡ a + (length v + terms-of (w ∷ f)) + 1 = omega arith in
     let k : suc (length f) - 1 ≡ length f = omega arith in
     let m : suc (length f) ≡ suc (suc (length f)) - 1 = omega arith in
-    ap (λ l. (a + length v) ∷ l) (ends-extend (a + length v) (w ∷ f) t (λ z. omega arith) ∙ (λ i. take (k i) (ends-from (a + length v) (w ∷ f)) ++ e i ∷ []))
+    ap (λ l. (a + length v) ∷ l) (ends-extend (a + length v) (w ∷ f) t (λ z. omega arith)
+    ∙ (λ i. take (k i) (ends-from (a + length v) (w ∷ f)) ++ e i ∷ []))
     ∙ ap (λ j. take j ((a + length v) ∷ ends-from (a + length v) (w ∷ f)) ++ (a + (length v + terms-of (w ∷ f)) + 1) ∷ []) m
 
 -- ## Rows
@@ -90,7 +92,8 @@ rows-more v t = rows-of-append v (t ∷ []) ∙ ap (λ l. rows-of v ++ l) (appen
 -- ## A term after r elements, of an element that follows
 
 -- which element follows
-pub follows-says : (r e : ℕ) (b : Bool) → begins? r e ≡ b → follows? r e ≡ true → (b ≡ true → e ≡ suc r) × (b ≡ false → (e ≡ r) × (r ≡ 0 → ⊥)) × (e ≤ most-elements)
+pub follows-says : (r e : ℕ) (b : Bool) → begins? r e ≡ b → follows? r e ≡ true → (b ≡ true → e ≡ suc r) × (b ≡ false → (e ≡ r) × (r ≡ 0 → ⊥))
+    × (e ≤ most-elements)
 follows-says r e b q s = (λ t. eqb-true e (suc r) (q ∙ t), λ t. goes t, leb-true e most-elements (right (begins? r e || goes-on? r e) s))
   where
     right : (t : Bool) → (t and leb e most-elements) ≡ true → leb e most-elements ≡ true
@@ -108,8 +111,11 @@ follows-says r e b q s = (λ t. eqb-true e (suc r) (q ∙ t), λ t. goes t, leb-
     goes : b ≡ false → (e ≡ r) × (r ≡ 0 → ⊥)
     goes t =
         let on : goes-on? r e ≡ true = (λ i. sym (q ∙ t) i || goes-on? r e) ∙ left (begins? r e || goes-on? r e) s in
-        let p = both (eqb e r) (not (eqb r 0)) on in
-        (eqb-true e r (p .0), λ z. let w : not (eqb 0 0) ≡ true = subst (λ x. not (eqb x 0) ≡ true) z (p .1) in let y : _≡_ {A = ℕ} 0 1 = cc in omega arith)
+        let p = both (eqb e r) (not (eqb r 0)) on in (
+          eqb-true e r (p .0),
+          λ z. let w : not (eqb 0 0) ≡ true = subst (λ x. not (eqb x 0) ≡ true) z (p .1) in let y : _≡_ {A = ℕ} 0 1 = cc in
+              omega arith,
+        )
 
 -- what the level has after it
 pub record Grown (f g : Level) (e : ℕ) (t : Term) : Type 0 where

@@ -28,7 +28,8 @@ pub record So-far (q : Parameters) (size : ℕ) (f : Level) (count r : ℕ) (bef
   pub rows : length (rows-of (joined f)) ≡ count * row-length
   pub words : state ≡ laid-level q f size
 
-pub none-so-far : (q : Parameters) (size : ℕ) (before state : Words) → state-length ≤ size → state ≡ begun (replicate size 0) q → So-far q size [] 0 0 before state
+pub none-so-far : (q : Parameters) (size : ℕ) (before state : Words) → state-length ≤ size → state ≡ begun (replicate size 0) q
+    → So-far q size [] 0 0 before state
 none-so-far q size before state h e = record {
   held = record { elements = refl; last-one = λ n. absurd (n refl) };
   few = omega arith;
@@ -41,7 +42,8 @@ none-so-far q size before state h e = record {
 row-in : (w : Words) → length w ≡ 16 → row-of (term-in w) ≡ take row-length (drop 1 w)
 row-in w l = sym (ap (take row-length) (drop-cons w 1 0 (omega arith) ∙ ap (λ z. getD w 1 0 ∷ z) (drop-cons w 2 0 (omega arith))))
 
-module _ (q : Parameters) (size : ℕ) (f : Level) (count r : ℕ) (before state : Words) (k : So-far q size f count r before state) (h : state-length ≤ size) where
+module _ (q : Parameters) (size : ℕ) (f : Level) (count r : ℕ) (before state : Words) (k : So-far q size f count r before state)
+    (h : state-length ≤ size) where
   -- a term more
   pub one-more : (w : Words) → count < most-rows → length w ≡ 16 → follows? r (getD w 0 0) ≡ true
       → So-far q size (with-term (begins? r (getD w 0 0)) f (term-in w)) (count + 1) (getD w 0 0) w (stored state count w)
@@ -49,11 +51,14 @@ module _ (q : Parameters) (size : ℕ) (f : Level) (count r : ℕ) (before state
     held = record { elements = g .elements; last-one = λ n. g .last-one };
     few = g .few;
     terms = g .terms ∙ ap (λ n. n + 1) (k .terms);
-    rows = ap length (g .rows ∙ ap (λ z. rows-of (joined f) ++ z) (row-in w l)) ∙ length-append (rows-of (joined f)) (take row-length (drop 1 w)) ∙ omega (arith, k .rows, length-take-le row-length (drop 1 w) (omega (arith, length-drop 1 w)));
+    rows = ap length (g .rows ∙ ap (λ z. rows-of (joined f) ++ z) (row-in w l)) ∙ length-append (rows-of (joined f)) (take row-length (drop 1 w))
+        ∙ omega (arith, k .rows, length-take-le row-length (drop 1 w) (omega (arith, length-drop 1 w)));
     words =
         ap (λ z. stored z count w) (k .words)
-        ∙ laid-stored q size (length f) (ends-from 0 f) (rows-of (joined f)) count w h (omega (arith, length-ends 0 f, k .held .elements, k .few)) l (k .rows) c (g .one) (g .low) (g .high) (omega (arith, g .few))
-        ∙ sym (λ i. laid q (g .elements i) ((g .ends ∙ ap (λ n. take (getD w 0 0 - 1) (ends-from 0 f) ++ (n + 1) ∷ []) (k .terms)) i) ((g .rows ∙ ap (λ z. rows-of (joined f) ++ z) (row-in w l)) i) size);
+        ∙ laid-stored q size (length f) (ends-from 0 f) (rows-of (joined f)) count w h (omega (arith, length-ends 0 f, k .held .elements, k .few)) l
+        (k .rows) c (g .one) (g .low) (g .high) (omega (arith, g .few))
+        ∙ sym (λ i. laid q (g .elements i) ((g .ends ∙ ap (λ n. take (getD w 0 0 - 1) (ends-from 0 f) ++ (n + 1) ∷ []) (k .terms)) i)
+        ((g .rows ∙ ap (λ z. rows-of (joined f) ++ z) (row-in w l)) i) size);
   }
     where
       g : Grown f (with-term (begins? r (getD w 0 0)) f (term-in w)) (getD w 0 0) (term-in w)
@@ -65,13 +70,16 @@ module _ (q : Parameters) (size : ℕ) (f : Level) (count r : ℕ) (before state
 
   -- ## The lines that are left
 
-  module _ (few : q .n ≤ 8) (c : count ≤ most-rows) (from left : Bytes) (e : body document-01 q 2 0 [] (lines from) ≡ body document-01 q (count + 2) count f (lines left)) where
-    stepped : (o : Result Said) → line-first q count r before left ≡ o → body document-01 q 2 0 [] (lines from) ≡ (o >>= goes-on q few count f r before (k .held))
+  module _ (few : q .n ≤ 8) (c : count ≤ most-rows) (from left : Bytes)
+      (e : body document-01 q 2 0 [] (lines from) ≡ body document-01 q (count + 2) count f (lines left)) where
+    stepped : (o : Result Said) → line-first q count r before left ≡ o → body document-01 q 2 0 [] (lines from)
+        ≡ (o >>= goes-on q few count f r before (k .held))
     stepped o s = e ∙ body-step q few count f r before (k .held) left ∙ ap (λ (x : Result Said). x >>= goes-on q few count f r before (k .held)) s
 
     -- a term
     pub goes-on-term : (w : Words) (rest : Bytes) → line-first q count r before left ≡ done (some (w, rest))
-        → body document-01 q 2 0 [] (lines from) ≡ body document-01 q (count + 1 + 2) (count + 1) (with-term (begins? r (getD w 0 0)) f (term-in w)) (lines rest)
+        → body document-01 q 2 0 [] (lines from) ≡ body document-01 q (count + 1 + 2) (count + 1) (with-term (begins? r (getD w 0 0)) f (term-in w))
+        (lines rest)
     goes-on-term w rest s =
         let a : count + 3 ≡ count + 1 + 2 = omega arith in
         let b : suc count ≡ count + 1 = omega arith in
@@ -82,5 +90,6 @@ module _ (q : Parameters) (size : ℕ) (f : Level) (count r : ℕ) (before state
     goes-on-end s = sym (ap (λ x. x >>= λ g. done (words-read size (q, g))) (stepped (done none) s) ∙ ap done (words-so-far c))
 
     -- a refusal
-    pub goes-on-refused : (number place : ℕ) → line-first q count r before left ≡ refused number place [] → refused number place [] ≡ body-words size q from
+    pub goes-on-refused : (number place : ℕ) → line-first q count r before left ≡ refused number place [] → refused number place []
+        ≡ body-words size q from
     goes-on-refused number place s = sym (ap (λ x. x >>= λ g. done (words-read size (q, g))) (stepped (refused number place []) s))

@@ -38,7 +38,8 @@ problem-words size file = definition.problem document-01 file >>= λ f. done (wo
 
 -- the words after a term was stored behind so many: its row, the end of its element, the count of elements
 abbrev pub stored : Words → ℕ → Words → Words
-stored s count w = set (set (paste s (rows-start + count * row-length) (drop 1 w) row-length) (header-length + getD w 0 0) (count + 1)) header-length (getD w 0 0)
+stored s count w = set (set (paste s (rows-start + count * row-length) (drop 1 w) row-length) (header-length + getD w 0 0) (count + 1)) header-length
+    (getD w 0 0)
 
 -- the words of a state with no element yet, from zeros
 abbrev pub begun : Words → definition.Parameters → Words

@@ -33,7 +33,8 @@ answered-by p k (h ∷ v) t i = go (divides-monomial? (h .1) (t .1)) (answered-b
     further {j} (one-divides l m e) =
         let z : j - i ≡ suc (j - suc i) = omega arith in
         let y : suc k + (j - suc i) ≡ k + suc (j - suc i) = omega arith in
-        one-divides {j = j} (omega arith) (omega arith) (e ∙ ap (λ n. reducer n (times p (t .0) (getD v (j - suc i) no-term .0)) (quotient (t .1 .0) (getD v (j - suc i) no-term .1 .0))) y ∙ ap (answer-at p k (h ∷ v) t) (sym z))
+        one-divides {j = j} (omega arith) (omega arith) (e ∙ ap (λ n. reducer n (times p (t .0) (getD v (j - suc i) no-term .0))
+        (quotient (t .1 .0) (getD v (j - suc i) no-term .1 .0))) y ∙ ap (answer-at p k (h ∷ v) t) (sym z))
 
     go : (b : Bool) → Answered p (suc k) v t (suc i) (first-dividing (t .1) v (suc i)) (answer-from p (suc k) v t) → Answered p k (h ∷ v) t i
         (elim b [ true ↦ i | false ↦ first-dividing (t .1) v (suc i) ])
@@ -41,7 +42,8 @@ answered-by p k (h ∷ v) t i = go (divides-monomial? (h .1) (t .1)) (answered-b
     go true r =
         let z : 0 ≡ i - i = omega arith in
         let y : k ≡ k + 0 = omega arith in
-        one-divides {j = i} (omega arith) (omega arith) (ap (λ n. reducer n (times p (t .0) (h .0)) (quotient (t .1 .0) (h .1 .0))) y ∙ ap (answer-at p k (h ∷ v) t) z)
+        one-divides {j = i} (omega arith) (omega arith) (ap (λ n. reducer n (times p (t .0) (h .0)) (quotient (t .1 .0) (h .1 .0))) y
+        ∙ ap (answer-at p k (h ∷ v) t) z)
     go false r = further r
 
 to-lower : {p : ℕ} {v : Vector} {t : Term} {j : ℕ} {x : Answer} → Answered p 1 v t 0 j x → j ≡ length v → lower-order ≡ x
@@ -59,7 +61,8 @@ to-inside (one-divides l m e) q = omega arith
 pub answer-none : (p : ℕ) (v : Vector) (t : Term) (j : ℕ) → j ≡ first-dividing (t .1) v 0 → j ≡ length v → lower-order ≡ answer-from p 1 v t
 answer-none p v t j e q = to-lower (answered-by p 1 v t 0) (sym e ∙ q)
 
-pub answer-one : (p : ℕ) (v : Vector) (t : Term) (j : ℕ) → j ≡ first-dividing (t .1) v 0 → (j ≡ length v → ⊥) → reducer (1 + j) (times p (t .0) (getD v j no-term .0)) (quotient (t .1 .0) (getD v j no-term .1 .0)) ≡ answer-from p 1 v t
+pub answer-one : (p : ℕ) (v : Vector) (t : Term) (j : ℕ) → j ≡ first-dividing (t .1) v 0 → (j ≡ length v → ⊥)
+    → reducer (1 + j) (times p (t .0) (getD v j no-term .0)) (quotient (t .1 .0) (getD v j no-term .1 .0)) ≡ answer-from p 1 v t
 answer-one p v t j e q = ap (answer-at p 1 v t) e ∙ to-reducer (answered-by p 1 v t 0) (λ x. q (e ∙ x))
 
 pub found-inside : (p : ℕ) (v : Vector) (t : Term) (j : ℕ) → j ≡ first-dividing (t .1) v 0 → (j ≡ length v → ⊥) → j < length v
@@ -87,12 +90,14 @@ first-within p v t = go (answered-by p 1 v t 0)
     go (one-divides l m e) = omega arith
 
 pub searched-none : (v : Vector) (m : Monomial) (j : ℕ) → j ≡ first-dividing m v 0 → j ≡ length v → LowerOrder ≡ searched v m
-searched-none v m j e q = sym (ap (searched-at v) (sym e) ∙ ap (λ b. choose b (Reducer (suc j) (getD v j no-term .0)) LowerOrder) (le-ltb j (length v) (omega arith)))
+searched-none v m j e q = sym (ap (searched-at v) (sym e) ∙ ap (λ b. choose b (Reducer (suc j) (getD v j no-term .0)) LowerOrder)
+    (le-ltb j (length v) (omega arith)))
 
 pub searched-one : (v : Vector) (m : Monomial) (j : ℕ) → j ≡ first-dividing m v 0 → j < length v → Reducer (j + 1) (getD v j no-term .0) ≡ searched v m
 searched-one v m j e l =
     let z : j + 1 ≡ suc j = omega arith in
-    ap (λ n. Reducer n (getD v j no-term .0)) z ∙ sym (ap (searched-at v) (sym e) ∙ ap (λ b. choose b (Reducer (suc j) (getD v j no-term .0)) LowerOrder) (lt-ltb j (length v) l))
+    ap (λ n. Reducer n (getD v j no-term .0)) z ∙ sym (ap (searched-at v) (sym e)
+    ∙ ap (λ b. choose b (Reducer (suc j) (getD v j no-term .0)) LowerOrder) (lt-ltb j (length v) l))
 
 -- none: of lower order, whatever the coefficient
 pub searched-lower : (p : ℕ) (v : Vector) (t : Term) → LowerOrder ≡ searched v (t .1) → lower-order ≡ answer-from p 1 v t
@@ -101,7 +106,8 @@ searched-lower p v t e = go (ltb (first-dividing (t .1) v 0) (length v)) refl e
     j : ℕ
     j = first-dividing (t .1) v 0
 
-    go : (b : Bool) → ltb j (length v) ≡ b → LowerOrder ≡ choose b (Reducer (suc j) (getD v j no-term .0)) LowerOrder → lower-order ≡ answer-from p 1 v t
+    go : (b : Bool) → ltb j (length v) ≡ b → LowerOrder ≡ choose b (Reducer (suc j) (getD v j no-term .0)) LowerOrder → lower-order
+        ≡ answer-from p 1 v t
     go true q f = absurd (subst (λ x. T (found? x)) (sym f) tt)
     go false q f = let n : length v ≤ j = ltb-false j (length v) q in answer-none p v t j refl (omega (arith, first-within p v t))
 
@@ -130,7 +136,8 @@ searched-reducer p v t j h e = go (ltb k (length v)) refl e
           from = omega arith;
           inside = omega arith;
           head = y ∙ ap (λ i. getD v i no-term .0) (sym z);
-          answers = (λ i. reducer (w i) (times p (t .0) (y i)) (quotient (t .1 .0) (getD v (z i) no-term .1 .0))) ∙ answer-one p v t k refl (λ m. omega arith);
+          answers = (λ i. reducer (w i) (times p (t .0) (y i)) (quotient (t .1 .0) (getD v (z i) no-term .1 .0)))
+              ∙ answer-one p v t k refl (λ m. omega arith);
         }
 
 -- ## A product with its coefficient
@@ -143,5 +150,6 @@ chosen : (c : ℕ) (b : Bool) (m : Monomial) → with-coefficient c (choose b (s
 chosen c true m = refl
 chosen c false m = refl
 
-pub product-formed : (c : ℕ) (b d : Bool) (m n : Monomial) → choose b (some m) none ≡ choose d (some n) none → choose {A = Option Term} b (some (c, m)) none ≡ choose d (some (c, n)) none
+pub product-formed : (c : ℕ) (b d : Bool) (m n : Monomial) → choose b (some m) none ≡ choose d (some n) none
+    → choose {A = Option Term} b (some (c, m)) none ≡ choose d (some (c, n)) none
 product-formed c b d m n e = sym (chosen c b m) ∙ ap (with-coefficient c) e ∙ chosen c d n

@@ -26,13 +26,15 @@ pub record First (f : ℕ → Bool) (a b r : ℕ) : Type 0 where
 
 -- one step of the loop
 pub first-here : (f : ℕ → Bool) (i to : ℕ) → i < to → true ≡ f i → first-from f (to - i) i ≡ i
-first-here f i to h e = let z : to - i ≡ suc (to - suc i) = omega arith in ap (λ n. first-from f n i) z ∙ ap (λ b. elim b [ true ↦ i | false ↦ first-from f (to - suc i) (suc i) ]) (sym e)
+first-here f i to h e = let z : to - i ≡ suc (to - suc i) = omega arith in ap (λ n. first-from f n i) z
+    ∙ ap (λ b. elim b [ true ↦ i | false ↦ first-from f (to - suc i) (suc i) ]) (sym e)
 
 pub first-past : (f : ℕ → Bool) (i to : ℕ) → i < to → false ≡ f i → first-from f (to - i) i ≡ first-from f (to - (i + 1)) (i + 1)
 first-past f i to h e =
     let z : to - i ≡ suc (to - suc i) = omega arith in
     let s : suc i ≡ i + 1 = omega arith in
-    ap (λ n. first-from f n i) z ∙ ap (λ b. elim b [ true ↦ i | false ↦ first-from f (to - suc i) (suc i) ]) (sym e) ∙ ap (λ k. first-from f (to - k) k) s
+    ap (λ n. first-from f n i) z ∙ ap (λ b. elim b [ true ↦ i | false ↦ first-from f (to - suc i) (suc i) ]) (sym e)
+    ∙ ap (λ k. first-from f (to - k) k) s
 
 pub first-end : (f : ℕ → Bool) (i to : ℕ) → to ≤ i → first-from f (to - i) i ≡ i
 first-end f i to h = let z : to - i ≡ 0 = omega arith in ap (λ n. first-from f n i) z
@@ -41,7 +43,8 @@ first-at : (f : ℕ → Bool) (n i : ℕ) → First f i (i + n) (first-from f n 
 first-at f zero i = record { from = omega arith; none-before = λ k h l. absurd (omega arith); passes = λ h. absurd (omega arith) }
 first-at f (suc n) i = go (first-at f n (suc i)) (f i) refl
   where
-    go : First f (suc i) (suc i + n) (first-from f n (suc i)) → (b : Bool) → f i ≡ b → First f i (i + suc n) (elim b [ true ↦ i | false ↦ first-from f n (suc i) ])
+    go : First f (suc i) (suc i + n) (first-from f n (suc i)) → (b : Bool) → f i ≡ b
+        → First f i (i + suc n) (elim b [ true ↦ i | false ↦ first-from f n (suc i) ])
     go r true e = record { from = omega arith; none-before = λ k h l. absurd (omega arith); passes = λ h. e }
     go r false e =
         let l : suc i ≤ first-from f n (suc i) = r .from in
@@ -54,21 +57,26 @@ first-at f (suc n) i = go (first-at f n (suc i)) (f i) refl
 -- ## Heads
 
 -- a head that divides, and none before it
-first-is : (m : Monomial) (v : Vector) (j i : ℕ) → j < length v → divides-monomial? (getD v j no-term .1) m ≡ true → ((k : ℕ) → k < j → divides-monomial? (getD v k no-term .1) m ≡ false) → first-dividing m v i ≡ i + j
+first-is : (m : Monomial) (v : Vector) (j i : ℕ) → j < length v → divides-monomial? (getD v j no-term .1) m ≡ true
+    → ((k : ℕ) → k < j → divides-monomial? (getD v k no-term .1) m ≡ false) → first-dividing m v i ≡ i + j
 first-is m [] j i h e f = absurd (not-suc-le-zero h)
 first-is m (u ∷ v) zero i h e f = ap (λ b. elim b [ true ↦ i | false ↦ first-dividing m v (suc i) ]) e ∙ omega arith
 first-is m (u ∷ v) (suc j) i h e f =
-    ap (λ b. elim b [ true ↦ i | false ↦ first-dividing m v (suc i) ]) (f 0 (omega arith)) ∙ first-is m v j (suc i) (omega arith) e (λ k l. f (suc k) (omega arith)) ∙ omega arith
+    ap (λ b. elim b [ true ↦ i | false ↦ first-dividing m v (suc i) ]) (f 0 (omega arith))
+    ∙ first-is m v j (suc i) (omega arith) e (λ k l. f (suc k) (omega arith)) ∙ omega arith
 
-first-none : (m : Monomial) (v : Vector) (i : ℕ) → ((k : ℕ) → k < length v → divides-monomial? (getD v k no-term .1) m ≡ false) → first-dividing m v i ≡ i + length v
+first-none : (m : Monomial) (v : Vector) (i : ℕ) → ((k : ℕ) → k < length v → divides-monomial? (getD v k no-term .1) m ≡ false) → first-dividing m v i
+    ≡ i + length v
 first-none m [] i f = omega arith
-first-none m (u ∷ v) i f = ap (λ b. elim b [ true ↦ i | false ↦ first-dividing m v (suc i) ]) (f 0 (omega arith)) ∙ first-none m v (suc i) (λ k l. f (suc k) (omega arith)) ∙ omega arith
+first-none m (u ∷ v) i f = ap (λ b. elim b [ true ↦ i | false ↦ first-dividing m v (suc i) ]) (f 0 (omega arith))
+    ∙ first-none m v (suc i) (λ k l. f (suc k) (omega arith)) ∙ omega arith
 
 -- ## A table's words
 
 raw-is : (s : Words) (a : ℕ) → ((j : ℕ) → j < 8 → getD s (a + j) 0 < 256) → exponents-raw s a ≡ exponents-at s a
 raw-is s a h = λ i.
-    first i ∷ one 1 (omega arith) i ∷ one 2 (omega arith) i ∷ one 3 (omega arith) i ∷ one 4 (omega arith) i ∷ one 5 (omega arith) i ∷ one 6 (omega arith) i ∷ one 7 (omega arith) i ∷ []
+    first i ∷ one 1 (omega arith) i ∷ one 2 (omega arith) i ∷ one 3 (omega arith) i ∷ one 4 (omega arith) i ∷ one 5 (omega arith) i
+    ∷ one 6 (omega arith) i ∷ one 7 (omega arith) i ∷ []
   where
     one : (j : ℕ) → j < 8 → getD s (a + j) 0 ≡ byte (getD s (a + j) 0)
     one j l = sym (byte-small (getD s (a + j) 0) (h j l))
@@ -80,7 +88,8 @@ raw-is s a h = λ i.
 pub head-is : (s : Words) (r i : ℕ) → Small r s → i < r → getD (rows s 0 r) i no-term .1 ≡ head-raw s i
 head-is s r i h l =
     let z : 0 + i ≡ i = omega arith in
-    ap (λ (t : Term). t .1) (getD-rows s 0 r i no-term l ∙ ap (row-at s) z ∙ row-is s i) ∙ (λ j. (sym (raw-is s (i * row-length + exponents-offset) (h i l)) j, getD s (i * row-length + component-offset) 0))
+    ap (λ (t : Term). t .1) (getD-rows s 0 r i no-term l ∙ ap (row-at s) z ∙ row-is s i)
+    ∙ (λ j. (sym (raw-is s (i * row-length + exponents-offset) (h i l)) j, getD s (i * row-length + component-offset) 0))
 
 -- the span's part holds every row with the component
 pub record Holds (s : ℕ × ℕ) (r i : ℕ) (heads : Words) : Type 0 where
@@ -95,12 +104,16 @@ span-holds k r spans heads i h = go (leb k i) refl
     go false e = let n : i < k = leb-false k i e in record { ends = h i n .0; inside = h i n .1 }
 
 -- a row outside it has another component
-outside : (s : ℕ × ℕ) (r : ℕ) (heads : Words) (m : Monomial) (k : ℕ) → Small r heads → Holds s r (m .1) heads → k < r → ((s .0 ≤ k) → (k < s .1) → ⊥) → divides-monomial? (getD (rows heads 0 r) k no-term .1) m ≡ false
+outside : (s : ℕ × ℕ) (r : ℕ) (heads : Words) (m : Monomial) (k : ℕ) → Small r heads → Holds s r (m .1) heads → k < r → ((s .0 ≤ k) → (k < s .1) → ⊥)
+    → divides-monomial? (getD (rows heads 0 r) k no-term .1) m ≡ false
 outside s r heads m k small h l n =
-    ap (λ x. divides-monomial? x m) (head-is heads r k small l) ∙ ap (λ b. b and divides? (exponents-raw heads (k * row-length + exponents-offset)) (m .0)) (ne-eqb (getD heads (k * row-length + component-offset) 0) (m .1) (λ q. n (h .inside k l q .0) (h .inside k l q .1)))
+    ap (λ x. divides-monomial? x m) (head-is heads r k small l) ∙ ap (λ b. b
+    and divides? (exponents-raw heads (k * row-length + exponents-offset)) (m .0))
+    (ne-eqb (getD heads (k * row-length + component-offset) 0) (m .1) (λ q. n (h .inside k l q .0) (h .inside k l q .1)))
 
 -- what the search in the span's part found is the first of all; none found: there is none
-pub first-spanned : (s : ℕ × ℕ) (r : ℕ) (heads : Words) (m : Monomial) (j : ℕ) → Small r heads → Holds s r (m .1) heads → j ≡ first-from (λ i. divides-monomial? (head-raw heads i) m) (s .1 - s .0) (s .0) → j < s .1 → j ≡ first-dividing m (rows heads 0 r) 0
+pub first-spanned : (s : ℕ × ℕ) (r : ℕ) (heads : Words) (m : Monomial) (j : ℕ) → Small r heads → Holds s r (m .1) heads → j
+    ≡ first-from (λ i. divides-monomial? (head-raw heads i) m) (s .1 - s .0) (s .0) → j < s .1 → j ≡ first-dividing m (rows heads 0 r) 0
 first-spanned s r heads m j small h e l = sym (first-is m (rows heads 0 r) j 0 (omega (arith, length-rows heads 0 r)) here before ∙ omega arith)
   where
     f : ℕ → Bool
@@ -125,7 +138,8 @@ first-spanned s r heads m j small h e l = sym (first-is m (rows heads 0 r) j 0 (
         go true t = ap (λ x. divides-monomial? x m) (head-is heads r k small (omega arith)) ∙ found .none-before k (leb-true (s .0) k t) q
         go false t = let w : k < s .0 = leb-false (s .0) k t in outside s r heads m k small h (omega arith) (λ u v. omega arith)
 
-pub none-spanned : (s : ℕ × ℕ) (r : ℕ) (heads : Words) (m : Monomial) (j : ℕ) → Small r heads → Holds s r (m .1) heads → j ≡ first-from (λ i. divides-monomial? (head-raw heads i) m) (s .1 - s .0) (s .0) → s .1 ≤ j → r ≡ first-dividing m (rows heads 0 r) 0
+pub none-spanned : (s : ℕ × ℕ) (r : ℕ) (heads : Words) (m : Monomial) (j : ℕ) → Small r heads → Holds s r (m .1) heads → j
+    ≡ first-from (λ i. divides-monomial? (head-raw heads i) m) (s .1 - s .0) (s .0) → s .1 ≤ j → r ≡ first-dividing m (rows heads 0 r) 0
 none-spanned s r heads m j small h e l = sym (first-none m (rows heads 0 r) 0 each ∙ omega (arith, length-rows heads 0 r))
   where
     f : ℕ → Bool
@@ -141,6 +155,7 @@ none-spanned s r heads m j small h e l = sym (first-none m (rows heads 0 r) 0 ea
         inside = omega (arith, length-rows heads 0 r)
 
         go : (b : Bool) → leb (s .0) k ≡ b → (d : Bool) → ltb k (s .1) ≡ d → divides-monomial? (getD (rows heads 0 r) k no-term .1) m ≡ false
-        go true t true u = let w : k < s .1 = ltb-true k (s .1) u in ap (λ x. divides-monomial? x m) (head-is heads r k small inside) ∙ found .none-before k (leb-true (s .0) k t) (omega arith)
+        go true t true u = let w : k < s .1 = ltb-true k (s .1) u in ap (λ x. divides-monomial? x m) (head-is heads r k small inside)
+            ∙ found .none-before k (leb-true (s .0) k t) (omega arith)
         go true t false u = let w : s .1 ≤ k = ltb-false k (s .1) u in outside s r heads m k small h inside (λ x v. omega arith)
         go false t d u = let w : k < s .0 = leb-false (s .0) k t in outside s r heads m k small h inside (λ x v. omega arith)

@@ -48,7 +48,8 @@ span-of x = (x .from, x .to)
 
 -- a component's rows are nowhere else
 abbrev pub Spanned : ℕ → ℕ → Words → Words → Type 0
-Spanned k r spans heads = (i : ℕ) → i < k → (getD spans (i * 2 + 1) 0 ≤ r) × ((j : ℕ) → j < r → getD heads (j * row-length + component-offset) 0 ≡ i → (getD spans (i * 2) 0 ≤ j) × (j < getD spans (i * 2 + 1) 0))
+Spanned k r spans heads = (i : ℕ) → i < k → (getD spans (i * 2 + 1) 0 ≤ r)
+    × ((j : ℕ) → j < r → getD heads (j * row-length + component-offset) 0 ≡ i → (getD spans (i * 2) 0 ≤ j) × (j < getD spans (i * 2 + 1) 0))
 
 -- ## Answers
 

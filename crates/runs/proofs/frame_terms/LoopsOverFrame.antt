@@ -71,10 +71,12 @@ module _ (S : Stage) (W : Strategy) (frame : Words) (count : ℕ) where
   within : (l : Lifted) (m : Monomial) (x : Result Lifted) (k n : ℕ) → k ≤ n → T (finished? x) → x ≡ lifted-one S W k l m → lifted-one S W n l m ≡ x
   within l m x k n h t e =
       let d : n ≡ k + (n - k) = omega arith in
-      ap (λ j. lifted-one S W j l m) d ∙ steady-from finished? (λ n. lifted-one S W n l m) (steady l m) k (n - k) (subst (λ y. T (finished? y)) e t) ∙ sym e
+      ap (λ j. lifted-one S W j l m) d ∙ steady-from finished? (λ n. lifted-one S W n l m) (steady l m) k (n - k) (subst (λ y. T (finished? y)) e t)
+      ∙ sym e
 
   after : (l : Lifted) (i : ℕ) (x : Result Lifted) (k : ℕ) → Going l i → i < count → T (finished? x) → x ≡ lifted-one S W k l (row-at frame i .1)
-      → (b : ℕ) × ((n : ℕ) → b ≤ n → all-from n ([], 0) (frame-terms frame count) ≡ (x >>= λ l′. all-from n l′ (drop (i + 1) (frame-terms frame count))))
+      → (b : ℕ) × ((n : ℕ) → b ≤ n → all-from n ([], 0) (frame-terms frame count)
+      ≡ (x >>= λ l′. all-from n l′ (drop (i + 1) (frame-terms frame count))))
   after l i x k a h t e = (
     a .bound + k,
     λ n b.
@@ -87,7 +89,8 @@ module _ (S : Stage) (W : Strategy) (frame : Words) (count : ℕ) where
   pub going-on : (l l′ : Lifted) (i k : ℕ) → Going l i → i < count → done l′ ≡ lifted-one S W k l (row-at frame i .1) → Going l′ (i + 1)
   going-on l l′ i k a h e = let z = after l i (done l′) k a h tt e in record { bound = z .0; same = z .1 }
 
-  pub going-refused : (l : Lifted) (i k number place : ℕ) (value : Vector) → Going l i → i < count → refused number place value ≡ lifted-one S W k l (row-at frame i .1)
+  pub going-refused : (l : Lifted) (i k number place : ℕ) (value : Vector) → Going l i → i < count → refused number place value
+      ≡ lifted-one S W k l (row-at frame i .1)
       → (n : ℕ) × (refused number place value ≡ all-from n ([], 0) (frame-terms frame count))
   going-refused l i k number place value a h e = let z = after l i (refused number place value) k a h tt e in (z .0, sym (z .1 (z .0) (omega arith)))
 
@@ -113,14 +116,16 @@ module _ (S : Stage) (frame : Words) (count : ℕ) where
       ap (λ j. run S W j m) d ∙ steady-from finished? (λ n. run S W n m) (run-steady S W m) k (n - k) (subst (λ y. T (finished? y)) e t) ∙ sym e
 
   next : (i : ℕ) (x : Result Vector) (k : ℕ) → Accepting i → i < count → T (finished? x) → x ≡ run S W k (row-at frame i .1)
-      → (b : ℕ) × ((n : ℕ) → b ≤ n → accept-from S n 1 (frame-terms frame count) ≡ (at-frame-term (i + 1) x >>= λ v. accept-from S n (i + 1 + 1) (drop (i + 1) (frame-terms frame count))))
+      → (b : ℕ) × ((n : ℕ) → b ≤ n → accept-from S n 1 (frame-terms frame count)
+      ≡ (at-frame-term (i + 1) x >>= λ v. accept-from S n (i + 1 + 1) (drop (i + 1) (frame-terms frame count))))
   next i x k a h t e = (
     a .bound + k,
     λ n b.
         let s : suc (i + 1) ≡ i + 1 + 1 = omega arith in
         a .same n (omega arith)
         ∙ ap (accept-from S n (i + 1)) (left-at frame count i h)
-        ∙ (λ j. at-frame-term (i + 1) (divided (row-at frame i .1) x k n (omega arith) t e j) >>= λ v. accept-from S n (s j) (drop (i + 1) (frame-terms frame count))),
+        ∙ (λ j. at-frame-term (i + 1) (divided (row-at frame i .1) x k n (omega arith) t e j)
+        >>= λ v. accept-from S n (s j) (drop (i + 1) (frame-terms frame count))),
   )
 
   pub accepting-on : (i k : ℕ) (v : Vector) → Accepting i → i < count → done v ≡ run S W k (row-at frame i .1) → Accepting (i + 1)

@@ -56,7 +56,8 @@ final-of (suc n) out h = final-at 0 (take (suc n) out) (suc n) (length-take-le (
 
 -- ## One vector more
 
-module _ (out value : Words) (i used v : ℕ) (small : i < most-vectors) (room : (used + v) * row-length + ends-length ≤ length out) (has : v * row-length ≤ length value) (kept : Kept i used out) where
+module _ (out value : Words) (i used v : ℕ) (small : i < most-vectors) (room : (used + v) * row-length + ends-length ≤ length out)
+    (has : v * row-length ≤ length value) (kept : Kept i used out) where
   abbrev pasted : Words
   pasted = paste out (used * row-length + ends-length) value (v * row-length)
 
@@ -73,7 +74,8 @@ module _ (out value : Words) (i used v : ℕ) (small : i < most-vectors) (room :
       (length-take-le i pasted (omega (arith, long)) ∙ sym (length-take-le i out (omega arith)))
       (λ k h.
       let l : k < i = omega (arith, length-take-le i pasted (omega (arith, long))) in
-      getD-take i pasted k 0 l ∙ getD-paste-below out (used * row-length + ends-length) value (v * row-length) k 0 (omega arith) (omega arith) ∙ sym (getD-take i out k 0 l))
+      getD-take i pasted k 0 l ∙ getD-paste-below out (used * row-length + ends-length) value (v * row-length) k 0 (omega arith) (omega arith)
+      ∙ sym (getD-take i out k 0 l))
 
   own-end : getD grown i 0 ≡ used + v
   own-end = getD-set-same pasted i (used + v) 0 (omega (arith, long))
@@ -87,12 +89,14 @@ module _ (out value : Words) (i used v : ℕ) (small : i < most-vectors) (room :
   word x = getD-drop ends-length grown x 0 ∙ getD-set-other pasted i (ends-length + x) (used + v) 0 (λ e. omega (arith, e))
 
   word-before : (x : ℕ) → x < used * row-length → getD (drop ends-length grown) x 0 ≡ getD (drop ends-length out) x 0
-  word-before x h = word x ∙ getD-paste-below out (used * row-length + ends-length) value (v * row-length) (ends-length + x) 0 (omega arith) (omega arith) ∙ sym (getD-drop ends-length out x 0)
+  word-before x h = word x ∙ getD-paste-below out (used * row-length + ends-length) value (v * row-length) (ends-length + x) 0 (omega arith)
+      (omega arith) ∙ sym (getD-drop ends-length out x 0)
 
   word-inside : (x : ℕ) → x < v * row-length → getD (drop ends-length grown) (used * row-length + x) 0 ≡ getD value x 0
   word-inside x h =
       let e : ends-length + (used * row-length + x) ≡ used * row-length + ends-length + x = omega arith in
-      word (used * row-length + x) ∙ ap (λ k. getD pasted k 0) e ∙ getD-paste-in out (used * row-length + ends-length) value (v * row-length) x 0 (omega arith) has h
+      word (used * row-length + x) ∙ ap (λ k. getD pasted k 0) e ∙ getD-paste-in out (used * row-length + ends-length) value (v * row-length) x 0
+      (omega arith) has h
 
   row-before : (k : ℕ) → k < used → row-at (drop ends-length grown) k ≡ row-at (drop ends-length out) k
   row-before k h = same-row (drop ends-length out) (drop ends-length grown) k k (λ j l. word-before (k * row-length + j) (omega arith))
@@ -113,7 +117,11 @@ module _ (out value : Words) (i used v : ℕ) (small : i < most-vectors) (room :
       ap (vectors-at (drop ends-length grown) 0) all-ends
       ∙ vectors-more (drop ends-length grown) 0 (take i out) (used + v)
       ∙ (λ k. vectors-same (drop ends-length out) (drop ends-length grown) used row-before 0 (take i out)
-      (λ j h. omega (arith, kept .inside j (omega (arith, length-take-le i out (omega arith))), getD-take i out j 0 (omega (arith, length-take-le i out (omega arith))))) k
+      (λ j h. omega (
+        arith,
+        kept .inside j (omega (arith, length-take-le i out (omega arith))),
+        getD-take i out j 0 (omega (arith, length-take-le i out (omega arith))),
+      )) k
       ++ rows (drop ends-length grown) (end-used k) (used + v - end-used k) ∷ [])
       ∙ ap (λ n. lifted-vectors out i ++ rows (drop ends-length grown) used n ∷ []) d
       ∙ ap (λ w. lifted-vectors out i ++ w ∷ []) (rows-same value (drop ends-length grown) 0 used v row-inside)
@@ -130,7 +138,8 @@ module _ (out value : Words) (i used v : ℕ) (small : i < most-vectors) (room :
           omega (
             arith,
             kept .inside j h,
-            getD-set-other pasted i j (used + v) 0 (λ e. omega (arith, e)) ∙ getD-paste-below out (used * row-length + ends-length) value (v * row-length) j 0 (omega arith) (omega arith),
+            getD-set-other pasted i j (used + v) 0 (λ e. omega (arith, e))
+                ∙ getD-paste-below out (used * row-length + ends-length) value (v * row-length) j 0 (omega arith) (omega arith),
           )
 
       at : (j : ℕ) → j < i + 1 → Dec (j ≡ i) → getD grown j 0 ≤ used + v
@@ -156,7 +165,8 @@ module _ (S : Stage) (l : Lifted) (w : Vector) (v : ℕ) (n : length w ≡ v) wh
 
 -- ## A frame term's component
 
-pub frame-component : (g : Ground) (count : ℕ) (frame : Words) (i : ℕ) (t : Term) → Framed g count frame → i < count → t ≡ row-at frame i → (1 ≤ t .1 .1) × (t .1 .1 ≤ g .r)
+pub frame-component : (g : Ground) (count : ℕ) (frame : Words) (i : ℕ) (t : Term) → Framed g count frame → i < count → t ≡ row-at frame i
+    → (1 ≤ t .1 .1) × (t .1 .1 ≤ g .r)
 frame-component g count frame i t f h e =
     let d : t .1 .1 ≡ getD frame (i * row-length + component-offset) 0 = ap (λ x. x .1 .1) (e ∙ row-is frame i) in
     (omega (arith, d, f .components i h .0), omega (arith, d, f .components i h .1))

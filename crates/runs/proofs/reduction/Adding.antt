@@ -49,7 +49,8 @@ combined-short : (p : ℕ) (t : Term) (v : Vector) → Short (length v) (combine
 combined-short p t [] = tt
 combined-short p t (u ∷ v) = go (same-monomial? (t .1) (u .1)) (eqb (plus p (u .0) (t .0)) 0) (combined p t v) (combined-short p t v)
   where
-    go : (b d : Bool) (x : Option Vector) → Short (length v) x → Short (suc (length v)) (elim b [ true ↦ some (elim d [ true ↦ v | false ↦ (plus p (u .0) (t .0), u .1) ∷ v ]) | false ↦ behind u x ])
+    go : (b d : Bool) (x : Option Vector) → Short (length v) x → Short (suc (length v))
+        (elim b [ true ↦ some (elim d [ true ↦ v | false ↦ (plus p (u .0) (t .0), u .1) ∷ v ]) | false ↦ behind u x ])
     go true true x h = omega arith
     go true false x h = omega arith
     go false d none h = tt
@@ -72,8 +73,10 @@ store-at-most limit p t v h = go (combined p t v) (combined-short p t v)
     go (some w) k = omega arith
     go none k = last (ltb (length v) limit) refl
 
-pub store-within : (limit p : ℕ) (t : Term) (v : Vector) (x : Stored) (s : Words) (k : ℕ) → length v ≤ limit → stored-as x s ≡ store limit p t v → x ≡ Stored-rows k → k ≤ limit
-store-within limit p t v x s k h e f = let n : length (rows s 0 k) ≤ limit = subst (At-most limit) (sym e ∙ ap (λ y. stored-as y s) f) (store-at-most limit p t v h) in omega (arith, length-rows s 0 k)
+pub store-within : (limit p : ℕ) (t : Term) (v : Vector) (x : Stored) (s : Words) (k : ℕ) → length v ≤ limit → stored-as x s ≡ store limit p t v → x
+    ≡ Stored-rows k → k ≤ limit
+store-within limit p t v x s k h e f = let n : length (rows s 0 k) ≤ limit =
+    subst (At-most limit) (sym e ∙ ap (λ y. stored-as y s) f) (store-at-most limit p t v h) in omega (arith, length-rows s 0 k)
 
 -- ## Formed
 
@@ -104,18 +107,25 @@ unfolding rows
 rows-none s a = refl
 
 module _ (R : Reduction) (drops : Bool) (c : ℕ) (q : Exponents) (level : Words) where
-  adding-first : (i to : ℕ) (v : Vector) → i < to → add-products R drops c q (rows level i (to - i)) v ≡ (add-term R drops (multiple (R .p) c q (row-at level i)) v >>= λ w. add-products R drops c q (rows level (i + 1) (to - (i + 1))) w)
+  adding-first : (i to : ℕ) (v : Vector) → i < to → add-products R drops c q (rows level i (to - i)) v
+      ≡ (add-term R drops (multiple (R .p) c q (row-at level i)) v >>= λ w. add-products R drops c q (rows level (i + 1) (to - (i + 1))) w)
   adding-first i to v h =
       let z : to - i ≡ suc (to - (i + 1)) = omega arith in
       let y : suc i ≡ i + 1 = omega arith in
       ap (λ n. add-products R drops c q (rows level i n) v) z ∙ ap (λ f. add-products R drops c q f v) (rows-first level i (to - (i + 1)))
       ∙ ap (λ k. add-term R drops (multiple (R .p) c q (row-at level i)) v >>= λ w. add-products R drops c q (rows level k (to - (i + 1))) w) y
 
-  pub adding-on : (i to : ℕ) (v : Vector) (k : ℕ) (x : Added) (s : Words) → i < to → added-of x s ≡ add-term R drops (multiple (R .p) c q (row-at level i)) v → x ≡ Rows k → add-products R drops c q (rows level i (to - i)) v ≡ add-products R drops c q (rows level (i + 1) (to - (i + 1))) (rows s 0 k)
-  adding-on i to v k x s h e f = adding-first i to v h ∙ ap (λ y. y >>= λ w. add-products R drops c q (rows level (i + 1) (to - (i + 1))) w) (sym e ∙ ap (λ y. added-of y s) f)
+  pub adding-on : (i to : ℕ) (v : Vector) (k : ℕ) (x : Added) (s : Words) → i < to → added-of x s
+      ≡ add-term R drops (multiple (R .p) c q (row-at level i)) v → x ≡ Rows k → add-products R drops c q (rows level i (to - i)) v
+      ≡ add-products R drops c q (rows level (i + 1) (to - (i + 1))) (rows s 0 k)
+  adding-on i to v k x s h e f = adding-first i to v h ∙ ap (λ y. y >>= λ w. add-products R drops c q (rows level (i + 1) (to - (i + 1))) w)
+      (sym e ∙ ap (λ y. added-of y s) f)
 
-  pub adding-stops : (i to : ℕ) (v : Vector) (number : ℕ) (x : Added) (s : Words) → i < to → added-of x s ≡ add-term R drops (multiple (R .p) c q (row-at level i)) v → x ≡ Refused number → add-products R drops c q (rows level i (to - i)) v ≡ refusal number
-  adding-stops i to v number x s h e f = adding-first i to v h ∙ ap (λ y. y >>= λ w. add-products R drops c q (rows level (i + 1) (to - (i + 1))) w) (sym e ∙ ap (λ y. added-of y s) f)
+  pub adding-stops : (i to : ℕ) (v : Vector) (number : ℕ) (x : Added) (s : Words) → i < to → added-of x s
+      ≡ add-term R drops (multiple (R .p) c q (row-at level i)) v → x ≡ Refused number → add-products R drops c q (rows level i (to - i)) v
+      ≡ refusal number
+  adding-stops i to v number x s h e f = adding-first i to v h ∙ ap (λ y. y >>= λ w. add-products R drops c q (rows level (i + 1) (to - (i + 1))) w)
+      (sym e ∙ ap (λ y. added-of y s) f)
 
   pub adding-ends : (i to : ℕ) (v : Vector) → to ≤ i → add-products R drops c q (rows level i (to - i)) v ≡ done v
   adding-ends i to v h =

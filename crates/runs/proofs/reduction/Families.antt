@@ -14,13 +14,15 @@ abbrev before : ℕ → Words → ℕ → ℕ
 before a es zero = a
 before a es (suc i) = getD es i 0
 
-vector-from : (s : Words) (a : ℕ) (es : Words) (i : ℕ) → i < length es → getD (vectors-at s a es) i [] ≡ rows s (before a es i) (getD es i 0 - before a es i)
+vector-from : (s : Words) (a : ℕ) (es : Words) (i : ℕ) → i < length es → getD (vectors-at s a es) i []
+    ≡ rows s (before a es i) (getD es i 0 - before a es i)
 vector-from s a [] i h = absurd (not-suc-le-zero h)
 vector-from s a (e ∷ es) zero h = refl
 vector-from s a (e ∷ es) (suc zero) h = vector-from s e es zero (omega arith)
 vector-from s a (e ∷ es) (suc (suc i)) h = vector-from s e es (suc i) (omega arith)
 
-pub vector-at : (s ends : Words) (r j : ℕ) → r ≤ length ends → 1 ≤ j → j ≤ r → vector-of (vectors-at s 0 (take r ends)) j ≡ rows s (first-row ends j) (getD ends (j - 1) 0 - first-row ends j)
+pub vector-at : (s ends : Words) (r j : ℕ) → r ≤ length ends → 1 ≤ j → j ≤ r → vector-of (vectors-at s 0 (take r ends)) j
+    ≡ rows s (first-row ends j) (getD ends (j - 1) 0 - first-row ends j)
 vector-at s ends r zero h l m = absurd (not-suc-le-zero l)
 vector-at s ends r (suc zero) h l m =
     vector-from s 0 (take r ends) 0 (omega (arith, length-take-le r ends h)) ∙ ap (λ e. rows s 0 (e - 0)) (getD-take r ends 0 0 (omega arith))

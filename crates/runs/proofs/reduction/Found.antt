@@ -1,4 +1,5 @@
--- A3 of the code's search: the term that `greatest` finds is the greatest of the working value, in document 01's order over the levels of a sound state.
+-- A3 of the code's search: the term that `greatest` finds is the greatest of the working value, in document 01's order over the levels of a sound
+-- state.
 use mathlib.Core.Path.{_≡_, refl, sym, ap, _∙_, subst}
 use mathlib.Core.Bool.{true}
 use mathlib.Core.Option.{some}
@@ -46,5 +47,6 @@ pub found-greatest : (lim : Limits) (X : State) → T (sound? lim X) → (k : �
 found-greatest lim X s k value n r e =
     let q = X .parameters in
     let led = led-dropped (length (X .levels) - suc k) (X .levels) (sound-led lim q (X .levels) (sound-says lim X s .levels)) in
-    let same : table-order (q .code) (images (up-to X k)) ≡ compare-over (q .code) (up-to X k) = λ i m m′. table-order-is (q .code) (up-to X k) led m m′ i in
+    let same : table-order (q .code) (images (up-to X k)) ≡ compare-over (q .code) (up-to X k) =
+    λ i m m′. table-order-is (q .code) (up-to X k) led m m′ i in
     a3 lim .is-greatest X s k (rows value 0 n) (rows-eight value 0 n) r (sym (e ∙ ap (λ o. greatest o (rows value 0 n)) same))

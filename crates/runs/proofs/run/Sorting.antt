@@ -26,7 +26,8 @@ module _ (order : Monomial → Monomial → Comparison) (p : ℕ) where
   insert-length t (u ∷ v) = go (order (t .1) (u .1)) (insert-length t v)
     where
       go : (c : Comparison) → length (insert order p t v) ≤ suc (length v)
-          → length {A = Term} (elim c [ greater ↦ t ∷ u ∷ v | equal ↦ unless-zero (plus p (t .0) (u .0), u .1) v | smaller ↦ u ∷ insert order p t v ]) ≤ suc (suc (length v))
+          → length {A = Term} (elim c [ greater ↦ t ∷ u ∷ v | equal ↦ unless-zero (plus p (t .0) (u .0), u .1) v | smaller ↦ u ∷ insert order p t v ]) ≤
+          suc (suc (length v))
       go greater l = omega arith
       go equal l = omega (arith, unless-zero-length (plus p (t .0) (u .0), u .1) v)
       go smaller l = omega arith

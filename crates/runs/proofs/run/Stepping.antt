@@ -48,7 +48,8 @@ module _ (R : Reduction) (f : Level) (drops : Bool) (r : Run) (j c : ℕ) (q : E
 
 module _ (S : Stage) (value : Words) (n : ℕ) (vector : Words) (v i : ℕ) (l : i < n) (fits : n * row-length ≤ length value) where
   pub left-out : (stops : Bool)
-      → step-of (S .below) (S .reduction .p) (without-step stops n v) (without-words stops value n i) vector ≡ without-reducer stops S (run-of value n vector v) i
+      → step-of (S .below) (S .reduction .p) (without-step stops n v) (without-words stops value n i) vector
+      ≡ without-reducer stops S (run-of value n vector v) i
   left-out true = refl
   left-out false = ap (λ w. done (on (record { value = w; vector = rows vector 0 v }))) (rows-closed value n i l fits)
 
@@ -70,7 +71,8 @@ module _ (S : Stage) (W : Strategy) (r : Run) (i : ℕ) (picked : some i ≡ W .
       → reduced S W r j (minus (S .reduction .p) c) q ≡ step S W r
   step-reduced j c q e = step-at (reducer j c q) e
 
-  pub step-without : lower-order ≡ answer-from (S .reduction .p) 1 (S .reduction .heads) (getD (r .value) i no-term) → without-reducer (W .stops) S r i ≡ step S W r
+  pub step-without : lower-order ≡ answer-from (S .reduction .p) 1 (S .reduction .heads) (getD (r .value) i no-term) → without-reducer (W .stops) S r i
+      ≡ step S W r
   step-without e = step-at lower-order e
 
 -- ## The reducer's number
@@ -95,11 +97,15 @@ numbered p k (h ∷ hs) t = go (divides-monomial? (h .1) (t .1)) (answer-from p 
     go false later l = wider later l
 
 pub reducer-number : (p : ℕ) (hs : Vector) (t : Term) (j c : ℕ) (q : Exponents) → reducer j c q ≡ answer-from p 1 hs t → (1 ≤ j) × (j ≤ length hs)
-reducer-number p hs t j c q e = (subst (Numbered 1 (length hs)) (sym e) (numbered p 1 hs t) .0, omega (arith, subst (Numbered 1 (length hs)) (sym e) (numbered p 1 hs t) .1))
+reducer-number p hs t j c q e = (
+  subst (Numbered 1 (length hs)) (sym e) (numbered p 1 hs t) .0,
+  omega (arith, subst (Numbered 1 (length hs)) (sym e) (numbered p 1 hs t) .1),
+)
 
 -- ## The slices keep their lengths
 
-pub rooms-again : (g : Ground) (value vector value′ vector′ : Words) → length value′ ≡ length value → length vector′ ≡ length vector → Rooms g value vector → Rooms g value′ vector′
+pub rooms-again : (g : Ground) (value vector value′ vector′ : Words) → length value′ ≡ length value → length vector′ ≡ length vector
+    → Rooms g value vector → Rooms g value′ vector′
 rooms-again g value vector value′ vector′ e h r = record {
   value-fits = omega (arith, r .value-fits);
   vector-fits = omega (arith, r .vector-fits);

@@ -44,7 +44,8 @@ frame-terms s n = map (λ t. t .1) (rows s 0 n)
 pub record Framed (g : Ground) (count : ℕ) (frame : Words) : Type 0 where
   pub few : count ≤ most-vectors
   pub fits : count * row-length ≤ length frame
-  pub components : (i : ℕ) → i < count → (1 ≤ getD frame (i * row-length + component-offset) 0) × (getD frame (i * row-length + component-offset) 0 ≤ g .r)
+  pub components : (i : ℕ) → i < count → (1 ≤ getD frame (i * row-length + component-offset) 0)
+      × (getD frame (i * row-length + component-offset) 0 ≤ g .r)
 
 -- ## Answers
 

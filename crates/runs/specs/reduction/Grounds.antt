@@ -39,7 +39,8 @@ limits-of g = record {
   numbering = document-01 .numbering;
 }
 
--- ## The tables of a lifting in one slice, one after the other: rows of 128 heads, their spans, the ends of the level's vectors, the images below and above
+-- ## The tables of a lifting in one slice, one after the other: rows of 128 heads, their spans, the ends of the level's vectors, the images below and
+-- above
 
 abbrev pub spans-start : ℕ
 spans-start = table-length

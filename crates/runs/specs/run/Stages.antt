@@ -26,7 +26,13 @@ abbrev pub order-of : Ground → Words → Monomial → Monomial → Comparison
 order-of g tables = table-order (g .code) (table-of (g .images) (below-in tables))
 
 abbrev pub stage-of : Ground → Words → Words → (Monomial → Monomial → Comparison) → Stage
-stage-of g level tables above = record { reduction = reduction-of g tables; family = family-of g level (ends-in tables); below = order-of g tables; above = above }
+stage-of g level tables above = record {
+  reduction = reduction-of g tables;
+  family = family-of g level (ends-in tables);
+  below =
+      order-of g tables;
+  above = above;
+}
 
 abbrev pub strategy-of : Ground → Words → Strategy → definition.Strategy
 strategy-of g tables w = record { drops = w .drops; pick = by-code (order-of g tables) (w .pick); stops = w .stops }

@@ -29,8 +29,13 @@ loop-again : tie.Need-loop-again Inv-loop μ-loop
 loop-again c =
     let l = c .before .loop in
     let s = c .before .before .args .out .now in
-    let a = c .before .before .args .from in
-    (omega arith, omega (arith, length-set (l .out) (l .i) 0), inr (omega arith), ap (λ u. set u (l .i) 0) (l .inv .3) ∙ cleared-more s a (l .i) (omega arith) (omega arith))
+    let a = c .before .before .args .from in (
+      omega arith,
+      omega (arith, length-set (l .out) (l .i) 0),
+      inr (omega arith),
+      ap (λ u. set u (l .i) 0) (l .inv .3)
+          ∙ cleared-more s a (l .i) (omega arith) (omega arith),
+    )
 
 same-length : tie.Need-same-length Inv-loop μ-loop
 same-length c = omega arith

@@ -47,8 +47,18 @@ returns-4 : tie.Need-returns-4
 returns-4 c =
     let a = c .before .before .before .before .before .before .before .before .before .before .before .before .before .before .before .before .before .before .before .before .before .before .before .before .before .before .before .before .before .args in
     let R = c .before .before .before .before .before .before .before .before .before .before .before .before .before .before .before .before .before .before .print in
-    let w = whole-sheet (a .file .now) (a .state .now) (a .work .now) (a .out .now) (omega arith) (omega arith) (omega arith) (R .ensures .0 .bound) (R .ensures .0 .bytes) (R .ensures .0 .gives) (R .result) (R .last .1 .0) (R .last .1 .1 .0) (R .last .1 .1 .1 .0) (R .ensures .0 .printed) (omega arith) (omega arith) (omega arith) in
-    (w .0, (λ i. some (0, R .result, c .before .before .before .before .before .before .clear2 .ensures i, c .before .before .clear3 .ensures i, c .before .before .before .before .before .before .before .before .before .before .clear .ensures i)) ∙ w .1)
+    let w = whole-sheet (a .file .now) (a .state .now) (a .work .now) (a .out .now) (omega arith) (omega arith) (omega arith) (R .ensures .0 .bound)
+    (R .ensures .0 .bytes) (R .ensures .0 .gives) (R .result) (R .last .1 .0) (R .last .1 .1 .0) (R .last .1 .1 .1 .0) (R .ensures .0 .printed)
+    (omega arith) (omega arith) (omega arith) in (
+      w .0,
+      (λ i. some (
+        0,
+        R .result,
+        c .before .before .before .before .before .before .clear2 .ensures i,
+        c .before .before .clear3 .ensures i,
+        c .before .before .before .before .before .before .before .before .before .before .clear .ensures i,
+      )) ∙ w .1,
+    )
 
 pub sheet-spec : {M : Type 1} → statement M
 sheet-spec =

@@ -30,7 +30,8 @@ drop-levels : (s : Words) (h k : ℕ) → k ≤ h → drop (h - k) (levels-at do
 drop-levels s zero k l = let z : 0 ≡ k = omega arith in drop-nil (0 - k) ∙ ap (levels-at document-01 s) z
 drop-levels s (suc h) k l = go (ℕ-discrete k (suc h)) (drop-levels s h k)
   where
-    go : Dec (k ≡ suc h) → (k ≤ h → drop (h - k) (levels-at document-01 s h) ≡ levels-at document-01 s k) → drop (suc h - k) (levels-at document-01 s (suc h)) ≡ levels-at document-01 s k
+    go : Dec (k ≡ suc h) → (k ≤ h → drop (h - k) (levels-at document-01 s h) ≡ levels-at document-01 s k)
+        → drop (suc h - k) (levels-at document-01 s (suc h)) ≡ levels-at document-01 s k
     go (yes e) r = let z : suc h - k ≡ 0 = omega arith in ap (λ n. drop n (levels-at document-01 s (suc h))) z ∙ ap (levels-at document-01 s) (sym e)
     go (no e) r = let z : suc h - k ≡ suc (h - k) = omega arith in ap (λ n. drop n (levels-at document-01 s (suc h))) z ∙ r (omega arith)
 
@@ -66,7 +67,8 @@ module _ (s : Words) (long : state-length ≤ length s) (t : T (holds-state? doc
   pub words-below : (k : ℕ) → k ≤ getD s 4 0 → T (all-words-sound? document-01 s k)
   words-below k h =
       go (getD s 4 0) k h
-      (and-left (all-words-sound? document-01 s (getD s 4 0)) (sound? document-01 (decode document-01 s)) (and-right (leb (getD s 4 0) all-levels) (all-words-sound? document-01 s (getD s 4 0) and sound? document-01 (decode document-01 s)) t))
+      (and-left (all-words-sound? document-01 s (getD s 4 0)) (sound? document-01 (decode document-01 s))
+      (and-right (leb (getD s 4 0) all-levels) (all-words-sound? document-01 s (getD s 4 0) and sound? document-01 (decode document-01 s)) t))
     where
       go : (h k : ℕ) → k ≤ h → T (all-words-sound? document-01 s h) → T (all-words-sound? document-01 s k)
       go zero k l u = let z : 0 ≡ k = omega arith in subst (λ n. T (all-words-sound? document-01 s n)) z u
@@ -80,8 +82,11 @@ module _ (s : Words) (long : state-length ≤ length s) (t : T (holds-state? doc
 
   pub complete-led : (k : ℕ) → k ≤ getD s 4 0 → All-led (levels-at document-01 s k)
   complete-led zero h = no-levels
-  complete-led (suc k) h = sound-led document-01 (parameters-at s) (levels-at document-01 s (suc k)) (up-levels s long k (omega (arith, height s long t)) (climbed-to s (getD s 4 0) (holds-said s long t .4) (suc k) h))
+  complete-led (suc k) h = sound-led document-01 (parameters-at s) (levels-at document-01 s (suc k))
+      (up-levels s long k (omega (arith, height s long t)) (climbed-to s (getD s 4 0) (holds-said s long t .4) (suc k) h))
 
   -- the order through a table that is ready is the definitions' order of the module over levels 0 to k − 1
-  pub ready-order : (k : ℕ) (table : Words) → k ≤ getD s 4 0 → Ready s k table → table-order (getD s 2 0) (table-of (count-below s k) table) ≡ compare-over (getD s 2 0) (levels-at document-01 s k)
-  ready-order k table h r = ap (table-order (getD s 2 0)) (r .made) ∙ (λ i m m′. table-order-is (getD s 2 0) (levels-at document-01 s k) (complete-led k h) m m′ i)
+  pub ready-order : (k : ℕ) (table : Words) → k ≤ getD s 4 0 → Ready s k table → table-order (getD s 2 0) (table-of (count-below s k) table)
+      ≡ compare-over (getD s 2 0) (levels-at document-01 s k)
+  ready-order k table h r = ap (table-order (getD s 2 0)) (r .made) ∙ (λ i m m′. table-order-is (getD s 2 0) (levels-at document-01 s k)
+      (complete-led k h) m m′ i)

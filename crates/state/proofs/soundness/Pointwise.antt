@@ -42,7 +42,8 @@ module _ (f : ℕ → Bool) where
 
   pub holds-all : (i n : ℕ) → ((k : ℕ) → i ≤ k → k < i + n → T (f k)) → T (all-hold? f i n)
   holds-all i zero h = tt
-  holds-all i (suc n) h = and-both (f i) (all-hold? f (suc i) n) (h i (omega arith) (omega arith)) (holds-all (suc i) n (λ k a b. h k (omega arith) (omega arith)))
+  holds-all i (suc n) h = and-both (f i) (all-hold? f (suc i) n) (h i (omega arith) (omega arith))
+      (holds-all (suc i) n (λ k a b. h k (omega arith) (omega arith)))
 
   -- what is still to be tested decides
   pub hold-on : (i to : ℕ) → i < to → f i ≡ true → all-hold? f i (to - i) ≡ all-hold? f (i + 1) (to - (i + 1))
@@ -62,14 +63,18 @@ module _ (f : ℕ → Bool) where
 -- ## Strictly descending: each is below the one before it
 
 module _ (order : Monomial → Monomial → Comparison) where
-  pub descends-at : (v : Vector) (d : Term) → T (strictly-descending? order v) → (i : ℕ) → suc i < length v → T (greater? (order (getD v i d .1) (getD v (suc i) d .1)))
+  pub descends-at : (v : Vector) (d : Term) → T (strictly-descending? order v) → (i : ℕ) → suc i < length v
+      → T (greater? (order (getD v i d .1) (getD v (suc i) d .1)))
   descends-at [] d t i h = absurd (not-suc-le-zero h)
   descends-at (a ∷ []) d t i h = absurd (omega arith)
   descends-at (a ∷ b ∷ v) d t zero h = and-left (greater? (order (a .1) (b .1))) (strictly-descending? order (b ∷ v)) t
-  descends-at (a ∷ b ∷ v) d t (suc i) h = descends-at (b ∷ v) d (and-right (greater? (order (a .1) (b .1))) (strictly-descending? order (b ∷ v)) t) i (le-of-suc-le-suc h)
+  descends-at (a ∷ b ∷ v) d t (suc i) h = descends-at (b ∷ v) d (and-right (greater? (order (a .1) (b .1))) (strictly-descending? order (b ∷ v)) t) i
+      (le-of-suc-le-suc h)
 
-  pub descends-all : (v : Vector) (d : Term) → ((i : ℕ) → suc i < length v → T (greater? (order (getD v i d .1) (getD v (suc i) d .1)))) → T (strictly-descending? order v)
+  pub descends-all : (v : Vector) (d : Term) → ((i : ℕ) → suc i < length v → T (greater? (order (getD v i d .1) (getD v (suc i) d .1))))
+      → T (strictly-descending? order v)
   descends-all [] d h = tt
   descends-all (a ∷ []) d h = tt
   descends-all (a ∷ b ∷ v) d h =
-      and-both (greater? (order (a .1) (b .1))) (strictly-descending? order (b ∷ v)) (h 0 (omega arith)) (descends-all (b ∷ v) d (λ i k. h (suc i) (omega arith)))
+      and-both (greater? (order (a .1) (b .1))) (strictly-descending? order (b ∷ v)) (h 0 (omega arith))
+      (descends-all (b ∷ v) d (λ i k. h (suc i) (omega arith)))

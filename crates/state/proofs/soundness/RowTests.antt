@@ -48,7 +48,8 @@ divides-at (x ∷ a) (y ∷ b) e t (suc k) h = divides-at a b (omega arith) (and
 divides-all : (a b : Exponents) → length b ≡ length a → ((k : ℕ) → k < length a → getD a k 0 ≤ getD b k 0) → T (divides? a b)
 divides-all [] b e h = tt
 divides-all (x ∷ a) [] e h = absurd (omega arith)
-divides-all (x ∷ a) (y ∷ b) e h = and-both (leb x y) (divides? a b) (le→leb x y (h 0 (omega arith))) (divides-all a b (omega arith) (λ k l. h (suc k) (omega arith)))
+divides-all (x ∷ a) (y ∷ b) e h = and-both (leb x y) (divides? a b) (le→leb x y (h 0 (omega arith)))
+    (divides-all a b (omega arith) (λ k l. h (suc k) (omega arith)))
 
 limit-small : (n k : ℕ) → limit-at n k ≤ most-exponent
 limit-small n k = go (ltb k n)
@@ -75,9 +76,11 @@ module _ (s : Words) (a : ℕ) (fits : a + 8 ≤ length s) where
   getD-words : (k : ℕ) → k < 8 → getD (take 8 (drop a s)) k 0 ≡ getD s (a + k) 0
   getD-words k h = getD-take 8 (drop a s) k 0 h ∙ getD-drop a s k 0
 
-  pub exponents-said : (n : ℕ) → T (divides? (exponents-raw s a) (exponent-limits n)) → T (fits? most-exponent (take 8 (drop a s))) × T (every (λ x. eqb x 0) (drop n (exponents-at s a)))
+  pub exponents-said : (n : ℕ) → T (divides? (exponents-raw s a) (exponent-limits n)) → T (fits? most-exponent (take 8 (drop a s)))
+      × T (every (λ x. eqb x 0) (drop n (exponents-at s a)))
   exponents-said n t = (
-    every-all (λ x. leb x most-exponent) words 0 (λ i h. le→leb (getD words i 0) most-exponent (omega (arith, getD-words i (omega (arith, long)), bound i (omega (arith, long)), limit-small n i))),
+    every-all (λ x. leb x most-exponent) words 0 (λ i h. le→leb (getD words i 0) most-exponent
+        (omega (arith, getD-words i (omega (arith, long)), bound i (omega (arith, long)), limit-small n i))),
     every-all (λ x. eqb x 0) (drop n (exponents-at s a)) 0 past,
   )
     where
@@ -88,13 +91,21 @@ module _ (s : Words) (a : ℕ) (fits : a + 8 ≤ length s) where
       past i h =
           let l : n + i < 8 = omega (arith, length-drop n (exponents-at s a)) in
           let z : getD s (a + (n + i)) 0 ≡ 0 = omega (arith, bound (n + i) l, limit-past n (n + i) (omega arith)) in
-          is-true (eq-eqb (getD (drop n (exponents-at s a)) i 0) 0 (getD-drop n (exponents-at s a) i 0 ∙ getD-exponents s a (n + i) l ∙ ap byte z ∙ byte-small 0 (omega arith)))
+          is-true (eq-eqb (getD (drop n (exponents-at s a)) i 0) 0 (getD-drop n (exponents-at s a) i 0 ∙ getD-exponents s a (n + i) l ∙ ap byte z
+          ∙ byte-small 0 (omega arith)))
 
-  pub exponents-shown : (n : ℕ) → T (fits? most-exponent (take 8 (drop a s))) → T (every (λ x. eqb x 0) (drop n (exponents-at s a))) → T (divides? (exponents-raw s a) (exponent-limits n))
-  exponents-shown n f p = divides-all (exponents-raw s a) (exponent-limits n) refl (λ k h. omega (arith, getD-raw s a k h, getD-limits n k h, bound k h))
+  pub exponents-shown : (n : ℕ) → T (fits? most-exponent (take 8 (drop a s))) → T (every (λ x. eqb x 0) (drop n (exponents-at s a)))
+      → T (divides? (exponents-raw s a) (exponent-limits n))
+  exponents-shown n f p = divides-all (exponents-raw s a) (exponent-limits n) refl
+      (λ k h. omega (arith, getD-raw s a k h, getD-limits n k h, bound k h))
     where
       small : (k : ℕ) → k < 8 → getD s (a + k) 0 ≤ most-exponent
-      small k h = omega (arith, getD-words k h, leb→le (getD (take 8 (drop a s)) k 0) most-exponent (every-at (λ x. leb x most-exponent) (take 8 (drop a s)) k 0 f (omega (arith, long))))
+      small k h = omega (
+        arith,
+        getD-words k h,
+        leb→le (getD (take 8 (drop a s)) k 0) most-exponent
+            (every-at (λ x. leb x most-exponent) (take 8 (drop a s)) k 0 f (omega (arith, long))),
+      )
 
       bound : (k : ℕ) → k < 8 → getD s (a + k) 0 ≤ limit-at n k
       bound k h = go (ltb k n) (ltb→lt k n) (nltb→le k n)
@@ -104,8 +115,11 @@ module _ (s : Words) (a : ℕ) (fits : a + 8 ≤ length s) where
           go false u v =
               let m : n ≤ k = v tt in
               let z : n + (k - n) ≡ k = omega arith in
-              let q : getD (drop n (exponents-at s a)) (k - n) 0 ≡ 0 = eqb→eq (getD (drop n (exponents-at s a)) (k - n) 0) 0 (every-at (λ x. eqb x 0) (drop n (exponents-at s a)) (k - n) 0 p (omega (arith, length-drop n (exponents-at s a)))) in
-              let r : byte (getD s (a + k) 0) ≡ 0 = sym (getD-exponents s a k h) ∙ ap (λ j. getD (exponents-at s a) j 0) (sym z) ∙ sym (getD-drop n (exponents-at s a) (k - n) 0) ∙ q in
+              let q : getD (drop n (exponents-at s a)) (k - n) 0 ≡ 0 =
+              eqb→eq (getD (drop n (exponents-at s a)) (k - n) 0) 0
+              (every-at (λ x. eqb x 0) (drop n (exponents-at s a)) (k - n) 0 p (omega (arith, length-drop n (exponents-at s a)))) in
+              let r : byte (getD s (a + k) 0) ≡ 0 = sym (getD-exponents s a k h) ∙ ap (λ j. getD (exponents-at s a) j 0) (sym z)
+              ∙ sym (getD-drop n (exponents-at s a) (k - n) 0) ∙ q in
               omega (arith, byte-small (getD s (a + k) 0) (omega (arith, small k h)))
 
 -- ## The row
@@ -115,7 +129,8 @@ abbrev pub Fits : Words → ℕ → Type 0
 Fits s i = T (fits? most-exponent (take 8 (drop (i * row-length + exponents-offset) s)))
 
 bytes-fit : (s : Words) (a : ℕ) → T (fits? most-exponent (exponents-at s a))
-bytes-fit s a = every-all (λ x. leb x most-exponent) (exponents-at s a) 0 (λ i h. le→leb (getD (exponents-at s a) i 0) most-exponent (omega (arith, getD-exponents s a i h, byte-bound (getD s (a + i) 0))))
+bytes-fit s a = every-all (λ x. leb x most-exponent) (exponents-at s a) 0
+    (λ i h. le→leb (getD (exponents-at s a) i 0) most-exponent (omega (arith, getD-exponents s a i h, byte-bound (getD s (a + i) 0))))
 
 module _ (q : Parameters) (components : ℕ) (s : Words) (i : ℕ) (fits : i * row-length + row-length ≤ length s) where
   abbrev e : Exponents
@@ -139,10 +154,18 @@ module _ (q : Parameters) (components : ℕ) (s : Words) (i : ℕ) (fits : i * r
       let x = exponents-said s (i * row-length + exponents-offset) (omega arith) (q .n) (and-right second third r) in (
         x .0,
         subst (λ u. T (term-sound? document-01 q components u)) (sym (row-is s i))
-            (term-shown document-01 q components t (record { coefficient = and-left first (second and third) h; component = and-left second third r; eight = refl; fits = bytes-fit s (i * row-length + exponents-offset); past = x .1 })),
+            (term-shown document-01 q components t (record {
+              coefficient = and-left first (second and third) h;
+              component =
+                  and-left second third r;
+              eight = refl;
+              fits = bytes-fit s (i * row-length + exponents-offset);
+              past = x .1;
+            })),
       )
 
   pub row-shown : Fits s i → T (term-sound? document-01 q components (row-at s i)) → T (row-holds? (bounds-of (q .p) (q .n) components) s i)
   row-shown f h =
       let r = term-says document-01 q components t (subst (λ u. T (term-sound? document-01 q components u)) (row-is s i) h) in
-      and-both first (second and third) (r .coefficient) (and-both second third (r .component) (exponents-shown s (i * row-length + exponents-offset) (omega arith) (q .n) f (r .past)))
+      and-both first (second and third) (r .coefficient) (and-both second third (r .component)
+      (exponents-shown s (i * row-length + exponents-offset) (omega arith) (q .n) f (r .past)))

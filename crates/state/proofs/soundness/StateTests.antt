@@ -12,7 +12,8 @@ use Rattle.definitions.specs.Monomial.{Monomial, Level}
 use Rattle.definitions.specs.Order.{Comparison, compare-over}
 use Rattle.definitions.specs.Problem.{Parameters, prime-in-range?, in-ranges?}
 use Rattle.definitions.specs.State.{vector-sound?, levels-sound?, terms-of, sound?}
-use Rattle.definitions.specs.Layout.{Words, ends-at, level-at, levels-at, decode, ascending?, last-end, exponents-fit?, words-sound?, all-words-sound?, holds-state?}
+use Rattle.definitions.specs.Layout.{Words, ends-at, level-at, levels-at, decode, ascending?, last-end, exponents-fit?, words-sound?, all-words-sound?}
+use Rattle.definitions.specs.Layout.{holds-state?}
 use Rattle.definitions.proofs.Tests.{and-left, and-right, and-both, between-low, between-high, between-shown}
 use Rattle.definitions.proofs.Sound.{basis-says, basis-shown, level-says, level-shown, sound-says, sound-shown}
 use Rattle.definitions.specs.Places.{most-elements, most-vectors, most-rows, most-terms, all-levels, level-length, state-length, count-offset, rows-offset}
@@ -22,7 +23,8 @@ use Rattle.orders.proofs.Induced.{All-led, no-levels, table-order-is, sound-led
 use Rattle.state.specs.declared.soundness.Bounds.{Bounds}
 use Rattle.state.specs.soundness.Places.{parameters-at, count-at, rows-from, ends-from}
 use Rattle.state.specs.soundness.Holding.{bounds-of, vectors-hold?, level-holds?, levels-hold?}
-use Rattle.state.proofs.soundness.VectorTests.{All-fit, fit-said, fit-shown, end-of, last-end-is, ascends-within, terms-cut, length-vectors, vectors-ascend, vectors-fit, vectors-said, vectors-shown}
+use Rattle.state.proofs.soundness.VectorTests.{All-fit, fit-said, fit-shown, end-of, last-end-is, ascends-within, terms-cut, length-vectors}
+use Rattle.state.proofs.soundness.VectorTests.{vectors-ascend, vectors-fit, vectors-said, vectors-shown}
 use Rattle.state.proofs.soundness.LevelByLevel.{own-test?}
 
 module _ (s : Words) (long : state-length ≤ length s) where
@@ -37,11 +39,13 @@ module _ (s : Words) (long : state-length ≤ length s) where
 
   -- a level has as many vectors as its count says
   pub level-count : (k : ℕ) → k < all-levels → count-at s k ≤ most-vectors → length (level-at document-01 s k) ≡ count-at s k
-  level-count k h c = length-vectors (rows-from s k) 0 (es k) ∙ length-take-le (count-at s k) (ends-from s k) (omega (arith, length-drop (suc (count-offset k)) s))
+  level-count k h c = length-vectors (rows-from s k) 0 (es k) ∙ length-take-le (count-at s k) (ends-from s k)
+      (omega (arith, length-drop (suc (count-offset k)) s))
 
   -- ## Words
 
-  module _ (low high most components : ℕ) (order : Monomial → Monomial → Comparison) (k : ℕ) (h : k < all-levels) (t : T (level-holds? low high most (bounds-of (getD s 0 0) (getD s 1 0) components) order s k)) where
+  module _ (low high most components : ℕ) (order : Monomial → Monomial → Comparison) (k : ℕ) (h : k < all-levels)
+      (t : T (level-holds? low high most (bounds-of (getD s 0 0) (getD s 1 0) components) order s k)) where
     abbrev B : Bounds
     B = bounds-of (getD s 0 0) (getD s 1 0) components
 
@@ -55,40 +59,50 @@ module _ (s : Words) (long : state-length ≤ length s) where
 
     pub level-words : high ≤ most-vectors → T (words-sound? document-01 s k)
     level-words l =
-        and-both (leb (count-at s k) most-vectors) (ascending? most-rows 0 (es k) and exponents-fit? (rows-from s k) (last-end (last (es k)))) (le→leb (count-at s k) most-vectors (omega (arith, level-counted .1)))
-        (and-both (ascending? most-rows 0 (es k)) (exponents-fit? (rows-from s k) (last-end (last (es k)))) (vectors-ascend B most order (rows-from s k) 0 (es k) level-walked)
-        (subst (λ n. T (exponents-fit? (rows-from s k) n)) (sym (last-end-is (es k))) (fit-shown (rows-from s k) (end-of 0 (es k)) (vectors-fit q components most (rows-from s k) (room k h) order 0 (es k) level-walked))))
+        and-both (leb (count-at s k) most-vectors) (ascending? most-rows 0 (es k) and exponents-fit? (rows-from s k) (last-end (last (es k))))
+        (le→leb (count-at s k) most-vectors (omega (arith, level-counted .1)))
+        (and-both (ascending? most-rows 0 (es k)) (exponents-fit? (rows-from s k) (last-end (last (es k))))
+        (vectors-ascend B most order (rows-from s k) 0 (es k) level-walked)
+        (subst (λ n. T (exponents-fit? (rows-from s k) n)) (sym (last-end-is (es k)))
+        (fit-shown (rows-from s k) (end-of 0 (es k)) (vectors-fit q components most (rows-from s k) (room k h) order 0 (es k) level-walked))))
 
     pub level-short : terms-of (level-at document-01 s k) ≤ most-rows
     level-short =
         let a = vectors-ascend B most order (rows-from s k) 0 (es k) level-walked in
         omega (arith, terms-cut most-rows (rows-from s k) 0 (es k) a, ascends-within most-rows 0 (es k) (omega arith) a)
 
-    pub level-vectors : (below : List Level) → ((m m′ : Monomial) → order m m′ ≡ compare-over (getD s 2 0) below m m′) → T (every (vector-sound? document-01 q components most below) (level-at document-01 s k))
+    pub level-vectors : (below : List Level) → ((m m′ : Monomial) → order m m′ ≡ compare-over (getD s 2 0) below m m′)
+        → T (every (vector-sound? document-01 q components most below) (level-at document-01 s k))
     level-vectors below agree = vectors-said q components most (rows-from s k) (room k h) order below agree 0 (es k) level-walked
 
   -- the parts of the words' test
-  pub words-parts : (k : ℕ) → T (words-sound? document-01 s k) → (count-at s k ≤ most-vectors) × T (ascending? most-rows 0 (ends-at document-01 s k)) × All-fit (rows-from s k) 0 (end-of 0 (ends-at document-01 s k))
+  pub words-parts : (k : ℕ) → T (words-sound? document-01 s k) → (count-at s k ≤ most-vectors) × T (ascending? most-rows 0 (ends-at document-01 s k))
+      × All-fit (rows-from s k) 0 (end-of 0 (ends-at document-01 s k))
   words-parts k t =
       let f = exponents-fit? (rows-from s k) (last-end (last (es k))) in
       let u = and-right (leb (count-at s k) most-vectors) (ascending? most-rows 0 (es k) and f) t in (
         leb→le (count-at s k) most-vectors (and-left (leb (count-at s k) most-vectors) (ascending? most-rows 0 (es k) and f) t),
         and-left (ascending? most-rows 0 (es k)) f u,
-        fit-said (rows-from s k) (end-of 0 (es k)) (subst (λ n. T (exponents-fit? (rows-from s k) n)) (last-end-is (es k)) (and-right (ascending? most-rows 0 (es k)) f u)),
+        fit-said (rows-from s k) (end-of 0 (es k)) (subst (λ n. T (exponents-fit? (rows-from s k) n)) (last-end-is (es k))
+            (and-right (ascending? most-rows 0 (es k)) f u)),
       )
 
-  level-back : (low high most components : ℕ) (order : Monomial → Monomial → Comparison) (k : ℕ) (below : List Level) → k < all-levels → T (words-sound? document-01 s k) → low ≤ count-at s k → count-at s k ≤ high
-      → ((m m′ : Monomial) → order m m′ ≡ compare-over (getD s 2 0) below m m′) → T (every (vector-sound? document-01 (parameters-at s) components most below) (level-at document-01 s k))
+  level-back : (low high most components : ℕ) (order : Monomial → Monomial → Comparison) (k : ℕ) (below : List Level) → k < all-levels
+      → T (words-sound? document-01 s k) → low ≤ count-at s k → count-at s k ≤ high
+      → ((m m′ : Monomial) → order m m′ ≡ compare-over (getD s 2 0) below m m′)
+      → T (every (vector-sound? document-01 (parameters-at s) components most below) (level-at document-01 s k))
       → T (level-holds? low high most (bounds-of (getD s 0 0) (getD s 1 0) components) order s k)
   level-back low high most components order k below h w l m agree v =
       let p = words-parts k w in
-      and-both (between low (count-at s k) high) (vectors-hold? (bounds-of (getD s 0 0) (getD s 1 0) components) most order (rows-from s k) 0 (es k)) (between-shown low (count-at s k) high l m)
+      and-both (between low (count-at s k) high) (vectors-hold? (bounds-of (getD s 0 0) (getD s 1 0) components) most order (rows-from s k) 0 (es k))
+      (between-shown low (count-at s k) high l m)
       (vectors-shown q components most (rows-from s k) (room k h) order below agree 0 (es k) (p .1) (p .2) v)
 
   -- ## Upwards
 
   -- the order through the table of images, and the definitions' order
-  agrees : (k : ℕ) → All-led (levels-at document-01 s k) → (m m′ : Monomial) → table-order (getD s 2 0) (images (levels-at document-01 s k)) m m′ ≡ compare-over (getD s 2 0) (levels-at document-01 s k) m m′
+  agrees : (k : ℕ) → All-led (levels-at document-01 s k) → (m m′ : Monomial) → table-order (getD s 2 0) (images (levels-at document-01 s k)) m m′
+      ≡ compare-over (getD s 2 0) (levels-at document-01 s k) m m′
   agrees k led m m′ = table-order-is (getD s 2 0) (levels-at document-01 s k) led m m′
 
   abbrev O : ℕ → Monomial → Monomial → Comparison
@@ -104,9 +118,11 @@ module _ (s : Words) (long : state-length ≤ length s) where
   up-words : (k : ℕ) → k ≤ all-levels → T (levels-hold? s k) → T (all-words-sound? document-01 s k)
   up-words zero h t = tt
   up-words (suc k) h t =
-      and-both (words-sound? document-01 s k) (all-words-sound? document-01 s k) (own-words k h (and-right (levels-hold? s k) (own-test? s k) t)) (up-words k (omega arith) (and-left (levels-hold? s k) (own-test? s k) t))
+      and-both (words-sound? document-01 s k) (all-words-sound? document-01 s k) (own-words k h (and-right (levels-hold? s k) (own-test? s k) t))
+      (up-words k (omega arith) (and-left (levels-hold? s k) (own-test? s k) t))
 
-  pub up-levels : (k : ℕ) → k < all-levels → T (levels-hold? s (suc k)) → T (levels-sound? document-01 (parameters-at s) (levels-at document-01 s (suc k)))
+  pub up-levels : (k : ℕ) → k < all-levels → T (levels-hold? s (suc k))
+      → T (levels-sound? document-01 (parameters-at s) (levels-at document-01 s (suc k)))
   up-levels zero h t =
       let u = and-right (levels-hold? s 0) (own-test? s 0) t in
       let c = level-counted 1 most-elements most-rows (getD s 3 0) (O 0) 0 h u in
@@ -127,18 +143,22 @@ module _ (s : Words) (long : state-length ≤ length s) where
       level-shown document-01 q (level-at document-01 s (suc k)) (level-at document-01 s k) (levels-at document-01 s k) (record {
         few = omega arith;
         short = level-short 0 most-vectors most-terms (count-at s k) (O (suc k)) (suc k) h u;
-        vectors = subst (λ m. T (every (vector-sound? document-01 q m most-terms (levels-at document-01 s (suc k))) (level-at document-01 s (suc k)))) (sym g) (level-vectors 0 most-vectors most-terms (count-at s k) (O (suc k)) (suc k) h u (levels-at document-01 s (suc k)) (agrees (suc k) (sound-led document-01 q (levels-at document-01 s (suc k)) r)));
+        vectors = subst (λ m. T (every (vector-sound? document-01 q m most-terms (levels-at document-01 s (suc k))) (level-at document-01 s (suc k))))
+            (sym g) (level-vectors 0 most-vectors most-terms (count-at s k) (O (suc k)) (suc k) h u (levels-at document-01 s (suc k))
+            (agrees (suc k) (sound-led document-01 q (levels-at document-01 s (suc k)) r)));
         under = r;
       })
 
   -- ## Downwards
 
-  pub down-levels : (k : ℕ) → k < all-levels → T (all-words-sound? document-01 s (suc k)) → T (levels-sound? document-01 (parameters-at s) (levels-at document-01 s (suc k))) → T (levels-hold? s (suc k))
+  pub down-levels : (k : ℕ) → k < all-levels → T (all-words-sound? document-01 s (suc k))
+      → T (levels-sound? document-01 (parameters-at s) (levels-at document-01 s (suc k))) → T (levels-hold? s (suc k))
   down-levels zero h w t =
       let b = basis-says document-01 q (level-at document-01 s 0) t in
       let u = and-left (words-sound? document-01 s 0) (all-words-sound? document-01 s 0) w in
       let n = level-count 0 h (words-parts 0 u .0) in
-      and-both (levels-hold? s 0) (own-test? s 0) tt (level-back 1 most-elements most-rows (getD s 3 0) (O 0) 0 [] h u (omega (arith, b .some-element)) (omega (arith, b .few)) (agrees 0 no-levels) (b .vectors))
+      and-both (levels-hold? s 0) (own-test? s 0) tt (level-back 1 most-elements most-rows (getD s 3 0) (O 0) 0 [] h u (omega (arith, b .some-element))
+      (omega (arith, b .few)) (agrees 0 no-levels) (b .vectors))
   down-levels (suc k) h w t =
       let b = level-says document-01 q (level-at document-01 s (suc k)) (level-at document-01 s k) (levels-at document-01 s k) t in
       let u = and-left (words-sound? document-01 s (suc k)) (all-words-sound? document-01 s (suc k)) w in
@@ -146,8 +166,10 @@ module _ (s : Words) (long : state-length ≤ length s) where
       let n = level-count (suc k) h (words-parts (suc k) u .0) in
       let g = level-count k (omega arith) (words-parts k (and-left (words-sound? document-01 s k) (all-words-sound? document-01 s k) v) .0) in
       and-both (levels-hold? s (suc k)) (own-test? s (suc k)) (down-levels k (omega arith) v (b .under))
-      (level-back 0 most-vectors most-terms (count-at s k) (O (suc k)) (suc k) (levels-at document-01 s (suc k)) h u (omega arith) (omega (arith, b .few)) (agrees (suc k) (sound-led document-01 q (levels-at document-01 s (suc k)) (b .under)))
-      (subst (λ m. T (every (vector-sound? document-01 q m most-terms (levels-at document-01 s (suc k))) (level-at document-01 s (suc k)))) g (b .vectors)))
+      (level-back 0 most-vectors most-terms (count-at s k) (O (suc k)) (suc k) (levels-at document-01 s (suc k)) h u (omega arith)
+      (omega (arith, b .few)) (agrees (suc k) (sound-led document-01 q (levels-at document-01 s (suc k)) (b .under)))
+      (subst (λ m. T (every (vector-sound? document-01 q m most-terms (levels-at document-01 s (suc k))) (level-at document-01 s (suc k)))) g
+      (b .vectors)))
 
   -- ## The state
 
@@ -155,21 +177,32 @@ module _ (s : Words) (long : state-length ≤ length s) where
   length-levels zero = refl
   length-levels (suc k) = ap suc (length-levels k)
 
-  pub holds-shown : (h : ℕ) → getD s 4 0 ≡ h → 1 ≤ h → h ≤ all-levels → T (prime-in-range? document-01 (getD s 0 0)) → T (in-ranges? document-01 (parameters-at s)) → T (levels-hold? s h) → T (holds-state? document-01 s)
+  pub holds-shown : (h : ℕ) → getD s 4 0 ≡ h → 1 ≤ h → h ≤ all-levels → T (prime-in-range? document-01 (getD s 0 0))
+      → T (in-ranges? document-01 (parameters-at s)) → T (levels-hold? s h) → T (holds-state? document-01 s)
   holds-shown zero e l m p r t = absurd (omega arith)
-  holds-shown (suc k) e l m p r t = subst (λ n. T (leb n all-levels and all-words-sound? document-01 s n and sound? document-01 (record { parameters = parameters-at s; levels = levels-at document-01 s n }))) (sym e)
-      (and-both (leb (suc k) all-levels) (all-words-sound? document-01 s (suc k) and sound? document-01 (record { parameters = q; levels = levels-at document-01 s (suc k) })) (le→leb (suc k) all-levels m)
-      (and-both (all-words-sound? document-01 s (suc k)) (sound? document-01 (record { parameters = q; levels = levels-at document-01 s (suc k) })) (up-words (suc k) m t)
-      (sound-shown document-01 (record { parameters = q; levels = levels-at document-01 s (suc k) }) (record { prime = p; ranges = r; height = omega (arith, length-levels (suc k)); levels = up-levels k m t }))))
+  holds-shown (suc k) e l m p r t = subst (λ n. T (leb n all-levels and all-words-sound? document-01 s n
+      and sound? document-01 (record { parameters = parameters-at s; levels = levels-at document-01 s n }))) (sym e)
+      (and-both (leb (suc k) all-levels) (all-words-sound? document-01 s (suc k)
+      and sound? document-01 (record { parameters = q; levels = levels-at document-01 s (suc k) })) (le→leb (suc k) all-levels m)
+      (and-both (all-words-sound? document-01 s (suc k)) (sound? document-01 (record { parameters = q; levels = levels-at document-01 s (suc k) }))
+      (up-words (suc k) m t)
+      (sound-shown document-01 (record { parameters = q; levels = levels-at document-01 s (suc k) })
+      (record { prime = p; ranges = r; height = omega (arith, length-levels (suc k)); levels = up-levels k m t }))))
 
-  pub holds-said : T (holds-state? document-01 s) → (1 ≤ getD s 4 0) × (getD s 4 0 ≤ all-levels) × T (prime-in-range? document-01 (getD s 0 0)) × T (in-ranges? document-01 (parameters-at s)) × T (levels-hold? s (getD s 4 0))
-  holds-said t = go (getD s 4 0) (leb→le (getD s 4 0) all-levels (and-left (leb (getD s 4 0) all-levels) (all-words-sound? document-01 s (getD s 4 0) and sound? document-01 (decode document-01 s)) t)) (and-left (all-words-sound? document-01 s (getD s 4 0)) (sound? document-01 (decode document-01 s)) u)
+  pub holds-said : T (holds-state? document-01 s) → (1 ≤ getD s 4 0) × (getD s 4 0 ≤ all-levels) × T (prime-in-range? document-01 (getD s 0 0))
+      × T (in-ranges? document-01 (parameters-at s)) × T (levels-hold? s (getD s 4 0))
+  holds-said t = go (getD s 4 0) (leb→le (getD s 4 0) all-levels (and-left (leb (getD s 4 0) all-levels)
+      (all-words-sound? document-01 s (getD s 4 0) and sound? document-01 (decode document-01 s)) t))
+      (and-left (all-words-sound? document-01 s (getD s 4 0)) (sound? document-01 (decode document-01 s)) u)
       (and-right (all-words-sound? document-01 s (getD s 4 0)) (sound? document-01 (decode document-01 s)) u)
     where
       u : T (all-words-sound? document-01 s (getD s 4 0) and sound? document-01 (decode document-01 s))
       u = and-right (leb (getD s 4 0) all-levels) (all-words-sound? document-01 s (getD s 4 0) and sound? document-01 (decode document-01 s)) t
 
-      go : (n : ℕ) → n ≤ all-levels → T (all-words-sound? document-01 s n) → T (sound? document-01 (record { parameters = parameters-at s; levels = levels-at document-01 s n }))
-          → (1 ≤ n) × (n ≤ all-levels) × T (prime-in-range? document-01 (getD s 0 0)) × T (in-ranges? document-01 (parameters-at s)) × T (levels-hold? s n)
+      go : (n : ℕ) → n ≤ all-levels → T (all-words-sound? document-01 s n)
+          → T (sound? document-01 (record { parameters = parameters-at s; levels = levels-at document-01 s n }))
+          → (1 ≤ n) × (n ≤ all-levels) × T (prime-in-range? document-01 (getD s 0 0)) × T (in-ranges? document-01 (parameters-at s))
+          × T (levels-hold? s n)
       go zero h w x = absurd (sound-says document-01 (record { parameters = parameters-at s; levels = [] }) x .levels)
-      go (suc n) h w x = let y = sound-says document-01 (record { parameters = parameters-at s; levels = levels-at document-01 s (suc n) }) x in (omega arith, h, y .prime, y .ranges, down-levels n h w (y .levels))
+      go (suc n) h w x = let y = sound-says document-01 (record { parameters = parameters-at s; levels = levels-at document-01 s (suc n) }) x in
+          (omega arith, h, y .prime, y .ranges, down-levels n h w (y .levels))

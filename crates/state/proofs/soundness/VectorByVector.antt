@@ -17,13 +17,15 @@ use Rattle.state.specs.soundness.Places.{count-at, count-below}
 use Rattle.state.specs.soundness.Holding.{bounds-of, vector-holds?, vectors-hold?, level-holds?, level-test?}
 
 module _ (b : Bounds) (most : ℕ) (order : Monomial → Monomial → Comparison) (s : Words) where
-  pub vectors-on : (es : Words) (j a e : ℕ) → j < length es → getD es j 0 ≡ e → vector-holds? b most order s a e ≡ true → vectors-hold? b most order s a (drop j es) ≡ vectors-hold? b most order s e (drop (j + 1) es)
+  pub vectors-on : (es : Words) (j a e : ℕ) → j < length es → getD es j 0 ≡ e → vector-holds? b most order s a e ≡ true
+      → vectors-hold? b most order s a (drop j es) ≡ vectors-hold? b most order s e (drop (j + 1) es)
   vectors-on es j a e h q t =
       let z : suc j ≡ j + 1 = omega arith in
       ap (vectors-hold? b most order s a) (drop-cons es j 0 h) ∙ ap (λ x. vectors-hold? b most order s a (x ∷ drop (suc j) es)) q
       ∙ (λ i. t i and vectors-hold? b most order s e (drop (suc j) es)) ∙ ap (λ k. vectors-hold? b most order s e (drop k es)) z
 
-  pub vectors-stop : (es : Words) (j a e : ℕ) → j < length es → getD es j 0 ≡ e → vector-holds? b most order s a e ≡ false → vectors-hold? b most order s a (drop j es) ≡ false
+  pub vectors-stop : (es : Words) (j a e : ℕ) → j < length es → getD es j 0 ≡ e → vector-holds? b most order s a e ≡ false
+      → vectors-hold? b most order s a (drop j es) ≡ false
   vectors-stop es j a e h q t =
       ap (vectors-hold? b most order s a) (drop-cons es j 0 h) ∙ ap (λ x. vectors-hold? b most order s a (x ∷ drop (suc j) es)) q
       ∙ (λ i. t i and vectors-hold? b most order s e (drop (suc j) es))
@@ -35,12 +37,15 @@ module _ (b : Bounds) (most : ℕ) (order : Monomial → Monomial → Comparison
 
 pub test-basis : (s : Words) (k : ℕ) (T : Table) → k ≡ 0
     → level-holds? 1 most-elements most-rows (bounds-of (getD s 0 0) (getD s 1 0) (getD s 3 0)) (table-order (getD s 2 0) T) s k ≡ level-test? s k T
-test-basis s k T e = ap (level-holds? 1 most-elements most-rows (bounds-of (getD s 0 0) (getD s 1 0) (getD s 3 0)) (table-order (getD s 2 0) T) s) e ∙ sym (ap (λ j. level-test? s j T) e)
+test-basis s k T e = ap (level-holds? 1 most-elements most-rows (bounds-of (getD s 0 0) (getD s 1 0) (getD s 3 0)) (table-order (getD s 2 0) T) s) e
+    ∙ sym (ap (λ j. level-test? s j T) e)
 
 pub test-above : (s : Words) (k : ℕ) (T : Table) → (k ≡ 0 → ⊥)
-    → level-holds? 0 most-vectors most-terms (bounds-of (getD s 0 0) (getD s 1 0) (count-at s (k - 1))) (table-order (getD s 2 0) T) s k ≡ level-test? s k T
+    → level-holds? 0 most-vectors most-terms (bounds-of (getD s 0 0) (getD s 1 0) (count-at s (k - 1))) (table-order (getD s 2 0) T) s k
+    ≡ level-test? s k T
 test-above s zero T n = absurd (n refl)
-test-above s (suc k) T n = let z : suc k - 1 ≡ k = omega arith in ap (λ j. level-holds? 0 most-vectors most-terms (bounds-of (getD s 0 0) (getD s 1 0) (count-at s j)) (table-order (getD s 2 0) T) s (suc k)) z
+test-above s (suc k) T n = let z : suc k - 1 ≡ k = omega arith in ap (λ j. level-holds? 0 most-vectors most-terms
+    (bounds-of (getD s 0 0) (getD s 1 0) (count-at s j)) (table-order (getD s 2 0) T) s (suc k)) z
 
 pub below-basis : (s : Words) (k : ℕ) → k ≡ 0 → 0 ≡ count-below s k
 below-basis s k e = ap (count-below s) (sym e)

@@ -33,7 +33,8 @@ All-fit s a e = (i : ℕ) → a ≤ i → i < e → Fits s i
 
 pub fit-said : (s : Words) (n : ℕ) → T (exponents-fit? s n) → All-fit s 0 n
 fit-said s zero t i h l = absurd (omega arith)
-fit-said s (suc n) t i h l = go (ℕ-discrete i n) (fit-said s n (and-left (exponents-fit? s n) (fits? most-exponent (take 8 (drop (n * row-length + exponents-offset) s))) t) i)
+fit-said s (suc n) t i h l =
+    go (ℕ-discrete i n) (fit-said s n (and-left (exponents-fit? s n) (fits? most-exponent (take 8 (drop (n * row-length + exponents-offset) s))) t) i)
   where
     go : Dec (i ≡ n) → (0 ≤ i → i < n → Fits s i) → Fits s i
     go (yes e) r = subst (Fits s) (sym e) (and-right (exponents-fit? s n) (fits? most-exponent (take 8 (drop (n * row-length + exponents-offset) s))) t)
@@ -41,7 +42,8 @@ fit-said s (suc n) t i h l = go (ℕ-discrete i n) (fit-said s n (and-left (expo
 
 pub fit-shown : (s : Words) (n : ℕ) → All-fit s 0 n → T (exponents-fit? s n)
 fit-shown s zero h = tt
-fit-shown s (suc n) h = and-both (exponents-fit? s n) (fits? most-exponent (take 8 (drop (n * row-length + exponents-offset) s))) (fit-shown s n (λ i l m. h i l (omega arith))) (h n (omega arith) (omega arith))
+fit-shown s (suc n) h = and-both (exponents-fit? s n) (fits? most-exponent (take 8 (drop (n * row-length + exponents-offset) s)))
+    (fit-shown s n (λ i l m. h i l (omega arith))) (h n (omega arith) (omega arith))
 
 -- ## One vector
 
@@ -52,13 +54,18 @@ module _ (b : Bounds) (most : ℕ) (order : Monomial → Monomial → Comparison
   -- the rows of a vector that passes the test
   walked : T (vector-holds? b most order s a e) → T (row-holds? b s a) × T (all-hold? (follows? b order s) (suc a) (e - suc a))
   walked t =
-      let v = and-right (leb (e - a) most) (row-holds? b s a and walk) (and-right (leb e most-rows) (leb (e - a) most and row-holds? b s a and walk) (and-right (ltb a e) (leb e most-rows and leb (e - a) most and row-holds? b s a and walk) t)) in
+      let v = and-right (leb (e - a) most) (row-holds? b s a and walk)
+      (and-right (leb e most-rows) (leb (e - a) most and row-holds? b s a and walk)
+      (and-right (ltb a e) (leb e most-rows and leb (e - a) most and row-holds? b s a and walk) t)) in
       (and-left (row-holds? b s a) walk v, and-right (row-holds? b s a) walk v)
 
-  follows-said : T (vector-holds? b most order s a e) → (i : ℕ) → a < i → i < e → T (row-holds? b s i) × T (greater? (order (row-at s (i - 1) .1) (row-at s i .1)))
+  follows-said : T (vector-holds? b most order s a e) → (i : ℕ) → a < i → i < e → T (row-holds? b s i)
+      × T (greater? (order (row-at s (i - 1) .1) (row-at s i .1)))
   follows-said t i h l =
-      let f = holds-at (follows? b order s) (suc a) (e - suc a) (walked t .1) i h (omega arith) in
-      (and-left (row-holds? b s i) (greater? (order (row-at s (i - 1) .1) (row-at s i .1))) f, and-right (row-holds? b s i) (greater? (order (row-at s (i - 1) .1) (row-at s i .1))) f)
+      let f = holds-at (follows? b order s) (suc a) (e - suc a) (walked t .1) i h (omega arith) in (
+        and-left (row-holds? b s i) (greater? (order (row-at s (i - 1) .1) (row-at s i .1))) f,
+        and-right (row-holds? b s i) (greater? (order (row-at s (i - 1) .1) (row-at s i .1))) f,
+      )
 
   rows-said : T (vector-holds? b most order s a e) → (i : ℕ) → a ≤ i → i < e → T (row-holds? b s i)
   rows-said t i h l = go (ℕ-discrete i a)
@@ -67,27 +74,36 @@ module _ (b : Bounds) (most : ℕ) (order : Monomial → Monomial → Comparison
       go (yes q) = subst (λ j. T (row-holds? b s j)) (sym q) (walked t .0)
       go (no q) = follows-said t i (omega arith) l .0
 
-  rows-shown : a < e → e ≤ most-rows → e - a ≤ most → ((i : ℕ) → a ≤ i → i < e → T (row-holds? b s i)) → ((i : ℕ) → a < i → i < e → T (greater? (order (row-at s (i - 1) .1) (row-at s i .1)))) → T (vector-holds? b most order s a e)
+  rows-shown : a < e → e ≤ most-rows → e - a ≤ most → ((i : ℕ) → a ≤ i → i < e → T (row-holds? b s i))
+      → ((i : ℕ) → a < i → i < e → T (greater? (order (row-at s (i - 1) .1) (row-at s i .1)))) → T (vector-holds? b most order s a e)
   rows-shown h l m f g =
       and-both (ltb a e) (leb e most-rows and leb (e - a) most and row-holds? b s a and walk) (lt→ltb a e h)
       (and-both (leb e most-rows) (leb (e - a) most and row-holds? b s a and walk) (le→leb e most-rows l)
       (and-both (leb (e - a) most) (row-holds? b s a and walk) (le→leb (e - a) most m)
       (and-both (row-holds? b s a) walk (f a (omega arith) h)
-      (holds-all (follows? b order s) (suc a) (e - suc a) (λ i u v. and-both (row-holds? b s i) (greater? (order (row-at s (i - 1) .1) (row-at s i .1))) (f i (omega arith) (omega arith)) (g i u (omega arith)))))))
+      (holds-all (follows? b order s) (suc a) (e - suc a) (λ i u v. and-both (row-holds? b s i) (greater? (order (row-at s (i - 1) .1) (row-at s i .1)))
+      (f i (omega arith) (omega arith)) (g i u (omega arith)))))))
 
 module _ (q : Parameters) (components most : ℕ) (s : Words) (long : level-length ≤ length s) where
   abbrev B : Bounds
   B = bounds-of (q .p) (q .n) components
 
-  pub vector-fits : (order : Monomial → Monomial → Comparison) (a e : ℕ) → T (vector-holds? (bounds-of (q .p) (q .n) components) most order s a e) → All-fit s a e
-  vector-fits order a e t i h l = row-said q components s i (omega (arith, vector-ends B most order s a e t .1)) (rows-said B most order s a e t i h l) .0
+  pub vector-fits : (order : Monomial → Monomial → Comparison) (a e : ℕ) → T (vector-holds? (bounds-of (q .p) (q .n) components) most order s a e)
+      → All-fit s a e
+  vector-fits order a e t i h l = row-said q components s i (omega (arith, vector-ends B most order s a e t .1))
+      (rows-said B most order s a e t i h l) .0
 
-  module _ (order : Monomial → Monomial → Comparison) (below : List Level) (agree : (m m′ : Monomial) → order m m′ ≡ compare-over (q .code) below m m′) where
-    pub vector-said : (a e : ℕ) → T (vector-holds? (bounds-of (q .p) (q .n) components) most order s a e) → T (vector-sound? document-01 q components most below (rows s a (e - a)))
+  module _ (order : Monomial → Monomial → Comparison) (below : List Level)
+      (agree : (m m′ : Monomial) → order m m′ ≡ compare-over (q .code) below m m′) where
+    pub vector-said : (a e : ℕ) → T (vector-holds? (bounds-of (q .p) (q .n) components) most order s a e)
+        → T (vector-sound? document-01 q components most below (rows s a (e - a)))
     vector-said a e t = vector-shown document-01 q components most below (rows s a (e - a)) (record {
       filled = omega (arith, vs .0, length-rows s a (e - a));
       short = omega (arith, vs .2, length-rows s a (e - a));
-      terms = every-all (term-sound? document-01 q components) (rows s a (e - a)) no-term (λ i h. subst (λ u. T (term-sound? document-01 q components u)) (sym (getD-rows s a (e - a) i no-term (omega (arith, length-rows s a (e - a))))) (term (a + i) (omega arith) (omega (arith, length-rows s a (e - a)))));
+      terms = every-all (term-sound? document-01 q components) (rows s a (e - a)) no-term
+          (λ i h. subst (λ u. T (term-sound? document-01 q components u))
+          (sym (getD-rows s a (e - a) i no-term (omega (arith, length-rows s a (e - a)))))
+          (term (a + i) (omega arith) (omega (arith, length-rows s a (e - a)))));
       descends = descends-all (compare-over (q .code) below) (rows s a (e - a)) no-term falls;
     })
       where
@@ -97,14 +113,18 @@ module _ (q : Parameters) (components most : ℕ) (s : Words) (long : level-leng
         term : (i : ℕ) → a ≤ i → i < e → T (term-sound? document-01 q components (row-at s i))
         term i h l = row-said q components s i (omega (arith, vs .1)) (rows-said B most order s a e t i h l) .1
 
-        falls : (i : ℕ) → suc i < length (rows s a (e - a)) → T (greater? (compare-over (q .code) below (getD (rows s a (e - a)) i no-term .1) (getD (rows s a (e - a)) (suc i) no-term .1)))
+        falls : (i : ℕ) → suc i < length (rows s a (e - a)) → T (greater?
+            (compare-over (q .code) below (getD (rows s a (e - a)) i no-term .1) (getD (rows s a (e - a)) (suc i) no-term .1)))
         falls i h =
             let l : suc i < e - a = omega (arith, length-rows s a (e - a)) in
             let x : a + suc i - 1 ≡ a + i = omega arith in
             let u = follows-said B most order s a e t (a + suc i) (omega arith) (omega arith) .1 in
-            subst (λ c. T (greater? c)) (agree (row-at s (a + suc i - 1) .1) (row-at s (a + suc i) .1) ∙ (λ j. compare-over (q .code) below ((ap (row-at s) x ∙ sym (getD-rows s a (e - a) i no-term (omega arith))) j .1) (sym (getD-rows s a (e - a) (suc i) no-term l) j .1))) u
+            subst (λ c. T (greater? c)) (agree (row-at s (a + suc i - 1) .1) (row-at s (a + suc i) .1)
+            ∙ (λ j. compare-over (q .code) below ((ap (row-at s) x ∙ sym (getD-rows s a (e - a) i no-term (omega arith))) j .1)
+            (sym (getD-rows s a (e - a) (suc i) no-term l) j .1))) u
 
-    pub vector-kept : (a e : ℕ) → a < e → e ≤ most-rows → All-fit s a e → T (vector-sound? document-01 q components most below (rows s a (e - a))) → T (vector-holds? (bounds-of (q .p) (q .n) components) most order s a e)
+    pub vector-kept : (a e : ℕ) → a < e → e ≤ most-rows → All-fit s a e → T (vector-sound? document-01 q components most below (rows s a (e - a)))
+        → T (vector-holds? (bounds-of (q .p) (q .n) components) most order s a e)
     vector-kept a e h l f t = rows-shown B most order s a e h l (omega (arith, v .short, length-rows s a (e - a)))
         (λ i m n. row-shown q components s i (omega arith) (f i m n) (term i m n)) falls
       where
@@ -114,13 +134,17 @@ module _ (q : Parameters) (components most : ℕ) (s : Words) (long : level-leng
         term : (i : ℕ) → a ≤ i → i < e → T (term-sound? document-01 q components (row-at s i))
         term i m n =
             let z : a + (i - a) ≡ i = omega arith in
-            subst (λ u. T (term-sound? document-01 q components u)) (getD-rows s a (e - a) (i - a) no-term (omega arith) ∙ ap (row-at s) z) (every-at (term-sound? document-01 q components) (rows s a (e - a)) (i - a) no-term (v .terms) (omega (arith, length-rows s a (e - a))))
+            subst (λ u. T (term-sound? document-01 q components u)) (getD-rows s a (e - a) (i - a) no-term (omega arith) ∙ ap (row-at s) z)
+            (every-at (term-sound? document-01 q components) (rows s a (e - a)) (i - a) no-term (v .terms) (omega (arith, length-rows s a (e - a))))
 
         falls : (i : ℕ) → a < i → i < e → T (greater? (order (row-at s (i - 1) .1) (row-at s i .1)))
         falls i m n =
             let x : a + (i - 1 - a) ≡ i - 1 = omega arith in
             let y : a + suc (i - 1 - a) ≡ i = omega arith in
-            subst (λ c. T (greater? c)) ((λ j. compare-over (q .code) below ((getD-rows s a (e - a) (i - 1 - a) no-term (omega arith) ∙ ap (row-at s) x) j .1) ((getD-rows s a (e - a) (suc (i - 1 - a)) no-term (omega arith) ∙ ap (row-at s) y) j .1)) ∙ sym (agree (row-at s (i - 1) .1) (row-at s i .1)))
+            subst (λ c. T (greater? c)) ((λ j. compare-over (q .code) below
+            ((getD-rows s a (e - a) (i - 1 - a) no-term (omega arith) ∙ ap (row-at s) x) j .1)
+            ((getD-rows s a (e - a) (suc (i - 1 - a)) no-term (omega arith) ∙ ap (row-at s) y) j .1))
+            ∙ sym (agree (row-at s (i - 1) .1) (row-at s i .1)))
             (descends-at (compare-over (q .code) below) (rows s a (e - a)) no-term (v .descends) (i - 1 - a) (omega (arith, length-rows s a (e - a))))
 
 -- ## All vectors of a level
@@ -153,7 +177,11 @@ pub ascends-past : (limit a : ℕ) (es : Words) → T (ascending? limit a es) �
 ascends-past limit a [] t = omega arith
 ascends-past limit a (e ∷ es) t =
     let l : a < e = ltb→lt a e (and-left (ltb a e) (leb e limit and ascending? limit e es) t) in
-    omega (arith, ascends-past limit e es (and-right (leb e limit) (ascending? limit e es) (and-right (ltb a e) (leb e limit and ascending? limit e es) t)))
+    omega (
+      arith,
+      ascends-past limit e es (and-right (leb e limit) (ascending? limit e es)
+          (and-right (ltb a e) (leb e limit and ascending? limit e es) t)),
+    )
 
 pub ascends-within : (limit a : ℕ) (es : Words) → a ≤ limit → T (ascending? limit a es) → end-of a es ≤ limit
 ascends-within limit a [] h t = h
@@ -165,7 +193,12 @@ pub terms-cut : (limit : ℕ) (s : Words) (a : ℕ) (es : Words) → T (ascendin
 terms-cut limit s a [] t = omega arith
 terms-cut limit s a (e ∷ es) t =
     let l : a < e = ltb→lt a e (and-left (ltb a e) (leb e limit and ascending? limit e es) t) in
-    omega (arith, length-rows s a (e - a), terms-cut limit s e es (and-right (leb e limit) (ascending? limit e es) (and-right (ltb a e) (leb e limit and ascending? limit e es) t)))
+    omega (
+      arith,
+      length-rows s a (e - a),
+      terms-cut limit s e es (and-right (leb e limit) (ascending? limit e es)
+          (and-right (ltb a e) (leb e limit and ascending? limit e es) t)),
+    )
 
 pub length-vectors : (s : Words) (a : ℕ) (es : Words) → length (vectors-at s a es) ≡ length es
 length-vectors s a [] = refl
@@ -177,15 +210,19 @@ module _ (b : Bounds) (most : ℕ) (order : Monomial → Monomial → Comparison
   vectors-ascend a (e ∷ es) t =
       let v = vector-ends b most order s a e (and-left (vector-holds? b most order s a e) (vectors-hold? b most order s e es) t) in
       and-both (ltb a e) (leb e most-rows and ascending? most-rows e es) (lt→ltb a e (v .0))
-      (and-both (leb e most-rows) (ascending? most-rows e es) (le→leb e most-rows (v .1)) (vectors-ascend e es (and-right (vector-holds? b most order s a e) (vectors-hold? b most order s e es) t)))
+      (and-both (leb e most-rows) (ascending? most-rows e es) (le→leb e most-rows (v .1))
+      (vectors-ascend e es (and-right (vector-holds? b most order s a e) (vectors-hold? b most order s e es) t)))
 
 module _ (q : Parameters) (components most : ℕ) (s : Words) (long : level-length ≤ length s) (order : Monomial → Monomial → Comparison) where
   pub vectors-fit : (a : ℕ) (es : Words) → T (vectors-hold? (bounds-of (q .p) (q .n) components) most order s a es) → All-fit s a (end-of a es)
   vectors-fit a [] t i h l = absurd (omega arith)
-  vectors-fit a (e ∷ es) t i h l = go (ltb i e) (ltb→lt i e) (nltb→le i e) (vectors-fit e es (and-right (vector-holds? (bounds-of (q .p) (q .n) components) most order s a e) (vectors-hold? (bounds-of (q .p) (q .n) components) most order s e es) t) i)
+  vectors-fit a (e ∷ es) t i h l = go (ltb i e) (ltb→lt i e) (nltb→le i e)
+      (vectors-fit e es (and-right (vector-holds? (bounds-of (q .p) (q .n) components) most order s a e)
+      (vectors-hold? (bounds-of (q .p) (q .n) components) most order s e es) t) i)
     where
       go : (c : Bool) → (T c → i < e) → (T (mathlib.Core.Bool.not c) → e ≤ i) → (e ≤ i → i < end-of e es → Fits s i) → Fits s i
-      go true f g r = vector-fits q components most s long order a e (and-left (vector-holds? (bounds-of (q .p) (q .n) components) most order s a e) (vectors-hold? (bounds-of (q .p) (q .n) components) most order s e es) t) i h (f tt)
+      go true f g r = vector-fits q components most s long order a e (and-left (vector-holds? (bounds-of (q .p) (q .n) components) most order s a e)
+          (vectors-hold? (bounds-of (q .p) (q .n) components) most order s e es) t) i h (f tt)
       go false f g r = r (g tt) l
 
   module _ (below : List Level) (agree : (m m′ : Monomial) → order m m′ ≡ compare-over (q .code) below m m′) where
@@ -195,13 +232,18 @@ module _ (q : Parameters) (components most : ℕ) (s : Words) (long : level-leng
     abbrev kept? : ℕ → ℕ → Bool
     kept? = vector-holds? (bounds-of (q .p) (q .n) components) most order s
 
-    pub vectors-said : (a : ℕ) (es : Words) → T (vectors-hold? (bounds-of (q .p) (q .n) components) most order s a es) → T (every (vector-sound? document-01 q components most below) (vectors-at s a es))
+    pub vectors-said : (a : ℕ) (es : Words) → T (vectors-hold? (bounds-of (q .p) (q .n) components) most order s a es)
+        → T (every (vector-sound? document-01 q components most below) (vectors-at s a es))
     vectors-said a [] t = tt
     vectors-said a (e ∷ es) t =
-        and-both (good? (rows s a (e - a))) (every good? (vectors-at s e es)) (vector-said q components most s long order below agree a e (and-left (kept? a e) (vectors-hold? (bounds-of (q .p) (q .n) components) most order s e es) t))
+        and-both (good? (rows s a (e - a))) (every good? (vectors-at s e es))
+        (vector-said q components most s long order below agree a e
+        (and-left (kept? a e) (vectors-hold? (bounds-of (q .p) (q .n) components) most order s e es) t))
         (vectors-said e es (and-right (kept? a e) (vectors-hold? (bounds-of (q .p) (q .n) components) most order s e es) t))
 
-    pub vectors-shown : (a : ℕ) (es : Words) → T (ascending? most-rows a es) → All-fit s a (end-of a es) → T (every (vector-sound? document-01 q components most below) (vectors-at s a es)) → T (vectors-hold? (bounds-of (q .p) (q .n) components) most order s a es)
+    pub vectors-shown : (a : ℕ) (es : Words) → T (ascending? most-rows a es) → All-fit s a (end-of a es)
+        → T (every (vector-sound? document-01 q components most below) (vectors-at s a es))
+        → T (vectors-hold? (bounds-of (q .p) (q .n) components) most order s a es)
     vectors-shown a [] t f v = tt
     vectors-shown a (e ∷ es) t f v =
         let h : a < e = ltb→lt a e (and-left (ltb a e) (leb e most-rows and ascending? most-rows e es) t) in
@@ -209,5 +251,6 @@ module _ (q : Parameters) (components most : ℕ) (s : Words) (long : level-leng
         let w = and-right (leb e most-rows) (ascending? most-rows e es) u in
         let m : e ≤ end-of e es = ascends-past most-rows e es w in
         and-both (kept? a e) (vectors-hold? (bounds-of (q .p) (q .n) components) most order s e es)
-        (vector-kept q components most s long order below agree a e h (leb→le e most-rows (and-left (leb e most-rows) (ascending? most-rows e es) u)) (λ i x y. f i x (omega arith)) (and-left (good? (rows s a (e - a))) (every good? (vectors-at s e es)) v))
+        (vector-kept q components most s long order below agree a e h (leb→le e most-rows (and-left (leb e most-rows) (ascending? most-rows e es) u))
+        (λ i x y. f i x (omega arith)) (and-left (good? (rows s a (e - a))) (every good? (vectors-at s e es)) v))
         (vectors-shown e es w (λ i x y. f i (omega arith) y) (and-right (good? (rows s a (e - a))) (every good? (vectors-at s e es)) v))

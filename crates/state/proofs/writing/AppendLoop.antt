@@ -23,7 +23,8 @@ pub grown-none : (s : Words) (k : ℕ) → T (all-words-sound? document-01 s k) 
 grown-none s k t = record { long = refl; front = λ i a b. refl; below = refl; words-below = t; words = tt; level = refl; used-is = refl }
 
 -- the rows of a value as one vector more
-pub grown-more : (s z : Words) (k count used : ℕ) (f : Level) (value : Words) (n : ℕ) → state-length ≤ length s → k < all-levels → count < most-vectors → used + n ≤ most-rows → 1 ≤ n → Grown s z k count used f
+pub grown-more : (s z : Words) (k count used : ℕ) (f : Level) (value : Words) (n : ℕ) → state-length ≤ length s → k < all-levels → count < most-vectors
+    → used + n ≤ most-rows → 1 ≤ n → Grown s z k count used f
     → Grown s (appended z k count used (rows value 0 n) n) k (count + 1) (used + n) (f ++ rows value 0 n ∷ [])
 grown-more s z k count used f value n long inside few room filled g =
     let l : state-length ≤ length z = omega (arith, g .long) in
@@ -42,9 +43,16 @@ grown-more s z k count used f value n long inside few room filled g =
     }
 
 -- what finish says, in terms of the state that the level grew over
-pub grown-finished : (s z : Words) (k count used : ℕ) (f : Level) → Grown s z k count used f → finished z k count ≡ record { parameters = parameters-at s; levels = f ∷ levels-at document-01 s k }
+pub grown-finished : (s z : Words) (k count used : ℕ) (f : Level) → Grown s z k count used f → finished z k count
+    ≡ record { parameters = parameters-at s; levels = f ∷ levels-at document-01 s k }
 grown-finished s z k count used f g = λ i. record {
-  parameters = record { p = g .front 0 (omega arith) (omega arith) i; n = g .front 1 (omega arith) (omega arith) i; code = g .front 2 (omega arith) (omega arith) i; s = g .front 3 (omega arith) (omega arith) i };
+  parameters = record {
+    p = g .front 0 (omega arith) (omega arith) i;
+    n = g .front 1 (omega arith) (omega arith) i;
+    code =
+        g .front 2 (omega arith) (omega arith) i;
+    s = g .front 3 (omega arith) (omega arith) i;
+  };
   levels = g .level i ∷ g .below i;
 }
 
@@ -52,8 +60,10 @@ grown-finished s z k count used f g = λ i. record {
 
 pub encode-empty : (size : ℕ) → rows-start ≤ size → encode document-01 size empty ≡ replicate size 0
 encode-empty size h =
-    let x : replicate {A = ℕ} header-length 0 ++ replicate (rows-start - header-length) 0 ≡ replicate rows-start 0 = replicate-append-replicate header-length (rows-start - header-length) 0 in
-    let y : size - length (replicate {A = ℕ} rows-start 0 ++ []) ≡ size - rows-start = omega (arith, ap length (append-nil (replicate {A = ℕ} rows-start 0)), length-replicate {A = ℕ} rows-start 0) in
+    let x : replicate {A = ℕ} header-length 0 ++ replicate (rows-start - header-length) 0
+    ≡ replicate rows-start 0 = replicate-append-replicate header-length (rows-start - header-length) 0 in
+    let y : size - length (replicate {A = ℕ} rows-start 0 ++ []) ≡ size - rows-start =
+    omega (arith, ap length (append-nil (replicate {A = ℕ} rows-start 0)), length-replicate {A = ℕ} rows-start 0) in
     let z : rows-start + (size - rows-start) ≡ size = omega arith in
     ap (λ w. (w ++ []) ++ replicate (size - length (w ++ [])) 0) x
     ∙ (λ i. append-nil (replicate {A = ℕ} rows-start 0) i ++ replicate (y i) 0)

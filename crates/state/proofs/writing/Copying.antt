@@ -18,18 +18,27 @@ use Rattle.state.specs.soundness.Places.{ends-from}
 
 -- ## One list pasted behind another
 
-pub paste-joined : (d u w : Words) (a n m : ℕ) → length u ≡ n → length w ≡ m → a + (n + m) ≤ length d → paste (paste d a u n) (a + n) w m ≡ paste d a (u ++ w) (n + m)
+pub paste-joined : (d u w : Words) (a n m : ℕ) → length u ≡ n → length w ≡ m → a + (n + m) ≤ length d → paste (paste d a u n) (a + n) w m
+    ≡ paste d a (u ++ w) (n + m)
 paste-joined d u w a n m p q h =
     let z : a + n + m ≡ a + (n + m) = omega arith in
     let t : take (a + n) (paste d a u n) ≡ take a d ++ take n u = take-paste d a u n (omega arith) (omega arith) in
-    let e : drop (a + n + m) (paste d a u n) ≡ drop (a + (n + m)) d = sym (drop-drop m (a + n) (paste d a u n)) ∙ ap (drop m) (drop-paste d a u n (omega arith) (omega arith)) ∙ drop-drop m (a + n) d ∙ ap (λ k. drop k d) z in
-    let f : take n u ++ take m w ≡ take (n + m) (u ++ w) = (λ i. take-all n u (omega arith) i ++ take-all m w (omega arith) i) ∙ sym (take-all (n + m) (u ++ w) (omega (arith, length-append u w))) in
+    let e : drop (a + n + m) (paste d a u n) ≡ drop (a + (n + m)) d = sym (drop-drop m (a + n) (paste d a u n))
+    ∙ ap (drop m) (drop-paste d a u n (omega arith) (omega arith)) ∙ drop-drop m (a + n) d ∙ ap (λ k. drop k d) z in
+    let f : take n u ++ take m w ≡ take (n + m) (u ++ w) = (λ i. take-all n u (omega arith) i ++ take-all m w (omega arith) i)
+    ∙ sym (take-all (n + m) (u ++ w) (omega (arith, length-append u w))) in
     (λ i. (t i ++ take m w) ++ e i) ∙ ap (λ x. x ++ drop (a + (n + m)) d) (append-assoc (take a d) (take n u) (take m w) ∙ ap (λ x. take a d ++ x) f)
 
 -- ## Rows as they are read have eight exponents in range
 
 pub eight-row : (s : Words) (i : ℕ) → Eight (row-at s i .1 .0)
-eight-row s i = eight-small (row-at s i .1 .0) (ap (λ t. length (t .1 .0)) (row-is s i)) (λ k h. omega (arith, ap (λ t. getD (t .1 .0) k 0) (row-is s i), getD-exponents s (i * row-length + exponents-offset) k h, byte-bound (getD s (i * row-length + exponents-offset + k) 0)))
+eight-row s i = eight-small (row-at s i .1 .0) (ap (λ t. length (t .1 .0)) (row-is s i))
+    (λ k h. omega (
+      arith,
+      ap (λ t. getD (t .1 .0) k 0) (row-is s i),
+      getD-exponents s (i * row-length + exponents-offset) k h,
+      byte-bound (getD s (i * row-length + exponents-offset + k) 0),
+    ))
 
 pub eights-rows : (s : Words) (a n : ℕ) → Eights (rows s a n)
 unfolding rows
@@ -48,23 +57,27 @@ copied-none d value used = lib.Seq.paste-zero d (used * row-length) (rows-of (ro
 
 -- one row more
 pub copied-more : (d value : Words) (used j : ℕ) (t : Term) → used * row-length + (j * row-length + row-length) ≤ length d → t ≡ row-at value j
-    → written (paste d (used * row-length) (rows-of (rows value 0 j)) (j * row-length)) (used + j) t ≡ paste d (used * row-length) (rows-of (rows value 0 (j + 1))) ((j + 1) * row-length)
+    → written (paste d (used * row-length) (rows-of (rows value 0 j)) (j * row-length)) (used + j) t
+    ≡ paste d (used * row-length) (rows-of (rows value 0 (j + 1))) ((j + 1) * row-length)
 copied-more d value used j t h e =
     let y : (used + j) * row-length ≡ used * row-length + j * row-length = omega arith in
     let z : j * row-length + row-length ≡ (j + 1) * row-length = omega arith in
     let x : 0 + j ≡ j = omega arith in
     let old : Words = paste d (used * row-length) (rows-of (rows value 0 j)) (j * row-length) in
     let r : rows-of (rows value 0 (j + 1)) ≡ rows-of (rows value 0 j) ++ row-of (row-at value j) =
-    ap rows-of (rows-last value 0 j ∙ ap (λ i. rows value 0 j ++ row-at value i ∷ []) x) ∙ rows-of-append (rows value 0 j) (row-at value j ∷ []) ∙ ap (λ w. rows-of (rows value 0 j) ++ w) (append-nil (row-of (row-at value j))) in
+    ap rows-of (rows-last value 0 j ∙ ap (λ i. rows value 0 j ++ row-at value i ∷ []) x) ∙ rows-of-append (rows value 0 j) (row-at value j ∷ [])
+    ∙ ap (λ w. rows-of (rows value 0 j) ++ w) (append-nil (row-of (row-at value j))) in
     (λ i. paste old (y i) (row-of (e i)) row-length)
-    ∙ paste-joined d (rows-of (rows value 0 j)) (row-of (row-at value j)) (used * row-length) (j * row-length) row-length (length-spelled value 0 j) (length-row (row-at value j) (eight-row value j)) h
+    ∙ paste-joined d (rows-of (rows value 0 j)) (row-of (row-at value j)) (used * row-length) (j * row-length) row-length (length-spelled value 0 j)
+    (length-row (row-at value j) (eight-row value j)) h
     ∙ (λ i. paste d (used * row-length) (sym r i) (z i))
 
 -- ## The last end
 
 pub end-at : (s : Words) (k r : ℕ) → (r ≡ 0 → ⊥) → getD s (count-offset k + r) 0 ≡ start-of (ends-from s k) r
 end-at s k zero n = absurd (n refl)
-end-at s k (suc r) n = let z : count-offset k + suc r ≡ suc (count-offset k) + r = omega arith in ap (λ i. getD s i 0) z ∙ sym (getD-drop (suc (count-offset k)) s r 0)
+end-at s k (suc r) n = let z : count-offset k + suc r ≡ suc (count-offset k) + r = omega arith in ap (λ i. getD s i 0) z
+    ∙ sym (getD-drop (suc (count-offset k)) s r 0)
 
 pub end-none : (s : Words) (k r : ℕ) → r ≡ 0 → 0 ≡ start-of (ends-from s k) r
 end-none s k r e = ap (start-of (ends-from s k)) (sym e)

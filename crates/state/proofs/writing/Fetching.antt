@@ -12,7 +12,8 @@ use Rattle.definitions.specs.Lists.{_and_, between}
 use Rattle.definitions.specs.Monomial.{Monomial, vector-of}
 use Rattle.definitions.specs.Order.{Comparison}
 use Rattle.definitions.specs.State.{sound?}
-use Rattle.definitions.specs.Layout.{Words, rows, rows-of, padded, vectors-at, ascending?, ends-at, level-at, levels-at, decode, words-sound?, all-words-sound?, holds-state?}
+use Rattle.definitions.specs.Layout.{Words, rows, rows-of, padded, vectors-at, ascending?, ends-at, level-at, levels-at, decode, words-sound?, all-words-sound?}
+use Rattle.definitions.specs.Layout.{holds-state?}
 use Rattle.definitions.proofs.Tests.{and-left, and-right}
 use Rattle.definitions.specs.Places.{most-vectors, most-rows, most-terms, all-levels, row-length, state-length, rows-offset}
 use Rattle.orders.specs.Images.{table-order}
@@ -30,17 +31,22 @@ use Rattle.state.proofs.soundness.StateTests.{words-parts}
 use Rattle.state.proofs.soundness.VectorTests.{All-fit, end-of, ascends-past}
 use Rattle.state.proofs.writing.Spelled.{rows-back, all-sound-at}
 
-vector-from : (s : Words) (a : ℕ) (es : Words) (i : ℕ) → i < length es → getD (vectors-at s a es) i [] ≡ rows s (begin-from a es i) (getD es i 0 - begin-from a es i)
+vector-from : (s : Words) (a : ℕ) (es : Words) (i : ℕ) → i < length es → getD (vectors-at s a es) i []
+    ≡ rows s (begin-from a es i) (getD es i 0 - begin-from a es i)
 vector-from s a [] i h = absurd (not-suc-le-zero h)
 vector-from s a (e ∷ es) zero h = refl
 vector-from s a (e ∷ es) (suc zero) h = vector-from s e es zero (le-of-suc-le-suc h)
 vector-from s a (e ∷ es) (suc (suc i)) h = vector-from s e es (suc i) (le-of-suc-le-suc h)
 
-vectors-short : (b : Bounds) (most : ℕ) (order : Monomial → Monomial → Comparison) (s : Words) (a : ℕ) (es : Words) → T (vectors-hold? b most order s a es) → (i : ℕ) → i < length es → getD es i 0 - begin-from a es i ≤ most
+vectors-short : (b : Bounds) (most : ℕ) (order : Monomial → Monomial → Comparison) (s : Words) (a : ℕ) (es : Words)
+    → T (vectors-hold? b most order s a es) → (i : ℕ) → i < length es → getD es i 0 - begin-from a es i ≤ most
 vectors-short b most order s a [] t i h = absurd (not-suc-le-zero h)
-vectors-short b most order s a (e ∷ es) t zero h = vector-ends b most order s a e (and-left (vector-holds? b most order s a e) (vectors-hold? b most order s e es) t) .2
-vectors-short b most order s a (e ∷ es) t (suc zero) h = vectors-short b most order s e es (and-right (vector-holds? b most order s a e) (vectors-hold? b most order s e es) t) zero (le-of-suc-le-suc h)
-vectors-short b most order s a (e ∷ es) t (suc (suc i)) h = vectors-short b most order s e es (and-right (vector-holds? b most order s a e) (vectors-hold? b most order s e es) t) (suc i) (le-of-suc-le-suc h)
+vectors-short b most order s a (e ∷ es) t zero h = vector-ends b most order s a e
+    (and-left (vector-holds? b most order s a e) (vectors-hold? b most order s e es) t) .2
+vectors-short b most order s a (e ∷ es) t (suc zero) h = vectors-short b most order s e es
+    (and-right (vector-holds? b most order s a e) (vectors-hold? b most order s e es) t) zero (le-of-suc-le-suc h)
+vectors-short b most order s a (e ∷ es) t (suc (suc i)) h = vectors-short b most order s e es
+    (and-right (vector-holds? b most order s a e) (vectors-hold? b most order s e es) t) (suc i) (le-of-suc-le-suc h)
 
 begin-taken : (ends : Words) (r j : ℕ) → j < r → begin-from 0 (take r ends) j ≡ start-of ends j
 begin-taken ends r zero h = refl
@@ -52,7 +58,8 @@ each-end limit a [] t i h = absurd (not-suc-le-zero h)
 each-end limit a (e ∷ es) t zero h =
     let u = and-right (ltb a e) (leb e limit and ascending? limit e es) t in
     (leb→le e limit (and-left (leb e limit) (ascending? limit e es) u), ascends-past limit e es (and-right (leb e limit) (ascending? limit e es) u))
-each-end limit a (e ∷ es) t (suc i) h = each-end limit e es (and-right (leb e limit) (ascending? limit e es) (and-right (ltb a e) (leb e limit and ascending? limit e es) t)) i (le-of-suc-le-suc h)
+each-end limit a (e ∷ es) t (suc i) h = each-end limit e es (and-right (leb e limit) (ascending? limit e es)
+    (and-right (ltb a e) (leb e limit and ascending? limit e es) t)) i (le-of-suc-le-suc h)
 
 module _ (s : Words) (long : state-length ≤ length s) (t : T (holds-state? document-01 s)) where
   pub complete-words : (k : ℕ) → k < getD s 4 0 → T (words-sound? document-01 s k)
@@ -73,17 +80,21 @@ module _ (s : Words) (long : state-length ≤ length s) (t : T (holds-state? doc
     vector-short : 1 ≤ k → getD (ends-from s k) j 0 - start-of (ends-from s k) j ≤ most-terms
     vector-short l = go k l (complete-test s long t k high) (complete-cut s long t k high .1 .ends-fit) inside
       where
-        go : (k : ℕ) → 1 ≤ k → T (own-test? s k) → count-at s k ≤ length (ends-from s k) → j < count-at s k → getD (ends-from s k) j 0 - start-of (ends-from s k) j ≤ most-terms
+        go : (k : ℕ) → 1 ≤ k → T (own-test? s k) → count-at s k ≤ length (ends-from s k) → j < count-at s k
+            → getD (ends-from s k) j 0 - start-of (ends-from s k) j ≤ most-terms
         go zero l u f i = absurd (omega arith)
         go (suc k) l u f i =
             let es = ends-at document-01 s (suc k) in
             let O = table-order (getD s 2 0) (images (levels-at document-01 s (suc k))) in
             let b = bounds-of (getD s 0 0) (getD s 1 0) (count-at s k) in
             let n : length es ≡ count-at s (suc k) = length-take-le (count-at s (suc k)) (ends-from s (suc k)) f in
-            let x = vectors-short b most-terms O (rows-from s (suc k)) 0 es (and-right (between 0 (count-at s (suc k)) most-vectors) (vectors-hold? b most-terms O (rows-from s (suc k)) 0 es) u) j (omega arith) in
-            subst (λ c. c ≤ most-terms) (λ i′. getD-take (count-at s (suc k)) (ends-from s (suc k)) j 0 i i′ - begin-taken (ends-from s (suc k)) (count-at s (suc k)) j i i′) x
+            let x = vectors-short b most-terms O (rows-from s (suc k)) 0 es
+            (and-right (between 0 (count-at s (suc k)) most-vectors) (vectors-hold? b most-terms O (rows-from s (suc k)) 0 es) u) j (omega arith) in
+            subst (λ c. c ≤ most-terms) (λ i′. getD-take (count-at s (suc k)) (ends-from s (suc k)) j 0 i i′ - begin-taken (ends-from s (suc k))
+            (count-at s (suc k)) j i i′) x
 
-    parts : (count-at s k ≤ most-vectors) × T (ascending? most-rows 0 (ends-at document-01 s k)) × All-fit (rows-from s k) 0 (end-of 0 (ends-at document-01 s k))
+    parts : (count-at s k ≤ most-vectors) × T (ascending? most-rows 0 (ends-at document-01 s k))
+        × All-fit (rows-from s k) 0 (end-of 0 (ends-at document-01 s k))
     parts = words-parts s long k (complete-words k high)
 
     many : length (ends-at document-01 s k) ≡ count-at s k
@@ -92,12 +103,24 @@ module _ (s : Words) (long : state-length ≤ length s) (t : T (holds-state? doc
     taken : getD (ends-at document-01 s k) j 0 ≡ getD (ends-from s k) j 0
     taken = getD-take (count-at s k) (ends-from s k) j 0 inside
 
-    pub vector-bounds : 1 ≤ k → (start-of (ends-from s k) j < getD (ends-from s k) j 0) × (getD (ends-from s k) j 0 ≤ most-rows) × (getD (ends-from s k) j 0 - start-of (ends-from s k) j ≤ most-terms)
-    vector-bounds l = (cut .filled j inside, omega (arith, taken, each-end most-rows 0 (ends-at document-01 s k) (parts .1) j (omega (arith, many, inside)) .0), vector-short l)
+    pub vector-bounds : 1 ≤ k → (start-of (ends-from s k) j < getD (ends-from s k) j 0) × (getD (ends-from s k) j 0 ≤ most-rows)
+        × (getD (ends-from s k) j 0 - start-of (ends-from s k) j ≤ most-terms)
+    vector-bounds l = (
+      cut .filled j inside,
+      omega (
+        arith,
+        taken,
+        each-end most-rows 0 (ends-at document-01 s k) (parts .1) j
+            (omega (arith, many, inside)) .0,
+      ),
+      vector-short l,
+    )
 
-    pub vector-words : rows-of (vector-of (level-at document-01 s k) (suc j)) ≡ take ((getD (ends-from s k) j 0 - start-of (ends-from s k) j) * row-length) (drop (rows-offset k + start-of (ends-from s k) j * row-length) s)
+    pub vector-words : rows-of (vector-of (level-at document-01 s k) (suc j))
+        ≡ take ((getD (ends-from s k) j 0 - start-of (ends-from s k) j) * row-length) (drop (rows-offset k + start-of (ends-from s k) j * row-length) s)
     vector-words =
-        ap rows-of (vector-from R 0 es j (omega (arith, many, inside)) ∙ (λ i. rows R (begin-taken ends (count-at s k) j inside i) (taken i - begin-taken ends (count-at s k) j inside i)))
+        ap rows-of (vector-from R 0 es j (omega (arith, many, inside))
+        ∙ (λ i. rows R (begin-taken ends (count-at s k) j inside i) (taken i - begin-taken ends (count-at s k) j inside i)))
         ∙ rows-back R from (to - from) (omega (arith, e .0, room)) (λ i a b. parts .2 i (omega arith) (omega (arith, e .1, taken)))
         ∙ ap (take ((to - from) * row-length)) (drop-drop (from * row-length) (rows-offset k) s)
       where
@@ -128,7 +151,8 @@ module _ (s : Words) (long : state-length ≤ length s) (t : T (holds-state? doc
 pub padded-out : (out w p : Words) (n : ℕ) → n ≤ length out → n ≤ length p → w ≡ take n p → cleared (paste out 0 p n) n ≡ padded (length out) w
 padded-out out w p n h l e =
     let z : 0 + n ≡ n = omega arith in
-    let m : length (paste out 0 p n) - n ≡ length out - length w = omega (arith, length-paste out 0 p n (omega arith) l, ap length e, length-take-le n p l) in
+    let m : length (paste out 0 p n) - n ≡ length out - length w = omega
+    (arith, length-paste out 0 p n (omega arith) l, ap length e, length-take-le n p l) in
     (λ i. (ap (λ k. take k (paste out 0 p n)) (sym z) ∙ take-paste out 0 p n (omega arith) l ∙ sym e) i ++ replicate (m i) 0)
 
 -- ## Vector v, counted from 1
@@ -139,9 +163,11 @@ pub record Fetchable (s : Words) (k v : ℕ) : Type 0 where
   pub filled : start-of (ends-from s k) (v - 1) < start-of (ends-from s k) v
   pub within : start-of (ends-from s k) v ≤ most-rows
   pub short : start-of (ends-from s k) v - start-of (ends-from s k) (v - 1) ≤ most-terms
-  pub words : rows-of (vector-of (level-at document-01 s k) v) ≡ take ((start-of (ends-from s k) v - start-of (ends-from s k) (v - 1)) * row-length) (drop (rows-offset k + start-of (ends-from s k) (v - 1) * row-length) s)
+  pub words : rows-of (vector-of (level-at document-01 s k) v) ≡ take ((start-of (ends-from s k) v - start-of (ends-from s k) (v - 1)) * row-length)
+      (drop (rows-offset k + start-of (ends-from s k) (v - 1) * row-length) s)
 
-pub fetchable : (s : Words) (long : state-length ≤ length s) (t : T (holds-state? document-01 s)) (k v : ℕ) → 1 ≤ k → k < getD s 4 0 → 1 ≤ v → v ≤ count-at s k → Fetchable s k v
+pub fetchable : (s : Words) (long : state-length ≤ length s) (t : T (holds-state? document-01 s)) (k v : ℕ) → 1 ≤ k → k < getD s 4 0 → 1 ≤ v
+    → v ≤ count-at s k → Fetchable s k v
 fetchable s long t k zero a b c d = absurd (omega arith)
 fetchable s long t k (suc j) a b c d =
     let z : j ≡ suc j - 1 = omega arith in
@@ -152,5 +178,7 @@ fetchable s long t k (suc j) a b c d =
       filled = subst (λ n. start-of (ends-from s k) n < getD (ends-from s k) j 0) z (x .0);
       within = x .1;
       short = subst (λ n. getD (ends-from s k) j 0 - start-of (ends-from s k) n ≤ most-terms) z (x .2);
-      words = subst (λ n. rows-of (vector-of (level-at document-01 s k) (suc j)) ≡ take ((getD (ends-from s k) j 0 - start-of (ends-from s k) n) * row-length) (drop (rows-offset k + start-of (ends-from s k) n * row-length) s)) z (vector-words s long t k b j d);
+      words = subst (λ n. rows-of (vector-of (level-at document-01 s k) (suc j))
+          ≡ take ((getD (ends-from s k) j 0 - start-of (ends-from s k) n) * row-length)
+          (drop (rows-offset k + start-of (ends-from s k) n * row-length) s)) z (vector-words s long t k b j d);
     }

@@ -8,10 +8,12 @@ use lib.ListN.{length, take, drop, getD, set, length-drop, length-set}
 use lib.Seq.{ext-getD, getD-take, getD-drop, getD-set-same, getD-set-other, drop-set-lt, length-take-le}
 use Rattle.definitions.specs.Limits.{document-01}
 use Rattle.definitions.specs.Lists.{_and_, last}
-use Rattle.definitions.specs.Layout.{Words, row-at, vectors-at, ascending?, ends-at, level-at, levels-at, decode, last-end, exponents-fit?, words-sound?, all-words-sound?}
+use Rattle.definitions.specs.Layout.{Words, row-at, vectors-at, ascending?, ends-at, level-at, levels-at, decode, last-end, exponents-fit?, words-sound?}
+use Rattle.definitions.specs.Layout.{all-words-sound?}
 use Rattle.definitions.proofs.Tests.{and-left, and-right, and-both}
 use Rattle.definitions.proofs.Rows.{rows-same}
-use Rattle.definitions.specs.Places.{most-exponent, most-vectors, most-rows, all-levels, row-length, exponents-offset, header-length, rows-start, level-length, state-length, count-offset, rows-offset}
+use Rattle.definitions.specs.Places.{most-exponent, most-vectors, most-rows, all-levels, row-length, exponents-offset, header-length, rows-start, level-length}
+use Rattle.definitions.specs.Places.{state-length, count-offset, rows-offset}
 use Rattle.vectors.proofs.terms.Stored.{same-row}
 use Rattle.state.specs.soundness.Places.{count-at, rows-from, ends-from}
 use Rattle.state.proofs.soundness.RowTests.{Fits}
@@ -25,20 +27,24 @@ use Rattle.state.specs.writing.Zeroed.{Same}
 pub row-stays : (s z : Words) (i : ℕ) → Same z s (i * row-length) (i * row-length + row-length) → row-at z i ≡ row-at s i
 row-stays s z i f = same-row s z i i (λ j h. f (i * row-length + j) (omega arith) (omega arith))
 
-pub fits-stays : (s z : Words) (i : ℕ) → i * row-length + row-length ≤ length s → i * row-length + row-length ≤ length z → Same z s (i * row-length) (i * row-length + row-length) → Fits s i → Fits z i
+pub fits-stays : (s z : Words) (i : ℕ) → i * row-length + row-length ≤ length s → i * row-length + row-length ≤ length z
+    → Same z s (i * row-length) (i * row-length + row-length) → Fits s i → Fits z i
 fits-stays s z i h l f t = subst (λ e. T (Rattle.definitions.specs.Monomial.fits? most-exponent e)) (sym same) t
   where
     n : (w : Words) → i * row-length + row-length ≤ length w → length (take 8 (drop (i * row-length + exponents-offset) w)) ≡ 8
     n w m = length-take-le 8 (drop (i * row-length + exponents-offset) w) (omega (arith, length-drop (i * row-length + exponents-offset) w))
 
-    word : (w : Words) (j : ℕ) → j < 8 → getD (take 8 (drop (i * row-length + exponents-offset) w)) j 0 ≡ getD w (i * row-length + exponents-offset + j) 0
+    word : (w : Words) (j : ℕ) → j < 8 → getD (take 8 (drop (i * row-length + exponents-offset) w)) j 0
+        ≡ getD w (i * row-length + exponents-offset + j) 0
     word w j m = getD-take 8 (drop (i * row-length + exponents-offset) w) j 0 m ∙ getD-drop (i * row-length + exponents-offset) w j 0
 
     same : take 8 (drop (i * row-length + exponents-offset) z) ≡ take 8 (drop (i * row-length + exponents-offset) s)
     same = ext-getD 0 (take 8 (drop (i * row-length + exponents-offset) z)) (take 8 (drop (i * row-length + exponents-offset) s)) (n z l ∙ sym (n s h))
-        (λ j m. word z j (omega (arith, n z l)) ∙ f (i * row-length + exponents-offset + j) (omega arith) (omega (arith, n z l)) ∙ sym (word s j (omega (arith, n z l))))
+        (λ j m. word z j (omega (arith, n z l)) ∙ f (i * row-length + exponents-offset + j) (omega arith) (omega (arith, n z l))
+        ∙ sym (word s j (omega (arith, n z l))))
 
-pub vectors-stay : (s z : Words) (a : ℕ) (es : Words) → T (ascending? most-rows a es) → ((i : ℕ) → i < end-of a es → row-at z i ≡ row-at s i) → vectors-at z a es ≡ vectors-at s a es
+pub vectors-stay : (s z : Words) (a : ℕ) (es : Words) → T (ascending? most-rows a es) → ((i : ℕ) → i < end-of a es → row-at z i ≡ row-at s i)
+    → vectors-at z a es ≡ vectors-at s a es
 vectors-stay s z a [] t f = refl
 vectors-stay s z a (e ∷ es) t f =
     let u = and-right (leb e most-rows) (ascending? most-rows e es) (and-right (ltb a e) (leb e most-rows and ascending? most-rows e es) t) in
@@ -48,7 +54,8 @@ vectors-stay s z a (e ∷ es) t f =
 
 -- ## A level
 
-module _ (s z : Words) (es : Words) (t : T (ascending? most-rows 0 es)) (f : All-fit s 0 (end-of 0 es)) (long : level-length ≤ length s) (same-long : level-length ≤ length z) (same : Same z s 0 (end-of 0 es * row-length)) where
+module _ (s z : Words) (es : Words) (t : T (ascending? most-rows 0 es)) (f : All-fit s 0 (end-of 0 es)) (long : level-length ≤ length s)
+    (same-long : level-length ≤ length z) (same : Same z s 0 (end-of 0 es * row-length)) where
   abbrev E : ℕ
   E = end-of 0 es
 
@@ -59,19 +66,24 @@ module _ (s z : Words) (es : Words) (t : T (ascending? most-rows 0 es)) (f : All
   level-stays = vectors-stay s z 0 es t (λ i h. row-stays s z i (λ j a b. same j (omega arith) (omega arith)))
 
   pub fit-stays : T (exponents-fit? z (last-end (last es)))
-  fit-stays = subst (λ n. T (exponents-fit? z n)) (sym (last-end-is es)) (fit-shown z E (λ i a b. fits-stays s z i (omega (arith, short)) (omega (arith, short)) (λ j c d. same j (omega arith) (omega arith)) (f i a b)))
+  fit-stays = subst (λ n. T (exponents-fit? z n)) (sym (last-end-is es))
+      (fit-shown z E (λ i a b. fits-stays s z i (omega (arith, short)) (omega (arith, short)) (λ j c d. same j (omega arith) (omega arith)) (f i a b)))
 
 module _ (s z : Words) (long : state-length ≤ length s) (same-long : length z ≡ length s) where
-  module _ (j : ℕ) (inside : j < all-levels) (t : T (words-sound? document-01 s j)) (counts : Same z s (count-offset j) (count-offset (suc j))) (terms : Same z s (rows-offset j) (rows-offset (suc j))) where
-    p : (count-at s j ≤ most-vectors) × T (ascending? most-rows 0 (ends-at document-01 s j)) × All-fit (rows-from s j) 0 (end-of 0 (ends-at document-01 s j))
+  module _ (j : ℕ) (inside : j < all-levels) (t : T (words-sound? document-01 s j)) (counts : Same z s (count-offset j) (count-offset (suc j)))
+      (terms : Same z s (rows-offset j) (rows-offset (suc j))) where
+    p : (count-at s j ≤ most-vectors) × T (ascending? most-rows 0 (ends-at document-01 s j))
+        × All-fit (rows-from s j) 0 (end-of 0 (ends-at document-01 s j))
     p = words-parts s long j t
 
     count-same : count-at z j ≡ count-at s j
     count-same = counts (count-offset j) (omega arith) (omega arith)
 
     ends-same : ends-at document-01 z j ≡ ends-at document-01 s j
-    ends-same = ap (λ n. take n (ends-from z j)) count-same ∙ ext-getD 0 (take (count-at s j) (ends-from z j)) (take (count-at s j) (ends-from s j)) (n z (omega arith) ∙ sym (n s (omega arith)))
-        (λ i h. word z i (omega (arith, n z (omega arith))) ∙ counts (suc (count-offset j) + i) (omega arith) (omega (arith, n z (omega arith), p .0)) ∙ sym (word s i (omega (arith, n z (omega arith)))))
+    ends-same = ap (λ n. take n (ends-from z j)) count-same ∙ ext-getD 0 (take (count-at s j) (ends-from z j)) (take (count-at s j) (ends-from s j))
+        (n z (omega arith) ∙ sym (n s (omega arith)))
+        (λ i h. word z i (omega (arith, n z (omega arith))) ∙ counts (suc (count-offset j) + i) (omega arith) (omega (arith, n z (omega arith), p .0))
+        ∙ sym (word s i (omega (arith, n z (omega arith)))))
       where
         n : (w : Words) → state-length ≤ length w → length (take (count-at s j) (ends-from w j)) ≡ count-at s j
         n w l = length-take-le (count-at s j) (ends-from w j) (omega (arith, p .0, length-drop (suc (count-offset j)) w))
@@ -80,7 +92,8 @@ module _ (s z : Words) (long : state-length ≤ length s) (same-long : length z 
         word w i l = getD-take (count-at s j) (ends-from w j) i 0 l ∙ getD-drop (suc (count-offset j)) w i 0
 
     rows-same-from : Same (rows-from z j) (rows-from s j) 0 level-length
-    rows-same-from i a b = getD-drop (rows-offset j) z i 0 ∙ terms (rows-offset j + i) (omega arith) (omega arith) ∙ sym (getD-drop (rows-offset j) s i 0)
+    rows-same-from i a b = getD-drop (rows-offset j) z i 0 ∙ terms (rows-offset j + i) (omega arith) (omega arith)
+        ∙ sym (getD-drop (rows-offset j) s i 0)
 
     room : (w : Words) → state-length ≤ length w → level-length ≤ length (rows-from w j)
     room w l = omega (arith, length-drop (rows-offset j) w)
@@ -92,27 +105,37 @@ module _ (s z : Words) (long : state-length ≤ length s) (same-long : length z 
     used i a b = rows-same-from i a (omega (arith, ascends-within most-rows 0 es (omega arith) (p .1)))
 
     pub level-local : level-at document-01 z j ≡ level-at document-01 s j
-    level-local = ap (vectors-at (rows-from z j) 0) ends-same ∙ level-stays (rows-from s j) (rows-from z j) es (p .1) (p .2) (room s long) (room z (omega arith)) used
+    level-local = ap (vectors-at (rows-from z j) 0) ends-same ∙ level-stays (rows-from s j) (rows-from z j) es (p .1) (p .2) (room s long)
+        (room z (omega arith)) used
 
     pub words-local : T (words-sound? document-01 z j)
     words-local =
-        subst (λ e. T (leb (count-at z j) most-vectors and ascending? most-rows 0 e and exponents-fit? (rows-from z j) (last-end (last e)))) (sym ends-same)
-        (and-both (leb (count-at z j) most-vectors) (ascending? most-rows 0 es and exponents-fit? (rows-from z j) (last-end (last es))) (le→leb (count-at z j) most-vectors (omega (arith, count-same, p .0)))
-        (and-both (ascending? most-rows 0 es) (exponents-fit? (rows-from z j) (last-end (last es))) (p .1) (fit-stays (rows-from s j) (rows-from z j) es (p .1) (p .2) (room s long) (room z (omega arith)) used)))
+        subst (λ e. T (leb (count-at z j) most-vectors and ascending? most-rows 0 e and exponents-fit? (rows-from z j) (last-end (last e))))
+        (sym ends-same)
+        (and-both (leb (count-at z j) most-vectors) (ascending? most-rows 0 es and exponents-fit? (rows-from z j) (last-end (last es)))
+        (le→leb (count-at z j) most-vectors (omega (arith, count-same, p .0)))
+        (and-both (ascending? most-rows 0 es) (exponents-fit? (rows-from z j) (last-end (last es))) (p .1)
+        (fit-stays (rows-from s j) (rows-from z j) es (p .1) (p .2) (room s long) (room z (omega arith)) used)))
 
   -- levels 0 to h − 1
-  pub levels-local : (h : ℕ) → h ≤ all-levels → T (all-words-sound? document-01 s h) → Same z s header-length (count-offset h) → Same z s rows-start (rows-offset h) → (levels-at document-01 z h ≡ levels-at document-01 s h) × T (all-words-sound? document-01 z h)
+  pub levels-local : (h : ℕ) → h ≤ all-levels → T (all-words-sound? document-01 s h) → Same z s header-length (count-offset h)
+      → Same z s rows-start (rows-offset h) → (levels-at document-01 z h ≡ levels-at document-01 s h) × T (all-words-sound? document-01 z h)
   levels-local zero l t c r = (refl, tt)
   levels-local (suc h) l t c r =
       let w = and-left (words-sound? document-01 s h) (all-words-sound? document-01 s h) t in
-      let q = levels-local h (omega arith) (and-right (words-sound? document-01 s h) (all-words-sound? document-01 s h) t) (λ i a b. c i a (omega arith)) (λ i a b. r i a (omega arith)) in
+      let q = levels-local h (omega arith) (and-right (words-sound? document-01 s h) (all-words-sound? document-01 s h) t)
+      (λ i a b. c i a (omega arith)) (λ i a b. r i a (omega arith)) in
       let C : Same z s (count-offset h) (count-offset (suc h)) = λ i a b. c i (omega arith) b in
-      let R : Same z s (rows-offset h) (rows-offset (suc h)) = λ i a b. r i (omega arith) b in
-      ((λ i. level-local h l w C R i ∷ q .0 i), and-both (words-sound? document-01 z h) (all-words-sound? document-01 z h) (words-local h l w C R) (q .1))
+      let R : Same z s (rows-offset h) (rows-offset (suc h)) = λ i a b. r i (omega arith) b in (
+        (λ i. level-local h l w C R i ∷ q .0 i),
+        and-both (words-sound? document-01 z h) (all-words-sound? document-01 z h) (words-local h l w C R)
+            (q .1),
+      )
 
 -- ## The count and the number of complete levels written
 
-module _ (s : Words) (k count : ℕ) (long : state-length ≤ length s) (inside : k < all-levels) (below : T (all-words-sound? document-01 s k)) (so-far : T (words-so-far? s k count)) where
+module _ (s : Words) (k count : ℕ) (long : state-length ≤ length s) (inside : k < all-levels) (below : T (all-words-sound? document-01 s k))
+    (so-far : T (words-so-far? s k count)) where
   abbrev z : Words
   z = set (set s (count-offset k) count) 4 (k + 1)
 
@@ -126,7 +149,8 @@ module _ (s : Words) (k count : ℕ) (long : state-length ≤ length s) (inside 
   beyond n h = drop-set-lt n (set s (count-offset k) count) 4 (k + 1) (omega arith) ∙ drop-set-lt n s (count-offset k) count h
 
   new-count : count-at (set (set s (count-offset k) count) 4 (k + 1)) k ≡ count
-  new-count = getD-set-other (set s (count-offset k) count) 4 (count-offset k) (k + 1) 0 (λ e. omega arith) ∙ getD-set-same s (count-offset k) count 0 (omega arith)
+  new-count = getD-set-other (set s (count-offset k) count) 4 (count-offset k) (k + 1) 0 (λ e. omega arith)
+      ∙ getD-set-same s (count-offset k) count 0 (omega arith)
 
   pub new-height : getD (set (set s (count-offset k) count) 4 (k + 1)) 4 0 ≡ k + 1
   new-height = getD-set-same (set s (count-offset k) count) 4 (k + 1) 0 (omega (arith, length-set s (count-offset k) count))
@@ -137,8 +161,10 @@ module _ (s : Words) (k count : ℕ) (long : state-length ≤ length s) (inside 
   ends-kept : ends-from (set (set s (count-offset k) count) 4 (k + 1)) k ≡ ends-from s k
   ends-kept = beyond (suc (count-offset k)) (omega arith)
 
-  under : (levels-at document-01 (set (set s (count-offset k) count) 4 (k + 1)) k ≡ levels-at document-01 s k) × T (all-words-sound? document-01 (set (set s (count-offset k) count) 4 (k + 1)) k)
-  under = levels-local s z long z-long k (omega arith) below (λ i a b. other i (λ e. omega arith) (λ e. omega arith)) (λ i a b. other i (λ e. omega arith) (λ e. omega arith))
+  under : (levels-at document-01 (set (set s (count-offset k) count) 4 (k + 1)) k ≡ levels-at document-01 s k)
+      × T (all-words-sound? document-01 (set (set s (count-offset k) count) 4 (k + 1)) k)
+  under = levels-local s z long z-long k (omega arith) below (λ i a b. other i (λ e. omega arith) (λ e. omega arith))
+      (λ i a b. other i (λ e. omega arith) (λ e. omega arith))
 
   pub new-words : T (all-words-sound? document-01 (set (set s (count-offset k) count) 4 (k + 1)) (k + 1))
   new-words =
@@ -146,15 +172,23 @@ module _ (s : Words) (k count : ℕ) (long : state-length ≤ length s) (inside 
       subst (λ n. T (all-words-sound? document-01 z n)) y (and-both (words-sound? document-01 z k) (all-words-sound? document-01 z k) here (under .1))
     where
       here : T (words-sound? document-01 (set (set s (count-offset k) count) 4 (k + 1)) k)
-      here = subst T (sym (λ i. leb (new-count i) most-vectors and ascending? most-rows 0 (take (new-count i) (ends-kept i)) and exponents-fit? (rows-kept i) (last-end (last (take (new-count i) (ends-kept i)))))) so-far
+      here = subst T (sym (λ i. leb (new-count i) most-vectors and ascending? most-rows 0 (take (new-count i) (ends-kept i))
+          and exponents-fit? (rows-kept i) (last-end (last (take (new-count i) (ends-kept i)))))) so-far
 
   pub new-state : decode document-01 (set (set s (count-offset k) count) 4 (k + 1)) ≡ finished s k count
   new-state =
       let y : k + 1 ≡ suc k = omega arith in
       (λ i. record {
-        parameters = record { p = other 0 (λ e. omega arith) (λ e. omega arith) i; n = other 1 (λ e. omega arith) (λ e. omega arith) i; code = other 2 (λ e. omega arith) (λ e. omega arith) i; s = other 3 (λ e. omega arith) (λ e. omega arith) i };
+        parameters = record {
+          p = other 0 (λ e. omega arith) (λ e. omega arith) i;
+          n = other 1 (λ e. omega arith) (λ e. omega arith) i;
+          code =
+              other 2 (λ e. omega arith) (λ e. omega arith) i;
+          s = other 3 (λ e. omega arith) (λ e. omega arith) i;
+        };
         levels = (ap (levels-at document-01 z) (new-height ∙ y) ∙ (λ j. vectors-at (rows-kept j) 0 (take (new-count j) (ends-kept j)) ∷ under .0 j)) i;
       })
 
 pub so-far-few : (s : Words) (k count : ℕ) → T (words-so-far? s k count) → count ≤ most-vectors
-so-far-few s k count t = leb→le count most-vectors (and-left (leb count most-vectors) (ascending? most-rows 0 (take count (ends-from s k)) and exponents-fit? (rows-from s k) (last-end (last (take count (ends-from s k))))) t)
+so-far-few s k count t = leb→le count most-vectors (and-left (leb count most-vectors)
+    (ascending? most-rows 0 (take count (ends-from s k)) and exponents-fit? (rows-from s k) (last-end (last (take count (ends-from s k))))) t)

@@ -13,7 +13,8 @@ use Rattle.definitions.specs.Layout as layout
 use Rattle.definitions.specs.Layout.{Words, row-at, rows, row-of, rows-of, joined, vectors-at, ends-at, level-at, ascending?, words-sound?, all-words-sound?}
 use Rattle.definitions.proofs.Tests.{and-left, and-right, every-at}
 use Rattle.definitions.proofs.Rows.{length-rows, rows-of-append, getD-exponents, byte-small}
-use Rattle.definitions.specs.Places.{most-exponent, most-vectors, most-rows, row-length, component-offset, exponents-offset, level-length, state-length, count-offset, rows-offset}
+use Rattle.definitions.specs.Places.{most-exponent, most-vectors, most-rows, row-length, component-offset, exponents-offset, level-length, state-length}
+use Rattle.definitions.specs.Places.{count-offset, rows-offset}
 use Rattle.vectors.proofs.terms.Stored.{row-is}
 use Rattle.reducers.specs.tables.Cuts.{start-of}
 use Rattle.reducers.proofs.tables.Cutting.{begin-from}
@@ -27,11 +28,18 @@ use Rattle.state.proofs.writing.Blocks.{Sized, used-same}
 -- ## Rows
 
 -- a row whose exponents' words are in range is spelled by its own words
-row-spelled-back : (s : Words) (i : ℕ) → i * row-length + row-length ≤ length s → Fits s i → row-of (row-at s i) ≡ take row-length (drop (i * row-length) s)
+row-spelled-back : (s : Words) (i : ℕ) → i * row-length + row-length ≤ length s → Fits s i → row-of (row-at s i)
+    ≡ take row-length (drop (i * row-length) s)
 row-spelled-back s i h f = ap row-of (row-is s i) ∙ ext-getD 0 spelled (take row-length (drop (i * row-length) s)) (sym long) same
   where
     spelled : Words
-    spelled = row-of (getD s (i * row-length) 0, (layout.exponents-at s (i * row-length + exponents-offset), getD s (i * row-length + component-offset) 0))
+    spelled = row-of (
+      getD s (i * row-length) 0,
+      (
+        layout.exponents-at s (i * row-length + exponents-offset),
+        getD s (i * row-length + component-offset) 0,
+      ),
+    )
 
     long : length (take row-length (drop (i * row-length) s)) ≡ row-length
     long = length-take-le row-length (drop (i * row-length) s) (omega (arith, length-drop (i * row-length) s))
@@ -41,30 +49,47 @@ row-spelled-back s i h f = ap row-of (row-is s i) ∙ ext-getD 0 spelled (take r
 
     small : (j : ℕ) → j < 8 → getD s (i * row-length + exponents-offset + j) 0 < 256
     small j l =
-        let n : length (take 8 (drop (i * row-length + exponents-offset) s)) ≡ 8 = length-take-le 8 (drop (i * row-length + exponents-offset) s) (omega (arith, length-drop (i * row-length + exponents-offset) s)) in
-        omega (arith, getD-take 8 (drop (i * row-length + exponents-offset) s) j 0 l, getD-drop (i * row-length + exponents-offset) s j 0, leb→le (getD (take 8 (drop (i * row-length + exponents-offset) s)) j 0) most-exponent (every-at (λ x. leb x most-exponent) (take 8 (drop (i * row-length + exponents-offset) s)) j 0 f (omega arith)))
+        let n : length (take 8 (drop (i * row-length + exponents-offset) s))
+        ≡ 8 = length-take-le 8 (drop (i * row-length + exponents-offset) s) (omega (arith, length-drop (i * row-length + exponents-offset) s)) in
+        omega (
+          arith,
+          getD-take 8 (drop (i * row-length + exponents-offset) s) j 0 l,
+          getD-drop (i * row-length + exponents-offset) s j 0,
+          leb→le (getD (take 8 (drop (i * row-length + exponents-offset) s)) j 0) most-exponent
+              (every-at (λ x. leb x most-exponent) (take 8 (drop (i * row-length + exponents-offset) s)) j 0 f (omega arith)),
+        )
 
-    same : (j : ℕ) → j < row-length → getD (row-of (getD s (i * row-length) 0, (layout.exponents-at s (i * row-length + exponents-offset), getD s (i * row-length + component-offset) 0))) j 0 ≡ getD (take row-length (drop (i * row-length) s)) j 0
+    same : (j : ℕ) → j < row-length → getD (row-of (
+      getD s (i * row-length) 0,
+      (layout.exponents-at s (i * row-length + exponents-offset), getD s (i * row-length + component-offset) 0),
+    )) j 0
+        ≡ getD (take row-length (drop (i * row-length) s)) j 0
     same zero l = let z : i * row-length ≡ i * row-length + 0 = omega arith in ap (λ k. getD s k 0) z ∙ sym (word 0 l)
     same (suc zero) l = sym (word 1 l)
     same (suc (suc j)) l =
         let z : i * row-length + exponents-offset + j ≡ i * row-length + suc (suc j) = omega arith in
-        getD-exponents s (i * row-length + exponents-offset) j (omega arith) ∙ byte-small (getD s (i * row-length + exponents-offset + j) 0) (small j (omega arith)) ∙ ap (λ k. getD s k 0) z ∙ sym (word (suc (suc j)) l)
+        getD-exponents s (i * row-length + exponents-offset) j (omega arith)
+        ∙ byte-small (getD s (i * row-length + exponents-offset + j) 0) (small j (omega arith)) ∙ ap (λ k. getD s k 0) z
+        ∙ sym (word (suc (suc j)) l)
 
-pub rows-back : (s : Words) (a n : ℕ) → (a + n) * row-length ≤ length s → All-fit s a (a + n) → rows-of (rows s a n) ≡ take (n * row-length) (drop (a * row-length) s)
+pub rows-back : (s : Words) (a n : ℕ) → (a + n) * row-length ≤ length s → All-fit s a (a + n) → rows-of (rows s a n)
+    ≡ take (n * row-length) (drop (a * row-length) s)
 unfolding rows
 rows-back s a zero h f = refl
 rows-back s a (suc n) h f =
     let z : n * row-length + row-length ≡ suc n * row-length = omega arith in
     let y : a * row-length + n * row-length ≡ (a + n) * row-length = omega arith in
     rows-of-append (rows s a n) (row-at s (a + n) ∷ [])
-    ∙ (λ i. rows-back s a n (omega arith) (λ j l m. f j l (omega arith)) i ++ (append-nil (row-of (row-at s (a + n))) ∙ row-spelled-back s (a + n) (omega arith) (f (a + n) (omega arith) (omega arith)) ∙ ap (λ j. take row-length (drop j s)) (sym y) ∙ ap (take row-length) (sym (drop-drop (n * row-length) (a * row-length) s))) i)
+    ∙ (λ i. rows-back s a n (omega arith) (λ j l m. f j l (omega arith)) i
+    ++ (append-nil (row-of (row-at s (a + n))) ∙ row-spelled-back s (a + n) (omega arith) (f (a + n) (omega arith) (omega arith))
+    ∙ ap (λ j. take row-length (drop j s)) (sym y) ∙ ap (take row-length) (sym (drop-drop (n * row-length) (a * row-length) s))) i)
     ∙ sym (take-add (n * row-length) row-length (drop (a * row-length) s)) ∙ ap (λ j. take j (drop (a * row-length) s)) z
 
 -- ## Vectors
 
 module _ (s : Words) (long : level-length ≤ length s) where
-  pub vectors-back : (a : ℕ) (es : Words) → T (ascending? most-rows a es) → a ≤ most-rows → All-fit s a (end-of a es) → rows-of (joined (vectors-at s a es)) ≡ take ((end-of a es - a) * row-length) (drop (a * row-length) s)
+  pub vectors-back : (a : ℕ) (es : Words) → T (ascending? most-rows a es) → a ≤ most-rows → All-fit s a (end-of a es)
+      → rows-of (joined (vectors-at s a es)) ≡ take ((end-of a es - a) * row-length) (drop (a * row-length) s)
   vectors-back a [] t h f = let z : 0 ≡ (a - a) * row-length = omega arith in ap (λ j. take j (drop (a * row-length) s)) z
   vectors-back a (e ∷ es) t h f =
       let u = and-right (ltb a e) (leb e most-rows and ascending? most-rows e es) t in
@@ -75,7 +100,9 @@ module _ (s : Words) (long : level-length ≤ length s) where
       let z : (e - a) * row-length + (end-of e es - e) * row-length ≡ (end-of e es - a) * row-length = omega arith in
       let y : a * row-length + (e - a) * row-length ≡ e * row-length = omega arith in
       rows-of-append (rows s a (e - a)) (joined (vectors-at s e es))
-      ∙ (λ i. rows-back s a (e - a) (omega arith) (λ j g k. f j g (omega arith)) i ++ (vectors-back e es w m (λ j g k. f j (omega arith) k) ∙ ap (λ j. take ((end-of e es - e) * row-length) (drop j s)) (sym y) ∙ ap (take ((end-of e es - e) * row-length)) (sym (drop-drop ((e - a) * row-length) (a * row-length) s))) i)
+      ∙ (λ i. rows-back s a (e - a) (omega arith) (λ j g k. f j g (omega arith)) i
+      ++ (vectors-back e es w m (λ j g k. f j (omega arith) k) ∙ ap (λ j. take ((end-of e es - e) * row-length) (drop j s)) (sym y)
+      ∙ ap (take ((end-of e es - e) * row-length)) (sym (drop-drop ((e - a) * row-length) (a * row-length) s))) i)
       ∙ sym (take-add ((e - a) * row-length) ((end-of e es - e) * row-length) (drop (a * row-length) s)) ∙ ap (λ j. take j (drop (a * row-length) s)) z
 
 -- the ends are read back
@@ -84,7 +111,9 @@ ends-back s a [] t = refl
 ends-back s a (e ∷ es) t =
     let l : a < e = ltb→lt a e (and-left (ltb a e) (leb e most-rows and ascending? most-rows e es) t) in
     let z : a + length (rows s a (e - a)) ≡ e = omega (arith, length-rows s a (e - a)) in
-    (λ i. z i ∷ layout.ends-from (z i) (vectors-at s e es)) ∙ ap (λ l. e ∷ l) (ends-back s e es (and-right (leb e most-rows) (ascending? most-rows e es) (and-right (ltb a e) (leb e most-rows and ascending? most-rows e es) t)))
+    (λ i. z i ∷ layout.ends-from (z i) (vectors-at s e es)) ∙ ap (λ l. e ∷ l)
+    (ends-back s e es (and-right (leb e most-rows) (ascending? most-rows e es)
+    (and-right (ltb a e) (leb e most-rows and ascending? most-rows e es) t)))
 
 -- ## The last end
 
@@ -101,7 +130,8 @@ end-is-start ends (suc r) h = end-begin 0 ends (suc r) h
 -- ## A level of sound words
 
 module _ (s : Words) (long : state-length ≤ length s) (k : ℕ) (inside : k < row-length) (t : T (words-sound? document-01 s k)) where
-  p : (count-at s k ≤ most-vectors) × T (ascending? most-rows 0 (ends-at document-01 s k)) × All-fit (rows-from s k) 0 (end-of 0 (ends-at document-01 s k))
+  p : (count-at s k ≤ most-vectors) × T (ascending? most-rows 0 (ends-at document-01 s k))
+      × All-fit (rows-from s k) 0 (end-of 0 (ends-at document-01 s k))
   p = words-parts s long k t
 
   pub used-is : end-of 0 (ends-at document-01 s k) ≡ used-at s k
@@ -116,12 +146,14 @@ module _ (s : Words) (long : state-length ≤ length s) (k : ℕ) (inside : k < 
   pub level-rows-back : rows-of (joined (level-at document-01 s k)) ≡ take (used-at s k * row-length) (rows-from s k)
   level-rows-back =
       let z : (end-of 0 (ends-at document-01 s k) - 0) * row-length ≡ used-at s k * row-length = omega (arith, used-is) in
-      vectors-back (rows-from s k) (omega (arith, length-drop (rows-offset k) s)) 0 (ends-at document-01 s k) (p .1) (omega arith) (p .2) ∙ ap (λ j. take j (rows-from s k)) z
+      vectors-back (rows-from s k) (omega (arith, length-drop (rows-offset k) s)) 0 (ends-at document-01 s k) (p .1) (omega arith) (p .2)
+      ∙ ap (λ j. take j (rows-from s k)) z
 
 -- each of the levels below
 pub all-sound-at : (s : Words) (h : ℕ) → T (all-words-sound? document-01 s h) → (k : ℕ) → k < h → T (words-sound? document-01 s k)
 all-sound-at s zero t k l = absurd (omega arith)
-all-sound-at s (suc h) t k l = go (native.Mathlib.Decide.ℕ-discrete k h) (all-sound-at s h (and-right (words-sound? document-01 s h) (all-words-sound? document-01 s h) t) k)
+all-sound-at s (suc h) t k l = go (native.Mathlib.Decide.ℕ-discrete k h)
+    (all-sound-at s h (and-right (words-sound? document-01 s h) (all-words-sound? document-01 s h) t) k)
   where
     go : Dec (k ≡ h) → (k < h → T (words-sound? document-01 s k)) → T (words-sound? document-01 s k)
     go (yes e) r = subst (λ j. T (words-sound? document-01 s j)) (sym e) (and-left (words-sound? document-01 s h) (all-words-sound? document-01 s h) t)
@@ -131,7 +163,8 @@ pub all-sized : (s : Words) → state-length ≤ length s → (h : ℕ) → h �
 all-sized s long h l t k m = sound-sized s long k (omega arith) (all-sound-at s h t k m)
 
 -- .. also where the levels below it have been tidied
-pub sized-at : (s z : Words) → state-length ≤ length s → (h : ℕ) → h ≤ row-length → T (all-words-sound? document-01 s h) → (k : ℕ) → k < h → Tidied-to s z k → Sized z k
+pub sized-at : (s z : Words) → state-length ≤ length s → (h : ℕ) → h ≤ row-length → T (all-words-sound? document-01 s h) → (k : ℕ) → k < h
+    → Tidied-to s z k → Sized z k
 sized-at s z long h l t k m d =
     let c = all-sized s long h l t k m in
     let e : count-at z k ≡ count-at s k = d .counts-left (count-offset k) (omega arith) (omega arith) in

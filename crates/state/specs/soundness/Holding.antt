@@ -28,7 +28,8 @@ bounds-of p n components = record { top = p - 1; components = components; expone
 -- the words of row i are in range
 abbrev pub row-holds? : Bounds → Words → ℕ → Bool
 row-holds? b s i =
-    between 1 (getD s (i * row-length) 0) (b .top) and between 1 (getD s (i * row-length + component-offset) 0) (b .components) and divides? (exponents-raw s (i * row-length + exponents-offset)) (b .exponents)
+    between 1 (getD s (i * row-length) 0) (b .top) and between 1 (getD s (i * row-length + component-offset) 0) (b .components)
+    and divides? (exponents-raw s (i * row-length + exponents-offset)) (b .exponents)
 
 -- .. and the row before it is greater
 abbrev pub follows? : Bounds → (Monomial → Monomial → Comparison) → Words → ℕ → Bool
@@ -56,7 +57,8 @@ level-holds? low high most b order s k = between low (count-at s k) high and vec
 -- level k over the table of images of its module
 abbrev pub level-test? : Words → ℕ → Table → Bool
 level-test? s zero T = level-holds? 1 most-elements most-rows (bounds-of (getD s 0 0) (getD s 1 0) (getD s 3 0)) (table-order (getD s 2 0) T) s 0
-level-test? s (suc k) T = level-holds? 0 most-vectors most-terms (bounds-of (getD s 0 0) (getD s 1 0) (count-at s k)) (table-order (getD s 2 0) T) s (suc k)
+level-test? s (suc k) T = level-holds? 0 most-vectors most-terms (bounds-of (getD s 0 0) (getD s 1 0) (count-at s k)) (table-order (getD s 2 0) T) s
+    (suc k)
 
 -- levels 0 to k − 1
 abbrev pub levels-hold? : Words → ℕ → Bool

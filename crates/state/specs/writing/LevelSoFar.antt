@@ -22,11 +22,13 @@ level-so-far s k count = vectors-at (rows-from s k) 0 (take count (ends-from s k
 -- its words are such that the vectors can be cut out
 abbrev pub words-so-far? : Words → ℕ → ℕ → Bool
 words-so-far? s k count =
-    leb count most-vectors and ascending? most-rows 0 (take count (ends-from s k)) and exponents-fit? (rows-from s k) (last-end (last (take count (ends-from s k))))
+    leb count most-vectors and ascending? most-rows 0 (take count (ends-from s k))
+    and exponents-fit? (rows-from s k) (last-end (last (take count (ends-from s k))))
 
 -- one vector more, of n terms: its rows behind those used, its end behind the ends
 abbrev pub appended : Words → ℕ → ℕ → ℕ → Vector → ℕ → Words
-appended s k count used v n = set (paste s (rows-place document-01 k + used * row-length) (rows-of v) (n * row-length)) (count-place document-01 k + 1 + count) (used + n)
+appended s k count used v n = set (paste s (rows-place document-01 k + used * row-length) (rows-of v) (n * row-length))
+    (count-place document-01 k + 1 + count) (used + n)
 
 -- level k with its vectors so far complete, those below it kept, those above it dropped
 abbrev pub finished : Words → ℕ → ℕ → State
@@ -38,4 +40,5 @@ block-cleared a n u s = take a s ++ (cleared (take n (drop a s)) u ++ drop n (dr
 
 -- the unused places of level k zero
 abbrev pub tidied : Words → ℕ → Words
-tidied s k = block-cleared (rows-offset k) level-length (start-of (ends-from s k) (count-at s k) * row-length) (block-cleared (count-offset k) counts-length (1 + count-at s k) s)
+tidied s k = block-cleared (rows-offset k) level-length (start-of (ends-from s k) (count-at s k) * row-length)
+    (block-cleared (count-offset k) counts-length (1 + count-at s k) s)

@@ -23,7 +23,8 @@ returns c =
     let a = S .args in
     let R = c .before .before .before .before .before .before .sheet in
     let f =
-    sheet-in-front (a .state .now) (a .work .now) (a .out .now) (R .result .number) (R .result .length) (R .last .1 .0) (R .last .1 .1 .0) (R .last .1 .1 .1 .0) (R .ensures .0) (a .file .now)
+    sheet-in-front (a .state .now) (a .work .now) (a .out .now) (R .result .number) (R .result .length) (R .last .1 .0) (R .last .1 .1 .0)
+    (R .last .1 .1 .1 .0) (R .ensures .0) (a .file .now)
     (S .pre .0) (S .pre .1) (S .pre .2) (R .ensures .1) in
     (f .0, (R .ensures .0, f .1))
 

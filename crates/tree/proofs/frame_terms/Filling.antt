@@ -38,21 +38,26 @@ joined-is used c z Full = refl
 
 module _ (O : Monomial → Monomial → Comparison) (p limit b tree : ℕ) (total : Vector) (c w z : Words) where
   -- the part that was handed on is the rows of the slice that holds it
-  pub cached-fills : (from n used : ℕ) (x : Stored) (s : Subtree) (r : Sum) (part : Words) → s ≡ Cached from n used → r ≡ joined-as x used → part ≡ take (n * row-length) (drop (from * row-length) c)
+  pub cached-fills : (from n used : ℕ) (x : Stored) (s : Subtree) (r : Sum) (part : Words) → s ≡ Cached from n used → r ≡ joined-as x used → part
+      ≡ take (n * row-length) (drop (from * row-length) c)
       → grown-of 0 x z ≡ add-result O p limit 0 b (rows part 0 n) total → sum-of 0 r c z ≡ added-vector O p limit b total (subtree-of tree s c w)
   cached-fills from n used x s r part e q h m =
       ap (λ y. sum-of 0 y c z) q ∙ joined-is used c z x
-      ∙ ap (λ (y : Result Vector). y >>= λ v. done (v, cache-of used c)) (m ∙ ap (λ v. add-result O p limit 0 b v total) (ap (λ y. rows y 0 n) h ∙ part-rows c from (n * row-length) n (omega arith)))
+      ∙ ap (λ (y : Result Vector). y >>= λ v. done (v, cache-of used c))
+      (m ∙ ap (λ v. add-result O p limit 0 b v total) (ap (λ y. rows y 0 n) h ∙ part-rows c from (n * row-length) n (omega arith)))
       ∙ ap (λ y. added-vector O p limit b total (subtree-of tree y c w)) (sym e)
 
-  pub waiting-fills : (n used : ℕ) (x : Stored) (s : Subtree) (r : Sum) (part : Words) → s ≡ Waiting n used → r ≡ joined-as x used → part ≡ take (n * row-length) (drop ((tree - n) * row-length) w)
+  pub waiting-fills : (n used : ℕ) (x : Stored) (s : Subtree) (r : Sum) (part : Words) → s ≡ Waiting n used → r ≡ joined-as x used → part
+      ≡ take (n * row-length) (drop ((tree - n) * row-length) w)
       → grown-of 0 x z ≡ add-result O p limit 0 b (rows part 0 n) total → sum-of 0 r c z ≡ added-vector O p limit b total (subtree-of tree s c w)
   waiting-fills n used x s r part e q h m =
       ap (λ y. sum-of 0 y c z) q ∙ joined-is used c z x
-      ∙ ap (λ (y : Result Vector). y >>= λ v. done (v, cache-of used c)) (m ∙ ap (λ v. add-result O p limit 0 b v total) (ap (λ y. rows y 0 n) h ∙ part-rows w (tree - n) (n * row-length) n (omega arith)))
+      ∙ ap (λ (y : Result Vector). y >>= λ v. done (v, cache-of used c))
+      (m ∙ ap (λ v. add-result O p limit 0 b v total) (ap (λ y. rows y 0 n) h ∙ part-rows w (tree - n) (n * row-length) n (omega arith)))
       ∙ ap (λ y. added-vector O p limit b total (subtree-of tree y c w)) (sym e)
 
-  pub refusal-fills : (number : ℕ) (s : Subtree) → s ≡ Subtree-refused number → sum-of 0 (Refused number) c z ≡ added-vector O p limit b total (subtree-of tree s c w)
+  pub refusal-fills : (number : ℕ) (s : Subtree) → s ≡ Subtree-refused number → sum-of 0 (Refused number) c z
+      ≡ added-vector O p limit b total (subtree-of tree s c w)
   refusal-fills number s e = ap (λ y. added-vector O p limit b total (subtree-of tree y c w)) (sym e)
 
 -- ## One product after the other
@@ -64,7 +69,8 @@ module _ (S : Stage) (lift : Lift-term) (q : Exponents) (level : Words) (to : �
   abbrev pub product-at : ℕ → Term
   product-at i = multiple (S .reduction .p) 1 q (row-at level i)
 
-  filling-first : (i : ℕ) (s : definition.Sum) → i < to → filling-from i s ≡ (lift-vector-product S lift (product-at i) s >>= λ r. filling-from (i + 1) r)
+  filling-first : (i : ℕ) (s : definition.Sum) → i < to → filling-from i s
+      ≡ (lift-vector-product S lift (product-at i) s >>= λ r. filling-from (i + 1) r)
   filling-first i s h =
       let e : to - i ≡ suc (to - (i + 1)) = omega arith in
       let f : suc i ≡ i + 1 = omega arith in
@@ -72,7 +78,8 @@ module _ (S : Stage) (lift : Lift-term) (q : Exponents) (level : Words) (to : �
       ∙ ap (λ v. lift-vector S lift 1 q v s) (rows-first level i (to - (i + 1)))
       ∙ ap (λ k. lift-vector-product S lift (product-at i) s >>= λ r. lift-vector S lift 1 q (rows level k (to - (i + 1))) r) f
 
-  pub filling-unfit : (i : ℕ) (s : definition.Sum) → i < to → fits? (S .reduction .limits .exponent) (product-at i .1 .0) ≡ false → filling-from i s ≡ refusal 13
+  pub filling-unfit : (i : ℕ) (s : definition.Sum) → i < to → fits? (S .reduction .limits .exponent) (product-at i .1 .0) ≡ false → filling-from i s
+      ≡ refusal 13
   filling-unfit i s h e =
       filling-first i s h ∙ ap (λ b. if-vector-product-fits b S lift (product-at i) s >>= λ r. filling-from (i + 1) r) e
 
@@ -82,9 +89,11 @@ module _ (S : Stage) (lift : Lift-term) (q : Exponents) (level : Words) (to : �
       ap (λ n. lift-vector S lift 1 q (rows level i n) s) e ∙ ap (λ v. lift-vector S lift 1 q v s) (rows-none level i)
 
   -- one product lifted and added, as the two calls give it
-  module _ (i n : ℕ) (w w₁ z c₁ : Words) (k : Cache) (t : Term) (s : Subtree) (r : Sum) (inside : i < to) (fits : fits? (S .reduction .limits .exponent) (product-at i .1 .0) ≡ true)
+  module _ (i n : ℕ) (w w₁ z c₁ : Words) (k : Cache) (t : Term) (s : Subtree) (r : Sum) (inside : i < to)
+      (fits : fits? (S .reduction .limits .exponent) (product-at i .1 .0) ≡ true)
       (product : t ≡ product-at i) (lifts : subtree-of (S .reduction .limits .tree) s c₁ w₁ ≡ lift 0 k (t .1))
-      (adds : sum-of 0 r c₁ z ≡ added-vector (S .above) (S .reduction .p) (S .reduction .limits .vector) (t .0) (rows w 0 n) (subtree-of (S .reduction .limits .tree) s c₁ w₁)) where
+      (adds : sum-of 0 r c₁ z ≡ added-vector (S .above) (S .reduction .p) (S .reduction .limits .vector) (t .0) (rows w 0 n)
+      (subtree-of (S .reduction .limits .tree) s c₁ w₁)) where
     one-product : lift-vector-product S lift (product-at i) (rows w 0 n, k) ≡ sum-of 0 r c₁ z
     one-product =
         ap (λ b. if-vector-product-fits b S lift (product-at i) (rows w 0 n, k)) fits
@@ -103,6 +112,7 @@ module _ (S : Stage) (lift : Lift-term) (q : Exponents) (level : Words) (to : �
 
 -- ## The frame term's element
 
-pub whole-of : (g : Ground) (level ends : Words) (j from to : ℕ) → Family g level ends → 1 ≤ j → j ≤ g .r → from ≡ first-row ends j → to ≡ getD ends (j - 1) 0
+pub whole-of : (g : Ground) (level ends : Words) (j from to : ℕ) → Family g level ends → 1 ≤ j → j ≤ g .r → from ≡ first-row ends j → to
+    ≡ getD ends (j - 1) 0
     → vector-of (family-of g level ends) j ≡ rows level from (to - from)
 whole-of g level ends j from to F h l e f = vector-at level ends (g .r) j (F .ends-fit) h l ∙ (λ i. rows level (sym e i) (sym f i - sym e i))

@@ -25,7 +25,8 @@ joined-is : (a used : ℕ) (c z : Words) (x : Stored) → sum-of a (joined-as x 
 joined-is a used c z (Stored-rows n) = refl
 joined-is a used c z Full = refl
 
-pub fits-joined : (a top limit room used : ℕ) (x : Stored) (z : Sum) → z ≡ joined-as x used → Room a top x → top ≤ limit → used ≤ room → Fits a limit room z
+pub fits-joined : (a top limit room used : ℕ) (x : Stored) (z : Sum) → z ≡ joined-as x used → Room a top x → top ≤ limit → used ≤ room
+    → Fits a limit room z
 fits-joined a top limit room used x z e h l k = subst (λ y. Fits a limit room y) (sym e) (go x h)
   where
     go : (x : Stored) → Room a top x → Fits a limit room (joined-as x used)
@@ -33,20 +34,24 @@ fits-joined a top limit room used x z e h l k = subst (λ y. Fits a limit room y
     go Full h = tt
 
 module _ (O : Monomial → Monomial → Comparison) (p limit a b : ℕ) (total : Vector) (c w z : Words) where
-  pub cached-joins : (from n used : ℕ) (x : Stored) (s : Subtree) (r : Sum) → s ≡ Cached from n used → r ≡ joined-as x used → grown-of a x z ≡ add-result O p limit a b (rows c from n) total
+  pub cached-joins : (from n used : ℕ) (x : Stored) (s : Subtree) (r : Sum) → s ≡ Cached from n used → r ≡ joined-as x used → grown-of a x z
+      ≡ add-result O p limit a b (rows c from n) total
       → sum-of a r c z ≡ added-to O p limit a b total (subtree-of limit s c w)
   cached-joins from n used x s r e q m =
       let l : limit ≡ limit - 0 = omega arith in
-      ap (λ y. sum-of a y c z) q ∙ joined-is a used c z x ∙ ap (λ (y : Result Vector). y >>= λ v. done (v, cache-of used c)) (m ∙ ap (λ j. add-result O p j a b (rows c from n) total) l)
+      ap (λ y. sum-of a y c z) q ∙ joined-is a used c z x ∙ ap (λ (y : Result Vector). y >>= λ v. done (v, cache-of used c))
+      (m ∙ ap (λ j. add-result O p j a b (rows c from n) total) l)
       ∙ ap (λ y. added-to O p limit a b total (subtree-of limit y c w)) (sym e)
 
-  pub waiting-joins : (n used : ℕ) (x : Stored) (s : Subtree) (r : Sum) → s ≡ Waiting n used → r ≡ joined-as x used → grown-of a x z ≡ add-result O p (limit - n) a b (rows w (limit - n) n) total
+  pub waiting-joins : (n used : ℕ) (x : Stored) (s : Subtree) (r : Sum) → s ≡ Waiting n used → r ≡ joined-as x used → grown-of a x z
+      ≡ add-result O p (limit - n) a b (rows w (limit - n) n) total
       → sum-of a r c z ≡ added-to O p limit a b total (subtree-of limit s c w)
   waiting-joins n used x s r e q m =
       ap (λ y. sum-of a y c z) q ∙ joined-is a used c z x ∙ ap (λ (y : Result Vector). y >>= λ v. done (v, cache-of used c)) m
       ∙ ap (λ y. added-to O p limit a b total (subtree-of limit y c w)) (sym e)
 
-  pub refusal-joins : (number : ℕ) (s : Subtree) → s ≡ Subtree-refused number → sum-of a (Refused number) c z ≡ added-to O p limit a b total (subtree-of limit s c w)
+  pub refusal-joins : (number : ℕ) (s : Subtree) → s ≡ Subtree-refused number → sum-of a (Refused number) c z
+      ≡ added-to O p limit a b total (subtree-of limit s c w)
   refusal-joins number s e = ap (λ y. added-to O p limit a b total (subtree-of limit y c w)) (sym e)
 
 pub apart-cache : (top from : ℕ) → Apart true top from
@@ -57,7 +62,8 @@ apart-work top e = omega arith
 
 -- ## The slices keep their lengths
 
-pub lent-again : (g : Ground) (u v room : ℕ) (c c′ w w′ level tables : Words) → Lent g u room c w level tables → v ≤ room → length c′ ≡ length c → length w′ ≡ length w
+pub lent-again : (g : Ground) (u v room : ℕ) (c c′ w w′ level tables : Words) → Lent g u room c w level tables → v ≤ room → length c′ ≡ length c
+    → length w′ ≡ length w
     → Lent g v room c′ w′ level tables
 lent-again g u v room c c′ w w′ level tables x k cl wl = record {
   used-fits = k;

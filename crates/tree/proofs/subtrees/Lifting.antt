@@ -51,7 +51,8 @@ module _ (S : Stage) (lift : Lift-term) (a c : ℕ) (q : Exponents) (level : Wor
       ∙ ap (λ v. lift-list S lift a c q v s) (rows-first level i (to - (i + 1)))
       ∙ ap (λ k. lift-product S lift a (product-at i) s >>= λ r. lift-list S lift a c q (rows level k (to - (i + 1))) r) f
 
-  pub listing-unfit : (i : ℕ) (s : definition.Sum) → i < to → fits? (S .reduction .limits .exponent) (product-at i .1 .0) ≡ false → listing-from i s ≡ refusal 13
+  pub listing-unfit : (i : ℕ) (s : definition.Sum) → i < to → fits? (S .reduction .limits .exponent) (product-at i .1 .0) ≡ false → listing-from i s
+      ≡ refusal 13
   listing-unfit i s h e =
       listing-first i s h ∙ ap (λ b. if-product-fits b S lift a (product-at i) s >>= λ r. listing-from (i + 1) r) e
 
@@ -61,14 +62,18 @@ module _ (S : Stage) (lift : Lift-term) (a c : ℕ) (q : Exponents) (level : Wor
       ap (λ n. lift-list S lift a c q (rows level i n) s) e ∙ ap (λ v. lift-list S lift a c q v s) (rows-none level i)
 
   -- one product lifted and added, as the two calls give it
-  module _ (i n : ℕ) (w w₁ z c₁ : Words) (k : Cache) (t : Term) (s : Subtree) (r : Sum) (inside : i < to) (fits : fits? (S .reduction .limits .exponent) (product-at i .1 .0) ≡ true)
+  module _ (i n : ℕ) (w w₁ z c₁ : Words) (k : Cache) (t : Term) (s : Subtree) (r : Sum) (inside : i < to)
+      (fits : fits? (S .reduction .limits .exponent) (product-at i .1 .0) ≡ true)
       (product : t ≡ product-at i) (keeps : Keeps (a + n) w w₁) (lifts : subtree-of (S .reduction .limits .tree) s c₁ w₁ ≡ lift (a + n) k (t .1))
-      (adds : sum-of a r c₁ z ≡ added-to (S .above) (S .reduction .p) (S .reduction .limits .tree) a (t .0) (rows w₁ a n) (subtree-of (S .reduction .limits .tree) s c₁ w₁)) where
+      (adds : sum-of a r c₁ z ≡ added-to (S .above) (S .reduction .p) (S .reduction .limits .tree) a (t .0) (rows w₁ a n)
+      (subtree-of (S .reduction .limits .tree) s c₁ w₁)) where
     one-product : lift-product S lift a (product-at i) (rows w a n, k) ≡ sum-of a r c₁ z
     one-product =
         ap (λ b. if-product-fits b S lift a (product-at i) (rows w a n, k)) fits
-        ∙ (λ x. added-to (S .above) (S .reduction .p) (S .reduction .limits .tree) a (sym product x .0) (rows w a n) (lift (a + length-rows w a n x) k (sym product x .1)))
-        ∙ (λ x. added-to (S .above) (S .reduction .p) (S .reduction .limits .tree) a (t .0) (sym (rows-kept w w₁ a n (a + n) (omega arith) keeps) x) (sym lifts x))
+        ∙ (λ x. added-to (S .above) (S .reduction .p) (S .reduction .limits .tree) a (sym product x .0) (rows w a n)
+        (lift (a + length-rows w a n x) k (sym product x .1)))
+        ∙ (λ x. added-to (S .above) (S .reduction .p) (S .reduction .limits .tree) a (t .0) (sym (rows-kept w w₁ a n (a + n) (omega arith) keeps) x)
+        (sym lifts x))
         ∙ sym adds
 
     after : listing-from i (rows w a n, k) ≡ (sum-of a r c₁ z >>= λ x. listing-from (i + 1) x)
@@ -99,18 +104,23 @@ module _ (S : Stage) (room left others : ℕ) (k : Cache) (m : Monomial) where
   pub term-lower : lower-order ≡ answered → lift-term S room left others k m ≡ done ([], 0, k)
   term-lower e = term-is ∙ ap (λ x. lift-by x S room (list-at S room left) others k m) (sym e)
 
-  pub term-found : (j c : ℕ) (q : Exponents) (v : Vector) → reducer j c q ≡ answered → some v ≡ cached m k → lift-term S room left others k m ≡ done (v, 0, k)
+  pub term-found : (j c : ℕ) (q : Exponents) (v : Vector) → reducer j c q ≡ answered → some v ≡ cached m k → lift-term S room left others k m
+      ≡ done (v, 0, k)
   term-found j c q v e f =
-      term-is ∙ ap (λ x. lift-by x S room (list-at S room left) others k m) (sym e) ∙ ap (λ x. or-open x S room (list-at S room left) others k m j (minus (S .reduction .p) c) q) (sym f)
+      term-is ∙ ap (λ x. lift-by x S room (list-at S room left) others k m) (sym e)
+      ∙ ap (λ x. or-open x S room (list-at S room left) others k m j (minus (S .reduction .p) c) q) (sym f)
 
   pub term-opened : (j c : ℕ) (q : Exponents) → reducer j c q ≡ answered → none ≡ cached m k
-      → lift-term S room left others k m ≡ open-subtree (ltb others (S .reduction .limits .tree)) S room (list-at S room left) others k m j (minus (S .reduction .p) c) q
+      → lift-term S room left others k m ≡ open-subtree (ltb others (S .reduction .limits .tree)) S room (list-at S room left) others k m j
+      (minus (S .reduction .p) c) q
   term-opened j c q e f =
-      term-is ∙ ap (λ x. lift-by x S room (list-at S room left) others k m) (sym e) ∙ ap (λ x. or-open x S room (list-at S room left) others k m j (minus (S .reduction .p) c) q) (sym f)
+      term-is ∙ ap (λ x. lift-by x S room (list-at S room left) others k m) (sym e)
+      ∙ ap (λ x. or-open x S room (list-at S room left) others k m j (minus (S .reduction .p) c) q) (sym f)
 
   -- ## A subtree opened
 
-  pub opened-full : (j c : ℕ) (q : Exponents) → S .reduction .limits .tree ≤ others → opened j c q (ltb others (S .reduction .limits .tree)) ≡ refusal 14
+  pub opened-full : (j c : ℕ) (q : Exponents) → S .reduction .limits .tree ≤ others → opened j c q (ltb others (S .reduction .limits .tree))
+      ≡ refusal 14
   opened-full j c q h = ap (opened j c q) (le-ltb others (S .reduction .limits .tree) h)
 
   pub opened-deep : (j c : ℕ) (q : Exponents) (b : Bool) → left ≡ 0 → opened j c q b ≡ refusal 14
@@ -120,8 +130,10 @@ module _ (S : Stage) (room left others : ℕ) (k : Cache) (m : Monomial) where
       go true = refl
       go false = refl
 
-  pub opened-list : (j c d : ℕ) (q : Exponents) (f v : Vector) → others < S .reduction .limits .tree → 0 < left → d ≡ c → rest (vector-of (S .family) j) ≡ f → v ≡ (d, (q, j)) ∷ []
-      → opened j c q (ltb others (S .reduction .limits .tree)) ≡ (lift-list S (lift-term S room (left - 1)) others d q f (v, k) >>= λ s. done (finish room m s))
+  pub opened-list : (j c d : ℕ) (q : Exponents) (f v : Vector) → others < S .reduction .limits .tree → 0 < left → d ≡ c → rest (vector-of (S .family) j)
+      ≡ f → v ≡ (d, (q, j)) ∷ []
+      → opened j c q (ltb others (S .reduction .limits .tree)) ≡ (lift-list S (lift-term S room (left - 1)) others d q f (v, k)
+      >>= λ s. done (finish room m s))
   opened-list j c d q f v h z hd hf hv =
       let e : left ≡ suc (left - 1) = omega arith in
       ap (λ n. open-subtree (ltb others (S .reduction .limits .tree)) S room (list-at S room n) others k m j c q) e
@@ -153,7 +165,8 @@ rest-rows s a e = go (e - a) refl
         ap rest (rows-first s a n) ∙ (λ i. rows s (y i) (z i))
 
 -- the reducer's other terms
-pub rest-of : (g : Ground) (level ends : Words) (j from to : ℕ) → Family g level ends → 1 ≤ j → j ≤ g .r → from ≡ first-row ends j → to ≡ getD ends (j - 1) 0
+pub rest-of : (g : Ground) (level ends : Words) (j from to : ℕ) → Family g level ends → 1 ≤ j → j ≤ g .r → from ≡ first-row ends j → to
+    ≡ getD ends (j - 1) 0
     → rest (vector-of (family-of g level ends) j) ≡ rows level (from + 1) (to - (from + 1))
 rest-of g level ends j from to F h l e f =
     ap rest (vector-at level ends (g .r) j (F .ends-fit) h l) ∙ rest-rows level (first-row ends j) (getD ends (j - 1) 0)

@@ -6,7 +6,8 @@ use Prim.Native.Nat.{ℕ, suc, _+_, _-_, _<_, _≤_}
 use native.Mathlib.Omega.{arith}
 use native.Mathlib.Numerals.{add-one}
 use lib.ListN.{length, take, drop, getD, set, replicate, length-drop, length-replicate, getD-replicate, List·getD-append, drop-of-length-le}
-use lib.Seq.{paste, paste-zero, paste-suc, length-paste, length-paste-head, take-suc, drop-cons, set-at, getD-append-add, getD-take, getD-drop, length-take-le, take-all}
+use lib.Seq.{paste, paste-zero, paste-suc, length-paste, length-paste-head, take-suc, drop-cons, set-at, getD-append-add, getD-take, getD-drop, length-take-le}
+use lib.Seq.{take-all}
 use Rattle.definitions.specs.Layout.{Words}
 use Rattle.definitions.specs.Places.{row-length}
 use Rattle.vectors.specs.terms.Rows.{closed, opened, cleared}
@@ -14,7 +15,8 @@ use Rattle.vectors.specs.terms.Rows.{closed, opened, cleared}
 -- ## What stands where in a list into which another was pasted
 
 module _ {A : Type 0} where
-  pub getD-paste-in : (d : List A) (at : ℕ) (s : List A) (n j : ℕ) (z : A) → at + n ≤ length d → n ≤ length s → j < n → getD (paste d at s n) (at + j) z ≡ getD s j z
+  pub getD-paste-in : (d : List A) (at : ℕ) (s : List A) (n j : ℕ) (z : A) → at + n ≤ length d → n ≤ length s → j < n → getD (paste d at s n) (at + j) z
+      ≡ getD s j z
   getD-paste-in d at s n j z h k l =
       let p : length (take at d) ≡ at = length-take-le at d (omega arith) in
       let q : length (take at d ++ take n s) ≡ at + n = length-paste-head d at s n (omega arith) k in
@@ -24,9 +26,11 @@ module _ {A : Type 0} where
   pub getD-paste-below : (d : List A) (at : ℕ) (s : List A) (n j : ℕ) (z : A) → at ≤ length d → j < at → getD (paste d at s n) j z ≡ getD d j z
   getD-paste-below d at s n j z h l =
       let p : length (take at d) ≡ at = length-take-le at d h in
-      ap (λ x. getD x j z) (append-assoc (take at d) (take n s) (drop (at + n) d)) ∙ List·getD-append (take at d) (take n s ++ drop (at + n) d) z j (omega arith) ∙ getD-take at d j z l
+      ap (λ x. getD x j z) (append-assoc (take at d) (take n s) (drop (at + n) d))
+      ∙ List·getD-append (take at d) (take n s ++ drop (at + n) d) z j (omega arith) ∙ getD-take at d j z l
 
-  pub getD-paste-above : (d : List A) (at : ℕ) (s : List A) (n j : ℕ) (z : A) → at + n ≤ length d → n ≤ length s → at + n ≤ j → getD (paste d at s n) j z ≡ getD d j z
+  pub getD-paste-above : (d : List A) (at : ℕ) (s : List A) (n j : ℕ) (z : A) → at + n ≤ length d → n ≤ length s → at + n ≤ j
+      → getD (paste d at s n) j z ≡ getD d j z
   getD-paste-above d at s n j z h k l =
       let q : length (take at d ++ take n s) ≡ at + n = length-paste-head d at s n (omega arith) k in
       let e : j ≡ length (take at d ++ take n s) + (j - (at + n)) = omega arith in
@@ -44,7 +48,8 @@ closed-none s a = let z : a - a ≡ 0 = omega arith in rw z (paste-zero s a (dro
 
 -- the word to move has not been overwritten
 pub closed-ahead : (s : Words) (a k : ℕ) → a ≤ k → k + row-length < length s → getD (closed s a k) (k + row-length) 0 ≡ getD s (k + row-length) 0
-closed-ahead s a k h l = getD-paste-above s a (drop (a + row-length) s) (k - a) (k + row-length) 0 (omega arith) (omega (arith, length-drop (a + row-length) s)) (omega arith)
+closed-ahead s a k h l = getD-paste-above s a (drop (a + row-length) s) (k - a) (k + row-length) 0 (omega arith)
+    (omega (arith, length-drop (a + row-length) s)) (omega arith)
 
 pub closed-more : (s : Words) (a k : ℕ) → a ≤ k → k + row-length < length s → set (closed s a k) k (getD s (k + row-length) 0) ≡ closed s a (k + 1)
 closed-more s a k h l =
@@ -68,7 +73,8 @@ opened-none s end = let z : end - end ≡ 0 = omega arith in rw z (paste-zero s 
 pub opened-below : (s : Words) (a end m : ℕ) → a ≤ end → end + row-length ≤ length s → m < a + row-length → getD (opened s a end) m 0 ≡ getD s m 0
 opened-below s a end m h k l = getD-paste-below s (a + row-length) (drop a s) (end - a) m 0 (omega arith) l
 
-pub opened-more : (s : Words) (m end : ℕ) → m < end → end + row-length ≤ length s → set (opened s (m + 1) end) (m + row-length) (getD s m 0) ≡ opened s m end
+pub opened-more : (s : Words) (m end : ℕ) → m < end → end + row-length ≤ length s → set (opened s (m + 1) end) (m + row-length) (getD s m 0)
+    ≡ opened s m end
 opened-more s m end h k =
     let e₁ : m + 1 + row-length ≡ suc (m + row-length) = omega arith in
     let e₂ : end - m ≡ suc (end - (m + 1)) = omega arith in

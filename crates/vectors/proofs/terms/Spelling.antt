@@ -27,7 +27,8 @@ same-all : (a b : Exponents) → length b ≡ length a → ((k : ℕ) → k < le
 same-all [] [] e h = refl
 same-all [] (y ∷ b) e h = absurd (omega arith)
 same-all (x ∷ a) [] e h = absurd (omega arith)
-same-all (x ∷ a) (y ∷ b) e h = (λ i. equal-here (eqb x y) (h 0 (omega arith)) i and same-exponents? a b) ∙ same-all a b (omega arith) (λ k l. h (suc k) (omega arith))
+same-all (x ∷ a) (y ∷ b) e h = (λ i. equal-here (eqb x y) (h 0 (omega arith)) i and same-exponents? a b)
+    ∙ same-all a b (omega arith) (λ k l. h (suc k) (omega arith))
 
 same-none : (a b : Exponents) (k : ℕ) → length b ≡ length a → k < length a → not (eqb (getD a k 0) (getD b k 0)) ≡ true → same-exponents? a b ≡ false
 same-none [] b k e h t = absurd (not-suc-le-zero h)
@@ -40,7 +41,8 @@ same-none (x ∷ a) (y ∷ b) (suc k) e h t = go (eqb x y) (same-none a b k (ome
     go false f = refl
 
 -- what the mark of a loop over eight places says
-pub same-marked : (a b : Exponents) (mark : ℕ) → length a ≡ 8 → length b ≡ 8 → Marked (λ k. not (eqb (getD a k 0) (getD b k 0))) 8 mark → eqb mark 0 ≡ same-exponents? a b
+pub same-marked : (a b : Exponents) (mark : ℕ) → length a ≡ 8 → length b ≡ 8 → Marked (λ k. not (eqb (getD a k 0) (getD b k 0))) 8 mark → eqb mark 0
+    ≡ same-exponents? a b
 same-marked a b mark la lb m = go mark m
   where
     f : ℕ → Bool
@@ -48,11 +50,13 @@ same-marked a b mark la lb m = go mark m
 
     go : (mark : ℕ) → Marked f 8 mark → eqb mark 0 ≡ same-exponents? a b
     go zero m = sym (same-all a b (lb ∙ sym la) (λ k h. unmarked f 8 0 m refl k (omega arith)))
-    go (suc n) m = let s = marked-at f 8 (suc n) m (λ e. omega arith) in eqb·suc-zero n ∙ sym (same-none a b (s .0) (lb ∙ sym la) (omega (arith, s .1)) (s .2))
+    go (suc n) m = let s = marked-at f 8 (suc n) m (λ e. omega arith) in eqb·suc-zero n
+        ∙ sym (same-none a b (s .0) (lb ∙ sym la) (omega (arith, s .1)) (s .2))
 
 fits-255 : (e : Exponents) → ((k : ℕ) → k < length e → getD e k 0 < 256) → fits? most-exponent e ≡ true
 fits-255 [] h = refl
-fits-255 (x ∷ e) h = let y : x < 256 = h 0 (omega arith) in (λ i. le-leb x most-exponent (omega arith) i and fits? most-exponent e) ∙ fits-255 e (λ k l. h (suc k) (omega arith))
+fits-255 (x ∷ e) h = let y : x < 256 = h 0 (omega arith) in (λ i. le-leb x most-exponent (omega arith) i and fits? most-exponent e)
+    ∙ fits-255 e (λ k l. h (suc k) (omega arith))
 
 pub eight-small : (e : Exponents) → length e ≡ 8 → ((k : ℕ) → k < 8 → getD e k 0 < 256) → Eight e
 eight-small e l h = record { eight = l; small = subst T (sym (fits-255 e (λ k m. h k (omega arith)))) tt }

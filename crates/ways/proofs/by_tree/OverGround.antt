@@ -22,7 +22,8 @@ module _ (s : Words) (j : ℕ) (b : Base s j) (tables : Words) (t : Tables-at s 
     (lim : Bounds) (g : Ground) (level : Words) (eg : g ≡ ground-at lim s j) (el : level ≡ rows-from s j) where
   abbrev Asked : ℕ → Words → Ground → Words → Type 0
   Asked count words g level =
-      Tables g tables × Family g level (ends-in tables) × Images (g .r) (above-in tables) × Framed g count words × (g .vector ≡ lim .vector) × (g .tree ≡ lim .tree) × (g .room ≡ lim .room)
+      Tables g tables × Family g level (ends-in tables) × Images (g .r) (above-in tables) × Framed g count words × (g .vector ≡ lim .vector)
+      × (g .tree ≡ lim .tree) × (g .room ≡ lim .room)
 
   pub asked : (count : ℕ) (words : Words) → Framed-by s j count words → Asked count words g level
   asked count words f =
@@ -37,6 +38,8 @@ module _ (s : Words) (j : ℕ) (b : Base s j) (tables : Words) (t : Tables-at s 
       )
 
   pub lifted-same : (room : ℕ) (ms : List Monomial) (x : Result Level)
-      → x ≡ lift-all (stage-of g level tables (table-order (g .code) (table-of (g .r) (above-in tables)))) (tree (stage-of g level tables (table-order (g .code) (table-of (g .r) (above-in tables)))) room) ([], 0) [] ms
+      → x ≡ lift-all (stage-of g level tables (table-order (g .code) (table-of (g .r) (above-in tables))))
+      (tree (stage-of g level tables (table-order (g .code) (table-of (g .r) (above-in tables)))) room) ([], 0) [] ms
       → x ≡ lift-all (stage-at lim s j) (tree (stage-at lim s j) room) ([], 0) [] ms
-  lifted-same room ms x e = e ∙ (λ i. lift-all (stage-same s j b tables t lim g level eg el i) (tree (stage-same s j b tables t lim g level eg el i) room) ([], 0) [] ms)
+  lifted-same room ms x e = e ∙ (λ i. lift-all (stage-same s j b tables t lim g level eg el i)
+      (tree (stage-same s j b tables t lim g level eg el i) room) ([], 0) [] ms)

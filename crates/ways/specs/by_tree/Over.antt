@@ -17,7 +17,8 @@ use Rattle.level.specs.declared.by_runs.Bounds.{Bounds}
 -- what lifting these frame terms gives
 abbrev pub framed-over : Bounds → Words → ℕ → ℕ → ℕ → Words → Lifted → Words → Type 0
 framed-over b s j room count words x out =
-    (lifted-of x count out [] ≡ lift-all (stage-at b s j) (tree (stage-at b s j) room) ([], 0) [] (frame-terms words count)) × Whole (ground-at b s j) count x out
+    (lifted-of x count out [] ≡ lift-all (stage-at b s j) (tree (stage-at b s j) room) ([], 0) [] (frame-terms words count))
+    × Whole (ground-at b s j) count x out
 
 -- the frame formed first: 15; then its terms
 abbrev pub tree-over : Bounds → Words → ℕ → ℕ → Result Level

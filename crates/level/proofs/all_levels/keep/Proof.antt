@@ -15,8 +15,12 @@ add-level-requires : tie.Need-add-level-requires
 add-level-requires c κs =
     let a = c .before .before .before .before .before .before .args in
     let P = c .before .before .before .before .before .before .pre in
-    let b = P .0 .base in
-    (b .long, omega (arith, P .0 .high), words-below (a .state .now) (b .long) (b .holds) (a .k) (omega (arith, b .has)), subst (λ y. Settles y (a .out .now)) (c .before .before .x .given .1) (P .1))
+    let b = P .0 .base in (
+      b .long,
+      omega (arith, P .0 .high),
+      words-below (a .state .now) (b .long) (b .holds) (a .k) (omega (arith, b .has)),
+      subst (λ y. Settles y (a .out .now)) (c .before .before .x .given .1) (P .1),
+    )
 
 enum-known-x-2 : tie.Need-enum-known-x-2
 enum-known-x-2 c = search needs

@@ -65,10 +65,12 @@ count-of-requires c κs =
     (N .base .long, N .base .low)
 
 same-length-3 : tie.Need-same-length-3 Inv-loop μ-loop
-same-length-3 c = let m = c .before .before .before .before .before .before .before .before in omega (arith, m .before .before .before .before .loop .inv .4)
+same-length-3 c = let m = c .before .before .before .before .before .before .before .before in
+    omega (arith, m .before .before .before .before .loop .inv .4)
 
 same-length-4 : tie.Need-same-length-4 Inv-loop μ-loop
-same-length-4 c = let m = c .before .before .before .before .before .before .before .before in omega (arith, m .before .before .before .before .loop .inv .5)
+same-length-4 c = let m = c .before .before .before .before .before .before .before .before in
+    omega (arith, m .before .before .before .before .loop .inv .5)
 
 returns-2 : tie.Need-returns-2 Inv-loop μ-loop
 returns-2 c =
@@ -106,8 +108,14 @@ loop-again c =
     let N = next-of (l .state) (l .k) H (L .result) (L .last .0) M (omega arith) in
     let counted = complete-count (L .last .0) (N .base .long) (N .base .holds) (l .k) (N .base .has) in
     let more : 0 < length (level-at document-01 (L .last .0) (l .k)) = omega (arith, counted, c .before .count-of .ensures) in
-    let e : l .k ≡ l .k + 1 - 1 = omega arith in
-    (omega arith, omega arith, subst (Base (L .last .0)) e (N .base), going-on s₀ (l .state) (l .k) H (I .3) n (L .last .0) N more, omega (arith, I .4), omega (arith, I .5))
+    let e : l .k ≡ l .k + 1 - 1 = omega arith in (
+      omega arith,
+      omega arith,
+      subst (Base (L .last .0)) e (N .base),
+      going-on s₀ (l .state) (l .k) H (I .3) n (L .last .0) N more,
+      omega (arith, I .4),
+      omega (arith, I .5),
+    )
 
 same-length-5 : tie.Need-same-length-5 Inv-loop μ-loop
 same-length-5 c = omega (arith, c .before .loop .inv .4)

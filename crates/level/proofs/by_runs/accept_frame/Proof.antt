@@ -36,10 +36,25 @@ accept-all-requires c κs =
     let s = a .state .now in
     let P = c .before .before .before .before .before .before .before .before .before .pre in
     let ask = asked s 0 (P .0) (a .tables .now) (P .1) usual (c .before .before .before .ground-of .result)
-    (take (length s - rows-start) (drop rows-start s)) (c .before .before .before .ground-of .ensures ∙ ap (λ b. ground-at b s 0) (c .before .before .before .before .usual .ensures)) (whole-part rows-start s) (a .count) (a .frame .now) (P .2) in
+    (take (length s - rows-start) (drop rows-start s)) (c .before .before .before .ground-of .ensures
+    ∙ ap (λ b. ground-at b s 0) (c .before .before .before .before .usual .ensures)) (whole-part rows-start s) (a .count) (a .frame .now) (P .2) in
     let w = ask .6 in
-    let v = ask .7 in
-    (ask .0, ask .1, ask .2, ask .3, record { value-fits = omega (arith, w, P .3); vector-fits = omega (arith, v); sorted-fits = omega (arith, v, P .3); left-fits = omega (arith, w) }, omega (arith, v), ask .4, ask .5)
+    let v = ask .7 in (
+      ask .0,
+      ask .1,
+      ask .2,
+      ask .3,
+      record {
+        value-fits = omega (arith, w, P .3);
+        vector-fits = omega (arith, v);
+        sorted-fits =
+            omega (arith, v, P .3);
+        left-fits = omega (arith, w);
+      },
+      omega (arith, v),
+      ask .4,
+      ask .5,
+    )
 
 slice-aggregate-settle : tie.Need-slice-aggregate-settle
 slice-aggregate-settle c = search needs
@@ -47,7 +62,11 @@ slice-aggregate-settle c = search needs
 settle-requires : tie.Need-settle-requires
 settle-requires c κs =
     let x = c .before .before .before .before .before .accept-all in
-    left-room (c .before .before .before .before .before .before .before .before .before .ground-of .result) (x .result) (x .last .1 .0) (x .last .0) (ap (λ g. g .working) (c .before .before .before .before .before .before .before .before .before .ground-of .ensures) ∙ ap (λ b. b .working) (c .before .before .before .before .before .before .before .before .before .before .usual .ensures)) (x .ensures .1) (omega arith) (omega (arith, c .before .before .before .before .before .before .before .before .before .before .before .before .before .before .before .pre .3))
+    left-room (c .before .before .before .before .before .before .before .before .before .ground-of .result) (x .result) (x .last .1 .0) (x .last .0)
+    (ap (λ g. g .working) (c .before .before .before .before .before .before .before .before .before .ground-of .ensures)
+    ∙ ap (λ b. b .working) (c .before .before .before .before .before .before .before .before .before .before .usual .ensures)) (x .ensures .1)
+    (omega arith) (omega
+    (arith, c .before .before .before .before .before .before .before .before .before .before .before .before .before .before .before .pre .3))
 
 same-length : tie.Need-same-length
 same-length c = search needs
@@ -59,10 +78,20 @@ returns c =
     let P = c .before .before .before .before .before .before .before .before .before .before .before .before .before .before .before .before .before .before .pre in
     let x = c .before .before .before .before .before .before .before .before .accept-all in
     let y = c .before .before .settle in
-    let told = accepted-same s 0 (P .0) (a .tables .now) (P .1) usual (c .before .before .before .before .before .before .before .before .before .before .before .before .ground-of .result)
-    (take (length s - rows-start) (drop rows-start s)) (c .before .before .before .before .before .before .before .before .before .before .before .before .ground-of .ensures ∙ ap (λ b. ground-at b s 0) (c .before .before .before .before .before .before .before .before .before .before .before .before .before .usual .ensures)) (whole-part rows-start s)
-    (x .ensures .0 .0) (frame-terms (a .frame .now) (a .count)) (accepted-of (x .result) (x .last .1 .0)) (x .ensures .0 .1) in
-    (x .ensures .0 .0, value-in (x .result) (x .last .1 .0), ap (λ z. accepted-with z (value-in (x .result) (x .last .1 .0))) (y .ensures .0) ∙ answer-same (x .result) (x .last .1 .0) ∙ told, y .ensures .1)
+    let told = accepted-same s 0 (P .0) (a .tables .now) (P .1) usual
+    (c .before .before .before .before .before .before .before .before .before .before .before .before .ground-of .result)
+    (take (length s - rows-start) (drop rows-start s))
+    (c .before .before .before .before .before .before .before .before .before .before .before .before .ground-of .ensures
+    ∙ ap (λ b. ground-at b s 0)
+    (c .before .before .before .before .before .before .before .before .before .before .before .before .before .usual .ensures))
+    (whole-part rows-start s)
+    (x .ensures .0 .0) (frame-terms (a .frame .now) (a .count)) (accepted-of (x .result) (x .last .1 .0)) (x .ensures .0 .1) in (
+      x .ensures .0 .0,
+      value-in (x .result) (x .last .1 .0),
+      ap (λ z. accepted-with z (value-in (x .result) (x .last .1 .0))) (y .ensures .0)
+          ∙ answer-same (x .result) (x .last .1 .0) ∙ told,
+      y .ensures .1,
+    )
 
 pub accept-frame-spec : {M : Type 1} → statement M
 accept-frame-spec =

@@ -32,7 +32,27 @@ slice-aggregate-form-2 : tie.Need-slice-aggregate-form-2
 slice-aggregate-form-2 c = search needs
 
 form-requires : tie.Need-form-requires
-form-requires c κs = (omega arith, omega (arith, c .before .before .count-of .ensures, few-vectors (c .before .before .before .before .before .before .args .state .now) 0 (c .before .before .before .before .before .before .pre .0)), omega (arith, c .before .before .count-of .ensures, few-vectors (c .before .before .before .before .before .before .args .state .now) 0 (c .before .before .before .before .before .before .pre .0), c .before .before .before .before .before .before .pre .1 .long), omega (arith, c .before .before .count-of .ensures, few-vectors (c .before .before .before .before .before .before .args .state .now) 0 (c .before .before .before .before .before .before .pre .0)))
+form-requires c κs = (
+  omega arith,
+  omega (
+    arith,
+    c .before .before .count-of .ensures,
+    few-vectors (c .before .before .before .before .before .before .args .state .now) 0 (c .before .before .before .before .before .before .pre .0),
+  ),
+  omega (
+    arith,
+    c .before .before .count-of .ensures,
+    few-vectors (c .before .before .before .before .before .before .args .state .now) 0
+        (c .before .before .before .before .before .before .pre .0),
+    c .before .before .before .before .before .before .pre .1 .long,
+  ),
+  omega (
+    arith,
+    c .before .before .count-of .ensures,
+    few-vectors (c .before .before .before .before .before .before .args .state .now) 0
+        (c .before .before .before .before .before .before .pre .0),
+  ),
+)
 
 enum-told : tie.Need-enum-told
 enum-told c = search needs
@@ -49,24 +69,51 @@ accept-frame-requires c κs =
     let s = a .state .now in
     let F = c .before .before .before .before .before .before .before .form in
     let n = c .before .before .before .n .given .0 .0 in
-    let r : c .before .before .before .before .before .before .before .before .before .before .count-of .result ≡ count-at s 0 = c .before .before .before .before .before .before .before .before .before .before .count-of .ensures in
-    let lead : monomials-of (rows (a .tables .now) 0 (c .before .before .before .before .before .before .before .before .before .before .count-of .result)) ≡ leading-monomials (level-at document-01 s 0) = ap (λ k. monomials-of (rows (a .tables .now) 0 k)) r ∙ leading-at s 0 (c .before .before .before .before .before .before .before .before .before .before .before .before .before .before .pre .0) (a .tables .now) (spans-in (a .tables .now)) (c .before .before .before .before .before .before .before .before .before .before .before .before .before .before .pre .1 .led) in
-    let told : done (monomials-of (rows (F .last .0) 0 n)) ≡ if-few (leb (length (frame 1 (monomials-of (rows (a .tables .now) 0 (c .before .before .before .before .before .before .before .before .before .before .count-of .result))))) most-vectors) (frame 1 (monomials-of (rows (a .tables .now) 0 (c .before .before .before .before .before .before .before .before .before .before .count-of .result)))) =
+    let r : c .before .before .before .before .before .before .before .before .before .before .count-of .result
+    ≡ count-at s 0 = c .before .before .before .before .before .before .before .before .before .before .count-of .ensures in
+    let lead : monomials-of
+    (rows (a .tables .now) 0 (c .before .before .before .before .before .before .before .before .before .before .count-of .result))
+    ≡ leading-monomials (level-at document-01 s 0) = ap (λ k. monomials-of (rows (a .tables .now) 0 k)) r
+    ∙ leading-at s 0 (c .before .before .before .before .before .before .before .before .before .before .before .before .before .before .pre .0)
+    (a .tables .now) (spans-in (a .tables .now))
+    (c .before .before .before .before .before .before .before .before .before .before .before .before .before .before .pre .1 .led) in
+    let told : done (monomials-of (rows (F .last .0) 0 n)) ≡ if-few (leb
+    (length (frame 1 (monomials-of
+    (rows (a .tables .now) 0 (c .before .before .before .before .before .before .before .before .before .before .count-of .result))))) most-vectors)
+    (frame 1 (monomials-of
+    (rows (a .tables .now) 0 (c .before .before .before .before .before .before .before .before .before .before .count-of .result)))) =
     sym (ap (λ y. framed-of y (F .last .0)) (c .before .before .before .n .given .1)) ∙ F .ensures .0 in
     let m : n ≤ most-vectors = subst (few most-vectors) (c .before .before .before .n .given .1) (F .ensures .1) in
-    let P = c .before .before .before .before .before .before .before .before .before .before .before .before .before .before .pre in
-    (P .0, P .1, record { few = m; fits = omega (arith, m); terms = whole-frame 1 (monomials-of (rows (a .tables .now) 0 (c .before .before .before .before .before .before .before .before .before .before .count-of .result))) (leading-monomials (level-at document-01 s 0)) (frame-terms (F .last .0) n) lead told }, P .2)
+    let P = c .before .before .before .before .before .before .before .before .before .before .before .before .before .before .pre in (
+      P .0,
+      P .1,
+      record {
+        few = m;
+        fits = omega (arith, m);
+        terms = whole-frame 1
+            (monomials-of (rows (a .tables .now) 0
+            (c .before .before .before .before .before .before .before .before .before .before .count-of .result)))
+            (leading-monomials (level-at document-01 s 0)) (frame-terms (F .last .0) n) lead told;
+      },
+      P .2,
+    )
 
 returns : tie.Need-returns
 returns c =
     let a = c .before .before .before .before .before .before .before .before .before .before .before .args in
     let s = a .state .now in
-    let r : c .before .before .before .before .before .before .before .count-of .result ≡ count-at s 0 = c .before .before .before .before .before .before .before .count-of .ensures in
-    let lead : monomials-of (rows (a .tables .now) 0 (c .before .before .before .before .before .before .before .count-of .result)) ≡ leading-monomials (level-at document-01 s 0) = ap (λ k. monomials-of (rows (a .tables .now) 0 k)) r ∙ leading-at s 0 (c .before .before .before .before .before .before .before .before .before .before .before .pre .0) (a .tables .now) (spans-in (a .tables .now)) (c .before .before .before .before .before .before .before .before .before .before .before .pre .1 .led) in (
+    let r : c .before .before .before .before .before .before .before .count-of .result
+    ≡ count-at s 0 = c .before .before .before .before .before .before .before .count-of .ensures in
+    let lead : monomials-of (rows (a .tables .now) 0 (c .before .before .before .before .before .before .before .count-of .result))
+    ≡ leading-monomials (level-at document-01 s 0) = ap (λ k. monomials-of (rows (a .tables .now) 0 k)) r
+    ∙ leading-at s 0 (c .before .before .before .before .before .before .before .before .before .before .before .pre .0) (a .tables .now)
+    (spans-in (a .tables .now)) (c .before .before .before .before .before .before .before .before .before .before .before .pre .1 .led) in (
       0,
       [],
-      too-many (getD s 2 0) (level-at document-01 s 0) (monomials-of (rows (a .tables .now) 0 (c .before .before .before .before .before .before .before .count-of .result))) (λ ms. accept-from (stage-at usual s 0) 0 1 ms) lead
-          (sym (ap (λ y. framed-of y (c .before .before .before .before .form .last .0)) (c .enum-told .given .1)) ∙ c .before .before .before .before .form .ensures .0),
+      too-many (getD s 2 0) (level-at document-01 s 0) (monomials-of (rows (a .tables .now) 0
+          (c .before .before .before .before .before .before .before .count-of .result))) (λ ms. accept-from (stage-at usual s 0) 0 1 ms) lead
+          (sym (ap (λ y. framed-of y (c .before .before .before .before .form .last .0)) (c .enum-told .given .1))
+          ∙ c .before .before .before .before .form .ensures .0),
       tt,
     )
 
@@ -79,12 +126,30 @@ returns-2 c =
     let s = a .state .now in
     let F = c .before .before .before .before .before .before .before .before .before .before .form in
     let n = c .before .before .before .before .before .before .n .given .0 .0 in
-    let r : c .before .before .before .before .before .before .before .before .before .before .before .before .before .count-of .result ≡ count-at s 0 = c .before .before .before .before .before .before .before .before .before .before .before .before .before .count-of .ensures in
-    let lead : monomials-of (rows (a .tables .now) 0 (c .before .before .before .before .before .before .before .before .before .before .before .before .before .count-of .result)) ≡ leading-monomials (level-at document-01 s 0) = ap (λ k. monomials-of (rows (a .tables .now) 0 k)) r ∙ leading-at s 0 (c .before .before .before .before .before .before .before .before .before .before .before .before .before .before .before .before .before .pre .0) (a .tables .now) (spans-in (a .tables .now)) (c .before .before .before .before .before .before .before .before .before .before .before .before .before .before .before .before .before .pre .1 .led) in
-    let told : done (monomials-of (rows (F .last .0) 0 n)) ≡ if-few (leb (length (frame 1 (monomials-of (rows (a .tables .now) 0 (c .before .before .before .before .before .before .before .before .before .before .before .before .before .count-of .result))))) most-vectors) (frame 1 (monomials-of (rows (a .tables .now) 0 (c .before .before .before .before .before .before .before .before .before .before .before .before .before .count-of .result)))) =
+    let r : c .before .before .before .before .before .before .before .before .before .before .before .before .before .count-of .result
+    ≡ count-at s 0 = c .before .before .before .before .before .before .before .before .before .before .before .before .before .count-of .ensures in
+    let lead : monomials-of
+    (rows (a .tables .now) 0
+    (c .before .before .before .before .before .before .before .before .before .before .before .before .before .count-of .result))
+    ≡ leading-monomials (level-at document-01 s 0) = ap (λ k. monomials-of (rows (a .tables .now) 0 k)) r
+    ∙ leading-at s 0 (c .before .before .before .before .before .before .before .before .before .before .before .before .before .before .before .before .before .pre .0) (a .tables .now) (spans-in (a .tables .now)) (c .before .before .before .before .before .before .before .before .before .before .before .before .before .before .before .before .before .pre .1 .led) in
+    let told : done (monomials-of (rows (F .last .0) 0 n)) ≡ if-few (leb
+    (length (frame 1 (monomials-of
+    (rows (a .tables .now) 0
+    (c .before .before .before .before .before .before .before .before .before .before .before .before .before .count-of .result))))) most-vectors)
+    (frame 1 (monomials-of
+    (rows (a .tables .now) 0
+    (c .before .before .before .before .before .before .before .before .before .before .before .before .before .count-of .result)))) =
     sym (ap (λ y. framed-of y (F .last .0)) (c .before .before .before .before .before .before .n .given .1)) ∙ F .ensures .0 in
-    let L = c .before .before .accept-frame in
-    (L .ensures .0, L .ensures .1, L .ensures .2 ∙ few-enough (getD s 2 0) (level-at document-01 s 0) (monomials-of (rows (a .tables .now) 0 (c .before .before .before .before .before .before .before .before .before .before .before .before .before .count-of .result))) (frame-terms (F .last .0) n) (λ ms. accept-from (stage-at usual s 0) (L .ensures .0) 1 ms) lead told, L .ensures .3)
+    let L = c .before .before .accept-frame in (
+      L .ensures .0,
+      L .ensures .1,
+      L .ensures .2 ∙ few-enough (getD s 2 0) (level-at document-01 s 0)
+          (monomials-of (rows (a .tables .now) 0
+          (c .before .before .before .before .before .before .before .before .before .before .before .before .before .count-of .result)))
+          (frame-terms (F .last .0) n) (λ ms. accept-from (stage-at usual s 0) (L .ensures .0) 1 ms) lead told,
+      L .ensures .3,
+    )
 
 pub accept-with-spec : {M : Type 1} → statement M
 accept-with-spec =

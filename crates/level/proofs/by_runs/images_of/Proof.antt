@@ -15,7 +15,8 @@ count-of-requires : tie.Need-count-of-requires
 count-of-requires c κs = search needs
 
 returns-2 : tie.Need-returns-2
-returns-2 c = c .count-of .ensures ∙ below-above (c .before .before .before .args .state .now) (c .before .before .before .args .j) (λ e. omega (arith, e))
+returns-2 c = c .count-of .ensures ∙ below-above (c .before .before .before .args .state .now) (c .before .before .before .args .j)
+    (λ e. omega (arith, e))
 
 pub images-of-spec : {M : Type 1} → statement M
 images-of-spec = tie.close (tie.spec returns sub-count-of count-of-requires returns-2)

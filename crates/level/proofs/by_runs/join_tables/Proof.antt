@@ -27,7 +27,10 @@ returns c =
     c .before .before .copy4 .ensures
     ∙ ap (λ z. paste z above-start (a .above .now) table-length) (
     c .before .before .before .before .before .before .copy3 .ensures
-    ∙ ap (λ z. paste z below-start (a .below .now) table-length) (c .before .before .before .before .before .before .before .before .before .before .copy2 .ensures ∙ ap (λ z. paste z ends-start (a .ends .now) most-vectors) (c .before .before .before .before .before .before .before .before .before .before .before .before .before .before .copy .ensures))
+    ∙ ap (λ z. paste z below-start (a .below .now) table-length)
+    (c .before .before .before .before .before .before .before .before .before .before .copy2 .ensures
+    ∙ ap (λ z. paste z ends-start (a .ends .now) most-vectors)
+    (c .before .before .before .before .before .before .before .before .before .before .before .before .before .before .copy .ensures))
     )
 
 pub join-tables-spec : {M : Type 1} → statement M

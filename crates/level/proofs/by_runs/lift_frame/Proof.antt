@@ -45,8 +45,24 @@ lift-all-requires c κs =
     let w = ask .6 in
     let v = ask .7 in
     let r = ask .8 in
-    let i = P .5 in
-    (ask .0, ask .1, ask .2, ask .3, record { value-fits = omega (arith, w, i .working, P .4); vector-fits = omega (arith, v, i .vector); sorted-fits = omega (arith, v, i .vector, P .4); left-fits = omega (arith, w, i .working) }, omega (arith, v, i .vector), ask .4, ask .5, omega (arith, r, i .room, P .3), omega (arith, r, i .room))
+    let i = P .5 in (
+      ask .0,
+      ask .1,
+      ask .2,
+      ask .3,
+      record {
+        value-fits = omega (arith, w, i .working, P .4);
+        vector-fits = omega (arith, v, i .vector);
+        sorted-fits =
+            omega (arith, v, i .vector, P .4);
+        left-fits = omega (arith, w, i .working);
+      },
+      omega (arith, v, i .vector),
+      ask .4,
+      ask .5,
+      omega (arith, r, i .room, P .3),
+      omega (arith, r, i .room),
+    )
 
 same-length : tie.Need-same-length
 same-length c = search needs
@@ -63,11 +79,15 @@ returns c =
       (
         L .ensures .0 .0,
         L .last .1 .1 .0,
-        lifted-same s (a .j) (P .0) (a .tables .now) (P .1) (a .b) (c .before .before .before .before .before .before .before .before .before .before .ground-of .result)
+        lifted-same s (a .j) (P .0) (a .tables .now) (P .1) (a .b)
+            (c .before .before .before .before .before .before .before .before .before .before .ground-of .result)
             (take (length s - (rows-offset (a .j))) (drop (rows-offset (a .j)) s))
-            (c .before .before .before .before .before .before .before .before .before .before .ground-of .ensures) (whole-part (rows-offset (a .j)) s) (a .w) (L .ensures .0 .0) (frame-terms (a .frame .now) (a .count)) (lifted-of (L .result) (a .count) (L .last .0) (L .last .1 .1 .0)) (L .ensures .0 .1),
+            (c .before .before .before .before .before .before .before .before .before .before .ground-of .ensures) (whole-part (rows-offset (a .j)) s)
+            (a .w) (L .ensures .0 .0) (frame-terms (a .frame .now) (a .count)) (lifted-of (L .result) (a .count) (L .last .0) (L .last .1 .1 .0))
+            (L .ensures .0 .1),
       ),
-      subst (λ g. Whole g (a .count) (L .result) (L .last .0)) (c .before .before .before .before .before .before .before .before .before .before .ground-of .ensures) (L .ensures .1),
+      subst (λ g. Whole g (a .count) (L .result) (L .last .0))
+          (c .before .before .before .before .before .before .before .before .before .before .ground-of .ensures) (L .ensures .1),
     )
 
 pub lift-frame-spec : {M : Type 1} → statement M

@@ -75,8 +75,10 @@ returns c =
     let r = subst (λ k. Ready-pair s k (T .last .0) (T .last .1 .0)) e (T .ensures) in
     subst (Tables-at s (a .j)) (sym (c .before .before .join-tables .ensures))
     (tables-joined (L .last .0) (L .last .1 .0) (take (length s - (ends-offset (a .j))) (drop (ends-offset (a .j)) s)) (T .last .0) (T .last .1 .0)
-    (omega (arith, L .kept .0, P .1)) (omega (arith, L .kept .1 .0)) (omega (arith, length-part (ends-offset (a .j)) s, P .0 .long, P .0 .low)) (omega (arith, T .kept .0)) (omega (arith, T .kept .1 .0))
-    s (a .j) (few-vectors s (a .j) (P .0)) (components-few s (P .0 .long) (P .0 .holds) (a .j) (P .0 .has)) (L .ensures) (ends-part s (a .j)) (r .1) (r .0))
+    (omega (arith, L .kept .0, P .1)) (omega (arith, L .kept .1 .0)) (omega (arith, length-part (ends-offset (a .j)) s, P .0 .long, P .0 .low))
+    (omega (arith, T .kept .0)) (omega (arith, T .kept .1 .0))
+    s (a .j) (few-vectors s (a .j) (P .0)) (components-few s (P .0 .long) (P .0 .holds) (a .j) (P .0 .has)) (L .ensures) (ends-part s (a .j)) (r .1)
+    (r .0))
 
 pub make-tables-spec : {M : Type 1} → statement M
 make-tables-spec =

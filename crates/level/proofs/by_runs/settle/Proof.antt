@@ -18,7 +18,9 @@ enum-known-x-2 : tie.Need-enum-known-x-2
 enum-known-x-2 c = search needs
 
 show-requires : tie.Need-show-requires
-show-requires c κs = let h = subst (λ y. Left-in y (c .before .before .before .before .before .before .args .vector .now) (c .before .before .before .before .before .before .args .work .now)) (c .before .before .x2 .given .1) (c .before .before .before .before .before .before .pre) in (h .0, h .1)
+show-requires c κs = let h = subst (λ y. Left-in y (c .before .before .before .before .before .before .args .vector .now)
+    (c .before .before .before .before .before .before .args .work .now)) (c .before .before .x2 .given .1)
+    (c .before .before .before .before .before .before .pre) in (h .0, h .1)
 
 returns : tie.Need-returns
 returns c = (sym (c .enum-told .given .1), tt)
@@ -34,11 +36,19 @@ returns-3 c =
     let a = c .before .before .before .before .before .before .before .before .before .args in
     let g = c .before .before .before .before .before .x2 .given in
     let w = c .before .before .show .last .0 in
-    let h = subst (λ y. Left-in y (a .vector .now) (a .work .now)) (g .1) (c .before .before .before .before .before .before .before .before .before .pre) in
+    let h = subst (λ y. Left-in y (a .vector .now) (a .work .now)) (g .1)
+    (c .before .before .before .before .before .before .before .before .before .pre) in
     let e : length (a .work .now) ≡ length w = omega arith in
     let same : rows (a .vector .now) 0 (g .0 .1 .0) ≡ value-in (a .x) (a .vector .now) = ap (λ y. value-in y (a .vector .now)) (sym (g .1)) in
-    let own = c .before .before .show .ensures ∙ ap (λ l. padded l (rows-of (rows (a .vector .now) 0 (g .0 .1 .0)))) e in
-    (sym (g .1), (own ∙ ap (λ v. padded (length w) (rows-of v)) same, sym same ∙ sym (shown-rows (a .vector .now) w (g .0 .1 .0) own), omega (arith, h .1, e), h .2))
+    let own = c .before .before .show .ensures ∙ ap (λ l. padded l (rows-of (rows (a .vector .now) 0 (g .0 .1 .0)))) e in (
+      sym (g .1),
+      (
+        own ∙ ap (λ v. padded (length w) (rows-of v)) same,
+        sym same ∙ sym (shown-rows (a .vector .now) w (g .0 .1 .0) own),
+        omega (arith, h .1, e),
+        h .2,
+      ),
+    )
 
 pub settle-spec : {M : Type 1} → statement M
 settle-spec =

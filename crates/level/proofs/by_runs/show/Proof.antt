@@ -29,7 +29,8 @@ returns c =
     let a = c .before .before .before .before .before .before .before .before .before .before .args in
     let w = rows-of (rows (a .vector .now) 0 (a .n)) in
     let n : length w ≡ a .n * row-length = length-spelled (a .vector .now) 0 (a .n) in
-    c .before .before .clear .ensures ∙ ap (λ z. cleared z (a .n * row-length)) (c .before .before .before .before .before .before .copy-rows .ensures) ∙ padded-out (a .work .now) w w (a .n * row-length) (omega arith) (omega (arith, n)) (sym (take-all (a .n * row-length) w (omega (arith, n))))
+    c .before .before .clear .ensures ∙ ap (λ z. cleared z (a .n * row-length)) (c .before .before .before .before .before .before .copy-rows .ensures)
+    ∙ padded-out (a .work .now) w w (a .n * row-length) (omega arith) (omega (arith, n)) (sym (take-all (a .n * row-length) w (omega (arith, n))))
 
 pub show-spec : {M : Type 1} → statement M
 show-spec = tie.close (tie.spec copy-rows-requires mul-clear clear-requires same-length returns)

@@ -20,13 +20,21 @@ abbrev μ-loop : tie.MeasureT-loop
 μ-loop state₀ k count out used₀ i₀ state used i = count - i
 
 loop-holds : tie.Need-loop-holds Inv-loop μ-loop
-loop-holds c = ((omega arith, refl, grown-none (c .before .before .args .state .now) (c .before .before .args .k) (c .before .before .pre .2)), omega arith, refl)
+loop-holds c = (
+  (omega arith, refl, grown-none (c .before .before .args .state .now) (c .before .before .args .k) (c .before .before .pre .2)),
+  omega arith,
+  refl,
+)
 
 mul-place : tie.Need-mul-place Inv-loop μ-loop
 mul-place c = omega arith
 
 shared-slice-read-place : tie.Need-shared-slice-read-place Inv-loop μ-loop
-shared-slice-read-place c = omega (arith, c .before .before .before .before .before .pre .3 .few, c .before .before .before .before .before .pre .3 .long)
+shared-slice-read-place c = omega (
+  arith,
+  c .before .before .before .before .before .pre .3 .few,
+  c .before .before .before .before .before .pre .3 .long,
+)
 
 place-requires : tie.Need-place-requires Inv-loop μ-loop
 place-requires c κs = omega arith
@@ -44,10 +52,18 @@ sub-append : tie.Need-sub-append Inv-loop μ-loop
 sub-append c = omega (arith, c .before .before .before .before .loop .inv .1, c .before .before .before .before .before .before .before .pre .3 .long)
 
 part-append-start : tie.Need-part-append-start Inv-loop μ-loop
-part-append-start c = omega (arith, c .before .before .before .before .loop .inv .1, c .before .before .before .before .before .before .before .pre .3 .long)
+part-append-start c = omega (
+  arith,
+  c .before .before .before .before .loop .inv .1,
+  c .before .before .before .before .before .before .before .pre .3 .long,
+)
 
 part-append-end : tie.Need-part-append-end Inv-loop μ-loop
-part-append-end c = omega (arith, c .before .before .before .before .loop .inv .1, c .before .before .before .before .before .before .before .pre .3 .long)
+part-append-end c = omega (
+  arith,
+  c .before .before .before .before .loop .inv .1,
+  c .before .before .before .before .before .before .before .pre .3 .long,
+)
 
 sub-append-2 : tie.Need-sub-append-2 Inv-loop μ-loop
 sub-append-2 c =
@@ -69,8 +85,14 @@ append-requires c κs =
     let h : l .i < c .before .before .before .before .before .before .before .before .args .count = omega arith in
     let fill : l .used < getD out (l .i) 0 = omega (arith, a .filled (l .i) h, l .inv .0 .1) in
     let room : getD out (l .i) 0 ≤ most-rows = a .room (l .i) h in
-    let n : length (take (length out - (ends-length + l .used * row-length)) (drop (ends-length + l .used * row-length) out)) ≡ length out - (ends-length + l .used * row-length) = length-part (ends-length + l .used * row-length) out in
-    (omega (arith, P .0, l .inv .2), P .1, omega (arith, a .few, h), omega (arith, fill, room, c .before .before .place .ensures .0), omega (arith, n, a .long, room, fill, c .before .before .place .ensures .0))
+    let n : length (take (length out - (ends-length + l .used * row-length)) (drop (ends-length + l .used * row-length) out))
+    ≡ length out - (ends-length + l .used * row-length) = length-part (ends-length + l .used * row-length) out in (
+      omega (arith, P .0, l .inv .2),
+      P .1,
+      omega (arith, a .few, h),
+      omega (arith, fill, room, c .before .before .place .ensures .0),
+      omega (arith, n, a .long, room, fill, c .before .before .place .ensures .0),
+    )
 
 add-i : tie.Need-add-i Inv-loop μ-loop
 add-i c = omega (arith, c .before .before .before .before .before .before .before .before .before .before .before .pre .3 .few)
@@ -88,7 +110,12 @@ loop-again c =
     let fill : l .used < getD out (l .i) 0 = omega (arith, a .filled (l .i) h, l .inv .0 .1) in
     let room : getD out (l .i) 0 ≤ most-rows = a .room (l .i) h in
     let s = c .before .before .before .before .before .before .before .before .before .before .before .args .state .now in (
-      storing-on s out (c .before .before .before .before .before .before .before .before .before .before .before .args .k) (c .before .before .before .before .before .before .before .before .before .before .before .args .count) (P .0) (P .1) a (l .state) (l .i) (l .used) (c .before .before .before .before .before .place .result) (take (length out - (ends-length + l .used * row-length)) (drop (ends-length + l .used * row-length) out)) (c .before .before .append .last .0) h (l .inv .0) (c .before .before .before .before .before .place .ensures .0) (whole-part (ends-length + l .used * row-length) out) (c .before .before .append .ensures),
+      storing-on s out (c .before .before .before .before .before .before .before .before .before .before .before .args .k)
+          (c .before .before .before .before .before .before .before .before .before .before .before .args .count) (P .0) (P .1) a (l .state) (l .i)
+          (l .used) (c .before .before .before .before .before .place .result)
+          (take (length out - (ends-length + l .used * row-length)) (drop (ends-length + l .used * row-length) out))
+          (c .before .before .append .last .0) h (l .inv .0) (c .before .before .before .before .before .place .ensures .0)
+          (whole-part (ends-length + l .used * row-length) out) (c .before .before .append .ensures),
       omega (arith, room, c .before .before .before .before .before .place .ensures .0),
       omega (arith, l .inv .2),
     )

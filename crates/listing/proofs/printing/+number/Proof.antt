@@ -42,7 +42,8 @@ number-byte-requires : (t : ℕ) → number-lts.Need-byte-requires (
   number-below t,
   number.Post,
 ) (number-at t) number.Post
-number-byte-requires t c κs = let l = ap length (one-digit (c .before .before .before .before .args .v) (omega arith)) in omega (arith, c .before .before .before .before .pre .1, l)
+number-byte-requires t c κs = let l = ap length (one-digit (c .before .before .before .before .args .v) (omega arith)) in
+    omega (arith, c .before .before .before .before .pre .1, l)
 
 number-same-length : (t : ℕ) → number-lts.Need-same-length (
   digit-reads.Asked,
@@ -62,7 +63,8 @@ number-returns : (t : ℕ) → number-lts.Need-returns (
   number-below t,
   number.Post,
 ) (number-at t) number.Post
-number-returns t c = spelled (ap (λ x. x ∷ []) (c .before .before .before .before .digit .ensures) ∙ one-digit (c .before .before .before .before .before .before .before .args .v) (omega arith)) (c .before .before .byte .ensures)
+number-returns t c = spelled (ap (λ x. x ∷ []) (c .before .before .before .before .digit .ensures)
+    ∙ one-digit (c .before .before .before .before .before .before .before .args .v) (omega arith)) (c .before .before .byte .ensures)
 
 number-number-requires : (t : ℕ) → number-lts.Need-number-requires (
   digit-reads.Asked,
@@ -72,7 +74,10 @@ number-number-requires : (t : ℕ) → number-lts.Need-number-requires (
   number-below t,
   number.Post,
 ) (number-at t) number.Post
-number-number-requires t c κs = (omega (arith, c .before .before .before .pre .0), omega (arith, c .before .before .before .pre .1, digits-grow (c .before .before .before .args .v) (omega arith)))
+number-number-requires t c κs = (
+  omega (arith, c .before .before .before .pre .0),
+  omega (arith, c .before .before .before .pre .1, digits-grow (c .before .before .before .args .v) (omega arith)),
+)
 
 number-digit-requires-2 : (t : ℕ) → number-lts.Need-digit-requires-2 (
   digit-reads.Asked,
@@ -92,7 +97,13 @@ number-byte-requires-2 : (t : ℕ) → number-lts.Need-byte-requires-2 (
   number-below t,
   number.Post,
 ) (number-at t) number.Post
-number-byte-requires-2 t c κs = omega (arith, c .before .before .before .before .before .before .before .before .pre .1, c .before .before .before .before .number .ensures .ends, digits-grow (c .before .before .before .before .before .before .before .before .args .v) (omega arith))
+number-byte-requires-2 t c κs = omega (
+  arith,
+  c .before .before .before .before .before .before .before .before .pre .1,
+  c .before .before .before .before .number .ensures .ends,
+  digits-grow (c .before .before .before .before .before .before .before .before .args .v)
+      (omega arith),
+)
 
 number-same-length-2 : (t : ℕ) → number-lts.Need-same-length-2 (
   digit-reads.Asked,
@@ -112,7 +123,9 @@ number-returns-2 : (t : ℕ) → number-lts.Need-returns-2 (
   number-below t,
   number.Post,
 ) (number-at t) number.Post
-number-returns-2 t c = spelled (more-digits (c .before .before .before .before .before .before .before .before .before .before .before .args .v) (omega arith)) (after (c .before .before .before .before .before .before .before .number .ensures) (spelled (ap (λ x. x ∷ []) (c .before .before .before .before .digit2 .ensures)) (c .before .before .byte2 .ensures)))
+number-returns-2 t c = spelled (more-digits (c .before .before .before .before .before .before .before .before .before .before .before .args .v)
+    (omega arith)) (after (c .before .before .before .before .before .before .before .number .ensures)
+    (spelled (ap (λ x. x ∷ []) (c .before .before .before .before .digit2 .ensures)) (c .before .before .byte2 .ensures)))
 
 pub +number-spec : {M : Type 1} → statement M
 +number-spec = close μ-number λ t. number-lts.spec (

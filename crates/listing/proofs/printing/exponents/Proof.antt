@@ -37,8 +37,13 @@ loop-again : tie.Need-loop-again Inv-loop μ-loop
 loop-again c =
     let L = c .before .before .before .before .before .before .loop in
     let a = c .before .before .before .before .before .before .before .before .args in
-    let x : c .before .before .before .before .wide .result ≡ getD (a .t3) (L .j) 0 = c .before .before .before .before .wide .ensures .0 in
-    (omega arith, omega arith, spelled (ap (λ z. listed (take (L .j) (a .t3)) ++ 44 ∷ decimal z) x ∙ listed-more (a .t3) (L .j) (omega arith)) (after (L .inv .2) (c .before .before .word .ensures .0)), omega (arith, L .inv .3, c .before .before .word .ensures .1))
+    let x : c .before .before .before .before .wide .result ≡ getD (a .t3) (L .j) 0 = c .before .before .before .before .wide .ensures .0 in (
+      omega arith,
+      omega arith,
+      spelled (ap (λ z. listed (take (L .j) (a .t3)) ++ 44 ∷ decimal z) x ∙ listed-more (a .t3) (L .j) (omega arith))
+          (after (L .inv .2) (c .before .before .word .ensures .0)),
+      omega (arith, L .inv .3, c .before .before .word .ensures .1),
+    )
 
 same-length : tie.Need-same-length Inv-loop μ-loop
 same-length c = omega arith

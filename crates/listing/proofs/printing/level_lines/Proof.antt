@@ -16,7 +16,11 @@ vector-lines-requires c κs =
     (P .0, P .1, P .2, P .3, omega (arith, P .4))
 
 pair-line-requires : tie.Need-pair-line-requires
-pair-line-requires c κs = omega (arith, c .before .before .before .before .before .before .before .before .pre .4, c .before .before .before .vector-lines .ensures .1)
+pair-line-requires c κs = omega (
+  arith,
+  c .before .before .before .before .before .before .before .before .pre .4,
+  c .before .before .before .vector-lines .ensures .1,
+)
 
 same-length : tie.Need-same-length
 same-length c = search needs
@@ -26,8 +30,11 @@ returns c =
     let a = c .before .before .before .before .before .before .before .before .before .before .before .args in
     let P = c .before .before .before .before .before .before .before .before .before .before .before .pre in
     let f = cut-level (a .count) (a .level .now) (a .ends .now) in
-    let e = ap (λ c. vector-lines (a .n) (a .k) 1 f ++ printed 90 (a .k ∷ c ∷ [])) (sym (length-cut (a .count) (a .level .now) (a .ends .now) (P .2 .ends-fit))) in
-    (spelled e (after (c .before .before .before .before .before .before .vector-lines .ensures .0) (c .before .before .pair-line .ensures .0)), omega (arith, c .before .before .before .before .before .before .vector-lines .ensures .1, c .before .before .pair-line .ensures .1))
+    let e = ap (λ c. vector-lines (a .n) (a .k) 1 f ++ printed 90 (a .k ∷ c ∷ []))
+    (sym (length-cut (a .count) (a .level .now) (a .ends .now) (P .2 .ends-fit))) in (
+      spelled e (after (c .before .before .before .before .before .before .vector-lines .ensures .0) (c .before .before .pair-line .ensures .0)),
+      omega (arith, c .before .before .before .before .before .before .vector-lines .ensures .1, c .before .before .pair-line .ensures .1),
+    )
 
 pub level-lines-spec : {M : Type 1} → statement M
 level-lines-spec =

@@ -12,16 +12,43 @@ word-requires : tie.Need-word-requires
 word-requires c κs = search needs
 
 field-requires : tie.Need-field-requires
-field-requires c κs = omega (arith, c .before .before .before .before .before .before .before .before .before .before .pre, c .before .before .before .before .before .before .before .byte .ensures .ends, c .before .before .before .word .ensures .1, few-digits 19 (c .before .before .before .before .before .before .before .before .before .before .args .y) (omega arith))
+field-requires c κs = omega (
+  arith,
+  c .before .before .before .before .before .before .before .before .before .before .pre,
+  c .before .before .before .before .before .before .before .byte .ensures .ends,
+  c .before .before .before .word .ensures .1,
+  few-digits 19 (c .before .before .before .before .before .before .before .before .before .before .args .y) (omega arith),
+)
 
 byte-requires-2 : tie.Need-byte-requires-2
-byte-requires-2 c κs = omega (arith, c .before .before .before .before .before .before .before .before .before .before .before .before .before .before .pre, c .before .before .before .before .before .before .before .before .before .before .before .byte .ensures .ends, c .before .before .before .before .before .before .before .word .ensures .1, c .before .before .before .field .ensures .ends, few-digits 19 (c .before .before .before .before .before .before .before .before .before .before .before .before .before .before .args .y) (omega arith))
+byte-requires-2 c κs =
+    omega (
+      arith,
+      c .before .before .before .before .before .before .before .before .before .before .before .before .before .before .pre,
+      c .before .before .before .before .before .before .before .before .before .before .before .byte .ensures .ends,
+      c .before .before .before .before .before .before .before .word .ensures .1,
+      c .before .before .before .field .ensures .ends,
+      few-digits 19 (c .before .before .before .before .before .before .before .before .before .before .before .before .before .before .args .y)
+          (omega arith),
+    )
 
 same-length : tie.Need-same-length
 same-length c = search needs
 
 returns : tie.Need-returns
-returns c = (after (c .before .before .before .before .before .before .before .before .before .before .before .before .before .before .byte .ensures) (after (c .before .before .before .before .before .before .before .before .before .before .word .ensures .0) (after (c .before .before .before .before .before .before .field .ensures) (c .before .before .byte2 .ensures))), omega (arith, c .before .before .before .before .before .before .before .before .before .before .before .before .before .before .byte .ensures .ends, c .before .before .before .before .before .before .before .before .before .before .word .ensures .1, c .before .before .before .before .before .before .field .ensures .ends, c .before .before .byte2 .ensures .ends, few-digits 19 (c .before .before .before .before .before .before .before .before .before .before .before .before .before .before .before .before .before .args .y) (omega arith)))
+returns c = (
+  after (c .before .before .before .before .before .before .before .before .before .before .before .before .before .before .byte .ensures)
+      (after (c .before .before .before .before .before .before .before .before .before .before .word .ensures .0)
+      (after (c .before .before .before .before .before .before .field .ensures) (c .before .before .byte2 .ensures))),
+  omega (
+    arith,
+    c .before .before .before .before .before .before .before .before .before .before .before .before .before .before .byte .ensures .ends,
+    c .before .before .before .before .before .before .before .before .before .before .word .ensures .1,
+    c .before .before .before .before .before .before .field .ensures .ends,
+    c .before .before .byte2 .ensures .ends,
+    few-digits 19 (c .before .before .before .before .before .before .before .before .before .before .before .before .before .before .before .before .before .args .y) (omega arith),
+  ),
+)
 
 pub pair-line-spec : {M : Type 1} → statement M
 pair-line-spec =

@@ -16,13 +16,28 @@ word-requires : tie.Need-word-requires
 word-requires c κs = omega (arith, c .before .before .before .before .before .before .pre .1, c .before .before .before .byte .ensures .ends)
 
 word-requires-2 : tie.Need-word-requires-2
-word-requires-2 c κs = omega (arith, c .before .before .before .before .before .before .before .before .before .before .pre .1, c .before .before .before .before .before .before .before .byte .ensures .ends, c .before .before .before .word .ensures .1)
+word-requires-2 c κs = omega (
+  arith,
+  c .before .before .before .before .before .before .before .before .before .before .pre .1,
+  c .before .before .before .before .before .before .before .byte .ensures .ends,
+  c .before .before .before .word .ensures .1,
+)
 
 term-requires : tie.Need-term-requires
-term-requires c κs = (c .before .before .before .before .before .before .before .before .before .before .before .before .before .before .pre .0, omega (arith, c .before .before .before .before .before .before .before .before .before .before .before .before .before .before .pre .1, c .before .before .before .before .before .before .before .before .before .before .before .byte .ensures .ends, c .before .before .before .before .before .before .before .word .ensures .1, c .before .before .before .word2 .ensures .1))
+term-requires c κs = (
+  c .before .before .before .before .before .before .before .before .before .before .before .before .before .before .pre .0,
+  omega (
+    arith,
+    c .before .before .before .before .before .before .before .before .before .before .before .before .before .before .pre .1,
+    c .before .before .before .before .before .before .before .before .before .before .before .byte .ensures .ends,
+    c .before .before .before .before .before .before .before .word .ensures .1,
+    c .before .before .before .word2 .ensures .1,
+  ),
+)
 
 byte-requires-2 : tie.Need-byte-requires-2
-byte-requires-2 c κs = omega (arith, c .before .before .before .before .before .before .before .before .before .before .before .before .before .before .before .before .before .before .pre .1, c .before .before .before .before .before .before .before .before .before .before .before .before .before .before .before .byte .ensures .ends, c .before .before .before .before .before .before .before .before .before .before .before .word .ensures .1, c .before .before .before .before .before .before .before .word2 .ensures .1, c .before .before .before .term .ensures .1)
+byte-requires-2 c κs =
+    omega (arith, c .before .before .before .before .before .before .before .before .before .before .before .before .before .before .before .before .before .before .pre .1, c .before .before .before .before .before .before .before .before .before .before .before .before .before .before .before .byte .ensures .ends, c .before .before .before .before .before .before .before .before .before .before .before .word .ensures .1, c .before .before .before .before .before .before .before .word2 .ensures .1, c .before .before .before .term .ensures .1)
 
 same-length : tie.Need-same-length
 same-length c = search needs

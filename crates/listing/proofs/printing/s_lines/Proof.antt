@@ -16,7 +16,8 @@ use Rattle.listing.proofs.printing.s_lines.Statement.{statement}
 use Rattle.listing.proofs.printing.s_lines.Tie as tie
 
 abbrev Inv-loop : tie.InvT-loop
-Inv-loop out₀ at level from to n k v a₀ i₀ out a i = (from ≤ i) × (i ≤ to) × (length out ≡ length out₀) × Printed out₀ out at a (s-lines n k v (rows level from (i - from))) × (a ≤ at + (i - from) * s-line-length)
+Inv-loop out₀ at level from to n k v a₀ i₀ out a i = (from ≤ i) × (i ≤ to) × (length out ≡ length out₀)
+    × Printed out₀ out at a (s-lines n k v (rows level from (i - from))) × (a ≤ at + (i - from) * s-line-length)
 
 abbrev μ-loop : tie.MeasureT-loop
 μ-loop out₀ at level from to n k v a₀ i₀ out a i = to - i
@@ -24,14 +25,30 @@ abbrev μ-loop : tie.MeasureT-loop
 loop-holds : tie.Need-loop-holds Inv-loop μ-loop
 loop-holds c =
     let a = c .before .before .args in
-    let e : 0 ≡ a .from - a .from = omega arith in
-    (omega arith, omega (arith, c .before .before .pre .1), refl, spelled (ap (s-lines (a .n) (a .k) (a .v)) (no-rows (a .level .now) (a .from)) ∙ ap (λ i. s-lines (a .n) (a .k) (a .v) (rows (a .level .now) (a .from) i)) e) (nothing (a .out .now) (a .at)), omega arith)
+    let e : 0 ≡ a .from - a .from = omega arith in (
+      omega arith,
+      omega (arith, c .before .before .pre .1),
+      refl,
+      spelled
+          (ap (s-lines (a .n) (a .k) (a .v)) (no-rows (a .level .now) (a .from))
+          ∙ ap (λ i. s-lines (a .n) (a .k) (a .v) (rows (a .level .now) (a .from) i)) e) (nothing (a .out .now) (a .at)),
+      omega arith,
+    )
 
 row-requires : tie.Need-row-requires Inv-loop μ-loop
 row-requires c κs = omega (arith, c .before .before .before .before .pre .2, c .before .loop .inv .1)
 
 s-line-requires : tie.Need-s-line-requires Inv-loop μ-loop
-s-line-requires c κs = (c .before .before .before .before .before .before .pre .0, omega (arith, c .before .before .before .before .before .before .pre .3, c .before .before .before .loop .inv .4, c .before .before .before .loop .inv .0, c .before .before .before .loop .inv .2))
+s-line-requires c κs = (
+  c .before .before .before .before .before .before .pre .0,
+  omega (
+    arith,
+    c .before .before .before .before .before .before .pre .3,
+    c .before .before .before .loop .inv .4,
+    c .before .before .before .loop .inv .0,
+    c .before .before .before .loop .inv .2,
+  ),
+)
 
 add-i : tie.Need-add-i Inv-loop μ-loop
 add-i c = omega arith
@@ -45,10 +62,19 @@ loop-again c =
     let a = c .before .before .before .before .before .before .before .before .before .args in
     let e : (L .i - a .from) + 1 ≡ L .i + 1 - a .from = omega (arith, L .inv .0) in
     let d : a .from + (L .i - a .from) ≡ L .i = omega (arith, L .inv .0) in
-    let t : term-of (c .before .before .before .before .row .result) ≡ row-at (a .level .now) (a .from + (L .i - a .from)) = c .before .before .before .before .row .ensures ∙ ap (row-at (a .level .now)) (sym d) in
+    let t : term-of (c .before .before .before .before .row .result) ≡ row-at (a .level .now) (a .from + (L .i - a .from)) =
+    c .before .before .before .before .row .ensures ∙ ap (row-at (a .level .now)) (sym d) in
     let v = rows (a .level .now) (a .from) (L .i - a .from) in
-    let s = ap (λ u. s-lines (a .n) (a .k) (a .v) v ++ printed letter-S (a .k ∷ a .v ∷ term-fields (a .n) u)) t ∙ sym (s-lines-last (a .n) (a .k) (a .v) v (row-at (a .level .now) (a .from + (L .i - a .from)))) ∙ ap (s-lines (a .n) (a .k) (a .v)) (sym (rows-last (a .level .now) (a .from) (L .i - a .from))) ∙ ap (λ i. s-lines (a .n) (a .k) (a .v) (rows (a .level .now) (a .from) i)) e in
-    (omega arith, omega arith, omega arith, spelled s (after (L .inv .3) (c .before .before .s-line .ensures .0)), omega (arith, L .inv .4, L .inv .0, c .before .before .s-line .ensures .1))
+    let s = ap (λ u. s-lines (a .n) (a .k) (a .v) v ++ printed letter-S (a .k ∷ a .v ∷ term-fields (a .n) u)) t
+    ∙ sym (s-lines-last (a .n) (a .k) (a .v) v (row-at (a .level .now) (a .from + (L .i - a .from))))
+    ∙ ap (s-lines (a .n) (a .k) (a .v)) (sym (rows-last (a .level .now) (a .from) (L .i - a .from)))
+    ∙ ap (λ i. s-lines (a .n) (a .k) (a .v) (rows (a .level .now) (a .from) i)) e in (
+      omega arith,
+      omega arith,
+      omega arith,
+      spelled s (after (L .inv .3) (c .before .before .s-line .ensures .0)),
+      omega (arith, L .inv .4, L .inv .0, c .before .before .s-line .ensures .1),
+    )
 
 same-length : tie.Need-same-length Inv-loop μ-loop
 same-length c = omega arith

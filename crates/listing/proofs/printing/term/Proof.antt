@@ -9,16 +9,39 @@ word-requires : tie.Need-word-requires
 word-requires c κs = omega (arith, c .before .before .before .before .pre .1)
 
 word-requires-2 : tie.Need-word-requires-2
-word-requires-2 c κs = omega (arith, c .before .before .before .before .before .before .before .before .pre .1, c .before .before .before .word .ensures .1)
+word-requires-2 c κs = omega (
+  arith,
+  c .before .before .before .before .before .before .before .before .pre .1,
+  c .before .before .before .word .ensures .1,
+)
 
 exponents-requires : tie.Need-exponents-requires
-exponents-requires c κs = (c .before .before .before .before .before .before .before .before .before .before .before .before .pre .0, omega (arith, c .before .before .before .before .before .before .before .before .before .before .before .before .pre .0, c .before .before .before .before .before .before .before .before .before .before .before .before .pre .1, c .before .before .before .before .before .before .before .word .ensures .1, c .before .before .before .word2 .ensures .1))
+exponents-requires c κs = (
+  c .before .before .before .before .before .before .before .before .before .before .before .before .pre .0,
+  omega (
+    arith,
+    c .before .before .before .before .before .before .before .before .before .before .before .before .pre .0,
+    c .before .before .before .before .before .before .before .before .before .before .before .before .pre .1,
+    c .before .before .before .before .before .before .before .word .ensures .1,
+    c .before .before .before .word2 .ensures .1,
+  ),
+)
 
 same-length : tie.Need-same-length
 same-length c = search needs
 
 returns : tie.Need-returns
-returns c = (after (c .before .before .before .before .before .before .before .before .before .before .word .ensures .0) (after (c .before .before .before .before .before .before .word2 .ensures .0) (c .before .before .exponents .ensures .0)), omega (arith, c .before .before .before .before .before .before .before .before .before .before .before .before .before .before .before .pre .0, c .before .before .before .before .before .before .before .before .before .before .word .ensures .1, c .before .before .before .before .before .before .word2 .ensures .1, c .before .before .exponents .ensures .1))
+returns c = (
+  after (c .before .before .before .before .before .before .before .before .before .before .word .ensures .0)
+      (after (c .before .before .before .before .before .before .word2 .ensures .0) (c .before .before .exponents .ensures .0)),
+  omega (
+    arith,
+    c .before .before .before .before .before .before .before .before .before .before .before .before .before .before .before .pre .0,
+    c .before .before .before .before .before .before .before .before .before .before .word .ensures .1,
+    c .before .before .before .before .before .before .word2 .ensures .1,
+    c .before .before .exponents .ensures .1,
+  ),
+)
 
 pub term-spec : {M : Type 1} → statement M
 term-spec =

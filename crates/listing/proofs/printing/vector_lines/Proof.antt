@@ -14,7 +14,8 @@ use Rattle.listing.proofs.printing.vector_lines.Statement.{statement}
 use Rattle.listing.proofs.printing.vector_lines.Tie as tie
 
 abbrev Inv-loop : tie.InvT-loop
-Inv-loop out₀ at level ends count n k a₀ start₀ v₀ j₀ out a start v j = (j ≤ count) × (length out ≡ length out₀) × (start ≡ start-of ends j) × (v ≡ j + 1) × Printed out₀ out at a (vector-lines n k 1 (cut-level j level ends)) × (a ≤ at + start * s-line-length) × (start ≤ most-rows)
+Inv-loop out₀ at level ends count n k a₀ start₀ v₀ j₀ out a start v j = (j ≤ count) × (length out ≡ length out₀) × (start ≡ start-of ends j)
+    × (v ≡ j + 1) × Printed out₀ out at a (vector-lines n k 1 (cut-level j level ends)) × (a ≤ at + start * s-line-length) × (start ≤ most-rows)
 
 abbrev μ-loop : tie.MeasureT-loop
 μ-loop out₀ at level ends count n k a₀ start₀ v₀ j₀ out a start v j = count - j
@@ -38,8 +39,12 @@ s-lines-requires c κs =
     let P = c .before .before .before .before .before .before .before .before .pre in
     let L = c .before .before .before .before .loop in
     let e = c .before .place .ensures .0 in
-    let f = P .2 .filled (L .j) (omega arith) in
-    (P .0, omega (arith, e, f, L .inv .2), omega (arith, e, P .2 .rows-fit (L .j) (omega arith)), omega (arith, e, f, P .3 (L .j) (omega arith), L .inv .2, L .inv .5, L .inv .1, P .4))
+    let f = P .2 .filled (L .j) (omega arith) in (
+      P .0,
+      omega (arith, e, f, L .inv .2),
+      omega (arith, e, P .2 .rows-fit (L .j) (omega arith)),
+      omega (arith, e, f, P .3 (L .j) (omega arith), L .inv .2, L .inv .5, L .inv .1, P .4),
+    )
 
 add-v : tie.Need-add-v Inv-loop μ-loop
 add-v c = omega arith
@@ -60,8 +65,17 @@ loop-again c =
     let w : L .v ≡ L .j + 1 = L .inv .3 in
     let d : suc (L .j) ≡ L .j + 1 = omega arith in
     let f = P .2 .filled (L .j) (omega arith) in
-    let q = (λ i. vector-lines (a .n) (a .k) 1 (cut-level (L .j) (a .level .now) (a .ends .now)) ++ s-lines (a .n) (a .k) (w i) (rows (a .level .now) (s i) (e i - s i))) ∙ vector-more (a .n) (a .k) (L .j) (a .level .now) (a .ends .now) (omega (arith, P .2 .ends-fit)) in
-    (omega arith, omega arith, e ∙ ap (start-of (a .ends .now)) d, omega arith, spelled q (after (L .inv .4) (c .before .before .s-lines .ensures .0)), omega (arith, e, f, s, L .inv .5, c .before .before .s-lines .ensures .1), omega (arith, e, P .3 (L .j) (omega arith)))
+    let q = (λ i. vector-lines (a .n) (a .k) 1 (cut-level (L .j) (a .level .now) (a .ends .now))
+    ++ s-lines (a .n) (a .k) (w i) (rows (a .level .now) (s i) (e i - s i)))
+    ∙ vector-more (a .n) (a .k) (L .j) (a .level .now) (a .ends .now) (omega (arith, P .2 .ends-fit)) in (
+      omega arith,
+      omega arith,
+      e ∙ ap (start-of (a .ends .now)) d,
+      omega arith,
+      spelled q (after (L .inv .4) (c .before .before .s-lines .ensures .0)),
+      omega (arith, e, f, s, L .inv .5, c .before .before .s-lines .ensures .1),
+      omega (arith, e, P .3 (L .j) (omega arith)),
+    )
 
 same-length : tie.Need-same-length Inv-loop μ-loop
 same-length c = omega arith

@@ -13,10 +13,18 @@ byte-requires : tie.Need-byte-requires
 byte-requires c κs = omega (arith, c .before .before .pre .1)
 
 term-requires : tie.Need-term-requires
-term-requires c κs = (c .before .before .before .before .before .before .pre .0, omega (arith, c .before .before .before .before .before .before .pre .1, c .before .before .before .byte .ensures .ends))
+term-requires c κs = (
+  c .before .before .before .before .before .before .pre .0,
+  omega (arith, c .before .before .before .before .before .before .pre .1, c .before .before .before .byte .ensures .ends),
+)
 
 byte-requires-2 : tie.Need-byte-requires-2
-byte-requires-2 c κs = omega (arith, c .before .before .before .before .before .before .before .before .before .before .pre .1, c .before .before .before .before .before .before .before .byte .ensures .ends, c .before .before .before .term .ensures .1)
+byte-requires-2 c κs = omega (
+  arith,
+  c .before .before .before .before .before .before .before .before .before .before .pre .1,
+  c .before .before .before .before .before .before .before .byte .ensures .ends,
+  c .before .before .before .term .ensures .1,
+)
 
 same-length : tie.Need-same-length
 same-length c = search needs
@@ -24,8 +32,16 @@ same-length c = search needs
 returns : tie.Need-returns
 returns c =
     let a = c .before .before .before .before .before .before .before .before .before .before .before .before .before .args in
-    let e = ap (λ z. 87 ∷ z) (sym (fields-listed (term-fields (a .n) (term-of (a .t))))) in
-    (spelled e (after (c .before .before .before .before .before .before .before .before .before .before .byte .ensures) (after (c .before .before .before .before .before .before .term .ensures .0) (c .before .before .byte2 .ensures))), omega (arith, c .before .before .before .before .before .before .before .before .before .before .byte .ensures .ends, c .before .before .before .before .before .before .term .ensures .1, c .before .before .byte2 .ensures .ends))
+    let e = ap (λ z. 87 ∷ z) (sym (fields-listed (term-fields (a .n) (term-of (a .t))))) in (
+      spelled e (after (c .before .before .before .before .before .before .before .before .before .before .byte .ensures)
+          (after (c .before .before .before .before .before .before .term .ensures .0) (c .before .before .byte2 .ensures))),
+      omega (
+        arith,
+        c .before .before .before .before .before .before .before .before .before .before .byte .ensures .ends,
+        c .before .before .before .before .before .before .term .ensures .1,
+        c .before .before .byte2 .ensures .ends,
+      ),
+    )
 
 pub w-line-spec : {M : Type 1} → statement M
 w-line-spec = tie.close (tie.spec byte-requires term-requires byte-requires-2 same-length returns)

@@ -15,7 +15,8 @@ use Rattle.listing.proofs.printing.w_lines.Statement.{statement}
 use Rattle.listing.proofs.printing.w_lines.Tie as tie
 
 abbrev Inv-loop : tie.InvT-loop
-Inv-loop out₀ at s m n a₀ i₀ out a i = (i ≤ m) × (length out ≡ length out₀) × Printed out₀ out at a (w-lines n (rows s 0 i)) × (a ≤ at + i * w-line-length)
+Inv-loop out₀ at s m n a₀ i₀ out a i = (i ≤ m) × (length out ≡ length out₀) × Printed out₀ out at a (w-lines n (rows s 0 i))
+    × (a ≤ at + i * w-line-length)
 
 abbrev μ-loop : tie.MeasureT-loop
 μ-loop out₀ at s m n a₀ i₀ out a i = m - i
@@ -29,7 +30,15 @@ row-requires : tie.Need-row-requires Inv-loop μ-loop
 row-requires c κs = omega (arith, c .before .before .before .before .pre .1, c .before .loop .inv .0)
 
 w-line-requires : tie.Need-w-line-requires Inv-loop μ-loop
-w-line-requires c κs = (c .before .before .before .before .before .before .pre .0, omega (arith, c .before .before .before .before .before .before .pre .2, c .before .before .before .loop .inv .3, c .before .before .before .loop .inv .1))
+w-line-requires c κs = (
+  c .before .before .before .before .before .before .pre .0,
+  omega (
+    arith,
+    c .before .before .before .before .before .before .pre .2,
+    c .before .before .before .loop .inv .3,
+    c .before .before .before .loop .inv .1,
+  ),
+)
 
 add-i : tie.Need-add-i Inv-loop μ-loop
 add-i c = omega arith
@@ -43,8 +52,14 @@ loop-again c =
     let a = c .before .before .before .before .before .before .before .before .before .args in
     let v = rows (a .s .now) 0 (L .i) in
     let d : L .i ≡ 0 + L .i = omega arith in
-    let s = ap (λ u. w-lines (a .n) v ++ printed letter-W (term-fields (a .n) u)) (c .before .before .before .before .row .ensures ∙ ap (row-at (a .s .now)) d) ∙ sym (w-lines-last (a .n) v (row-at (a .s .now) (0 + L .i))) ∙ ap (w-lines (a .n)) (sym (rows-last (a .s .now) 0 (L .i))) in
-    (omega arith, omega arith, spelled s (after (L .inv .2) (c .before .before .w-line .ensures .0)), omega (arith, L .inv .3, c .before .before .w-line .ensures .1))
+    let s = ap (λ u. w-lines (a .n) v ++ printed letter-W (term-fields (a .n) u))
+    (c .before .before .before .before .row .ensures ∙ ap (row-at (a .s .now)) d) ∙ sym (w-lines-last (a .n) v (row-at (a .s .now) (0 + L .i)))
+    ∙ ap (w-lines (a .n)) (sym (rows-last (a .s .now) 0 (L .i))) in (
+      omega arith,
+      omega arith,
+      spelled s (after (L .inv .2) (c .before .before .w-line .ensures .0)),
+      omega (arith, L .inv .3, c .before .before .w-line .ensures .1),
+    )
 
 same-length : tie.Need-same-length Inv-loop μ-loop
 same-length c = omega arith

@@ -12,7 +12,14 @@ same-length : tie.Need-same-length
 same-length c = search needs
 
 returns : tie.Need-returns
-returns c = (c .before .before .field .ensures, omega (arith, c .before .before .field .ensures .ends, few-digits 4 (c .before .before .before .before .before .args .v) (omega arith)))
+returns c = (
+  c .before .before .field .ensures,
+  omega (
+    arith,
+    c .before .before .field .ensures .ends,
+    few-digits 4 (c .before .before .before .before .before .args .v) (omega arith),
+  ),
+)
 
 pub word-spec : {M : Type 1} → statement M
 word-spec = tie.close (tie.spec field-requires same-length returns)

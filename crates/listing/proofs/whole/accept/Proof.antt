@@ -54,8 +54,12 @@ w-lines-requires c κs =
     let x = c .before .before .before .before .before .before .before .before .before .before .before .before .before .accept-level in
     let n = x .ensures .0 in
     let v = x .ensures .1 in
-    let h = subst (λ y. Shown y v (x .last .0)) (c .before .before .before .before .before .before .before .before .before .place .given .1) (x .ensures .3) in
-    (omega (arith, c .before .before .before .before .before .before .place2 .ensures .0, few-variables s (P .0 .long) (P .0 .holds)), h .2, omega (arith, h .3, c .before .before .before .before .pair-line2 .ensures .1, P .3))
+    let h = subst (λ y. Shown y v (x .last .0)) (c .before .before .before .before .before .before .before .before .before .place .given .1)
+    (x .ensures .3) in (
+      omega (arith, c .before .before .before .before .before .before .place2 .ensures .0, few-variables s (P .0 .long) (P .0 .holds)),
+      h .2,
+      omega (arith, h .3, c .before .before .before .before .pair-line2 .ensures .1, P .3),
+    )
 
 same-length : tie.Need-same-length
 same-length c = search needs
@@ -75,8 +79,17 @@ returns c =
     let n = x .ensures .0 in
     let v = x .ensures .1 in
     let R = c .before .before .before .before .before .before .print-lifted .ensures in
-    let e = sym (ap (λ y. accepted-with y v) (c .before .before .before .before .before .before .before .before .before .before .enum-told .given .1)) ∙ x .ensures .2 in
-    (record { bound = n + R .0 .bound; bytes = R .0 .bytes; gives = accepted-yes s n e (R .0 .bound) (R .0 .bytes) (R .0 .gives); printed = R .0 .printed }, omega (arith, R .1))
+    let e = sym (ap (λ y. accepted-with y v) (c .before .before .before .before .before .before .before .before .before .before .enum-told .given .1))
+    ∙ x .ensures .2 in (
+      record {
+        bound = n + R .0 .bound;
+        bytes = R .0 .bytes;
+        gives = accepted-yes s n e (R .0 .bound) (R .0 .bytes) (R .0 .gives);
+        printed =
+            R .0 .printed;
+      },
+      omega (arith, R .1),
+    )
 
 same-length-4 : tie.Need-same-length-4
 same-length-4 c = search needs
@@ -97,8 +110,10 @@ returns-2 c =
     let v = x .ensures .1 in
     let g = c .before .before .before .before .before .number .given in
     let e = sym (ap (λ y. accepted-with y v) (g .1)) ∙ x .ensures .2 in
-    let q = c .before .before .pair-line .ensures in
-    (record { bound = n; bytes = printed 88 (g .0 .0 ∷ g .0 .1 .0 ∷ []); gives = accepted-refused s n (g .0 .0) (g .0 .1 .0) e; printed = q .0 }, omega (arith, q .1))
+    let q = c .before .before .pair-line .ensures in (
+      record { bound = n; bytes = printed 88 (g .0 .0 ∷ g .0 .1 .0 ∷ []); gives = accepted-refused s n (g .0 .0) (g .0 .1 .0) e; printed = q .0 },
+      omega (arith, q .1),
+    )
 
 same-length-7 : tie.Need-same-length-7
 same-length-7 c = search needs
@@ -122,8 +137,17 @@ returns-3 c =
     let e = sym (ap (λ y. accepted-with y v) (g .1)) ∙ x .ensures .2 in
     let q = c .before .before .before .before .before .before .before .pair-line2 .ensures in
     let w = c .before .before .w-lines .ensures in
-    let m : c .before .before .before .before .before .before .before .before .before .place2 .result ≡ getD s 1 0 = c .before .before .before .before .before .before .before .before .before .place2 .ensures .0 in
-    (record { bound = n; bytes = printed 88 (9 ∷ g .0 .0 ∷ []) ++ w-lines (getD s 1 0) v; gives = accepted-stopped s n (g .0 .0) v e; printed = spelled (λ i. printed 88 (9 ∷ g .0 .0 ∷ []) ++ w-lines (m i) (sym (h .1) i)) (after (q .0) (w .0)) }, omega (arith, q .1, w .1, h .3))
+    let m : c .before .before .before .before .before .before .before .before .before .place2 .result
+    ≡ getD s 1 0 = c .before .before .before .before .before .before .before .before .before .place2 .ensures .0 in (
+      record {
+        bound = n;
+        bytes = printed 88 (9 ∷ g .0 .0 ∷ []) ++ w-lines (getD s 1 0) v;
+        gives = accepted-stopped s n (g .0 .0) v e;
+        printed =
+            spelled (λ i. printed 88 (9 ∷ g .0 .0 ∷ []) ++ w-lines (m i) (sym (h .1) i)) (after (q .0) (w .0));
+      },
+      omega (arith, q .1, w .1, h .3),
+    )
 
 pub accept-spec : {M : Type 1} → statement M
 accept-spec =

@@ -49,8 +49,16 @@ returns c =
     let f = zero .0 in
     let s = r .last .1 .0 in
     let words : s ≡ words-read size f = ap (λ t. t .2) (r .ensures ∙ ap (read-as size) (zero .1)) in
-    let R = c .before .before .before .before .before .before .accept .ensures in
-    (record { bound = R .0 .bound; bytes = R .0 .bytes; gives = R .0 .gives ∙ read-sheet size (P .0) file f (zero .1) s words (R .0 .bound); printed = R .0 .printed }, R .1)
+    let R = c .before .before .before .before .before .before .accept .ensures in (
+      record {
+        bound = R .0 .bound;
+        bytes = R .0 .bytes;
+        gives = R .0 .gives
+            ∙ read-sheet size (P .0) file f (zero .1) s words (R .0 .bound);
+        printed = R .0 .printed;
+      },
+      R .1,
+    )
 
 pair-line-requires : tie.Need-pair-line-requires
 pair-line-requires c κs = omega arith
@@ -68,8 +76,17 @@ returns-2 c =
     let size = length (a .state .now) in
     let file = a .file .now in
     let r = c .before .before .before .before .before .before .before .read in
-    let q = c .before .before .pair-line .ensures in
-    (record { bound = 0; bytes = printed 88 (r .result .number ∷ r .result .place ∷ []); gives = refused-sheet size file (r .result .number) (r .result .place) (r .last .1 .0) (λ z. not-suc-le-zero {n = 0} (omega (arith, z))) (r .ensures); printed = q .0 }, omega (arith, q .1))
+    let q = c .before .before .pair-line .ensures in (
+      record {
+        bound = 0;
+        bytes = printed 88 (r .result .number ∷ r .result .place ∷ []);
+        gives =
+            refused-sheet size file (r .result .number) (r .result .place) (r .last .1 .0) (λ z. not-suc-le-zero {n = 0} (omega (arith, z)))
+            (r .ensures);
+        printed = q .0;
+      },
+      omega (arith, q .1),
+    )
 
 pub print-spec : {M : Type 1} → statement M
 print-spec =

@@ -72,9 +72,16 @@ level-lines-requires c κs =
     let s = a .state .now in
     let b = c .before .before .before .before .before .before .before .before .before .pre .0 in
     let h = complete-cut s (b .long) (b .holds) (a .k) (b .has) in
-    let e : c .before .before .before .before .before .before .count-of .result ≡ count-at s (a .k) = c .before .before .before .before .before .before .count-of .ensures in
-    let t = subst₃ (λ c l f. (c ≤ most-vectors) × Cut c l f × Short c f) (sym e) (sym (whole-part (rows-offset (a .k)) s)) (sym (ends-part s (a .k))) (h .0, h .1, short-level s (b .long) (b .holds) (a .k) (b .has) (h .1 .ends-fit)) in
-    (omega (arith, c .before .before .before .before .place .ensures .0, few-variables s (b .long) (b .holds)), t .0, t .1, t .2, c .before .before .before .before .before .before .before .before .before .pre .1)
+    let e : c .before .before .before .before .before .before .count-of .result
+    ≡ count-at s (a .k) = c .before .before .before .before .before .before .count-of .ensures in
+    let t = subst₃ (λ c l f. (c ≤ most-vectors) × Cut c l f × Short c f) (sym e) (sym (whole-part (rows-offset (a .k)) s)) (sym (ends-part s (a .k)))
+    (h .0, h .1, short-level s (b .long) (b .holds) (a .k) (b .has) (h .1 .ends-fit)) in (
+      omega (arith, c .before .before .before .before .place .ensures .0, few-variables s (b .long) (b .holds)),
+      t .0,
+      t .1,
+      t .2,
+      c .before .before .before .before .before .before .before .before .before .pre .1,
+    )
 
 same-length : tie.Need-same-length
 same-length c = search needs
@@ -83,10 +90,16 @@ returns : tie.Need-returns
 returns c =
     let a = c .before .before .before .before .before .before .before .before .before .before .before .before .args in
     let s = a .state .now in
-    let e : c .before .before .before .before .before .before .before .before .before .count-of .result ≡ count-at s (a .k) = c .before .before .before .before .before .before .before .before .before .count-of .ensures in
-    let n : c .before .before .before .before .before .before .before .place .result ≡ getD s 1 0 = c .before .before .before .before .before .before .before .place .ensures .0 in
-    let l : c .before .before .before .before .before .before .narrow .result ≡ a .k = c .before .before .before .before .before .before .narrow .ensures in
-    (spelled (λ i. level-lines (n i) (l i) (cut-level (e i) (whole-part (rows-offset (a .k)) s i) (ends-part s (a .k) i))) (c .before .before .level-lines .ensures .0), c .before .before .level-lines .ensures .1)
+    let e : c .before .before .before .before .before .before .before .before .before .count-of .result
+    ≡ count-at s (a .k) = c .before .before .before .before .before .before .before .before .before .count-of .ensures in
+    let n : c .before .before .before .before .before .before .before .place .result
+    ≡ getD s 1 0 = c .before .before .before .before .before .before .before .place .ensures .0 in
+    let l : c .before .before .before .before .before .before .narrow .result
+    ≡ a .k = c .before .before .before .before .before .before .narrow .ensures in (
+      spelled (λ i. level-lines (n i) (l i) (cut-level (e i) (whole-part (rows-offset (a .k)) s i) (ends-part s (a .k) i)))
+          (c .before .before .level-lines .ensures .0),
+      c .before .before .level-lines .ensures .1,
+    )
 
 pub print-level-spec : {M : Type 1} → statement M
 print-level-spec =

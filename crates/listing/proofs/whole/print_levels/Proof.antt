@@ -26,7 +26,13 @@ place-requires : tie.Need-place-requires Inv-loop μ-loop
 place-requires c κs = search needs
 
 loop-holds : tie.Need-loop-holds Inv-loop μ-loop
-loop-holds c = (omega arith, omega (arith, c .place .ensures .0, c .before .before .before .before .pre .0 .has), nothing (c .before .before .before .before .args .out .now) 0, omega arith, refl)
+loop-holds c = (
+  omega arith,
+  omega (arith, c .place .ensures .0, c .before .before .before .before .pre .0 .has),
+  nothing (c .before .before .before .before .args .out .now) 0,
+  omega arith,
+  refl,
+)
 
 print-level-requires : tie.Need-print-level-requires Inv-loop μ-loop
 print-level-requires c κs =

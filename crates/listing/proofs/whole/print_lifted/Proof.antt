@@ -36,8 +36,16 @@ returns c =
     let L = m .lift-levels in
     let t = L .last .0 in
     let R = L .ensures .0 in
-    let Q = d .print-levels .ensures in
-    (record { bound = R .0; bytes = all-lines-of t; gives = whole-lines s t (R .0) (L .result .number) (L .result .place) (P .1) (L .ensures .1 .has) (R .1) (omega arith); printed = Q .0 }, omega (arith, Q .1))
+    let Q = d .print-levels .ensures in (
+      record {
+        bound = R .0;
+        bytes = all-lines-of t;
+        gives = whole-lines s t (R .0) (L .result .number) (L .result .place) (P .1) (L .ensures .1 .has)
+            (R .1) (omega arith);
+        printed = Q .0;
+      },
+      omega (arith, Q .1),
+    )
 
 pair-line-requires : tie.Need-pair-line-requires
 pair-line-requires c κs =
@@ -64,8 +72,17 @@ returns-2 c =
     let t = L .last .0 in
     let R = L .ensures .0 in
     let Q = d .print-levels .ensures in
-    let v = c .before .before .pair-line .ensures in
-    (record { bound = R .0; bytes = all-lines-of t ++ printed 88 (L .result .number ∷ L .result .place ∷ []); gives = refused-lines s t (R .0) (L .result .number) (L .result .place) (P .1) (L .ensures .1 .has) (R .1) (λ z. not-suc-le-zero {n = 0} (omega (arith, z))); printed = after (Q .0) (v .0) }, omega (arith, Q .1, v .1))
+    let v = c .before .before .pair-line .ensures in (
+      record {
+        bound = R .0;
+        bytes = all-lines-of t ++ printed 88 (L .result .number ∷ L .result .place ∷ []);
+        gives =
+            refused-lines s t (R .0) (L .result .number) (L .result .place) (P .1) (L .ensures .1 .has) (R .1)
+            (λ z. not-suc-le-zero {n = 0} (omega (arith, z)));
+        printed = after (Q .0) (v .0);
+      },
+      omega (arith, Q .1, v .1),
+    )
 
 pub print-lifted-spec : {M : Type 1} → statement M
 print-lifted-spec =

@@ -5,13 +5,16 @@ use Rattle.monomial.proofs.Monomial.same.Statement.{statement}
 use Rattle.monomial.proofs.Monomial.same.Tie as tie
 
 returns : tie.Need-returns
-returns c = let a = c .before .args in components-differ (a .self .component) (a .other .component) (same-exponents? (a .self .exponents) (a .other .exponents)) (c .if1 .taken)
+returns c = let a = c .before .args in components-differ (a .self .component) (a .other .component)
+    (same-exponents? (a .self .exponents) (a .other .exponents)) (c .if1 .taken)
 
 same-exponents-requires : tie.Need-same-exponents-requires
 same-exponents-requires c κs = search needs
 
 returns-2 : tie.Need-returns-2
-returns-2 c = let a = c .before .before .before .before .args in components-equal (a .self .component) (a .other .component) (same-exponents? (a .self .exponents) (a .other .exponents)) (c .same-exponents .result) (c .before .before .before .if1 .left) (c .same-exponents .ensures)
+returns-2 c = let a = c .before .before .before .before .args in components-equal (a .self .component) (a .other .component)
+    (same-exponents? (a .self .exponents) (a .other .exponents)) (c .same-exponents .result) (c .before .before .before .if1 .left)
+    (c .same-exponents .ensures)
 
 pub same-spec : {M : Type 1} → statement M
 same-spec = tie.close (tie.spec returns same-exponents-requires returns-2)

@@ -15,7 +15,8 @@ digit-requires : tie.Need-digit-requires
 digit-requires c κs = search needs
 
 returns-2 : tie.Need-returns-2
-returns-2 c = let a = c .before .before .before .before .before .args in first-other (a .file .now) (a .at) (omega arith) (c .before .digit .result) (c .before .digit .ensures) (omega arith)
+returns-2 c = let a = c .before .before .before .before .before .args in
+    first-other (a .file .now) (a .at) (omega arith) (c .before .digit .result) (c .before .digit .ensures) (omega arith)
 
 add-next : tie.Need-add-next
 add-next c = search needs
@@ -24,13 +25,17 @@ number-zero-requires : tie.Need-number-zero-requires
 number-zero-requires c κs = search needs
 
 returns-3 : tie.Need-returns-3
-returns-3 c = let a = c .before .before .before .before .before .before .before .args in c .number-zero .ensures ∙ sym (first-zero (a .file .now) (a .at) (omega arith) (c .before .before .before .digit .result) (c .before .before .before .digit .ensures) (omega arith))
+returns-3 c = let a = c .before .before .before .before .before .before .before .args in c .number-zero .ensures
+    ∙ sym (first-zero (a .file .now) (a .at) (omega arith) (c .before .before .before .digit .result) (c .before .before .before .digit .ensures)
+    (omega arith))
 
 number-on-requires : tie.Need-number-on-requires
 number-on-requires c κs = search needs
 
 returns-4 : tie.Need-returns-4
-returns-4 c = let a = c .before .before .before .before .before .before .before .args in c .number-on .ensures ∙ sym (first-on (a .file .now) (a .at) (omega arith) (c .before .before .before .digit .result) (c .before .before .before .digit .ensures) (omega arith) (λ q. omega arith))
+returns-4 c = let a = c .before .before .before .before .before .before .before .args in c .number-on .ensures
+    ∙ sym (first-on (a .file .now) (a .at) (omega arith) (c .before .before .before .digit .result) (c .before .before .before .digit .ensures)
+    (omega arith) (λ q. omega arith))
 
 pub number-spec : {M : Type 1} → statement M
 number-spec =

@@ -27,7 +27,9 @@ cast-t11 : tie.Need-cast-t11 Inv-loop μ-loop
 cast-t11 c = omega arith
 
 returns : tie.Need-returns Inv-loop μ-loop
-returns c = let a = c .before .before .before .before .before .before .args in let l = c .before .before .before .before .loop in on-other (a .file .now) (l .at) (omega arith) (c .before .digit .result) (c .before .digit .ensures) (l .value) (omega arith) (omega arith) ∙ sym (l .inv .1)
+returns c = let a = c .before .before .before .before .before .before .args in let l = c .before .before .before .before .loop in
+    on-other (a .file .now) (l .at) (omega arith) (c .before .digit .result) (c .before .digit .ensures) (l .value) (omega arith) (omega arith)
+    ∙ sym (l .inv .1)
 
 mul-value : tie.Need-mul-value Inv-loop μ-loop
 mul-value c = omega arith
@@ -36,7 +38,9 @@ add-value : tie.Need-add-value Inv-loop μ-loop
 add-value c = omega arith
 
 returns-2 : tie.Need-returns-2 Inv-loop μ-loop
-returns-2 c = let a = c .before .before .before .before .before .before .before .args in let l = c .before .before .before .before .before .loop in sym (l .inv .1 ∙ on-more (a .file .now) (l .at) (omega arith) (c .before .before .digit .result) (c .before .before .digit .ensures) (l .value) (omega arith) ∙ number-over 65535 (l .value * 10 + c .before .before .digit .result) (drop (l .at + 1) (a .file .now)) (omega arith))
+returns-2 c = let a = c .before .before .before .before .before .before .before .args in let l = c .before .before .before .before .before .loop in
+    sym (l .inv .1 ∙ on-more (a .file .now) (l .at) (omega arith) (c .before .before .digit .result) (c .before .before .digit .ensures) (l .value)
+    (omega arith) ∙ number-over 65535 (l .value * 10 + c .before .before .digit .result) (drop (l .at + 1) (a .file .now)) (omega arith))
 
 add-at : tie.Need-add-at Inv-loop μ-loop
 add-at c = omega arith
@@ -45,13 +49,18 @@ loop-less : tie.Need-loop-less Inv-loop μ-loop
 loop-less c = omega arith
 
 loop-again : tie.Need-loop-again Inv-loop μ-loop
-loop-again c = let a = c .before .before .before .before .before .before .before .args in let l = c .before .before .before .before .before .loop in (omega arith, l .inv .1 ∙ on-more (a .file .now) (l .at) (omega arith) (c .before .before .digit .result) (c .before .before .digit .ensures) (l .value) (omega arith))
+loop-again c = let a = c .before .before .before .before .before .before .before .args in let l = c .before .before .before .before .before .loop in (
+  omega arith,
+  l .inv .1 ∙ on-more (a .file .now) (l .at) (omega arith) (c .before .before .digit .result) (c .before .before .digit .ensures)
+      (l .value) (omega arith),
+)
 
 cast-t13 : tie.Need-cast-t13 Inv-loop μ-loop
 cast-t13 c = omega arith
 
 returns-3 : tie.Need-returns-3 Inv-loop μ-loop
-returns-3 c = let a = c .before .before .before .args in let l = c .before .loop in on-end (a .file .now) (l .at) (l .value) (omega arith) (omega arith) ∙ sym (l .inv .1)
+returns-3 c = let a = c .before .before .before .args in let l = c .before .loop in on-end (a .file .now) (l .at) (l .value) (omega arith) (omega arith)
+    ∙ sym (l .inv .1)
 
 pub number-on-spec : {M : Type 1} → statement M
 number-on-spec =

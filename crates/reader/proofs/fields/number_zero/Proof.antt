@@ -14,10 +14,12 @@ digit-requires : tie.Need-digit-requires
 digit-requires c κs = search needs
 
 returns-2 : tie.Need-returns-2
-returns-2 c = let a = c .before .before .before .before .before .args in zero-other (a .file .now) (a .at) (omega arith) (c .before .digit .result) (c .before .digit .ensures) (omega arith)
+returns-2 c = let a = c .before .before .before .before .before .args in
+    zero-other (a .file .now) (a .at) (omega arith) (c .before .digit .result) (c .before .digit .ensures) (omega arith)
 
 returns-3 : tie.Need-returns-3
-returns-3 c = let a = c .before .before .before .before .before .args in zero-digit (a .file .now) (a .at) (omega arith) (c .before .digit .result) (c .before .digit .ensures) (omega arith)
+returns-3 c = let a = c .before .before .before .before .before .args in
+    zero-digit (a .file .now) (a .at) (omega arith) (c .before .digit .result) (c .before .digit .ensures) (omega arith)
 
 pub number-zero-spec : {M : Type 1} → statement M
 number-zero-spec =

@@ -15,19 +15,28 @@ use Rattle.reader.proofs.fields.numbers.Tie as tie
 
 abbrev Inv-loop : tie.InvT-loop
 Inv-loop file from count numbers₀ at₀ i₀ numbers at i =
-    (i ≤ count) × (length numbers ≡ 16) × Zeros-from i numbers × (numbers-first 65535 count (drop from file) ≡ so-far numbers i (numbers-first 65535 (count - i) (drop at file)))
+    (i ≤ count) × (length numbers ≡ 16) × Zeros-from i numbers × (numbers-first 65535 count (drop from file)
+    ≡ so-far numbers i (numbers-first 65535 (count - i) (drop at file)))
 
 abbrev μ-loop : tie.MeasureT-loop
 μ-loop file from count numbers₀ at₀ i₀ numbers at i = count - i
 
 loop-holds : tie.Need-loop-holds Inv-loop μ-loop
-loop-holds c = (omega arith, refl, refl, none-so-far (replicate 16 0) (c .before .args .count) (drop (c .before .args .from) (c .before .args .file .now)))
+loop-holds c = (
+  omega arith,
+  refl,
+  refl,
+  none-so-far (replicate 16 0) (c .before .args .count)
+      (drop (c .before .args .from) (c .before .args .file .now)),
+)
 
 misshapen-requires : tie.Need-misshapen-requires Inv-loop μ-loop
 misshapen-requires c κs = omega arith
 
 returns : tie.Need-returns Inv-loop μ-loop
-returns c = let a = c .before .before .before .before .before .args in let l = c .before .before .before .loop in let file = a .file .now in let r = c .misshapen in misshapen-as (r .result) file (r .ensures) ∙ sym (ap in-sixteen (l .inv .3) ∙ no-field (l .numbers) (a .count) (l .i) (drop (l .at) file) (omega arith) (field-end file (l .at) (omega arith)))
+returns c = let a = c .before .before .before .before .before .args in let l = c .before .before .before .loop in let file = a .file .now in let r =
+    c .misshapen in misshapen-as (r .result) file (r .ensures) ∙ sym (ap in-sixteen (l .inv .3)
+    ∙ no-field (l .numbers) (a .count) (l .i) (drop (l .at) file) (omega arith) (field-end file (l .at) (omega arith)))
 
 shared-slice-read-if2 : tie.Need-shared-slice-read-if2 Inv-loop μ-loop
 shared-slice-read-if2 c = omega arith
@@ -36,7 +45,10 @@ misshapen-requires-2 : tie.Need-misshapen-requires-2 Inv-loop μ-loop
 misshapen-requires-2 c κs = omega arith
 
 returns-2 : tie.Need-returns-2 Inv-loop μ-loop
-returns-2 c = let a = c .before .before .before .before .before .before .before .args in let l = c .before .before .before .before .before .loop in let file = a .file .now in let r = c .misshapen2 in misshapen-as (r .result) file (r .ensures) ∙ sym (ap in-sixteen (l .inv .3) ∙ no-field (l .numbers) (a .count) (l .i) (drop (l .at) file) (omega arith) (field-other file (l .at) (omega arith) (λ q. omega arith)))
+returns-2 c = let a = c .before .before .before .before .before .before .before .args in let l = c .before .before .before .before .before .loop in
+    let file = a .file .now in let r = c .misshapen2 in misshapen-as (r .result) file (r .ensures)
+    ∙ sym (ap in-sixteen (l .inv .3) ∙ no-field (l .numbers) (a .count) (l .i) (drop (l .at) file) (omega arith)
+    (field-other file (l .at) (omega arith) (λ q. omega arith)))
 
 add-number : tie.Need-add-number Inv-loop μ-loop
 add-number c = omega arith
@@ -54,7 +66,13 @@ misshapen-requires-3 : tie.Need-misshapen-requires-3 Inv-loop μ-loop
 misshapen-requires-3 c κs = omega arith
 
 returns-3 : tie.Need-returns-3 Inv-loop μ-loop
-returns-3 c = let a = c .before .before .before .before .before .before .before .before .before .before .args in let l = c .before .before .before .before .before .before .before .before .loop in let file = a .file .now in let r = c .misshapen3 in misshapen-as (r .result) file (r .ensures) ∙ sym (ap in-sixteen (l .inv .3) ∙ no-field (l .numbers) (a .count) (l .i) (drop (l .at) file) (omega arith) (field-comma file (l .at) (omega arith) (omega arith) ∙ sym (c .before .before .before .number .ensures) ∙ ap (λ (x : Field). field-as x file) (c .before .enum-told .given .1)))
+returns-3 c =
+    let at-8 = c .before .before .before .before .before .before .before .before in
+    let a = at-8 .before .before .args in let l = c .before .before .before .before .before .before .before .before .loop in let file = a .file .now in
+    let r = c .misshapen3 in misshapen-as (r .result) file (r .ensures)
+    ∙ sym (ap in-sixteen (l .inv .3) ∙ no-field (l .numbers) (a .count) (l .i) (drop (l .at) file) (omega arith)
+    (field-comma file (l .at) (omega arith) (omega arith) ∙ sym (c .before .before .before .number .ensures)
+    ∙ ap (λ (x : Field). field-as x file) (c .before .enum-told .given .1)))
 
 mul-numbers : tie.Need-mul-numbers Inv-loop μ-loop
 mul-numbers c = omega arith
@@ -70,15 +88,25 @@ loop-less c = omega arith
 
 loop-again : tie.Need-loop-again Inv-loop μ-loop
 loop-again c =
-    let a = c .before .before .before .before .before .before .before .before .before .before .args in let l = c .before .before .before .before .before .before .before .before .loop in let file = a .file .now in let v = c .before .v .given .0 .0 in let next = c .before .v .given .0 .1 .0 in
-    let one : field-first 65535 (drop (l .at) file) ≡ some (v, drop next file) = field-comma file (l .at) (omega arith) (omega arith) ∙ sym (c .before .before .before .number .ensures) ∙ ap (λ (x : Field). field-as x file) (c .before .v .given .1) in
-    (omega arith, simp length-set (l .inv .1), zeros-behind (l .numbers) (l .i) v (omega arith) (l .inv .2), l .inv .3 ∙ one-field (l .numbers) (a .count) (l .i) (drop (l .at) file) v (drop next file) (omega arith) (omega (arith, l .inv .1)) one)
+    let at-8 = c .before .before .before .before .before .before .before .before in
+    let a = at-8 .before .before .args in let l = c .before .before .before .before .before .before .before .before .loop in let file = a .file .now in
+    let v = c .before .v .given .0 .0 in let next = c .before .v .given .0 .1 .0 in
+    let one : field-first 65535 (drop (l .at) file) ≡ some (v, drop next file) = field-comma file (l .at) (omega arith) (omega arith)
+    ∙ sym (c .before .before .before .number .ensures) ∙ ap (λ (x : Field). field-as x file) (c .before .v .given .1) in (
+      omega arith,
+      simp length-set (l .inv .1),
+      zeros-behind (l .numbers) (l .i) v (omega arith) (l .inv .2),
+      l .inv .3
+          ∙ one-field (l .numbers) (a .count) (l .i) (drop (l .at) file) v (drop next file) (omega arith) (omega (arith, l .inv .1)) one,
+    )
 
 misshapen-requires-4 : tie.Need-misshapen-requires-4 Inv-loop μ-loop
 misshapen-requires-4 c κs = omega arith
 
 returns-4 : tie.Need-returns-4 Inv-loop μ-loop
-returns-4 c = let a = c .before .before .before .before .before .args in let l = c .before .before .before .loop in let file = a .file .now in let r = c .misshapen4 in misshapen-as (r .result) file (r .ensures) ∙ sym (ap in-sixteen (l .inv .3) ∙ no-end (l .numbers) (a .count) (l .i) (drop (l .at) file) (omega arith) (end-end file (l .at) (omega arith)))
+returns-4 c = let a = c .before .before .before .before .before .args in let l = c .before .before .before .loop in let file = a .file .now in let r =
+    c .misshapen4 in misshapen-as (r .result) file (r .ensures) ∙ sym (ap in-sixteen (l .inv .3)
+    ∙ no-end (l .numbers) (a .count) (l .i) (drop (l .at) file) (omega arith) (end-end file (l .at) (omega arith)))
 
 shared-slice-read-if4 : tie.Need-shared-slice-read-if4 Inv-loop μ-loop
 shared-slice-read-if4 c = omega arith
@@ -87,7 +115,10 @@ misshapen-requires-5 : tie.Need-misshapen-requires-5 Inv-loop μ-loop
 misshapen-requires-5 c κs = omega arith
 
 returns-5 : tie.Need-returns-5 Inv-loop μ-loop
-returns-5 c = let a = c .before .before .before .before .before .before .before .args in let l = c .before .before .before .before .before .loop in let file = a .file .now in let r = c .misshapen5 in misshapen-as (r .result) file (r .ensures) ∙ sym (ap in-sixteen (l .inv .3) ∙ no-end (l .numbers) (a .count) (l .i) (drop (l .at) file) (omega arith) (end-other file (l .at) (omega arith) (λ q. omega arith)))
+returns-5 c = let a = c .before .before .before .before .before .before .before .args in let l = c .before .before .before .before .before .loop in
+    let file = a .file .now in let r = c .misshapen5 in misshapen-as (r .result) file (r .ensures)
+    ∙ sym (ap in-sixteen (l .inv .3) ∙ no-end (l .numbers) (a .count) (l .i) (drop (l .at) file) (omega arith)
+    (end-other file (l .at) (omega arith) (λ q. omega arith)))
 
 add-t16 : tie.Need-add-t16 Inv-loop μ-loop
 add-t16 c = omega arith
@@ -95,7 +126,8 @@ add-t16 c = omega arith
 returns-6 : tie.Need-returns-6 Inv-loop μ-loop
 returns-6 c =
     let a = c .before .before .before .before .before .before .args in let l = c .before .before .before .before .loop in let file = a .file .now in
-    all-fields (l .numbers) (a .count) (l .i) (drop (l .at) file) (drop (l .at + 1) file) (omega arith) (omega arith) (omega arith) (l .inv .1) (l .inv .2) (end-here file (l .at) (omega arith) (omega arith)) ∙ sym (ap in-sixteen (l .inv .3))
+    all-fields (l .numbers) (a .count) (l .i) (drop (l .at) file) (drop (l .at + 1) file) (omega arith) (omega arith) (omega arith) (l .inv .1)
+    (l .inv .2) (end-here file (l .at) (omega arith) (omega arith)) ∙ sym (ap in-sixteen (l .inv .3))
 
 pub numbers-spec : {M : Type 1} → statement M
 numbers-spec =

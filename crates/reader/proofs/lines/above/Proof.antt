@@ -31,13 +31,19 @@ enum-told-3 : tie.Need-enum-told-3
 enum-told-3 c = search needs
 
 returns : tie.Need-returns
-returns c = let a = c .before .before .before .before .before .args in above-greater (a .code) (a .t2) (a .t3) ((λ i. exponents-by (a .code) (sym (c .before .before .before .before .exponents .ensures) i) (sym (c .before .before .before .exponents2 .ensures) i)) ∙ sym (c .before .before .by-code .ensures) ∙ ap comparison-of (c .enum-told .given .1))
+returns c = let a = c .before .before .before .before .before .args in
+    above-greater (a .code) (a .t2) (a .t3) ((λ i. exponents-by (a .code) (sym (c .before .before .before .before .exponents .ensures) i)
+    (sym (c .before .before .before .exponents2 .ensures) i)) ∙ sym (c .before .before .by-code .ensures) ∙ ap comparison-of (c .enum-told .given .1))
 
 returns-2 : tie.Need-returns-2
-returns-2 c = let a = c .before .before .before .before .before .args in above-tie (a .code) (a .t2) (a .t3) ((λ i. exponents-by (a .code) (sym (c .before .before .before .before .exponents .ensures) i) (sym (c .before .before .before .exponents2 .ensures) i)) ∙ sym (c .before .before .by-code .ensures) ∙ ap comparison-of (c .enum-told2 .given .1))
+returns-2 c = let a = c .before .before .before .before .before .args in
+    above-tie (a .code) (a .t2) (a .t3) ((λ i. exponents-by (a .code) (sym (c .before .before .before .before .exponents .ensures) i)
+    (sym (c .before .before .before .exponents2 .ensures) i)) ∙ sym (c .before .before .by-code .ensures) ∙ ap comparison-of (c .enum-told2 .given .1))
 
 returns-3 : tie.Need-returns-3
-returns-3 c = let a = c .before .before .before .before .before .args in above-smaller (a .code) (a .t2) (a .t3) ((λ i. exponents-by (a .code) (sym (c .before .before .before .before .exponents .ensures) i) (sym (c .before .before .before .exponents2 .ensures) i)) ∙ sym (c .before .before .by-code .ensures) ∙ ap comparison-of (c .enum-told3 .given .1))
+returns-3 c = let a = c .before .before .before .before .before .args in
+    above-smaller (a .code) (a .t2) (a .t3) ((λ i. exponents-by (a .code) (sym (c .before .before .before .before .exponents .ensures) i)
+    (sym (c .before .before .before .exponents2 .ensures) i)) ∙ sym (c .before .before .by-code .ensures) ∙ ap comparison-of (c .enum-told3 .given .1))
 
 pub above-spec : {M : Type 1} → statement M
 above-spec =

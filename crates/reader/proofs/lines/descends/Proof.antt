@@ -18,7 +18,8 @@ above-requires : tie.Need-above-requires
 above-requires c κs = search needs
 
 returns-2 : tie.Need-returns-2
-returns-2 c = let a = c .before .before .before .args in c .above .ensures ∙ sym (λ i. (sym (c .before .before .begins .ensures) ∙ c .before .if1 .left) i || above? (a .code) (a .before) (a .t4))
+returns-2 c = let a = c .before .before .before .args in c .above .ensures
+    ∙ sym (λ i. (sym (c .before .before .begins .ensures) ∙ c .before .if1 .left) i || above? (a .code) (a .before) (a .t4))
 
 pub descends-spec : {M : Type 1} → statement M
 descends-spec =

@@ -5,7 +5,8 @@ use Prim.Native.Nat.{_+_}
 use lib.ListN.{drop, getD}
 use Rattle.reader.specs.lines.Steps.{e-judged}
 use Rattle.reader.specs.fields.Scanning.{shaped-first, in-sixteen}
-use Rattle.reader.proofs.lines.LineAnswers.{refused-as, no-shape, has-shape, count-zero, count-wrong, count-right, line-behind, no-line-behind, some-left, none-left}
+use Rattle.reader.proofs.lines.LineAnswers.{refused-as, no-shape, has-shape, count-zero, count-wrong, count-right, line-behind, no-line-behind}
+use Rattle.reader.proofs.lines.LineAnswers.{some-left, none-left}
 use Rattle.reader.proofs.lines.end_line.Statement.{statement}
 use Rattle.reader.proofs.lines.end_line.Tie as tie
 
@@ -25,7 +26,10 @@ refused-requires : tie.Need-refused-requires
 refused-requires c κs = search needs
 
 returns : tie.Need-returns
-returns c = let a = c .before .before .before .before .before .before .args in let file = a .file .now in let l = c .before .before .before .before .line-at in let r = c .refused in refused-as (r .result) file 1 (a .count + 2) (r .ensures) ∙ no-shape (in-sixteen (shaped-first 65535 69 1 (drop (a .at) file))) (a .count + 2) (e-judged (a .count)) file (l .result) (l .ensures) (c .before .enum-told .given .1)
+returns c = let a = c .before .before .before .before .before .before .args in let file = a .file .now in let l =
+    c .before .before .before .before .line-at in let r = c .refused in refused-as (r .result) file 1 (a .count + 2) (r .ensures)
+    ∙ no-shape (in-sixteen (shaped-first 65535 69 1 (drop (a .at) file))) (a .count + 2) (e-judged (a .count)) file (l .result) (l .ensures)
+    (c .before .enum-told .given .1)
 
 array-read-size-of : tie.Need-array-read-size-of
 array-read-size-of c = search needs
@@ -41,8 +45,11 @@ refused-requires-2 c κs = search needs
 
 returns-2 : tie.Need-returns-2
 returns-2 c =
-    let a = c .before .before .before .before .before .before .before .before .before .args in let file = a .file .now in let l = c .before .before .before .before .before .before .before .line-at in let w = l .result .numbers in let next = c .before .before .before .before .end .given .0 .0 in
-    let shape = has-shape (in-sixteen (shaped-first 65535 69 1 (drop (a .at) file))) (a .count + 2) (e-judged (a .count)) file (l .result) (l .ensures) next (c .before .before .before .before .end .given .1) in
+    let at-8 = c .before .before .before .before .before .before .before .before in
+    let a = at-8 .before .args in let file = a .file .now in let l = c .before .before .before .before .before .before .before .line-at in let w =
+    l .result .numbers in let next = c .before .before .before .before .end .given .0 .0 in
+    let shape = has-shape (in-sixteen (shaped-first 65535 69 1 (drop (a .at) file))) (a .count + 2) (e-judged (a .count)) file (l .result)
+    (l .ensures) next (c .before .before .before .before .end .given .1) in
     let said : c .before .before .size-of .result ≡ getD w 0 0 = c .before .before .size-of .ensures in
     refused-as (c .refused2 .result) file 7 (a .count + 2) (c .refused2 .ensures) ∙ count-zero (a .count) w (drop next file) (omega arith) ∙ shape
 
@@ -54,10 +61,15 @@ refused-requires-3 c κs = search needs
 
 returns-3 : tie.Need-returns-3
 returns-3 c =
-    let a = c .before .before .before .before .before .before .before .before .before .before .args in let file = a .file .now in let l = c .before .before .before .before .before .before .before .before .line-at in let w = l .result .numbers in let next = c .before .before .before .before .before .end .given .0 .0 in
-    let shape = has-shape (in-sixteen (shaped-first 65535 69 1 (drop (a .at) file))) (a .count + 2) (e-judged (a .count)) file (l .result) (l .ensures) next (c .before .before .before .before .before .end .given .1) in
+    let at-8 = c .before .before .before .before .before .before .before .before in
+    let a = at-8 .before .before .args in let file = a .file .now in let l =
+    c .before .before .before .before .before .before .before .before .line-at in let w = l .result .numbers in let next =
+    c .before .before .before .before .before .end .given .0 .0 in
+    let shape = has-shape (in-sixteen (shaped-first 65535 69 1 (drop (a .at) file))) (a .count + 2) (e-judged (a .count)) file (l .result)
+    (l .ensures) next (c .before .before .before .before .before .end .given .1) in
     let said : c .before .before .before .size-of .result ≡ getD w 0 0 = c .before .before .before .size-of .ensures in
-    refused-as (c .refused3 .result) file 7 (a .count + 2) (c .refused3 .ensures) ∙ count-wrong (a .count) w (drop next file) (λ q. omega arith) (λ q. omega arith) ∙ shape
+    refused-as (c .refused3 .result) file 7 (a .count + 2) (c .refused3 .ensures)
+    ∙ count-wrong (a .count) w (drop next file) (λ q. omega arith) (λ q. omega arith) ∙ shape
 
 add-refused-4 : tie.Need-add-refused-4
 add-refused-4 c = search needs
@@ -67,17 +79,27 @@ refused-requires-4 c κs = search needs
 
 returns-4 : tie.Need-returns-4
 returns-4 c =
-    let a = c .before .before .before .before .before .before .before .before .before .before .before .args in let file = a .file .now in let l = c .before .before .before .before .before .before .before .before .before .line-at in let w = l .result .numbers in let next = c .before .before .before .before .before .before .end .given .0 .0 in
-    let shape = has-shape (in-sixteen (shaped-first 65535 69 1 (drop (a .at) file))) (a .count + 2) (e-judged (a .count)) file (l .result) (l .ensures) next (c .before .before .before .before .before .before .end .given .1) in
+    let at-8 = c .before .before .before .before .before .before .before .before in
+    let a = at-8 .before .before .before .args in let file = a .file .now in let l = at-8 .before .line-at in let w = l .result .numbers in let next =
+    c .before .before .before .before .before .before .end .given .0 .0 in
+    let shape = has-shape (in-sixteen (shaped-first 65535 69 1 (drop (a .at) file))) (a .count + 2) (e-judged (a .count)) file (l .result)
+    (l .ensures) next (c .before .before .before .before .before .before .end .given .1) in
     let said : c .before .before .before .before .size-of .result ≡ getD w 0 0 = c .before .before .before .before .size-of .ensures in
-    refused-as (c .refused4 .result) file 1 (a .count + 3) (c .refused4 .ensures) ∙ line-behind (a .count) w (drop next file) (some-left file next (omega arith)) ∙ sym (count-right (a .count) w (drop next file) (λ q. omega arith) (omega arith)) ∙ shape
+    refused-as (c .refused4 .result) file 1 (a .count + 3) (c .refused4 .ensures)
+    ∙ line-behind (a .count) w (drop next file) (some-left file next (omega arith))
+    ∙ sym (count-right (a .count) w (drop next file) (λ q. omega arith) (omega arith)) ∙ shape
 
 returns-5 : tie.Need-returns-5
 returns-5 c =
-    let a = c .before .before .before .before .before .before .before .before .before .before .args in let file = a .file .now in let l = c .before .before .before .before .before .before .before .before .line-at in let w = l .result .numbers in let next = c .before .before .before .before .before .end .given .0 .0 in
-    let shape = has-shape (in-sixteen (shaped-first 65535 69 1 (drop (a .at) file))) (a .count + 2) (e-judged (a .count)) file (l .result) (l .ensures) next (c .before .before .before .before .before .end .given .1) in
+    let at-8 = c .before .before .before .before .before .before .before .before in
+    let a = at-8 .before .before .args in let file = a .file .now in let l =
+    c .before .before .before .before .before .before .before .before .line-at in let w = l .result .numbers in let next =
+    c .before .before .before .before .before .end .given .0 .0 in
+    let shape = has-shape (in-sixteen (shaped-first 65535 69 1 (drop (a .at) file))) (a .count + 2) (e-judged (a .count)) file (l .result)
+    (l .ensures) next (c .before .before .before .before .before .end .given .1) in
     let said : c .before .before .before .size-of .result ≡ getD w 0 0 = c .before .before .before .size-of .ensures in
-    no-line-behind (a .count) w (drop next file) (none-left file next (omega arith)) ∙ sym (count-right (a .count) w (drop next file) (λ q. omega arith) (omega arith)) ∙ shape
+    no-line-behind (a .count) w (drop next file) (none-left file next (omega arith))
+    ∙ sym (count-right (a .count) w (drop next file) (λ q. omega arith) (omega arith)) ∙ shape
 
 pub end-line-spec : {M : Type 1} → statement M
 end-line-spec =

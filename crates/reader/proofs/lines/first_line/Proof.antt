@@ -32,21 +32,28 @@ enum-told : tie.Need-enum-told
 enum-told c = search needs
 
 returns : tie.Need-returns
-returns c = let file = c .before .before .before .before .before .args .file .now in let l = c .before .before .before .line-at in no-shape (in-sixteen (shaped-first 65535 82 4 file)) 1 r-judged file (l .result) (l .ensures) (c .enum-told .given .1)
+returns c = let file = c .before .before .before .before .before .args .file .now in let l = c .before .before .before .line-at in
+    no-shape (in-sixteen (shaped-first 65535 82 4 file)) 1 r-judged file (l .result) (l .ensures) (c .enum-told .given .1)
 
 parameters-refusal-requires : tie.Need-parameters-refusal-requires
 parameters-refusal-requires c κs = search needs
 
 returns-2 : tie.Need-returns-2
 returns-2 c =
-    let file = c .before .before .before .before .before .before .before .before .args .file .now in let l = c .before .before .before .before .before .before .line-at in let w = l .result .numbers in let next = c .before .before .before .end .given .0 .0 in
-    judged-refused 1 (parameters-of w, drop next file) (c .before .parameters-refusal .result) (r-number (parameters-of w)) (c .before .parameters-refusal .ensures) (λ q. omega arith)
+    let file = c .before .before .before .before .before .before .before .before .args .file .now in let l =
+    c .before .before .before .before .before .before .line-at in let w = l .result .numbers in let next =
+    c .before .before .before .end .given .0 .0 in
+    judged-refused 1 (parameters-of w, drop next file) (c .before .parameters-refusal .result) (r-number (parameters-of w))
+    (c .before .parameters-refusal .ensures) (λ q. omega arith)
     ∙ has-shape (in-sixteen (shaped-first 65535 82 4 file)) 1 r-judged file (l .result) (l .ensures) next (c .before .before .before .end .given .1)
 
 returns-3 : tie.Need-returns-3
 returns-3 c =
-    let file = c .before .before .before .before .before .before .before .before .args .file .now in let l = c .before .before .before .before .before .before .line-at in let w = l .result .numbers in let next = c .before .before .before .end .given .0 .0 in
-    judged-done 1 (parameters-of w, drop next file) (c .before .parameters-refusal .result) (r-number (parameters-of w)) (c .before .parameters-refusal .ensures) (omega arith)
+    let file = c .before .before .before .before .before .before .before .before .args .file .now in let l =
+    c .before .before .before .before .before .before .line-at in let w = l .result .numbers in let next =
+    c .before .before .before .end .given .0 .0 in
+    judged-done 1 (parameters-of w, drop next file) (c .before .parameters-refusal .result) (r-number (parameters-of w))
+    (c .before .parameters-refusal .ensures) (omega arith)
     ∙ has-shape (in-sixteen (shaped-first 65535 82 4 file)) 1 r-judged file (l .result) (l .ensures) next (c .before .before .before .end .given .1)
 
 pub first-line-spec : {M : Type 1} → statement M

@@ -14,7 +14,9 @@ refused-requires : tie.Need-refused-requires
 refused-requires c κs = search needs
 
 returns : tie.Need-returns
-returns c = let a = c .before .before .before .args in let file = a .file .now in let q = parameters-of (a .q) in refused-as (c .refused .result) file 1 (a .count + 2) (c .refused .ensures) ∙ letter-none q (a .count) (a .elements) (a .before) file (a .at) (omega arith)
+returns c = let a = c .before .before .before .args in let file = a .file .now in let q = parameters-of (a .q) in
+    refused-as (c .refused .result) file 1 (a .count + 2) (c .refused .ensures)
+    ∙ letter-none q (a .count) (a .elements) (a .before) file (a .at) (omega arith)
 
 shared-slice-read-letter : tie.Need-shared-slice-read-letter
 shared-slice-read-letter c = search needs
@@ -32,13 +34,17 @@ refused-requires-2 : tie.Need-refused-requires-2
 refused-requires-2 c κs = search needs
 
 returns-2 : tie.Need-returns-2
-returns-2 c = let a = c .before .before .before .before .before .args in let file = a .file .now in let q = parameters-of (a .q) in c .term-line .ensures ∙ letter-T q (a .count) (a .elements) (a .before) file (a .at) (omega arith) (c .before .match .keys1)
+returns-2 c = let a = c .before .before .before .before .before .args in let file = a .file .now in let q = parameters-of (a .q) in
+    c .term-line .ensures ∙ letter-T q (a .count) (a .elements) (a .before) file (a .at) (omega arith) (c .before .match .keys1)
 
 returns-3 : tie.Need-returns-3
-returns-3 c = let a = c .before .before .before .before .before .args in let file = a .file .now in let q = parameters-of (a .q) in c .end-line .ensures ∙ letter-E q (a .count) (a .elements) (a .before) file (a .at) (omega arith) (c .before .match .keys2)
+returns-3 c = let a = c .before .before .before .before .before .args in let file = a .file .now in let q = parameters-of (a .q) in c .end-line .ensures
+    ∙ letter-E q (a .count) (a .elements) (a .before) file (a .at) (omega arith) (c .before .match .keys2)
 
 returns-4 : tie.Need-returns-4
-returns-4 c = let a = c .before .before .before .before .before .args in let file = a .file .now in let q = parameters-of (a .q) in refused-as (c .refused2 .result) file 1 (a .count + 2) (c .refused2 .ensures) ∙ letter-other q (a .count) (a .elements) (a .before) file (a .at) (omega arith) (c .before .match .rest .0 .1) (c .before .match .rest .1)
+returns-4 c = let a = c .before .before .before .before .before .args in let file = a .file .now in let q = parameters-of (a .q) in
+    refused-as (c .refused2 .result) file 1 (a .count + 2) (c .refused2 .ensures)
+    ∙ letter-other q (a .count) (a .elements) (a .before) file (a .at) (omega arith) (c .before .match .rest .0 .1) (c .before .match .rest .1)
 
 pub next-line-spec : {M : Type 1} → statement M
 next-line-spec =

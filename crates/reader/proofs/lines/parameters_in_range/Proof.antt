@@ -17,12 +17,14 @@ between-requires-3 c κs = search needs
 returns : tie.Need-returns
 returns c =
     let q = c .before .before .before .before .before .args .q in
-    c .between3 .ensures ∙ sym (λ i. (sym (c .before .before .before .before .between .ensures) ∙ c .before .before .before .if1 .taken) i and (sym (c .before .before .between2 .ensures) ∙ c .before .if2 .taken) i and between 1 (q .s) most-components)
+    c .between3 .ensures ∙ sym (λ i. (sym (c .before .before .before .before .between .ensures) ∙ c .before .before .before .if1 .taken) i
+    and (sym (c .before .before .between2 .ensures) ∙ c .before .if2 .taken) i and between 1 (q .s) most-components)
 
 returns-2 : tie.Need-returns-2
 returns-2 c =
     let q = c .before .before .before .before .args .q in
-    sym (λ i. (sym (c .before .before .before .between .ensures) ∙ c .before .before .if1 .taken) i and (sym (c .before .between2 .ensures) ∙ c .if2 .left) i and between 1 (q .s) most-components)
+    sym (λ i. (sym (c .before .before .before .between .ensures) ∙ c .before .before .if1 .taken) i
+    and (sym (c .before .between2 .ensures) ∙ c .if2 .left) i and between 1 (q .s) most-components)
 
 returns-3 : tie.Need-returns-3
 returns-3 c =

@@ -13,13 +13,16 @@ parameters-in-range-requires : tie.Need-parameters-in-range-requires
 parameters-in-range-requires c κs = search needs
 
 returns : tie.Need-returns
-returns c = sym (λ i. unless ((sym (c .before .before .before .prime-in-range .ensures) ∙ c .before .before .if1 .taken) i) 2 (unless ((sym (c .before .parameters-in-range .ensures) ∙ c .if2 .taken) i) 3 0))
+returns c = sym (λ i. unless ((sym (c .before .before .before .prime-in-range .ensures) ∙ c .before .before .if1 .taken) i) 2
+    (unless ((sym (c .before .parameters-in-range .ensures) ∙ c .if2 .taken) i) 3 0))
 
 returns-2 : tie.Need-returns-2
-returns-2 c = sym (λ i. unless ((sym (c .before .before .before .prime-in-range .ensures) ∙ c .before .before .if1 .taken) i) 2 (unless ((sym (c .before .parameters-in-range .ensures) ∙ c .if2 .left) i) 3 0))
+returns-2 c = sym (λ i. unless ((sym (c .before .before .before .prime-in-range .ensures) ∙ c .before .before .if1 .taken) i) 2
+    (unless ((sym (c .before .parameters-in-range .ensures) ∙ c .if2 .left) i) 3 0))
 
 returns-3 : tie.Need-returns-3
-returns-3 c = let q = parameters-of (c .before .before .args .q) in sym (λ i. unless ((sym (c .before .prime-in-range .ensures) ∙ c .if1 .left) i) 2 (unless (in-ranges? document-01 q) 3 0))
+returns-3 c = let q = parameters-of (c .before .before .args .q) in sym
+    (λ i. unless ((sym (c .before .prime-in-range .ensures) ∙ c .if1 .left) i) 2 (unless (in-ranges? document-01 q) 3 0))
 
 pub parameters-refusal-spec : {M : Type 1} → statement M
 parameters-refusal-spec =

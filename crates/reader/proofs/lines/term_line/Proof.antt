@@ -34,9 +34,13 @@ refused-requires c κs = search needs
 
 returns : tie.Need-returns
 returns c =
-    let a = c .before .before .before .before .before .before .before .args in let file = a .file .now in let q = parameters-of (a .q) in let l = c .before .before .before .before .line-at in
-    let said : line-as (l .result) file ≡ in-sixteen (shaped-first 65535 84 (3 + q .n) (drop (a .at) file)) = l .ensures ∙ ap (λ n. in-sixteen (shaped-first 65535 84 (3 + n) (drop (a .at) file))) (c .before .before .before .before .before .size-of .ensures) in
-    refused-as (c .refused .result) file 1 (a .count + 2) (c .refused .ensures) ∙ no-shape (in-sixteen (shaped-first 65535 84 (3 + q .n) (drop (a .at) file))) (a .count + 2) (t-judged q (a .count) (a .elements) (a .before)) file (l .result) said (c .before .enum-told .given .1)
+    let a = c .before .before .before .before .before .before .before .args in let file = a .file .now in let q = parameters-of (a .q) in let l =
+    c .before .before .before .before .line-at in
+    let said : line-as (l .result) file ≡ in-sixteen (shaped-first 65535 84 (3 + q .n) (drop (a .at) file)) = l .ensures
+    ∙ ap (λ n. in-sixteen (shaped-first 65535 84 (3 + n) (drop (a .at) file))) (c .before .before .before .before .before .size-of .ensures) in
+    refused-as (c .refused .result) file 1 (a .count + 2) (c .refused .ensures)
+    ∙ no-shape (in-sixteen (shaped-first 65535 84 (3 + q .n) (drop (a .at) file))) (a .count + 2)
+    (t-judged q (a .count) (a .elements) (a .before)) file (l .result) said (c .before .enum-told .given .1)
 
 term-refusal-requires : tie.Need-term-refusal-requires
 term-refusal-requires c κs = search needs
@@ -49,17 +53,30 @@ refused-requires-2 c κs = search needs
 
 returns-2 : tie.Need-returns-2
 returns-2 c =
-    let a = c .before .before .before .before .before .before .before .before .before .before .args in let file = a .file .now in let q = parameters-of (a .q) in let l = c .before .before .before .before .before .before .before .line-at in
-    let said : line-as (l .result) file ≡ in-sixteen (shaped-first 65535 84 (3 + q .n) (drop (a .at) file)) = l .ensures ∙ ap (λ n. in-sixteen (shaped-first 65535 84 (3 + n) (drop (a .at) file))) (c .before .before .before .before .before .before .before .before .size-of .ensures) in
+    let at-8 = c .before .before .before .before .before .before .before .before in
+    let a = at-8 .before .before .args in let file = a .file .now in let q = parameters-of (a .q) in let l =
+    c .before .before .before .before .before .before .before .line-at in
+    let said : line-as (l .result) file ≡ in-sixteen (shaped-first 65535 84 (3 + q .n) (drop (a .at) file)) = l .ensures
+    ∙ ap (λ n. in-sixteen (shaped-first 65535 84 (3 + n) (drop (a .at) file)))
+    (c .before .before .before .before .before .before .before .before .size-of .ensures) in
     let w = l .result .numbers in let next = c .before .before .before .before .end .given .0 .0 in let r = c .before .before .term-refusal in
-    refused-as (c .refused2 .result) file (r .result) (a .count + 2) (c .refused2 .ensures) ∙ judged-refused (a .count + 2) (some (w, drop next file)) (r .result) (t-number q (a .count) (a .elements) (a .before) w) (r .ensures) (λ e. omega arith) ∙ has-shape (in-sixteen (shaped-first 65535 84 (3 + q .n) (drop (a .at) file))) (a .count + 2) (t-judged q (a .count) (a .elements) (a .before)) file (l .result) said next (c .before .before .before .before .end .given .1)
+    refused-as (c .refused2 .result) file (r .result) (a .count + 2) (c .refused2 .ensures)
+    ∙ judged-refused (a .count + 2) (some (w, drop next file)) (r .result) (t-number q (a .count) (a .elements) (a .before) w) (r .ensures)
+    (λ e. omega arith) ∙ has-shape (in-sixteen (shaped-first 65535 84 (3 + q .n) (drop (a .at) file))) (a .count + 2)
+    (t-judged q (a .count) (a .elements) (a .before)) file (l .result) said next (c .before .before .before .before .end .given .1)
 
 returns-3 : tie.Need-returns-3
 returns-3 c =
-    let a = c .before .before .before .before .before .before .before .before .before .args in let file = a .file .now in let q = parameters-of (a .q) in let l = c .before .before .before .before .before .before .line-at in
-    let said : line-as (l .result) file ≡ in-sixteen (shaped-first 65535 84 (3 + q .n) (drop (a .at) file)) = l .ensures ∙ ap (λ n. in-sixteen (shaped-first 65535 84 (3 + n) (drop (a .at) file))) (c .before .before .before .before .before .before .before .size-of .ensures) in
+    let at-8 = c .before .before .before .before .before .before .before .before in
+    let a = at-8 .before .args in let file = a .file .now in let q = parameters-of (a .q) in let l =
+    c .before .before .before .before .before .before .line-at in
+    let said : line-as (l .result) file ≡ in-sixteen (shaped-first 65535 84 (3 + q .n) (drop (a .at) file)) = l .ensures
+    ∙ ap (λ n. in-sixteen (shaped-first 65535 84 (3 + n) (drop (a .at) file)))
+    (c .before .before .before .before .before .before .before .size-of .ensures) in
     let w = l .result .numbers in let next = c .before .before .before .end .given .0 .0 in let r = c .before .term-refusal in
-    judged-done (a .count + 2) (some (w, drop next file)) (r .result) (t-number q (a .count) (a .elements) (a .before) w) (r .ensures) (omega arith) ∙ has-shape (in-sixteen (shaped-first 65535 84 (3 + q .n) (drop (a .at) file))) (a .count + 2) (t-judged q (a .count) (a .elements) (a .before)) file (l .result) said next (c .before .before .before .end .given .1)
+    judged-done (a .count + 2) (some (w, drop next file)) (r .result) (t-number q (a .count) (a .elements) (a .before) w) (r .ensures) (omega arith)
+    ∙ has-shape (in-sixteen (shaped-first 65535 84 (3 + q .n) (drop (a .at) file))) (a .count + 2)
+    (t-judged q (a .count) (a .elements) (a .before)) file (l .result) said next (c .before .before .before .end .given .1)
 
 pub term-line-spec : {M : Type 1} → statement M
 term-line-spec =

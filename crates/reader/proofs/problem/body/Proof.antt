@@ -27,13 +27,23 @@ use Rattle.reader.proofs.problem.body.Tie as tie
 
 abbrev Inv-loop : tie.InvT-loop
 Inv-loop file from q state₀ at₀ count₀ elements₀ before₀ state at count elements before =
-    (count ≤ most-rows) × (length state ≡ length state₀) × ((f : Level) × So-far (parameters-of q) (length state₀) f count elements before state × (body document-01 (parameters-of q) 2 0 [] (lines (drop from file)) ≡ body document-01 (parameters-of q) (count + 2) count f (lines (drop at file))))
+    (count ≤ most-rows) × (length state ≡ length state₀) × ((f : Level) × So-far (parameters-of q) (length state₀) f count elements before state
+    × (body document-01 (parameters-of q) 2 0 [] (lines (drop from file))
+    ≡ body document-01 (parameters-of q) (count + 2) count f (lines (drop at file))))
 
 abbrev μ-loop : tie.MeasureT-loop
 μ-loop file from q state₀ at₀ count₀ elements₀ before₀ state at count elements before = most-rows - count
 
 loop-holds : tie.Need-loop-holds Inv-loop μ-loop
-loop-holds c = let a = c .before .before .args in (omega arith, refl, ([], none-so-far (parameters-of (a .q)) (length (a .state .now)) (replicate 16 0) (a .state .now) (omega arith) (c .before .before .pre .2), refl))
+loop-holds c = let a = c .before .before .args in (
+  omega arith,
+  refl,
+  (
+    [],
+    none-so-far (parameters-of (a .q)) (length (a .state .now)) (replicate 16 0) (a .state .now) (omega arith) (c .before .before .pre .2),
+    refl,
+  ),
+)
 
 next-line-requires : tie.Need-next-line-requires Inv-loop μ-loop
 next-line-requires c κs = omega arith
@@ -43,10 +53,16 @@ enum-known-step c = search needs
 
 store-requires : tie.Need-store-requires Inv-loop μ-loop
 store-requires c κs =
-    let a = c .before .before .before .before .before .before .before .before .before .args in let l = c .before .before .before .before .before .before .loop in let file = a .file .now in let q = parameters-of (a .q) in let t = c .before .before .before .before .before .next-line .result in let w = t .numbers in let size = length (a .state .now) in
+    let at-8 = c .before .before .before .before .before .before .before .before in
+    let a = at-8 .before .args in let l = c .before .before .before .before .before .before .loop in let file = a .file .now in let q =
+    parameters-of (a .q) in let t = c .before .before .before .before .before .next-line .result in let w = t .numbers in let size =
+    length (a .state .now) in
     let next = c .before .before .step .given .0 .0 in
-    let said : line-first q (l .count) (l .elements) (l .before) (drop (l .at) file) ≡ done (some (w, drop next file)) = sym (c .before .before .before .before .before .next-line .ensures) ∙ ap (λ (x : Step). step-as x w file) (c .before .before .step .given .1) in
-    let passed = if-done-says (Passed (l .count) (l .elements)) (line-first q (l .count) (l .elements) (l .before) (drop (l .at) file)) (line-passed q (l .count) (l .elements) (l .before) (drop (l .at) file)) (some (w, drop next file)) said in
+    let said : line-first q (l .count) (l .elements) (l .before) (drop (l .at) file)
+    ≡ done (some (w, drop next file)) = sym (c .before .before .before .before .before .next-line .ensures)
+    ∙ ap (λ (x : Step). step-as x w file) (c .before .before .step .given .1) in
+    let passed = if-done-says (Passed (l .count) (l .elements)) (line-first q (l .count) (l .elements) (l .before) (drop (l .at) file))
+    (line-passed q (l .count) (l .elements) (l .before) (drop (l .at) file)) (some (w, drop next file)) said in
     let room : l .count < most-rows = ltb-true (l .count) most-rows (passed .0) in
     (omega arith, omega arith, follows-says (l .elements) (getD w 0 0) (begins? (l .elements) (getD w 0 0)) refl (passed .1) .2)
 
@@ -58,28 +74,43 @@ add-count c = omega arith
 
 loop-less : tie.Need-loop-less Inv-loop μ-loop
 loop-less c =
-    let a = c .before .before .before .before .before .before .before .before .before .before .before .before .args in let l = c .before .before .before .before .before .before .before .before .before .loop in let file = a .file .now in let q = parameters-of (a .q) in let t = c .before .before .before .before .before .before .before .before .next-line .result in let w = t .numbers in let size = length (a .state .now) in
+    let at-8 = c .before .before .before .before .before .before .before .before in
+    let a = at-8 .before .before .before .before .args in let l = at-8 .before .loop in let file = a .file .now in let q = parameters-of (a .q) in
+    let t = c .before .before .before .before .before .before .before .before .next-line .result in let w = t .numbers in let size =
+    length (a .state .now) in
     let next = c .before .before .before .before .before .step .given .0 .0 in
-    let said : line-first q (l .count) (l .elements) (l .before) (drop (l .at) file) ≡ done (some (w, drop next file)) = sym (c .before .before .before .before .before .before .before .before .next-line .ensures) ∙ ap (λ (x : Step). step-as x w file) (c .before .before .before .before .before .step .given .1) in
-    let passed = if-done-says (Passed (l .count) (l .elements)) (line-first q (l .count) (l .elements) (l .before) (drop (l .at) file)) (line-passed q (l .count) (l .elements) (l .before) (drop (l .at) file)) (some (w, drop next file)) said in
+    let said : line-first q (l .count) (l .elements) (l .before) (drop (l .at) file)
+    ≡ done (some (w, drop next file)) = sym (c .before .before .before .before .before .before .before .before .next-line .ensures)
+    ∙ ap (λ (x : Step). step-as x w file) (c .before .before .before .before .before .step .given .1) in
+    let passed = if-done-says (Passed (l .count) (l .elements)) (line-first q (l .count) (l .elements) (l .before) (drop (l .at) file))
+    (line-passed q (l .count) (l .elements) (l .before) (drop (l .at) file)) (some (w, drop next file)) said in
     let room : l .count < most-rows = ltb-true (l .count) most-rows (passed .0) in
     omega arith
 
 loop-again : tie.Need-loop-again Inv-loop μ-loop
 loop-again c =
-    let a = c .before .before .before .before .before .before .before .before .before .before .before .before .args in let l = c .before .before .before .before .before .before .before .before .before .loop in let file = a .file .now in let q = parameters-of (a .q) in let t = c .before .before .before .before .before .before .before .before .next-line .result in let w = t .numbers in let size = length (a .state .now) in
+    let at-8 = c .before .before .before .before .before .before .before .before in
+    let a = at-8 .before .before .before .before .args in let l = at-8 .before .loop in let file = a .file .now in let q = parameters-of (a .q) in
+    let t = c .before .before .before .before .before .before .before .before .next-line .result in let w = t .numbers in let size =
+    length (a .state .now) in
     let next = c .before .before .before .before .before .step .given .0 .0 in
-    let said : line-first q (l .count) (l .elements) (l .before) (drop (l .at) file) ≡ done (some (w, drop next file)) = sym (c .before .before .before .before .before .before .before .before .next-line .ensures) ∙ ap (λ (x : Step). step-as x w file) (c .before .before .before .before .before .step .given .1) in
-    let passed = if-done-says (Passed (l .count) (l .elements)) (line-first q (l .count) (l .elements) (l .before) (drop (l .at) file)) (line-passed q (l .count) (l .elements) (l .before) (drop (l .at) file)) (some (w, drop next file)) said in
+    let said : line-first q (l .count) (l .elements) (l .before) (drop (l .at) file)
+    ≡ done (some (w, drop next file)) = sym (c .before .before .before .before .before .before .before .before .next-line .ensures)
+    ∙ ap (λ (x : Step). step-as x w file) (c .before .before .before .before .before .step .given .1) in
+    let passed = if-done-says (Passed (l .count) (l .elements)) (line-first q (l .count) (l .elements) (l .before) (drop (l .at) file))
+    (line-passed q (l .count) (l .elements) (l .before) (drop (l .at) file)) (some (w, drop next file)) said in
     let room : l .count < most-rows = ltb-true (l .count) most-rows (passed .0) in
     let f = l .inv .2 .0 in (
       omega arith,
       omega arith,
       (
         with-term (begins? (l .elements) (getD w 0 0)) f (term-in w),
-        subst (λ z. So-far q size (with-term (begins? (l .elements) (getD w 0 0)) f (term-in w)) (l .count + 1) (getD w 0 0) w z) (sym (c .before .before .store .ensures .0))
-            (one-more q size f (l .count) (l .elements) (l .before) (l .state) (l .inv .2 .1) (omega arith) w room (c .before .before .store .ensures .1) (passed .1)),
-        goes-on-term q size f (l .count) (l .elements) (l .before) (l .state) (l .inv .2 .1) (omega arith) (c .before .before .before .before .before .before .before .before .before .before .before .before .pre .0) (l .inv .0) (drop (a .from) file) (drop (l .at) file) (l .inv .2 .2) w (drop next file) said,
+        subst (λ z. So-far q size (with-term (begins? (l .elements) (getD w 0 0)) f (term-in w)) (l .count + 1) (getD w 0 0) w z)
+            (sym (c .before .before .store .ensures .0))
+            (one-more q size f (l .count) (l .elements) (l .before) (l .state) (l .inv .2 .1) (omega arith) w room
+            (c .before .before .store .ensures .1) (passed .1)),
+        goes-on-term q size f (l .count) (l .elements) (l .before) (l .state) (l .inv .2 .1) (omega arith)
+            (at-8 .before .before .before .before .pre .0) (l .inv .0) (drop (a .from) file) (drop (l .at) file) (l .inv .2 .2) w (drop next file) said,
       ),
     )
 
@@ -91,8 +122,11 @@ same-length c = omega arith
 
 returns : tie.Need-returns Inv-loop μ-loop
 returns c =
-    let a = c .before .before .before .before .before .before .before .args in let l = c .before .before .before .before .loop in let file = a .file .now in let q = parameters-of (a .q) in let t = c .before .before .before .next-line .result in let w = t .numbers in let size = length (a .state .now) in
-    goes-on-end q size (l .inv .2 .0) (l .count) (l .elements) (l .before) (l .state) (l .inv .2 .1) (omega arith) (c .before .before .before .before .before .before .before .pre .0) (l .inv .0) (drop (a .from) file) (drop (l .at) file) (l .inv .2 .2)
+    let a = c .before .before .before .before .before .before .before .args in let l = c .before .before .before .before .loop in let file =
+    a .file .now in let q = parameters-of (a .q) in let t = c .before .before .before .next-line .result in let w = t .numbers in let size =
+    length (a .state .now) in
+    goes-on-end q size (l .inv .2 .0) (l .count) (l .elements) (l .before) (l .state) (l .inv .2 .1) (omega arith)
+    (c .before .before .before .before .before .before .before .pre .0) (l .inv .0) (drop (a .from) file) (drop (l .at) file) (l .inv .2 .2)
     (sym (c .before .before .before .next-line .ensures) ∙ ap (λ (x : Step). step-as x w file) (c .enum-told .given .1))
 
 enum-known-step-2 : tie.Need-enum-known-step-2 Inv-loop μ-loop
@@ -103,9 +137,13 @@ same-length-2 c = omega arith
 
 returns-2 : tie.Need-returns-2 Inv-loop μ-loop
 returns-2 c =
-    let a = c .before .before .before .before .before .before .before .before .args in let l = c .before .before .before .before .before .loop in let file = a .file .now in let q = parameters-of (a .q) in let t = c .before .before .before .before .next-line .result in let w = t .numbers in let size = length (a .state .now) in
+    let a = c .before .before .before .before .before .before .before .before .args in let l = c .before .before .before .before .before .loop in
+    let file = a .file .now in let q = parameters-of (a .q) in let t = c .before .before .before .before .next-line .result in let w = t .numbers in
+    let size = length (a .state .now) in
     let number = c .before .step2 .given .0 .0 in let place = c .before .step2 .given .0 .1 .0 in
-    goes-on-refused q size (l .inv .2 .0) (l .count) (l .elements) (l .before) (l .state) (l .inv .2 .1) (omega arith) (c .before .before .before .before .before .before .before .before .pre .0) (l .inv .0) (drop (a .from) file) (drop (l .at) file) (l .inv .2 .2) number place
+    goes-on-refused q size (l .inv .2 .0) (l .count) (l .elements) (l .before) (l .state) (l .inv .2 .1) (omega arith)
+    (c .before .before .before .before .before .before .before .before .pre .0) (l .inv .0) (drop (a .from) file) (drop (l .at) file)
+    (l .inv .2 .2) number place
     (sym (c .before .before .before .before .next-line .ensures) ∙ ap (λ (x : Step). step-as x w file) (c .before .step2 .given .1))
 
 pub body-spec : {M : Type 1} → statement M

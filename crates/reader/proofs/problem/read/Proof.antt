@@ -15,7 +15,8 @@ clear-requires : tie.Need-clear-requires
 clear-requires c κs = search needs
 
 read-lines-requires : tie.Need-read-lines-requires
-read-lines-requires c κs = let s = c .before .before .before .before .before .before .before .args .state .now in let e = c .before .before .before .clear .ensures in (omega arith, cleared-zeros s _ e ∙ ap (λ n. replicate n 0) (sym (cleared-length s _ e)))
+read-lines-requires c κs = let s = c .before .before .before .before .before .before .before .args .state .now in let e =
+    c .before .before .before .clear .ensures in (omega arith, cleared-zeros s _ e ∙ ap (λ n. replicate n 0) (sym (cleared-length s _ e)))
 
 enum-told : tie.Need-enum-told
 enum-told c = search needs
@@ -31,18 +32,28 @@ same-length c = search needs
 
 returns : tie.Need-returns
 returns c =
-    let a = c .before .before .before .before .before .before .before .before .before .before .before .before .args in let s = a .state .now in let file = a .file .now in
+    let at-8 = c .before .before .before .before .before .before .before .before in
+    let a = at-8 .before .before .before .before .args in let s = a .state .now in let file = a .file .now in
     answer-done (length s) (problem document-01 file) _
-    (sym (outcome-is _ (c .enum-told .given .1)) ∙ c .before .before .before .before .read-lines .ensures ∙ ap (λ n. problem-words n file) (cleared-length s _ (c .before .before .before .before .before .before .before .before .clear .ensures)))
+    (sym (outcome-is _ (c .enum-told .given .1)) ∙ c .before .before .before .before .read-lines .ensures
+    ∙ ap (λ n. problem-words n file) (cleared-length s _ (c .before .before .before .before .before .before .before .before .clear .ensures)))
 
 same-length-2 : tie.Need-same-length-2
 same-length-2 c = search needs
 
 returns-2 : tie.Need-returns-2
 returns-2 c =
-    let a = c .before .before .before .before .before .before .before .before .before .before .before .before .before .before .before .before .before .args in let s = a .state .now in let file = a .file .now in let number = c .before .before .before .before .before .outcome .given .0 .0 in let place = c .before .before .before .before .before .outcome .given .0 .1 .0 in
-    answer-refused (length s) (problem document-01 file) number place _ (cleared-zeros (c .before .before .before .before .before .before .before .before .before .read-lines .last .1 .0) _ (c .before .before .clear2 .ensures) ∙ ap (λ n. replicate n 0) (c .before .before .before .before .before .before .before .before .before .read-lines .kept .1 .0 ∙ cleared-length s _ (c .before .before .before .before .before .before .before .before .before .before .before .before .before .clear .ensures)))
-    (sym (outcome-is _ (c .before .before .before .before .before .outcome .given .1)) ∙ c .before .before .before .before .before .before .before .before .before .read-lines .ensures ∙ ap (λ n. problem-words n file) (cleared-length s _ (c .before .before .before .before .before .before .before .before .before .before .before .before .before .clear .ensures)))
+    let at-8 = c .before .before .before .before .before .before .before .before in
+    let at-16 = at-8 .before .before .before .before .before .before .before .before in
+    let a = at-16 .before .args in let s = a .state .now in let file = a .file .now in let number =
+    c .before .before .before .before .before .outcome .given .0 .0 in let place =
+    c .before .before .before .before .before .outcome .given .0 .1 .0 in
+    answer-refused (length s) (problem document-01 file) number place _
+    (cleared-zeros (at-8 .before .read-lines .last .1 .0) _ (c .before .before .clear2 .ensures)
+    ∙ ap (λ n. replicate n 0) (at-8 .before .read-lines .kept .1 .0
+    ∙ cleared-length s _ (at-8 .before .before .before .before .before .clear .ensures)))
+    (sym (outcome-is _ (c .before .before .before .before .before .outcome .given .1)) ∙ at-8 .before .read-lines .ensures
+    ∙ ap (λ n. problem-words n file) (cleared-length s _ (at-8 .before .before .before .before .before .clear .ensures)))
 
 pub read-spec : {M : Type 1} → statement M
 read-spec =

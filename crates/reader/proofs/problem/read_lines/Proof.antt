@@ -29,11 +29,18 @@ begin-requires c κs = search needs
 
 body-requires : tie.Need-body-requires
 body-requires c κs =
-    let a = c .before .before .before .before .before .before .before .before .before .before .before .before .before .args in let file = a .file .now in let f = c .before .before .before .before .before .before .before .before .before .first-line in let q = parameters-of (f .result .parameters) in let size = length (a .state .now) in
+    let at-8 = c .before .before .before .before .before .before .before .before in
+    let a = at-8 .before .before .before .before .before .args in let file = a .file .now in let f = at-8 .before .first-line in let q =
+    parameters-of (f .result .parameters) in let size = length (a .state .now) in
     let next = c .before .before .before .before .before .before .start .given .0 .0 in
-    let read : r-first file ≡ done (q, drop next file) = sym (f .ensures) ∙ ap (λ (x : Start). start-as x (f .result .parameters) file) (c .before .before .before .before .before .before .start .given .1) in
-    let few = if-done-says (λ (x : Parameters × Bytes). x .0 .n ≤ 8) (r-first file) (few-variables file) (q, drop next file) read in
-    (few, omega arith, begun-zeros (a .state .now) _ q (c .before .before .before .before .before .before .before .before .before .before .before .before .before .pre .1) (c .before .before .before .begin .ensures))
+    let read : r-first file ≡ done (q, drop next file) = sym (f .ensures)
+    ∙ ap (λ (x : Start). start-as x (f .result .parameters) file) (c .before .before .before .before .before .before .start .given .1) in
+    let few = if-done-says (λ (x : Parameters × Bytes). x .0 .n ≤ 8) (r-first file) (few-variables file) (q, drop next file) read in (
+      few,
+      omega arith,
+      begun-zeros (a .state .now) _ q (at-8 .before .before .before .before .before .pre .1)
+          (c .before .before .before .begin .ensures),
+    )
 
 enum-known-start-2 : tie.Need-enum-known-start-2
 enum-known-start-2 c = search needs
@@ -43,16 +50,23 @@ same-length c = search needs
 
 returns-2 : tie.Need-returns-2
 returns-2 c =
-    let a = c .before .before .before .before .before .before .before .before .before .before .before .before .before .before .before .before .args in let file = a .file .now in let f = c .before .before .before .before .before .before .before .before .before .before .before .before .first-line in let q = parameters-of (f .result .parameters) in let size = length (a .state .now) in
-    let next = c .before .before .before .before .before .before .before .before .before .start .given .0 .0 in
-    let read : r-first file ≡ done (q, drop next file) = sym (f .ensures) ∙ ap (λ (x : Start). start-as x (f .result .parameters) file) (c .before .before .before .before .before .before .before .before .before .start .given .1) in
-    c .before .before .body .ensures ∙ ap (λ n. body-words n q (drop next file)) (ap length (c .before .before .before .before .before .before .begin .ensures) ∙ length-begun (a .state .now) q) ∙ read-on size file q (drop next file) (omega arith) read
+    let at-8 = c .before .before .before .before .before .before .before .before in
+    let a = at-8 .before .before .before .before .before .before .before .before .args in let file = a .file .now in let f =
+    at-8 .before .before .before .before .first-line in let q = parameters-of (f .result .parameters) in let size = length (a .state .now) in
+    let next = at-8 .before .start .given .0 .0 in
+    let read : r-first file ≡ done (q, drop next file) = sym (f .ensures)
+    ∙ ap (λ (x : Start). start-as x (f .result .parameters) file) (at-8 .before .start .given .1) in
+    c .before .before .body .ensures ∙ ap (λ n. body-words n q (drop next file))
+    (ap length (c .before .before .before .before .before .before .begin .ensures) ∙ length-begun (a .state .now) q)
+    ∙ read-on size file q (drop next file) (omega arith) read
 
 returns-3 : tie.Need-returns-3
 returns-3 c =
-    let a = c .before .before .before .before .before .before .before .before .args in let file = a .file .now in let f = c .before .before .before .before .first-line in let q = parameters-of (f .result .parameters) in let size = length (a .state .now) in
+    let a = c .before .before .before .before .before .before .before .before .args in let file = a .file .now in let f =
+    c .before .before .before .before .first-line in let q = parameters-of (f .result .parameters) in let size = length (a .state .now) in
     let number = c .before .start2 .given .0 .0 in
-    read-barred size file number (omega arith) (sym (f .ensures) ∙ ap (λ (x : Start). start-as x (f .result .parameters) file) (c .before .start2 .given .1))
+    read-barred size file number (omega arith) (sym (f .ensures) ∙ ap (λ (x : Start). start-as x (f .result .parameters) file)
+    (c .before .start2 .given .1))
 
 pub read-lines-spec : {M : Type 1} → statement M
 read-lines-spec =

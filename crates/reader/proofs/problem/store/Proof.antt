@@ -43,7 +43,11 @@ same-length : tie.Need-same-length
 same-length c = search needs
 
 returns : tie.Need-returns
-returns c = let a = c .before .before .before .before .before .before .args in ((λ i. set (set (c .before .before .before .store-row .ensures i) (header-length + c .size-of .ensures i) (a .count + 1)) header-length (getD (a .t3) 0 0)), omega arith)
+returns c = let a = c .before .before .before .before .before .before .args in (
+  (λ i. set (set (c .before .before .before .store-row .ensures i) (header-length + c .size-of .ensures i) (a .count + 1)) header-length
+      (getD (a .t3) 0 0)),
+  omega arith,
+)
 
 pub store-spec : {M : Type 1} → statement M
 store-spec =

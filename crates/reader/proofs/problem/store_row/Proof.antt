@@ -43,21 +43,24 @@ loop-less c = omega arith
 
 loop-again : tie.Need-loop-again Inv-loop μ-loop
 loop-again c =
-    let l = c .before .loop in let d = c .before .before .args .state .now in let w = c .before .before .args .t3 in let at = c .before .before .args .at in
+    let l = c .before .loop in let d = c .before .before .args .state .now in let w = c .before .before .args .t3 in let at =
+    c .before .before .args .at in
     let e : suc (l .j) ≡ l .j + 1 = omega arith in
     let k : 1 + l .j ≡ l .j + 1 = omega arith in
     let word : getD w (l .j + 1) 0 ≡ getD (drop 1 w) (l .j) 0 = sym (getD-drop 1 w (l .j) 0 ∙ ap (λ n. getD w n 0) k) in (
       omega arith,
       l .inv .1,
       omega (arith, length-set (l .state) (at + l .j) (getD w (l .j + 1) 0)),
-      (λ i. set (l .inv .3 i) (at + l .j) (word i)) ∙ paste-suc d at (drop 1 w) (l .j) 0 (omega arith) (omega (arith, length-drop 1 w)) ∙ ap (paste d at (drop 1 w)) e,
+      (λ i. set (l .inv .3 i) (at + l .j) (word i)) ∙ paste-suc d at (drop 1 w) (l .j) 0 (omega arith) (omega (arith, length-drop 1 w))
+          ∙ ap (paste d at (drop 1 w)) e,
     )
 
 same-length : tie.Need-same-length Inv-loop μ-loop
 same-length c = omega arith
 
 returns : tie.Need-returns Inv-loop μ-loop
-returns c = let l = c .before .loop in let e : l .j ≡ row-length = omega arith in l .inv .3 ∙ ap (paste (c .before .before .args .state .now) (c .before .before .args .at) (drop 1 (c .before .before .args .t3))) e
+returns c = let l = c .before .loop in let e : l .j ≡ row-length = omega arith in l .inv .3
+    ∙ ap (paste (c .before .before .args .state .now) (c .before .before .args .at) (drop 1 (c .before .before .args .t3))) e
 
 pub store-row-spec : {M : Type 1} → statement M
 store-row-spec =

@@ -8,7 +8,8 @@ use Rattle.reducers.proofs.search.first_in.Statement.{statement}
 use Rattle.reducers.proofs.search.first_in.Tie as tie
 
 abbrev Inv-loop : tie.InvT-loop
-Inv-loop heads from to component w i₀ i = (from ≤ i) × (first-from (λ k. divides-monomial? (head-raw heads k) (w, component)) (to - from) from ≡ first-from (λ k. divides-monomial? (head-raw heads k) (w, component)) (to - i) i)
+Inv-loop heads from to component w i₀ i = (from ≤ i) × (first-from (λ k. divides-monomial? (head-raw heads k) (w, component)) (to - from) from
+    ≡ first-from (λ k. divides-monomial? (head-raw heads k) (w, component)) (to - i) i)
 
 abbrev μ-loop : tie.MeasureT-loop
 μ-loop heads from to component w i₀ i = to - i
@@ -23,7 +24,8 @@ returns : tie.Need-returns Inv-loop μ-loop
 returns c =
     let l = c .before .before .before .loop in
     let a = c .before .before .before .before .before .args in
-    sym (l .inv .1 ∙ first-here (λ k. divides-monomial? (head-raw (a .heads .now) k) (a .w, a .component)) (l .i) (a .to) (omega arith) (sym (c .if1 .taken) ∙ c .before .row-divides .ensures))
+    sym (l .inv .1 ∙ first-here (λ k. divides-monomial? (head-raw (a .heads .now) k) (a .w, a .component)) (l .i) (a .to) (omega arith)
+    (sym (c .if1 .taken) ∙ c .before .row-divides .ensures))
 
 add-i : tie.Need-add-i Inv-loop μ-loop
 add-i c = omega arith
@@ -34,8 +36,11 @@ loop-less c = omega arith
 loop-again : tie.Need-loop-again Inv-loop μ-loop
 loop-again c =
     let l = c .before .before .before .loop in
-    let a = c .before .before .before .before .before .args in
-    (omega arith, l .inv .1 ∙ first-past (λ k. divides-monomial? (head-raw (a .heads .now) k) (a .w, a .component)) (l .i) (a .to) (omega arith) (sym (c .if1 .left) ∙ c .before .row-divides .ensures))
+    let a = c .before .before .before .before .before .args in (
+      omega arith,
+      l .inv .1 ∙ first-past (λ k. divides-monomial? (head-raw (a .heads .now) k) (a .w, a .component)) (l .i) (a .to) (omega arith)
+          (sym (c .if1 .left) ∙ c .before .row-divides .ensures),
+    )
 
 returns-2 : tie.Need-returns-2 Inv-loop μ-loop
 returns-2 c =

@@ -20,7 +20,8 @@ first-in-requires : tie.Need-first-in-requires
 first-in-requires c κs =
     let a = c .before .before .before .before .before .args in
     let h = span-holds (a .k) (a .r) (a .spans .now) (a .heads .now) (a .m .component) (c .before .before .before .before .before .pre .3) in
-    let e : c .before .span-for .result .to ≡ span-at (a .k) (a .r) (a .spans .now) (a .m .component) .1 = ap (λ (x : ℕ × ℕ). x .1) (c .before .span-for .ensures) in
+    let e : c .before .span-for .result .to ≡ span-at (a .k) (a .r) (a .spans .now) (a .m .component) .1 =
+    ap (λ (x : ℕ × ℕ). x .1) (c .before .span-for .ensures) in
     omega (arith, h .ends)
 
 returns : tie.Need-returns
@@ -29,8 +30,12 @@ returns c =
     let m = monomial-of (a .m) in
     let s = span-of (c .before .before .before .before .span-for .result) in
     let heads = a .heads .now in
-    let h : Holds s (a .r) (m .1) heads = subst (λ (x : ℕ × ℕ). Holds x (a .r) (m .1) heads) (sym (c .before .before .before .before .span-for .ensures)) (span-holds (a .k) (a .r) (a .spans .now) heads (m .1) (c .before .before .before .before .before .before .before .before .pre .3)) in
-    first-spanned s (a .r) heads m (c .before .before .first-in .result) (c .before .before .before .before .before .before .before .before .pre .2) h (c .before .before .first-in .ensures ∙ ap (λ w. first-from (λ k. divides-monomial? (head-raw heads k) (w, m .1)) (s .1 - s .0) (s .0)) (c .before .before .before .widened .ensures)) (omega arith)
+    let h : Holds s (a .r) (m .1) heads = subst (λ (x : ℕ × ℕ). Holds x (a .r) (m .1) heads)
+    (sym (c .before .before .before .before .span-for .ensures)) (span-holds (a .k) (a .r) (a .spans .now) heads (m .1)
+    (c .before .before .before .before .before .before .before .before .pre .3)) in
+    first-spanned s (a .r) heads m (c .before .before .first-in .result) (c .before .before .before .before .before .before .before .before .pre .2) h
+    (c .before .before .first-in .ensures ∙ ap (λ w. first-from (λ k. divides-monomial? (head-raw heads k) (w, m .1)) (s .1 - s .0) (s .0))
+    (c .before .before .before .widened .ensures)) (omega arith)
 
 returns-2 : tie.Need-returns-2
 returns-2 c =
@@ -38,8 +43,12 @@ returns-2 c =
     let m = monomial-of (a .m) in
     let s = span-of (c .before .before .before .before .span-for .result) in
     let heads = a .heads .now in
-    let h : Holds s (a .r) (m .1) heads = subst (λ (x : ℕ × ℕ). Holds x (a .r) (m .1) heads) (sym (c .before .before .before .before .span-for .ensures)) (span-holds (a .k) (a .r) (a .spans .now) heads (m .1) (c .before .before .before .before .before .before .before .before .pre .3)) in
-    none-spanned s (a .r) heads m (c .before .before .first-in .result) (c .before .before .before .before .before .before .before .before .pre .2) h (c .before .before .first-in .ensures ∙ ap (λ w. first-from (λ k. divides-monomial? (head-raw heads k) (w, m .1)) (s .1 - s .0) (s .0)) (c .before .before .before .widened .ensures)) (omega arith)
+    let h : Holds s (a .r) (m .1) heads = subst (λ (x : ℕ × ℕ). Holds x (a .r) (m .1) heads)
+    (sym (c .before .before .before .before .span-for .ensures)) (span-holds (a .k) (a .r) (a .spans .now) heads (m .1)
+    (c .before .before .before .before .before .before .before .before .pre .3)) in
+    none-spanned s (a .r) heads m (c .before .before .first-in .result) (c .before .before .before .before .before .before .before .before .pre .2) h
+    (c .before .before .first-in .ensures ∙ ap (λ w. first-from (λ k. divides-monomial? (head-raw heads k) (w, m .1)) (s .1 - s .0) (s .0))
+    (c .before .before .before .widened .ensures)) (omega arith)
 
 pub lowest-spec : {M : Type 1} → statement M
 lowest-spec =

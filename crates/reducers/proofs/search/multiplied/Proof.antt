@@ -26,8 +26,13 @@ returns c =
     let t = row-at (a .s .now) (a .i) in
     let y = c .before .product .result in
     let x = times (a .p) (a .c) (t .0) in
-    (λ i. choose {A = Option Term} (y .fits) (some ((c .before .before .before .times .ensures ∙ ap (λ u. times (a .p) (a .c) (u .0)) (c .before .before .before .before .row .ensures)) i, monomial-of (y .monomial))) none)
-    ∙ product-formed x (y .fits) (fits? most-exponent (product (a .q) (t .1 .0))) (monomial-of (y .monomial)) (product (a .q) (t .1 .0), t .1 .1) (c .before .product .ensures ∙ ap (λ u. formed (a .q) (u .1)) (c .before .before .before .before .row .ensures))
+    (λ i. choose {A = Option Term} (y .fits)
+    (some (
+      (c .before .before .before .times .ensures ∙ ap (λ u. times (a .p) (a .c) (u .0)) (c .before .before .before .before .row .ensures)) i,
+      monomial-of (y .monomial),
+    )) none)
+    ∙ product-formed x (y .fits) (fits? most-exponent (product (a .q) (t .1 .0))) (monomial-of (y .monomial)) (product (a .q) (t .1 .0), t .1 .1)
+    (c .before .product .ensures ∙ ap (λ u. formed (a .q) (u .1)) (c .before .before .before .before .row .ensures))
 
 pub multiplied-spec : {M : Type 1} → statement M
 multiplied-spec = tie.close (tie.spec row-requires times-requires product-requires returns)

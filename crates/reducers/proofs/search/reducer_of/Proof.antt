@@ -34,7 +34,8 @@ sub-row c =
     let v = rows z 0 (a .r) in
     let j = c .before .found .given .0 .0 in
     let h = c .before .found .given .0 .1 .0 in
-    let i : Is-reducer (a .p) v (term-of (a .t)) j h = searched-reducer (a .p) v (term-of (a .t)) j h (sym (c .before .found .given .1) ∙ c .before .before .before .search .ensures) in
+    let i : Is-reducer (a .p) v (term-of (a .t)) j h = searched-reducer (a .p) v (term-of (a .t)) j h
+    (sym (c .before .found .given .1) ∙ c .before .before .before .search .ensures) in
     i .from
 
 row-requires : tie.Need-row-requires
@@ -44,7 +45,8 @@ row-requires c κs =
     let v = rows z 0 (a .r) in
     let j = c .before .found .given .0 .0 in
     let h = c .before .found .given .0 .1 .0 in
-    let i : Is-reducer (a .p) v (term-of (a .t)) j h = searched-reducer (a .p) v (term-of (a .t)) j h (sym (c .before .found .given .1) ∙ c .before .before .before .search .ensures) in
+    let i : Is-reducer (a .p) v (term-of (a .t)) j h = searched-reducer (a .p) v (term-of (a .t)) j h
+    (sym (c .before .found .given .1) ∙ c .before .before .before .search .ensures) in
     omega (arith, i .from, i .inside, length-rows z 0 (a .r))
 
 times-requires : tie.Need-times-requires
@@ -55,15 +57,19 @@ quotient-requires c κs = search needs
 
 returns-2 : tie.Need-returns-2
 returns-2 c =
-    let a = c .before .before .before .before .before .before .before .before .before .before .before .args in
+    let at-8 = c .before .before .before .before .before .before .before .before in
+    let a = at-8 .before .before .before .args in
     let z = a .heads .now in
     let v = rows z 0 (a .r) in
     let j = c .before .before .before .before .before .found .given .0 .0 in
     let h = c .before .before .before .before .before .found .given .0 .1 .0 in
-    let i : Is-reducer (a .p) v (term-of (a .t)) j h = searched-reducer (a .p) v (term-of (a .t)) j h (sym (c .before .before .before .before .before .found .given .1) ∙ c .before .before .before .before .before .before .before .search .ensures) in
+    let i : Is-reducer (a .p) v (term-of (a .t)) j h = searched-reducer (a .p) v (term-of (a .t)) j h
+    (sym (c .before .before .before .before .before .found .given .1)
+    ∙ c .before .before .before .before .before .before .before .search .ensures) in
     let l : j - 1 < a .r = omega (arith, i .inside, length-rows z 0 (a .r)) in
     let q : 0 + (j - 1) ≡ j - 1 = omega arith in
-    let w : term-of (c .before .before .before .row .result) ≡ getD v (j - 1) no-term = c .before .before .before .row .ensures ∙ sym (getD-rows z 0 (a .r) (j - 1) no-term l ∙ ap (row-at z) q) in
+    let w : term-of (c .before .before .before .row .result) ≡ getD v (j - 1) no-term = c .before .before .before .row .ensures
+    ∙ sym (getD-rows z 0 (a .r) (j - 1) no-term l ∙ ap (row-at z) q) in
     (λ k. reducer j (c .before .times .ensures k) ((c .quotient .ensures ∙ ap (λ u. quotient (term-of (a .t) .1 .0) (u .1 .0)) w) k)) ∙ i .answers
 
 pub reducer-of-spec : {M : Type 1} → statement M

@@ -24,7 +24,8 @@ returns : tie.Need-returns
 returns c =
     let a = c .before .before .before .args in
     let s = a .heads .now in
-    components-differ (getD s (a .i * row-length + component-offset) 0) (a .component) (divides? (exponents-raw s (a .i * row-length + exponents-offset)) (a .w)) (c .if1 .taken)
+    components-differ (getD s (a .i * row-length + component-offset) 0) (a .component)
+    (divides? (exponents-raw s (a .i * row-length + exponents-offset)) (a .w)) (c .if1 .taken)
 
 add-head-divides : tie.Need-add-head-divides
 add-head-divides c = search needs
@@ -36,7 +37,9 @@ returns-2 : tie.Need-returns-2
 returns-2 c =
     let a = c .before .before .before .before .args in
     let s = a .heads .now in
-    components-equal (getD s (a .i * row-length + component-offset) 0) (a .component) (divides? (exponents-raw s (a .i * row-length + exponents-offset)) (a .w)) (c .head-divides .result) (c .before .if1 .left) (c .head-divides .ensures)
+    components-equal (getD s (a .i * row-length + component-offset) 0) (a .component)
+    (divides? (exponents-raw s (a .i * row-length + exponents-offset)) (a .w)) (c .head-divides .result) (c .before .if1 .left)
+    (c .head-divides .ensures)
 
 pub row-divides-spec : {M : Type 1} → statement M
 row-divides-spec =

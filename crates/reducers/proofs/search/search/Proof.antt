@@ -19,7 +19,8 @@ lowest-requires c κs = search needs
 returns : tie.Need-returns
 returns c =
     let a = c .before .before .before .before .args in
-    searched-none (rows (a .heads .now) 0 (a .r)) (monomial-of (a .m)) (c .before .lowest .result) (c .before .lowest .ensures) (c .if1 .taken ∙ sym (length-rows (a .heads .now) 0 (a .r)))
+    searched-none (rows (a .heads .now) 0 (a .r)) (monomial-of (a .m)) (c .before .lowest .result) (c .before .lowest .ensures)
+    (c .if1 .taken ∙ sym (length-rows (a .heads .now) 0 (a .r)))
 
 add-t8 : tie.Need-add-t8
 add-t8 c =
@@ -54,7 +55,8 @@ shared-slice-read-t12 c =
     let s = a .heads .now in
     let v = rows s 0 (a .r) in
     let j = c .before .before .lowest .result in
-    let h : j < length v = found-inside 0 v (1, monomial-of (a .m)) j (c .before .before .lowest .ensures) (λ q. c .before .if1 .left (q ∙ length-rows s 0 (a .r))) in
+    let h : j < length v = found-inside 0 v (1, monomial-of (a .m)) j (c .before .before .lowest .ensures)
+    (λ q. c .before .if1 .left (q ∙ length-rows s 0 (a .r))) in
     omega (arith, length-rows s 0 (a .r))
 
 returns-2 : tie.Need-returns-2
@@ -63,10 +65,12 @@ returns-2 c =
     let s = a .heads .now in
     let v = rows s 0 (a .r) in
     let j = c .before .before .lowest .result in
-    let h : j < length v = found-inside 0 v (1, monomial-of (a .m)) j (c .before .before .lowest .ensures) (λ q. c .before .if1 .left (q ∙ length-rows s 0 (a .r))) in
+    let h : j < length v = found-inside 0 v (1, monomial-of (a .m)) j (c .before .before .lowest .ensures)
+    (λ q. c .before .if1 .left (q ∙ length-rows s 0 (a .r))) in
     let l : j < a .r = omega (arith, length-rows s 0 (a .r)) in
     let z : 0 + j ≡ j = omega arith in
-    ap (Reducer (j + 1)) (sym (ap (λ (t : Term). t .0) (getD-rows s 0 (a .r) j no-term l ∙ ap (row-at s) z ∙ row-is s j))) ∙ searched-one v (monomial-of (a .m)) j (c .before .before .lowest .ensures) h
+    ap (Reducer (j + 1)) (sym (ap (λ (t : Term). t .0) (getD-rows s 0 (a .r) j no-term l ∙ ap (row-at s) z ∙ row-is s j)))
+    ∙ searched-one v (monomial-of (a .m)) j (c .before .before .lowest .ensures) h
 
 pub search-spec : {M : Type 1} → statement M
 search-spec =

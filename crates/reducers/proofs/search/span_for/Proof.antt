@@ -11,7 +11,8 @@ use Rattle.reducers.proofs.search.span_for.Tie as tie
 returns : tie.Need-returns
 returns c =
     let a = c .before .before .args in
-    sym (ap (λ b. choose b (0, a .r) (getD (a .spans .now) (a .component * 2) 0, getD (a .spans .now) (a .component * 2 + 1) 0)) (le-leb (a .k) (a .component) (omega arith)))
+    sym (ap (λ b. choose b (0, a .r) (getD (a .spans .now) (a .component * 2) 0, getD (a .spans .now) (a .component * 2 + 1) 0))
+    (le-leb (a .k) (a .component) (omega arith)))
 
 mul-place : tie.Need-mul-place
 mul-place c = search needs
@@ -43,7 +44,9 @@ place-requires-2 c κs = search needs
 returns-2 : tie.Need-returns-2
 returns-2 c =
     let a = c .before .before .before .before .before .before .args in
-    (λ i. (c .before .before .place .ensures .0 i, c .place2 .ensures .0 i)) ∙ sym (ap (λ b. choose b (0, a .r) (getD (a .spans .now) (a .component * 2) 0, getD (a .spans .now) (a .component * 2 + 1) 0)) (lt-leb (a .k) (a .component) (omega arith)))
+    (λ i. (c .before .before .place .ensures .0 i, c .place2 .ensures .0 i))
+    ∙ sym (ap (λ b. choose b (0, a .r) (getD (a .spans .now) (a .component * 2) 0, getD (a .spans .now) (a .component * 2 + 1) 0))
+    (lt-leb (a .k) (a .component) (omega arith)))
 
 pub span-for-spec : {M : Type 1} → statement M
 span-for-spec =

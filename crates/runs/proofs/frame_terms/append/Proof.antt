@@ -34,7 +34,9 @@ same-length : tie.Need-same-length
 same-length c = search needs
 
 returns : tie.Need-returns
-returns c = ap (λ z. set z (c .before .before .before .before .before .before .args .i) (c .before .before .before .before .before .before .args .used + c .before .before .before .before .before .before .args .v)) (c .before .before .copy .ensures)
+returns c = ap (λ z. set z (c .before .before .before .before .before .before .args .i)
+    (c .before .before .before .before .before .before .args .used + c .before .before .before .before .before .before .args .v))
+    (c .before .before .copy .ensures)
 
 pub append-spec : {M : Type 1} → statement M
 append-spec =

@@ -19,19 +19,45 @@ use Rattle.runs.proofs.frame_terms.lift_all.Tie as tie
 abbrev Inv-loop : tie.InvT-loop
 Inv-loop out₀ value₀ vector₀ frame count level tables g w used₀ i₀ out value vector used i =
     (i ≤ count) × (used ≤ g .room) × (length out ≡ length out₀) × (length value ≡ length value₀) × (length vector ≡ length vector₀) × Kept i used out ×
-    Going (stage-of g level tables (table-order (g .code) (table-of (g .r) (above-in tables)))) (strategy-of g tables w) frame count (lifted-vectors out i, used) i
+    Going (stage-of g level tables (table-order (g .code) (table-of (g .r) (above-in tables)))) (strategy-of g tables w) frame count
+    (lifted-vectors out i, used) i
 
 abbrev μ-loop : tie.MeasureT-loop
 μ-loop out₀ value₀ vector₀ frame count level tables g w used₀ i₀ out value vector used i = count - i
 
 loop-holds : tie.Need-loop-holds Inv-loop μ-loop
-loop-holds c = let a = c .before .before .before .before .before .before .args in (omega arith, omega arith, refl, refl, refl, none-kept (a .out .now), going-start (stage-of (a .g) (a .level .now) (a .tables .now) (table-order (a .g .code) (table-of (a .g .r) (above-in (a .tables .now))))) (strategy-of (a .g) (a .tables .now) (a .w)) (a .frame .now) (a .count))
+loop-holds c = let a = c .before .before .before .before .before .before .args in (
+  omega arith,
+  omega arith,
+  refl,
+  refl,
+  refl,
+  none-kept (a .out .now),
+  going-start (stage-of (a .g) (a .level .now) (a .tables .now) (table-order (a .g .code) (table-of (a .g .r) (above-in (a .tables .now)))))
+      (strategy-of (a .g) (a .tables .now) (a .w)) (a .frame .now) (a .count),
+)
 
 lift-one-requires : tie.Need-lift-one-requires Inv-loop μ-loop
 lift-one-requires c κs =
     let P = c .before .before .before .before .before .before .before .before .before .before .before .pre in
-    let l = c .before .before .before .before .loop in
-    (P .0, P .1, P .2, P .3, rooms-again (c .before .before .before .before .before .before .before .before .before .before .before .args .g) (c .before .before .before .before .before .before .before .before .before .before .before .args .value .now) (c .before .before .before .before .before .before .before .before .before .before .before .args .vector .now) (l .value) (l .vector) (l .inv .3) (l .inv .4) (P .4), P .5, P .6, P .7, omega arith, omega (arith, P .8, l .inv .2), P .9, l .inv .1, l .inv .5)
+    let l = c .before .before .before .before .loop in (
+      P .0,
+      P .1,
+      P .2,
+      P .3,
+      rooms-again (c .before .before .before .before .before .before .before .before .before .before .before .args .g)
+          (c .before .before .before .before .before .before .before .before .before .before .before .args .value .now)
+          (c .before .before .before .before .before .before .before .before .before .before .before .args .vector .now) (l .value) (l .vector)
+          (l .inv .3) (l .inv .4) (P .4),
+      P .5,
+      P .6,
+      P .7,
+      omega arith,
+      omega (arith, P .8, l .inv .2),
+      P .9,
+      l .inv .1,
+      l .inv .5,
+    )
 
 enum-known-u : tie.Need-enum-known-u Inv-loop μ-loop
 enum-known-u c = omega arith
@@ -40,13 +66,16 @@ enum-known-x : tie.Need-enum-known-x Inv-loop μ-loop
 enum-known-x c = omega arith
 
 same-length : tie.Need-same-length Inv-loop μ-loop
-same-length c = omega (arith, c .before .before .before .before .before .before .before .before .before .before .before .before .before .before .loop .inv .2)
+same-length c = omega
+    (arith, c .before .before .before .before .before .before .before .before .before .before .before .before .before .before .loop .inv .2)
 
 same-length-2 : tie.Need-same-length-2 Inv-loop μ-loop
-same-length-2 c = omega (arith, c .before .before .before .before .before .before .before .before .before .before .before .before .before .before .loop .inv .3)
+same-length-2 c = omega
+    (arith, c .before .before .before .before .before .before .before .before .before .before .before .before .before .before .loop .inv .3)
 
 same-length-3 : tie.Need-same-length-3 Inv-loop μ-loop
-same-length-3 c = omega (arith, c .before .before .before .before .before .before .before .before .before .before .before .before .before .before .loop .inv .4)
+same-length-3 c = omega
+    (arith, c .before .before .before .before .before .before .before .before .before .before .before .before .before .before .loop .inv .4)
 
 returns : tie.Need-returns Inv-loop μ-loop
 returns c =
@@ -57,20 +86,26 @@ returns c =
     let W = strategy-of g (a .tables .now) (a .w) in
     let o = c .before .before .before .before .before .before .before .before .before .lift-one in
     let k = o .ensures .0 .0 in
-    let before : Lifted = (lifted-vectors (l .out) (l .i), l .used) in
-    (going-refused S W (a .frame .now) (a .count) before (l .i) k (c .before .x .given .0 .0) 0 [] (l .inv .6) (omega arith) (sym (ap (λ y. one-of y (l .i) (o .last .0) (o .last .1 .1 .1 .1 .0)) (c .before .x .given .1)) ∙ o .ensures .0 .1), tt)
+    let before : Lifted = (lifted-vectors (l .out) (l .i), l .used) in (
+      going-refused S W (a .frame .now) (a .count) before (l .i) k (c .before .x .given .0 .0) 0 [] (l .inv .6) (omega arith)
+          (sym (ap (λ y. one-of y (l .i) (o .last .0) (o .last .1 .1 .1 .1 .0)) (c .before .x .given .1)) ∙ o .ensures .0 .1),
+      tt,
+    )
 
 enum-known-n : tie.Need-enum-known-n Inv-loop μ-loop
 enum-known-n c = omega arith
 
 same-length-4 : tie.Need-same-length-4 Inv-loop μ-loop
-same-length-4 c = omega (arith, c .before .before .before .before .before .before .before .before .before .before .before .before .before .before .loop .inv .2)
+same-length-4 c = omega
+    (arith, c .before .before .before .before .before .before .before .before .before .before .before .before .before .before .loop .inv .2)
 
 same-length-5 : tie.Need-same-length-5 Inv-loop μ-loop
-same-length-5 c = omega (arith, c .before .before .before .before .before .before .before .before .before .before .before .before .before .before .loop .inv .3)
+same-length-5 c = omega
+    (arith, c .before .before .before .before .before .before .before .before .before .before .before .before .before .before .loop .inv .3)
 
 same-length-6 : tie.Need-same-length-6 Inv-loop μ-loop
-same-length-6 c = omega (arith, c .before .before .before .before .before .before .before .before .before .before .before .before .before .before .loop .inv .4)
+same-length-6 c = omega
+    (arith, c .before .before .before .before .before .before .before .before .before .before .before .before .before .before .loop .inv .4)
 
 returns-2 : tie.Need-returns-2 Inv-loop μ-loop
 returns-2 c =
@@ -82,12 +117,16 @@ returns-2 c =
     let o = c .before .before .before .before .before .before .before .before .before .lift-one in
     let k = o .ensures .0 .0 in
     let before : Lifted = (lifted-vectors (l .out) (l .i), l .used) in (
-      going-refused S W (a .frame .now) (a .count) before (l .i) k 9 0 (rows (o .last .1 .1 .1 .1 .0) 0 (c .before .n .given .0 .0)) (l .inv .6) (omega arith) (sym (ap (λ y. one-of y (l .i) (o .last .0) (o .last .1 .1 .1 .1 .0)) (c .before .n .given .1)) ∙ o .ensures .0 .1),
+      going-refused S W (a .frame .now) (a .count) before (l .i) k 9 0 (rows (o .last .1 .1 .1 .1 .0) 0 (c .before .n .given .0 .0)) (l .inv .6)
+          (omega arith) (sym (ap (λ y. one-of y (l .i) (o .last .0) (o .last .1 .1 .1 .1 .0)) (c .before .n .given .1)) ∙ o .ensures .0 .1),
       subst (λ y. After g (l .i) y (o .last .0)) (c .before .n .given .1) (o .ensures .1),
     )
 
 add-i : tie.Need-add-i Inv-loop μ-loop
-add-i c = omega (arith, c .before .before .before .before .before .before .before .before .before .before .before .before .before .before .before .before .before .before .before .before .before .pre .7 .few)
+add-i c = omega (
+  arith,
+  c .before .before .before .before .before .before .before .before .before .before .before .before .before .before .before .before .before .before .before .before .before .pre .7 .few,
+)
 
 loop-less : tie.Need-loop-less Inv-loop μ-loop
 loop-less c = omega arith
@@ -111,7 +150,8 @@ loop-again c =
       omega (arith, l .inv .3),
       omega (arith, l .inv .4),
       now .1,
-      going-on S W (a .frame .now) (a .count) before after (l .i) k (l .inv .6) (omega arith) (sym (ap (λ y. one-of y (l .i) (o .last .0) (o .last .1 .1 .1 .1 .0)) (c .before .u .given .1)) ∙ o .ensures .0 .1),
+      going-on S W (a .frame .now) (a .count) before after (l .i) k (l .inv .6) (omega arith)
+          (sym (ap (λ y. one-of y (l .i) (o .last .0) (o .last .1 .1 .1 .1 .0)) (c .before .u .given .1)) ∙ o .ensures .0 .1),
     )
 
 same-length-7 : tie.Need-same-length-7 Inv-loop μ-loop

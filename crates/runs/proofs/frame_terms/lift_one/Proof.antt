@@ -21,19 +21,30 @@ use Rattle.runs.proofs.frame_terms.lift_one.Statement.{statement}
 use Rattle.runs.proofs.frame_terms.lift_one.Tie as tie
 
 row-requires : tie.Need-row-requires
-row-requires c κs = omega (arith, c .before .before .before .before .before .before .pre .7 .fits, c .before .before .before .before .before .before .pre .8)
+row-requires c κs = omega (
+  arith,
+  c .before .before .before .before .before .before .pre .7 .fits,
+  c .before .before .before .before .before .before .pre .8,
+)
 
 run-requires : tie.Need-run-requires
 run-requires c κs =
     let P = c .before .before .before .before .before .before .before .before .before .before .pre in
-    let f = frame-component (c .before .before .before .before .before .before .before .before .before .before .args .g) (c .before .before .before .before .before .before .before .before .before .before .args .count) (c .before .before .before .before .before .before .before .before .before .before .args .frame .now) (c .before .before .before .before .before .before .before .before .before .before .args .i) (term-of (c .before .before .before .row .result)) (P .7) (P .8) (c .before .before .before .row .ensures) in
+    let f = frame-component (c .before .before .before .before .before .before .before .before .before .before .args .g)
+    (c .before .before .before .before .before .before .before .before .before .before .args .count)
+    (c .before .before .before .before .before .before .before .before .before .before .args .frame .now)
+    (c .before .before .before .before .before .before .before .before .before .before .args .i) (term-of (c .before .before .before .row .result))
+    (P .7) (P .8) (c .before .before .before .row .ensures) in
     (P .0, P .1, P .2, P .3, P .4, P .5, P .6, f .0, f .1)
 
 enum-known-v : tie.Need-enum-known-v
 enum-known-v c = search needs
 
 sub-if1 : tie.Need-sub-if1
-sub-if1 c = omega (arith, c .before .before .before .before .before .before .before .before .before .before .before .before .before .before .before .before .before .before .before .pre .11)
+sub-if1 c = omega (
+  arith,
+  c .before .before .before .before .before .before .before .before .before .before .before .before .before .before .before .before .before .before .before .pre .11,
+)
 
 same-length : tie.Need-same-length
 same-length c = search needs
@@ -49,23 +60,32 @@ returns c =
     let W = strategy-of g (a .tables .now) (a .w) in
     let l : Lifted = (lifted-vectors (a .out .now) (a .i), a .used) in
     let r = c .before .before .before .before .before .before .before .before .before .run in
-    let t : term-of (c .before .before .before .before .before .before .before .before .before .before .before .before .before .row .result) ≡ row-at (a .frame .now) (a .i) = c .before .before .before .before .before .before .before .before .before .before .before .before .before .row .ensures in
+    let t : term-of (c .before .before .before .before .before .before .before .before .before .before .before .before .before .row .result)
+    ≡ row-at (a .frame .now) (a .i) =
+    c .before .before .before .before .before .before .before .before .before .before .before .before .before .row .ensures in
     let came : (k : ℕ) × (outcome-of (r .result) (r .last .0) (r .last .1 .0) ≡ run S W k (row-at (a .frame .now) (a .i) .1)) =
     (r .ensures .0 .0, r .ensures .0 .1 ∙ ap (λ x. run S W (r .ensures .0 .0) (x .1)) t) in
     let v = c .before .before .before .v .given .0 .0 in (
       (
         came .0,
-        without-room S l (rows (r .last .0) 0 v) v (length-rows (r .last .0) 0 v) (omega (arith, c .before .before .before .before .before .before .before .before .before .before .before .before .before .before .before .before .before .before .before .before .pre .11))
-            ∙ ap (λ x. x >>= λ w. with-vector S l (w, [])) (sym (ap (λ y. outcome-of y (r .last .0) (r .last .1 .0)) (c .before .before .before .v .given .1)) ∙ came .1),
+        without-room S l (rows (r .last .0) 0 v) v (length-rows (r .last .0) 0 v)
+            (omega (arith, c .before .before .before .before .before .before .before .before .before .before .before .before .before .before .before .before .before .before .before .before .pre .11))
+            ∙ ap (λ x. x >>= λ w. with-vector S l (w, [])) (sym (ap (λ y. outcome-of y (r .last .0) (r .last .1 .0))
+            (c .before .before .before .v .given .1)) ∙ came .1),
       ),
       tt,
     )
 
 append-requires : tie.Need-append-requires
-append-requires c κs = (omega (arith, c .before .before .before .before .before .before .before .before .before .before .before .before .before .before .before .before .before .before .before .before .before .before .pre .7 .few, c .before .before .before .before .before .before .before .before .before .before .before .before .before .before .before .before .before .before .before .before .before .before .pre .8), omega (arith, c .before .before .before .before .before .before .before .before .before .before .before .before .before .before .before .before .before .before .before .before .before .before .pre .10, c .before .before .before .before .before .before .before .before .before .before .before .before .before .before .before .before .before .before .before .before .before .before .pre .11), omega (arith, c .before .before .before .before .before .before .before .before .before .before .before .before .before .before .before .before .before .before .before .before .before .before .pre .9, c .before .before .before .before .before .before .before .before .before .before .before .before .before .before .before .before .before .before .before .before .before .before .pre .11), omega (arith, subst (Ended (c .before .before .before .before .before .before .before .before .before .before .before .before .before .before .before .before .before .before .before .before .before .before .args .g)) (c .before .before .before .before .before .v .given .1) (c .before .before .before .before .before .before .before .before .before .before .before .run .ensures .1), c .before .before .before .before .before .before .before .before .before .before .before .before .before .before .before .before .before .before .before .before .before .before .pre .4 .sorted-fits))
+append-requires c κs =
+    (omega (arith, c .before .before .before .before .before .before .before .before .before .before .before .before .before .before .before .before .before .before .before .before .before .before .pre .7 .few, c .before .before .before .before .before .before .before .before .before .before .before .before .before .before .before .before .before .before .before .before .before .before .pre .8), omega (arith, c .before .before .before .before .before .before .before .before .before .before .before .before .before .before .before .before .before .before .before .before .before .before .pre .10, c .before .before .before .before .before .before .before .before .before .before .before .before .before .before .before .before .before .before .before .before .before .before .pre .11), omega (arith, c .before .before .before .before .before .before .before .before .before .before .before .before .before .before .before .before .before .before .before .before .before .before .pre .9, c .before .before .before .before .before .before .before .before .before .before .before .before .before .before .before .before .before .before .before .before .before .before .pre .11), omega (arith, subst (Ended (c .before .before .before .before .before .before .before .before .before .before .before .before .before .before .before .before .before .before .before .before .before .before .args .g)) (c .before .before .before .before .before .v .given .1) (c .before .before .before .before .before .before .before .before .before .before .before .run .ensures .1), c .before .before .before .before .before .before .before .before .before .before .before .before .before .before .before .before .before .before .before .before .before .before .pre .4 .sorted-fits))
 
 add-t23 : tie.Need-add-t23
-add-t23 c = omega (arith, c .before .before .before .before .before .before .before .before .before .before .before .before .before .before .before .before .before .before .before .before .before .before .before .before .before .pre .10, c .before .before .before .before .before .before .before .before .before .before .before .before .before .before .before .before .before .before .before .before .before .before .before .before .before .pre .11)
+add-t23 c = omega (
+  arith,
+  c .before .before .before .before .before .before .before .before .before .before .before .before .before .before .before .before .before .before .before .before .before .before .before .before .before .pre .10,
+  c .before .before .before .before .before .before .before .before .before .before .before .before .before .before .before .before .before .before .before .before .before .before .before .before .before .pre .11,
+)
 
 enum-known-x : tie.Need-enum-known-x
 enum-known-x c = search needs
@@ -96,16 +116,27 @@ returns-2 c =
     let v = c .before .before .before .before .before .before .before .before .v .given .0 .0 in
     let P = c .before .before .before .before .before .before .before .before .before .before .before .before .before .before .before .before .before .before .before .before .before .before .before .before .before .pre in
     let room : a .used + v ≤ g .room = omega (arith, P .11) in
-    let has : v * row-length ≤ length (r .last .0) = omega (arith, subst (Ended g) (c .before .before .before .before .before .before .before .before .v .given .1) (r .ensures .1), P .4 .sorted-fits) in
+    let has : v * row-length ≤ length (r .last .0) = omega (
+      arith,
+      subst (Ended g)
+          (c .before .before .before .before .before .before .before .before .v .given .1) (r .ensures .1),
+      P .4 .sorted-fits,
+    ) in
     let o = c .before .before .append in (
       (
         came .0,
         ap (λ z. done (lifted-vectors z (a .i + 1), a .used + v)) (o .ensures)
-            ∙ ap (λ f. done (f, a .used + v)) (vectors-grown (a .out .now) (r .last .0) (a .i) (a .used) v (omega (arith, P .7 .few, P .8)) (omega (arith, P .9)) has (P .12))
+            ∙ ap (λ f. done (f, a .used + v)) (vectors-grown (a .out .now) (r .last .0) (a .i) (a .used) v (omega (arith, P .7 .few, P .8))
+            (omega (arith, P .9)) has (P .12))
             ∙ with-room S l (rows (r .last .0) 0 v) v (length-rows (r .last .0) 0 v) room
-            ∙ ap (λ x. x >>= λ w. with-vector S l (w, [])) (sym (ap (λ y. outcome-of y (r .last .0) (r .last .1 .0)) (c .before .before .before .before .before .before .before .before .v .given .1)) ∙ came .1),
+            ∙ ap (λ x. x >>= λ w. with-vector S l (w, [])) (sym (ap (λ y. outcome-of y (r .last .0) (r .last .1 .0))
+            (c .before .before .before .before .before .before .before .before .v .given .1)) ∙ came .1),
       ),
-      (room, subst (Kept (a .i + 1) (a .used + v)) (sym (o .ensures)) (kept-grown (a .out .now) (r .last .0) (a .i) (a .used) v (omega (arith, P .7 .few, P .8)) (omega (arith, P .9)) has (P .12))),
+      (
+        room,
+        subst (Kept (a .i + 1) (a .used + v)) (sym (o .ensures)) (kept-grown (a .out .now) (r .last .0) (a .i) (a .used) v
+            (omega (arith, P .7 .few, P .8)) (omega (arith, P .9)) has (P .12)),
+      ),
     )
 
 same-length-6 : tie.Need-same-length-6
@@ -122,10 +153,15 @@ returns-3 c =
     let W = strategy-of g (a .tables .now) (a .w) in
     let l : Lifted = (lifted-vectors (a .out .now) (a .i), a .used) in
     let r = c .before .before .before .before .before .before .before .run in
-    let t : term-of (c .before .before .before .before .before .before .before .before .before .before .before .row .result) ≡ row-at (a .frame .now) (a .i) = c .before .before .before .before .before .before .before .before .before .before .before .row .ensures in
+    let t : term-of (c .before .before .before .before .before .before .before .before .before .before .before .row .result)
+    ≡ row-at (a .frame .now) (a .i) = c .before .before .before .before .before .before .before .before .before .before .before .row .ensures in
     let came : (k : ℕ) × (outcome-of (r .result) (r .last .0) (r .last .1 .0) ≡ run S W k (row-at (a .frame .now) (a .i) .1)) =
     (r .ensures .0 .0, r .ensures .0 .1 ∙ ap (λ x. run S W (r .ensures .0 .0) (x .1)) t) in (
-      (came .0, ap (λ x. x >>= λ w. with-vector S l (w, [])) (sym (ap (λ y. outcome-of y (r .last .0) (r .last .1 .0)) (c .before .x .given .1)) ∙ came .1)),
+      (
+        came .0,
+        ap (λ x. x >>= λ w. with-vector S l (w, [])) (sym (ap (λ y. outcome-of y (r .last .0) (r .last .1 .0)) (c .before .x .given .1))
+            ∙ came .1),
+      ),
       tt,
     )
 
@@ -143,10 +179,15 @@ returns-4 c =
     let W = strategy-of g (a .tables .now) (a .w) in
     let l : Lifted = (lifted-vectors (a .out .now) (a .i), a .used) in
     let r = c .before .before .before .before .before .before .before .run in
-    let t : term-of (c .before .before .before .before .before .before .before .before .before .before .before .row .result) ≡ row-at (a .frame .now) (a .i) = c .before .before .before .before .before .before .before .before .before .before .before .row .ensures in
+    let t : term-of (c .before .before .before .before .before .before .before .before .before .before .before .row .result)
+    ≡ row-at (a .frame .now) (a .i) = c .before .before .before .before .before .before .before .before .before .before .before .row .ensures in
     let came : (k : ℕ) × (outcome-of (r .result) (r .last .0) (r .last .1 .0) ≡ run S W k (row-at (a .frame .now) (a .i) .1)) =
     (r .ensures .0 .0, r .ensures .0 .1 ∙ ap (λ x. run S W (r .ensures .0 .0) (x .1)) t) in (
-      (came .0, ap (λ x. x >>= λ w. with-vector S l (w, [])) (sym (ap (λ y. outcome-of y (r .last .0) (r .last .1 .0)) (c .before .n .given .1)) ∙ came .1)),
+      (
+        came .0,
+        ap (λ x. x >>= λ w. with-vector S l (w, [])) (sym (ap (λ y. outcome-of y (r .last .0) (r .last .1 .0)) (c .before .n .given .1))
+            ∙ came .1),
+      ),
       subst (Ended g) (c .before .n .given .1) (r .ensures .1),
     )
 

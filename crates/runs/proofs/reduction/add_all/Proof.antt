@@ -10,7 +10,9 @@ use Rattle.runs.proofs.reduction.add_all.Statement.{statement}
 use Rattle.runs.proofs.reduction.add_all.Tie as tie
 
 abbrev Inv-loop : tie.InvT-loop
-Inv-loop value₀ n level from to c q tables g drops k₀ i₀ value k i = (from ≤ i) × (k ≤ g .working) × (length value ≡ length value₀) × (add-products (reduction-of g tables) drops c q (rows level from (to - from)) (rows value₀ 0 n) ≡ add-products (reduction-of g tables) drops c q (rows level i (to - i)) (rows value 0 k))
+Inv-loop value₀ n level from to c q tables g drops k₀ i₀ value k i = (from ≤ i) × (k ≤ g .working) × (length value ≡ length value₀)
+    × (add-products (reduction-of g tables) drops c q (rows level from (to - from)) (rows value₀ 0 n)
+    ≡ add-products (reduction-of g tables) drops c q (rows level i (to - i)) (rows value 0 k))
 
 abbrev μ-loop : tie.MeasureT-loop
 μ-loop value₀ n level from to c q tables g drops k₀ i₀ value k i = to - i
@@ -34,8 +36,13 @@ returns : tie.Need-returns Inv-loop μ-loop
 returns c =
     let a = c .before .before .before .before .before .before .before .before .before .before .before .before .args in
     let l = c .before .before .before .before .before .before .before .before .loop in
-    let R = reduction-of (a .g) (a .tables .now) in
-    (sym (l .inv .3 ∙ adding-stops R (a .drops) (a .c) (a .q) (a .level .now) (l .i) (a .to) (rows (l .value) 0 (l .k)) (c .before .x2 .given .0 .0) (c .before .before .before .before .before .add-product .result) (c .before .before .before .before .before .add-product .last .0) (omega arith) (c .before .before .before .before .before .add-product .ensures .0) (c .before .x2 .given .1)), tt)
+    let R = reduction-of (a .g) (a .tables .now) in (
+      sym (l .inv .3 ∙ adding-stops R (a .drops) (a .c) (a .q) (a .level .now) (l .i) (a .to) (rows (l .value) 0 (l .k)) (c .before .x2 .given .0 .0)
+          (c .before .before .before .before .before .add-product .result) (c .before .before .before .before .before .add-product .last .0)
+          (omega arith)
+          (c .before .before .before .before .before .add-product .ensures .0) (c .before .x2 .given .1)),
+      tt,
+    )
 
 add-i : tie.Need-add-i Inv-loop μ-loop
 add-i c = omega arith
@@ -50,9 +57,12 @@ loop-again c =
     let R = reduction-of (a .g) (a .tables .now) in
     let k = c .before .x .given .0 .0 in (
       omega arith,
-      within-rows (a .g .working) (c .before .before .before .before .before .add-product .result) k (c .before .before .before .before .before .add-product .ensures .1) (c .before .x .given .1),
+      within-rows (a .g .working) (c .before .before .before .before .before .add-product .result) k
+          (c .before .before .before .before .before .add-product .ensures .1) (c .before .x .given .1),
       omega arith,
-      l .inv .3 ∙ adding-on R (a .drops) (a .c) (a .q) (a .level .now) (l .i) (a .to) (rows (l .value) 0 (l .k)) k (c .before .before .before .before .before .add-product .result) (c .before .before .before .before .before .add-product .last .0) (omega arith) (c .before .before .before .before .before .add-product .ensures .0) (c .before .x .given .1),
+      l .inv .3 ∙ adding-on R (a .drops) (a .c) (a .q) (a .level .now) (l .i) (a .to) (rows (l .value) 0 (l .k)) k
+          (c .before .before .before .before .before .add-product .result) (c .before .before .before .before .before .add-product .last .0)
+          (omega arith) (c .before .before .before .before .before .add-product .ensures .0) (c .before .x .given .1),
     )
 
 same-length-2 : tie.Need-same-length-2 Inv-loop μ-loop

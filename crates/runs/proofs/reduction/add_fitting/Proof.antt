@@ -19,7 +19,12 @@ part-search-end : tie.Need-part-search-end
 part-search-end c = search needs
 
 search-requires : tie.Need-search-requires
-search-requires c κs = (c .before .before .before .before .before .pre .0 .heads-fit, c .before .before .before .before .before .pre .0 .spans-fit, c .before .before .before .before .before .pre .0 .small, c .before .before .before .before .before .pre .0 .spanned)
+search-requires c κs = (
+  c .before .before .before .before .before .pre .0 .heads-fit,
+  c .before .before .before .before .before .pre .0 .spans-fit,
+  c .before .before .before .before .before .pre .0 .small,
+  c .before .before .before .before .before .pre .0 .spanned,
+)
 
 enum-known-found : tie.Need-enum-known-found
 enum-known-found c = search needs
@@ -32,8 +37,11 @@ returns c =
     let a = c .before .before .before .before .before .before .before .before .args in
     let R = reduction-of (a .g) (a .tables .now) in
     let m = term-of (a .t) .1 in
-    let v = rows (a .value .now) 0 (a .n) in
-    (sym (ap (λ d. unless-dropped d R (term-of (a .t)) v) (ap (λ b. dropped? R b m) (c .before .before .before .before .before .if1 .taken) ∙ is-dropped R m (sym (c .enum-told .given .1) ∙ c .before .before .search .ensures))), omega arith)
+    let v = rows (a .value .now) 0 (a .n) in (
+      sym (ap (λ d. unless-dropped d R (term-of (a .t)) v) (ap (λ b. dropped? R b m) (c .before .before .before .before .before .if1 .taken)
+          ∙ is-dropped R m (sym (c .enum-told .given .1) ∙ c .before .before .search .ensures))),
+      omega arith,
+    )
 
 store-term-requires : tie.Need-store-term-requires
 store-term-requires c κs = (c .before .before .before .before .before .before .before .before .before .before .pre .0 .prime, omega arith, omega arith)
@@ -46,8 +54,15 @@ returns-2 c =
     let a = c .before .before .before .before .before .before .before .before .before .before .before .before .before .args in
     let R = reduction-of (a .g) (a .tables .now) in
     let m = term-of (a .t) .1 in
-    let v = rows (a .value .now) 0 (a .n) in
-    (c .before .before .store-term .ensures .0 ∙ sym (ap (λ d. unless-dropped d R (term-of (a .t)) v) (ap (λ b. dropped? R b m) (c .before .before .before .before .before .before .before .before .before .before .if1 .taken) ∙ not-dropped R m (c .before .before .before .before .before .found .given .0 .0) (c .before .before .before .before .before .found .given .0 .1 .0) (sym (c .before .before .before .before .before .found .given .1) ∙ c .before .before .before .before .before .before .before .search .ensures))), c .before .before .store-term .ensures .1)
+    let v = rows (a .value .now) 0 (a .n) in (
+      c .before .before .store-term .ensures .0 ∙ sym (ap (λ d. unless-dropped d R (term-of (a .t)) v)
+          (ap (λ b. dropped? R b m) (c .before .before .before .before .before .before .before .before .before .before .if1 .taken)
+          ∙ not-dropped R m (c .before .before .before .before .before .found .given .0 .0)
+          (c .before .before .before .before .before .found .given .0 .1 .0)
+          (sym (c .before .before .before .before .before .found .given .1)
+          ∙ c .before .before .before .before .before .before .before .search .ensures))),
+      c .before .before .store-term .ensures .1,
+    )
 
 store-term-requires-2 : tie.Need-store-term-requires-2
 store-term-requires-2 c κs = (c .before .before .before .before .pre .0 .prime, omega arith, omega arith)
@@ -60,8 +75,11 @@ returns-3 c =
     let a = c .before .before .before .before .before .before .before .args in
     let R = reduction-of (a .g) (a .tables .now) in
     let m = term-of (a .t) .1 in
-    let v = rows (a .value .now) 0 (a .n) in
-    (c .before .before .store-term2 .ensures .0 ∙ sym (ap (λ d. unless-dropped d R (term-of (a .t)) v) (drops-none R (a .drops) m (c .before .before .before .before .if1 .left))), c .before .before .store-term2 .ensures .1)
+    let v = rows (a .value .now) 0 (a .n) in (
+      c .before .before .store-term2 .ensures .0 ∙ sym (ap (λ d. unless-dropped d R (term-of (a .t)) v)
+          (drops-none R (a .drops) m (c .before .before .before .before .if1 .left))),
+      c .before .before .store-term2 .ensures .1,
+    )
 
 pub add-fitting-spec : {M : Type 1} → statement M
 add-fitting-spec =

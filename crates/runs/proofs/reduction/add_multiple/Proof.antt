@@ -38,7 +38,8 @@ place-requires c κs = search needs
 add-all-requires : tie.Need-add-all-requires
 add-all-requires c κs =
     let a = c .before .before .before .before .before .before .before .before .args in
-    let h : getD (ends-in (a .tables .now)) (a .j - 1) 0 * row-length ≤ length (a .level .now) = c .before .before .before .before .before .before .before .before .pre .1 .rows-fit (a .j - 1) (omega arith) in
+    let h : getD (ends-in (a .tables .now)) (a .j - 1) 0 * row-length ≤ length (a .level .now) =
+    c .before .before .before .before .before .before .before .before .pre .1 .rows-fit (a .j - 1) (omega arith) in
     (c .before .before .before .before .before .before .before .before .pre .0, omega arith, omega arith, omega (arith, c .before .place .ensures .0))
 
 same-length : tie.Need-same-length
@@ -52,7 +53,11 @@ returns c =
     let e = ends-in (a .tables .now) in
     let v = rows (a .value .now) 0 (a .n) in (
       c .before .before .add-all .ensures .0
-          ∙ ap (λ f. add-products R (a .drops) (a .c) (a .q) f v) ((λ i. rows s (c .before .before .before .before .before .before .first-of .ensures i) (c .before .before .before .before .place .ensures .0 i - c .before .before .before .before .before .before .first-of .ensures i)) ∙ sym (vector-at s e (a .g .r) (a .j) (c .before .before .before .before .before .before .before .before .before .before .before .pre .1 .ends-fit) (omega arith) (omega arith))),
+          ∙ ap (λ f. add-products R (a .drops) (a .c) (a .q) f v) ((λ i. rows s (c .before .before .before .before .before .before .first-of .ensures i)
+          (c .before .before .before .before .place .ensures .0 i - c .before .before .before .before .before .before .first-of .ensures i))
+          ∙ sym (vector-at s e (a .g .r) (a .j)
+          (c .before .before .before .before .before .before .before .before .before .before .before .pre .1 .ends-fit) (omega arith)
+          (omega arith))),
       c .before .before .add-all .ensures .1,
     )
 

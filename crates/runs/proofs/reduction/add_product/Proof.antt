@@ -28,9 +28,14 @@ returns c =
     let x = c .before .before .before .before .before .before .multiplied .result in
     let t = multiple (a .g .p) (a .c) (a .q) (row-at (a .level .now) (a .i)) in
     let v = rows (a .value .now) 0 (a .n) in
-    let u : term-of (x .term) ≡ t = formed-as (x .fits) (fits? most-exponent (t .1 .0)) (term-of (x .term)) t (c .before .before .before .before .before .before .multiplied .ensures) (c .before .before .before .before .if1 .taken) in
-    let f : fits? most-exponent (t .1 .0) ≡ true = sym (fits-as (x .fits) (fits? most-exponent (t .1 .0)) (term-of (x .term)) t (c .before .before .before .before .before .before .multiplied .ensures)) ∙ c .before .before .before .before .if1 .taken in
-    (c .before .before .add-fitting .ensures .0 ∙ ap (λ w. unless-dropped (dropped? R (a .drops) (w .1)) R w v) u ∙ sym (ap (λ b. if-fits b R (a .drops) t v) f), c .before .before .add-fitting .ensures .1)
+    let u : term-of (x .term) ≡ t = formed-as (x .fits) (fits? most-exponent (t .1 .0)) (term-of (x .term)) t
+    (c .before .before .before .before .before .before .multiplied .ensures) (c .before .before .before .before .if1 .taken) in
+    let f : fits? most-exponent (t .1 .0) ≡ true = sym (fits-as (x .fits) (fits? most-exponent (t .1 .0)) (term-of (x .term)) t
+    (c .before .before .before .before .before .before .multiplied .ensures)) ∙ c .before .before .before .before .if1 .taken in (
+      c .before .before .add-fitting .ensures .0 ∙ ap (λ w. unless-dropped (dropped? R (a .drops) (w .1)) R w v) u
+          ∙ sym (ap (λ b. if-fits b R (a .drops) t v) f),
+      c .before .before .add-fitting .ensures .1,
+    )
 
 returns-2 : tie.Need-returns-2
 returns-2 c =
@@ -38,8 +43,11 @@ returns-2 c =
     let R = reduction-of (a .g) (a .tables .now) in
     let x = c .before .before .multiplied .result in
     let t = multiple (a .g .p) (a .c) (a .q) (row-at (a .level .now) (a .i)) in
-    let v = rows (a .value .now) 0 (a .n) in
-    (sym (ap (λ b. if-fits b R (a .drops) t v) (sym (fits-as (x .fits) (fits? most-exponent (t .1 .0)) (term-of (x .term)) t (c .before .before .multiplied .ensures)) ∙ c .if1 .left)), tt)
+    let v = rows (a .value .now) 0 (a .n) in (
+      sym (ap (λ b. if-fits b R (a .drops) t v) (sym (fits-as (x .fits) (fits? most-exponent (t .1 .0)) (term-of (x .term)) t
+          (c .before .before .multiplied .ensures)) ∙ c .if1 .left)),
+      tt,
+    )
 
 pub add-product-spec : {M : Type 1} → statement M
 add-product-spec =

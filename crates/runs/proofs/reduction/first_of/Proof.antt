@@ -21,7 +21,8 @@ place-requires : tie.Need-place-requires
 place-requires c κs = search needs
 
 returns-2 : tie.Need-returns-2
-returns-2 c = c .place .ensures .0 ∙ first-later (c .before .before .before .before .args .ends .now) (c .before .before .before .before .args .j) (omega arith) (c .before .before .if1 .left)
+returns-2 c = c .place .ensures .0 ∙ first-later (c .before .before .before .before .args .ends .now) (c .before .before .before .before .args .j)
+    (omega arith) (c .before .before .if1 .left)
 
 pub first-of-spec : {M : Type 1} → statement M
 first-of-spec =

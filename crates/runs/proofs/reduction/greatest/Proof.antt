@@ -36,7 +36,8 @@ returns c =
     let x = c .before .walk .result in
     let w =
     walked (a .code) T (a .value .now) (a .n) (l .best .row) (a .n - l .i) (l .i) (x .row) (key-of (x .image)) refl (l .inv .0) (l .inv .1) (l .inv .4)
-    (c .before .walk .ensures ∙ ap (λ k. renewed-from (compare-keys (a .code)) (key T) k (rows (a .value .now) (l .i) (a .n - l .i)) (l .i)) (l .inv .3)) in
+    (c .before .walk .ensures ∙ ap (λ k. renewed-from (compare-keys (a .code)) (key T) k (rows (a .value .now) (l .i) (a .n - l .i)) (l .i))
+    (l .inv .3)) in
     sym (w .1 (c .if1 .taken))
 
 add-i : tie.Need-add-i Inv-loop μ-loop
@@ -51,7 +52,8 @@ loop-less c =
     let x = d .before .walk .result in
     let w =
     walked (a .code) T (a .value .now) (a .n) (l .best .row) (a .n - l .i) (l .i) (x .row) (key-of (x .image)) refl (l .inv .0) (l .inv .1) (l .inv .4)
-    (d .before .walk .ensures ∙ ap (λ k. renewed-from (compare-keys (a .code)) (key T) k (rows (a .value .now) (l .i) (a .n - l .i)) (l .i)) (l .inv .3)) in
+    (d .before .walk .ensures ∙ ap (λ k. renewed-from (compare-keys (a .code)) (key T) k (rows (a .value .now) (l .i) (a .n - l .i)) (l .i))
+    (l .inv .3)) in
     omega (arith, w .0)
 
 loop-again : tie.Need-loop-again Inv-loop μ-loop
@@ -63,7 +65,8 @@ loop-again c =
     let x = d .before .walk .result in
     let w =
     walked (a .code) T (a .value .now) (a .n) (l .best .row) (a .n - l .i) (l .i) (x .row) (key-of (x .image)) refl (l .inv .0) (l .inv .1) (l .inv .4)
-    (d .before .walk .ensures ∙ ap (λ k. renewed-from (compare-keys (a .code)) (key T) k (rows (a .value .now) (l .i) (a .n - l .i)) (l .i)) (l .inv .3)) in
+    (d .before .walk .ensures ∙ ap (λ k. renewed-from (compare-keys (a .code)) (key T) k (rows (a .value .now) (l .i) (a .n - l .i)) (l .i))
+    (l .inv .3)) in
     let g = w .2 (omega arith) in
     (omega arith, omega arith, omega arith, g .1, g .0)
 

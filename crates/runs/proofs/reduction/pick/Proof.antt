@@ -26,17 +26,20 @@ sub-result c = search needs
 returns : tie.Need-returns
 returns c =
     let a = c .before .before .before .before .before .args in
-    c .greatest .ensures ∙ sym (picks-greatest (table-order (a .g .code) (table-of (a .g .images) (below-in (a .tables .now)))) (a .pick) (rows (a .value .now) 0 (a .n)) (c .before .before .match .keys1))
+    c .greatest .ensures ∙ sym (picks-greatest (table-order (a .g .code) (table-of (a .g .images) (below-in (a .tables .now)))) (a .pick)
+    (rows (a .value .now) 0 (a .n)) (c .before .before .match .keys1))
 
 returns-2 : tie.Need-returns-2
 returns-2 c =
     let a = c .before .before .before .args in
-    picks-newest (table-order (a .g .code) (table-of (a .g .images) (below-in (a .tables .now)))) (a .pick) (a .value .now) (a .n) (omega arith) (c .match .keys2)
+    picks-newest (table-order (a .g .code) (table-of (a .g .images) (below-in (a .tables .now)))) (a .pick) (a .value .now) (a .n) (omega arith)
+    (c .match .keys2)
 
 returns-3 : tie.Need-returns-3
 returns-3 c =
     let a = c .before .before .before .args in
-    picks-oldest (table-order (a .g .code) (table-of (a .g .images) (below-in (a .tables .now)))) (a .pick) (a .value .now) (a .n) (omega arith) (c .match .rest .0 .1) (c .match .rest .1)
+    picks-oldest (table-order (a .g .code) (table-of (a .g .images) (below-in (a .tables .now)))) (a .pick) (a .value .now) (a .n) (omega arith)
+    (c .match .rest .0 .1) (c .match .rest .1)
 
 pub pick-spec : {M : Type 1} → statement M
 pick-spec = tie.close (tie.spec sub-greatest part-greatest-start part-greatest-end greatest-requires sub-result returns returns-2 returns-3)

@@ -23,14 +23,24 @@ same-length c = search needs
 
 returns : tie.Need-returns
 returns c =
-    let a = c .before .before .before .before .before .before .before .before .args in
-    (sym (ap (λ y. stored-as y (c .before .before .before .before .before .store .last .0)) (c .before .k .given .1)) ∙ c .before .before .before .before .before .store .ensures, store-within (a .limit) (a .p) (term-of (a .t)) (rows (a .s .now) 0 (a .n)) (c .before .before .before .before .before .store .result) (c .before .before .before .before .before .store .last .0) (c .before .k .given .0 .0) (omega (arith, length-rows (a .s .now) 0 (a .n))) (c .before .before .before .before .before .store .ensures) (c .before .k .given .1))
+    let a = c .before .before .before .before .before .before .before .before .args in (
+      sym (ap (λ y. stored-as y (c .before .before .before .before .before .store .last .0)) (c .before .k .given .1))
+          ∙ c .before .before .before .before .before .store .ensures,
+      store-within (a .limit) (a .p) (term-of (a .t)) (rows (a .s .now) 0 (a .n))
+          (c .before .before .before .before .before .store .result) (c .before .before .before .before .before .store .last .0)
+          (c .before .k .given .0 .0) (omega (arith, length-rows (a .s .now) 0 (a .n))) (c .before .before .before .before .before .store .ensures)
+          (c .before .k .given .1),
+    )
 
 same-length-2 : tie.Need-same-length-2
 same-length-2 c = search needs
 
 returns-2 : tie.Need-returns-2
-returns-2 c = (sym (ap (λ y. stored-as y (c .before .before .before .before .store .last .0)) (c .enum-told .given .1)) ∙ c .before .before .before .before .store .ensures, tt)
+returns-2 c = (
+  sym (ap (λ y. stored-as y (c .before .before .before .before .store .last .0)) (c .enum-told .given .1))
+      ∙ c .before .before .before .before .store .ensures,
+  tt,
+)
 
 pub store-term-spec : {M : Type 1} → statement M
 store-term-spec =

@@ -16,10 +16,29 @@ use Rattle.runs.proofs.run.one_step.Statement.{statement}
 use Rattle.runs.proofs.run.one_step.Tie as tie
 
 pick-requires : tie.Need-pick-requires
-pick-requires c κs = (omega arith, omega (arith, c .before .before .before .before .before .pre .3 .value-fits, c .before .before .before .before .before .pre .5), omega (arith, c .before .before .before .before .before .pre .0 .long), c .before .before .before .before .before .pre .2 .fits, c .before .before .before .before .before .pre .2 .tabled)
+pick-requires c κs = (
+  omega arith,
+  omega (
+    arith,
+    c .before .before .before .before .before .pre .3 .value-fits,
+    c .before .before .before .before .before .pre .5,
+  ),
+  omega (arith, c .before .before .before .before .before .pre .0 .long),
+  c .before .before .before .before .before .pre .2 .fits,
+  c .before .before .before .before .before .pre .2 .tabled,
+)
 
 row-requires : tie.Need-row-requires
-row-requires c κs = omega (arith, c .before .before .before .before .before .before .before .pre .3 .value-fits, c .before .before .before .before .before .before .before .pre .5, inside (c .before .before .before .before .before .before .before .args .value .now) (c .before .before .before .before .before .before .before .args .n) (order-of (c .before .before .before .before .before .before .before .args .g) (c .before .before .before .before .before .before .before .args .tables .now)) (c .before .before .before .before .before .before .before .args .w .pick) (c .before .pick .result) (c .before .pick .ensures))
+row-requires c κs = omega (
+  arith,
+  c .before .before .before .before .before .before .before .pre .3 .value-fits,
+  c .before .before .before .before .before .before .before .pre .5,
+  inside (c .before .before .before .before .before .before .before .args .value .now)
+      (c .before .before .before .before .before .before .before .args .n)
+      (order-of (c .before .before .before .before .before .before .before .args .g)
+      (c .before .before .before .before .before .before .before .args .tables .now))
+      (c .before .before .before .before .before .before .before .args .w .pick) (c .before .pick .result) (c .before .pick .ensures),
+)
 
 reducer-of-requires : tie.Need-reducer-of-requires
 reducer-of-requires c κs = c .before .before .before .before .before .before .before .before .pre .0
@@ -31,7 +50,19 @@ enum-told : tie.Need-enum-told
 enum-told c = search needs
 
 without-reducer-requires : tie.Need-without-reducer-requires
-without-reducer-requires c κs = (inside (c .before .before .before .before .before .before .before .before .before .before .before .before .args .value .now) (c .before .before .before .before .before .before .before .before .before .before .before .before .args .n) (order-of (c .before .before .before .before .before .before .before .before .before .before .before .before .args .g) (c .before .before .before .before .before .before .before .before .before .before .before .before .args .tables .now)) (c .before .before .before .before .before .before .before .before .before .before .before .before .args .w .pick) (c .before .before .before .before .before .before .pick .result) (c .before .before .before .before .before .before .pick .ensures), omega (arith, c .before .before .before .before .before .before .before .before .before .before .before .before .pre .3 .value-fits, c .before .before .before .before .before .before .before .before .before .before .before .before .pre .5))
+without-reducer-requires c κs = (
+  inside (c .before .before .before .before .before .before .before .before .before .before .before .before .args .value .now)
+      (c .before .before .before .before .before .before .before .before .before .before .before .before .args .n)
+      (order-of (c .before .before .before .before .before .before .before .before .before .before .before .before .args .g)
+      (c .before .before .before .before .before .before .before .before .before .before .before .before .args .tables .now))
+      (c .before .before .before .before .before .before .before .before .before .before .before .before .args .w .pick)
+      (c .before .before .before .before .before .before .pick .result) (c .before .before .before .before .before .before .pick .ensures),
+  omega (
+    arith,
+    c .before .before .before .before .before .before .before .before .before .before .before .before .pre .3 .value-fits,
+    c .before .before .before .before .before .before .before .before .before .before .before .before .pre .5,
+  ),
+)
 
 same-length : tie.Need-same-length
 same-length c = search needs
@@ -45,14 +76,21 @@ returns c =
     let r = run-of (a .value .now) n (a .vector .now) (a .v) in
     let i = c .before .before .before .before .before .before .before .before .before .pick .result in
     let w = c .before .before .without-reducer in
-    let l = inside (a .value .now) n (order-of g (a .tables .now)) (a .w .pick) i (c .before .before .before .before .before .before .before .before .before .pick .ensures) in
+    let l = inside (a .value .now) n (order-of g (a .tables .now)) (a .w .pick) i
+    (c .before .before .before .before .before .before .before .before .before .pick .ensures) in
     let told : lower-order ≡ answer (g .p) (rows (a .tables .now) 0 (g .r)) (getD (rows (a .value .now) 0 n) i no-term) =
-    sym (ap (λ y. answered y (c .before .before .before .before .before .before .reducer-of .result .quotient)) (c .before .before .before .before .enum-told .given .1)) ∙ c .before .before .before .before .before .before .reducer-of .ensures
-    ∙ ap (answer (g .p) (rows (a .tables .now) 0 (g .r))) (c .before .before .before .before .before .before .before .row .ensures ∙ sym (at-row (a .value .now) n i l)) in (
+    sym (ap (λ y. answered y (c .before .before .before .before .before .before .reducer-of .result .quotient))
+    (c .before .before .before .before .enum-told .given .1)) ∙ c .before .before .before .before .before .before .reducer-of .ensures
+    ∙ ap (answer (g .p) (rows (a .tables .now) 0 (g .r))) (c .before .before .before .before .before .before .before .row .ensures
+    ∙ sym (at-row (a .value .now) n i l)) in (
       λ above. (λ k. step-of (order-of g (a .tables .now)) (g .p) (w .ensures .0 k) (w .ensures .1 k) (a .vector .now))
-          ∙ left-out (stage-of g (a .level .now) (a .tables .now) above) (a .value .now) n (a .vector .now) (a .v) i l (omega (arith, c .before .before .before .before .before .before .before .before .before .before .before .before .before .before .before .pre .3 .value-fits, c .before .before .before .before .before .before .before .before .before .before .before .before .before .before .before .pre .5)) (a .w .stops)
-          ∙ step-without (stage-of g (a .level .now) (a .tables .now) above) W r i (c .before .before .before .before .before .before .before .before .before .pick .ensures) told,
-      subst (Room g) (sym (w .ensures .0)) (without-room g n (a .v) (a .w .stops) (c .before .before .before .before .before .before .before .before .before .before .before .before .before .before .before .pre .5) (c .before .before .before .before .before .before .before .before .before .before .before .before .before .before .before .pre .6)),
+          ∙ left-out (stage-of g (a .level .now) (a .tables .now) above) (a .value .now) n (a .vector .now) (a .v) i l
+          (omega (arith, c .before .before .before .before .before .before .before .before .before .before .before .before .before .before .before .pre .3 .value-fits, c .before .before .before .before .before .before .before .before .before .before .before .before .before .before .before .pre .5)) (a .w .stops)
+          ∙ step-without (stage-of g (a .level .now) (a .tables .now) above) W r i
+          (c .before .before .before .before .before .before .before .before .before .pick .ensures) told,
+      subst (Room g) (sym (w .ensures .0)) (without-room g n (a .v) (a .w .stops)
+          (c .before .before .before .before .before .before .before .before .before .before .before .before .before .before .before .pre .5)
+          (c .before .before .before .before .before .before .before .before .before .before .before .before .before .before .before .pre .6)),
     )
 
 negative-requires : tie.Need-negative-requires
@@ -62,8 +100,20 @@ reduced-requires : tie.Need-reduced-requires
 reduced-requires c κs =
     let a = c .before .before .before .before .before .before .before .before .before .before .before .before .before .before .before .before .args in
     let hs = rows (a .tables .now) 0 (a .g .r) in
-    let b = reducer-number (a .g .p) hs (term-of (c .before .before .before .before .before .before .before .before .row .result)) (c .before .before .before .before .before .answer .given .0 .0) (c .before .before .before .before .before .answer .given .0 .1 .0) (c .before .before .before .before .before .before .before .reducer-of .result .quotient) (sym (ap (λ y. answered y (c .before .before .before .before .before .before .before .reducer-of .result .quotient)) (c .before .before .before .before .before .answer .given .1)) ∙ c .before .before .before .before .before .before .before .reducer-of .ensures) in
-    (c .before .before .before .before .before .before .before .before .before .before .before .before .before .before .before .before .pre .0, c .before .before .before .before .before .before .before .before .before .before .before .before .before .before .before .before .pre .1, c .before .before .before .before .before .before .before .before .before .before .before .before .before .before .before .before .pre .3, c .before .before .before .before .before .before .before .before .before .before .before .before .before .before .before .before .pre .5, c .before .before .before .before .before .before .before .before .before .before .before .before .before .before .before .before .pre .6, b .0, omega (arith, b .1, length-rows (a .tables .now) 0 (a .g .r)))
+    let b = reducer-number (a .g .p) hs (term-of (c .before .before .before .before .before .before .before .before .row .result))
+    (c .before .before .before .before .before .answer .given .0 .0) (c .before .before .before .before .before .answer .given .0 .1 .0)
+    (c .before .before .before .before .before .before .before .reducer-of .result .quotient)
+    (sym (ap (λ y. answered y (c .before .before .before .before .before .before .before .reducer-of .result .quotient))
+    (c .before .before .before .before .before .answer .given .1))
+    ∙ c .before .before .before .before .before .before .before .reducer-of .ensures) in (
+      c .before .before .before .before .before .before .before .before .before .before .before .before .before .before .before .before .pre .0,
+      c .before .before .before .before .before .before .before .before .before .before .before .before .before .before .before .before .pre .1,
+      c .before .before .before .before .before .before .before .before .before .before .before .before .before .before .before .before .pre .3,
+      c .before .before .before .before .before .before .before .before .before .before .before .before .before .before .before .before .pre .5,
+      c .before .before .before .before .before .before .before .before .before .before .before .before .before .before .before .before .pre .6,
+      b .0,
+      omega (arith, b .1, length-rows (a .tables .now) 0 (a .g .r)),
+    )
 
 same-length-2 : tie.Need-same-length-2
 same-length-2 c = search needs
@@ -85,13 +135,19 @@ returns-2 c =
     let q = c .before .before .before .before .before .before .before .before .before .before .before .before .reducer-of .result .quotient in
     let f = family-of g (a .level .now) (ends-in (a .tables .now)) in
     let R = reduction-of g (a .tables .now) in
-    let l = inside (a .value .now) n (order-of g (a .tables .now)) (a .w .pick) i (c .before .before .before .before .before .before .before .before .before .before .before .before .before .before .before .pick .ensures) in
+    let l = inside (a .value .now) n (order-of g (a .tables .now)) (a .w .pick) i
+    (c .before .before .before .before .before .before .before .before .before .before .before .before .before .before .before .pick .ensures) in
     let told : reducer j x q ≡ answer (g .p) (rows (a .tables .now) 0 (g .r)) (getD (rows (a .value .now) 0 n) i no-term) =
-    sym (ap (λ y. answered y q) (c .before .before .before .before .before .before .before .before .before .before .answer .given .1)) ∙ c .before .before .before .before .before .before .before .before .before .before .before .before .reducer-of .ensures
-    ∙ ap (answer (g .p) (rows (a .tables .now) 0 (g .r))) (c .before .before .before .before .before .before .before .before .before .before .before .before .before .row .ensures ∙ sym (at-row (a .value .now) n i l)) in (
+    sym (ap (λ y. answered y q) (c .before .before .before .before .before .before .before .before .before .before .answer .given .1))
+    ∙ c .before .before .before .before .before .before .before .before .before .before .before .before .reducer-of .ensures
+    ∙ ap (answer (g .p) (rows (a .tables .now) 0 (g .r)))
+    (c .before .before .before .before .before .before .before .before .before .before .before .before .before .row .ensures
+    ∙ sym (at-row (a .value .now) n i l)) in (
       λ above. d .ensures .0 (order-of g (a .tables .now))
           ∙ ap (λ y. reduced-by R f (a .w .drops) r j y q) (c .before .before .before .before .before .before .before .negative .ensures)
-          ∙ step-reduced (stage-of g (a .level .now) (a .tables .now) above) W r i (c .before .before .before .before .before .before .before .before .before .before .before .before .before .before .before .pick .ensures) j x q told,
+          ∙ step-reduced (stage-of g (a .level .now) (a .tables .now) above) W r i
+          (c .before .before .before .before .before .before .before .before .before .before .before .before .before .before .before .pick .ensures)
+          j x q told,
       d .ensures .1,
     )
 

@@ -13,13 +13,24 @@ cast-component : tie.Need-cast-component
 cast-component c = omega (arith, c .before .before .before .before .pre .0 .few)
 
 store-term-requires : tie.Need-store-term-requires
-store-term-requires c κs = (c .before .before .before .before .before .pre .0 .prime, omega arith, c .before .before .before .before .before .pre .2 .vector-fits)
+store-term-requires c κs = (
+  c .before .before .before .before .before .pre .0 .prime,
+  omega arith,
+  c .before .before .before .before .before .pre .2 .vector-fits,
+)
 
 enum-known-k : tie.Need-enum-known-k
 enum-known-k c = search needs
 
 add-multiple-requires : tie.Need-add-multiple-requires
-add-multiple-requires c κs = (c .before .before .before .before .before .before .before .before .before .before .before .before .pre .0, c .before .before .before .before .before .before .before .before .before .before .before .before .pre .1, omega arith, c .before .before .before .before .before .before .before .before .before .before .before .before .pre .2 .value-fits, omega arith, omega arith)
+add-multiple-requires c κs = (
+  c .before .before .before .before .before .before .before .before .before .before .before .before .pre .0,
+  c .before .before .before .before .before .before .before .before .before .before .before .before .pre .1,
+  omega arith,
+  c .before .before .before .before .before .before .before .before .before .before .before .before .pre .2 .value-fits,
+  omega arith,
+  omega arith,
+)
 
 enum-known-m : tie.Need-enum-known-m
 enum-known-m c = search needs
@@ -50,7 +61,10 @@ returns c =
       λ order. both-added R f (a .drops) r (a .j) (a .c) (a .q) (rows (s .last .0) 0 k) (rows (t .last .0) 0 m)
           (sym (ap (λ y. added-of y (s .last .0)) (c .before .before .before .before .before .before .before .before .k .given .1)) ∙ s .ensures .0)
           (sym (ap (λ y. added-of y (t .last .0)) (c .before .m .given .1)) ∙ t .ensures .0),
-      (within-rows (g .working) (t .result) m (t .ensures .1) (c .before .m .given .1), within-rows (g .vector) (s .result) k (s .ensures .1) (c .before .before .before .before .before .before .before .before .k .given .1)),
+      (
+        within-rows (g .working) (t .result) m (t .ensures .1) (c .before .m .given .1),
+        within-rows (g .vector) (s .result) k (s .ensures .1) (c .before .before .before .before .before .before .before .before .k .given .1),
+      ),
     )
 
 same-length-3 : tie.Need-same-length-3
@@ -86,7 +100,8 @@ returns-3 c =
     let f = family-of g (a .level .now) (ends-in (a .tables .now)) in
     let r = run-of (a .value .now) (a .n) (a .vector .now) (a .v) in
     let s = c .before .before .before .before .before .store-term in (
-      λ order. record-refused R f (a .drops) r (a .j) (a .c) (a .q) (c .before .x2 .given .0 .0) (sym (ap (λ y. added-of y (s .last .0)) (c .before .x2 .given .1)) ∙ s .ensures .0),
+      λ order. record-refused R f (a .drops) r (a .j) (a .c) (a .q) (c .before .x2 .given .0 .0)
+          (sym (ap (λ y. added-of y (s .last .0)) (c .before .x2 .given .1)) ∙ s .ensures .0),
       tt,
     )
 

@@ -15,7 +15,13 @@ use Rattle.runs.proofs.run.run.Statement.{statement}
 use Rattle.runs.proofs.run.run.Tie as tie
 
 started-requires : tie.Need-started-requires
-started-requires c κs = (c .before .before .before .before .before .pre .0, c .before .before .before .before .before .pre .1, c .before .before .before .before .before .pre .4 .value-fits, c .before .before .before .before .before .pre .7, c .before .before .before .before .before .pre .8)
+started-requires c κs = (
+  c .before .before .before .before .before .pre .0,
+  c .before .before .before .before .before .pre .1,
+  c .before .before .before .before .before .pre .4 .value-fits,
+  c .before .before .before .before .before .pre .7,
+  c .before .before .before .before .before .pre .8,
+)
 
 enum-known-n : tie.Need-enum-known-n
 enum-known-n c = search needs
@@ -32,11 +38,18 @@ returns c =
     let g = a .g in
     let above = table-order (g .code) (table-of (g .r) (above-in (a .tables .now))) in
     let W = strategy-of g (a .tables .now) (a .w) in
-    let s = c .before .before .before .before .before .started in
-    (start-refused (stage-of g (a .level .now) (a .tables .now) above) W (monomial-of (a .m)) (c .before .x .given .0 .0) (sym (ap (λ y. added-of y (s .last .0)) (c .before .x .given .1)) ∙ s .ensures .0), tt)
+    let s = c .before .before .before .before .before .started in (
+      start-refused (stage-of g (a .level .now) (a .tables .now) above) W (monomial-of (a .m)) (c .before .x .given .0 .0)
+          (sym (ap (λ y. added-of y (s .last .0)) (c .before .x .given .1)) ∙ s .ensures .0),
+      tt,
+    )
 
 put-requires : tie.Need-put-requires
-put-requires c κs = omega (arith, c .before .before .before .before .before .before .before .before .before .before .before .before .pre .4 .vector-fits, c .before .before .before .before .before .before .before .before .before .before .before .before .pre .5)
+put-requires c κs = omega (
+  arith,
+  c .before .before .before .before .before .before .before .before .before .before .before .before .pre .4 .vector-fits,
+  c .before .before .before .before .before .before .before .before .before .before .before .before .pre .5,
+)
 
 steps-requires : tie.Need-steps-requires
 steps-requires c κs =
@@ -53,14 +66,22 @@ steps-requires c κs =
       within-rows (g .working) (s .result) n (s .ensures .1) (c .before .before .before .before .before .before .before .n .given .1),
       P .5,
       P .6,
-      started-good (stage-of g (a .level .now) (a .tables .now) (order-of g (a .tables .now))) W (monomial-of (a .m)) (P .6) (c .before .before .before .before .put .ensures .1 .eight) (rows (s .last .0) 0 n) (sym (ap (λ y. added-of y (s .last .0)) (c .before .before .before .before .before .before .before .n .given .1)) ∙ s .ensures .0),
+      started-good (stage-of g (a .level .now) (a .tables .now) (order-of g (a .tables .now))) W (monomial-of (a .m)) (P .6)
+          (c .before .before .before .before .put .ensures .1 .eight) (rows (s .last .0) 0 n)
+          (sym (ap (λ y. added-of y (s .last .0)) (c .before .before .before .before .before .before .before .n .given .1)) ∙ s .ensures .0),
     )
 
 sorted-requires : tie.Need-sorted-requires
 sorted-requires c κs =
     let a = c .before .before .before .before .before .before .before .before .before .before .before .before .before .before .before .before .before .before .before .before .before .before .before .before .args in
-    let P = c .before .before .before .before .before .before .before .before .before .before .before .before .before .before .before .before .before .before .before .before .before .before .before .before .pre in
-    (P .0, P .2, P .3, rooms-again (a .g) (a .value .now) (a .vector .now) (c .before .before .before .before .before .before .steps .last .0) (c .before .before .before .before .before .before .steps .last .1 .1 .0) (omega arith) (omega arith) (P .4), c .before .before .before .before .before .before .steps .ensures .1)
+    let P = c .before .before .before .before .before .before .before .before .before .before .before .before .before .before .before .before .before .before .before .before .before .before .before .before .pre in (
+      P .0,
+      P .2,
+      P .3,
+      rooms-again (a .g) (a .value .now) (a .vector .now) (c .before .before .before .before .before .before .steps .last .0)
+          (c .before .before .before .before .before .before .steps .last .1 .1 .0) (omega arith) (omega arith) (P .4),
+      c .before .before .before .before .before .before .steps .ensures .1,
+    )
 
 same-length-2 : tie.Need-same-length-2
 same-length-2 c = search needs
@@ -80,9 +101,13 @@ returns-2 c =
     let t = c .before .before .before .before .before .before .before .before .before .before .before .steps .ensures .0 above in
     let p = c .before .before .before .before .before .before .before .before .before .before .before .before .before .before .before .before .put in
     let one : rows (p .last .0) 0 1 ≡ (1, m) ∷ [] =
-    ap (λ z. rows z 0 1) (p .ensures .0) ∙ rows-appended (a .vector .now) 0 (1, m) (omega (arith, c .before .before .before .before .before .before .before .before .before .before .before .before .before .before .before .before .before .before .before .before .before .before .before .before .before .before .before .before .before .pre .4 .vector-fits, c .before .before .before .before .before .before .before .before .before .before .before .before .before .before .before .before .before .before .before .before .before .before .before .before .before .before .before .before .before .pre .5)) (p .ensures .1) ∙ ap (λ v. v ++ (1, m) ∷ []) (rows-none (a .vector .now) 0) in (
-      from-start (stage-of g (a .level .now) (a .tables .now) above) W m (rows (s .last .0) 0 n) (rows (p .last .0) 0 1) (outcome-of (c .before .before .before .before .sorted .result) (c .before .before .before .before .sorted .last .0) (c .before .before .before .before .sorted .last .1 .0))
-          (sym (ap (λ y. added-of y (s .last .0)) (c .before .before .before .before .before .before .before .before .before .before .before .before .before .before .before .before .before .before .before .n .given .1)) ∙ s .ensures .0) one (t .0, c .before .before .before .before .sorted .ensures .0 ∙ t .1),
+    ap (λ z. rows z 0 1) (p .ensures .0) ∙ rows-appended (a .vector .now) 0 (1, m)
+    (omega (arith, c .before .before .before .before .before .before .before .before .before .before .before .before .before .before .before .before .before .before .before .before .before .before .before .before .before .before .before .before .before .pre .4 .vector-fits, c .before .before .before .before .before .before .before .before .before .before .before .before .before .before .before .before .before .before .before .before .before .before .before .before .before .before .before .before .before .pre .5)) (p .ensures .1) ∙ ap (λ v. v ++ (1, m) ∷ []) (rows-none (a .vector .now) 0) in (
+      from-start (stage-of g (a .level .now) (a .tables .now) above) W m (rows (s .last .0) 0 n) (rows (p .last .0) 0 1)
+          (outcome-of (c .before .before .before .before .sorted .result) (c .before .before .before .before .sorted .last .0)
+          (c .before .before .before .before .sorted .last .1 .0))
+          (sym (ap (λ y. added-of y (s .last .0))
+          (c .before .before .before .before .before .before .before .before .before .before .before .before .before .before .before .before .before .before .before .n .given .1)) ∙ s .ensures .0) one (t .0, c .before .before .before .before .sorted .ensures .0 ∙ t .1),
       c .before .before .before .before .sorted .ensures .1,
     )
 

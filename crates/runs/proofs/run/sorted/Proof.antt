@@ -22,7 +22,23 @@ part-sort-end : tie.Need-part-sort-end
 part-sort-end c = search needs
 
 sort-requires : tie.Need-sort-requires
-sort-requires c κs = (c .before .before .before .before .before .before .before .before .before .pre .0 .prime, omega (arith, c .before .before .before .before .before .before .before .before .before .pre .3 .vector-fits, subst (Ended (c .before .before .before .before .before .before .before .before .before .args .g)) (c .before .before .before .before .x .given .1) (c .before .before .before .before .before .before .before .before .before .pre .4)), omega (arith, c .before .before .before .before .before .before .before .before .before .pre .3 .sorted-fits, subst (Ended (c .before .before .before .before .before .before .before .before .before .args .g)) (c .before .before .before .before .x .given .1) (c .before .before .before .before .before .before .before .before .before .pre .4)), c .before .before .before .before .before .before .before .before .before .pre .2 .fits, c .before .before .before .before .before .before .before .before .before .pre .2 .tabled)
+sort-requires c κs = (
+  c .before .before .before .before .before .before .before .before .before .pre .0 .prime,
+  omega (
+    arith,
+    c .before .before .before .before .before .before .before .before .before .pre .3 .vector-fits,
+    subst (Ended (c .before .before .before .before .before .before .before .before .before .args .g)) (c .before .before .before .before .x .given .1)
+        (c .before .before .before .before .before .before .before .before .before .pre .4),
+  ),
+  omega (
+    arith,
+    c .before .before .before .before .before .before .before .before .before .pre .3 .sorted-fits,
+    subst (Ended (c .before .before .before .before .before .before .before .before .before .args .g)) (c .before .before .before .before .x .given .1)
+        (c .before .before .before .before .before .before .before .before .before .pre .4),
+  ),
+  c .before .before .before .before .before .before .before .before .before .pre .2 .fits,
+  c .before .before .before .before .before .before .before .before .before .pre .2 .tabled,
+)
 
 enum-known-x-2 : tie.Need-enum-known-x-2
 enum-known-x-2 c = search needs
@@ -40,7 +56,23 @@ part-sort-end-2 : tie.Need-part-sort-end-2
 part-sort-end-2 c = search needs
 
 sort-requires-2 : tie.Need-sort-requires-2
-sort-requires-2 c κs = (c .before .before .before .before .before .before .before .before .before .pre .0 .prime, omega (arith, c .before .before .before .before .before .before .before .before .before .pre .3 .value-fits, subst (Ended (c .before .before .before .before .before .before .before .before .before .args .g)) (c .before .before .before .before .x3 .given .1) (c .before .before .before .before .before .before .before .before .before .pre .4)), omega (arith, c .before .before .before .before .before .before .before .before .before .pre .3 .left-fits, subst (Ended (c .before .before .before .before .before .before .before .before .before .args .g)) (c .before .before .before .before .x3 .given .1) (c .before .before .before .before .before .before .before .before .before .pre .4)), c .before .before .before .before .before .before .before .before .before .pre .1 .fits, c .before .before .before .before .before .before .before .before .before .pre .1 .tabled)
+sort-requires-2 c κs = (
+  c .before .before .before .before .before .before .before .before .before .pre .0 .prime,
+  omega (
+    arith,
+    c .before .before .before .before .before .before .before .before .before .pre .3 .value-fits,
+    subst (Ended (c .before .before .before .before .before .before .before .before .before .args .g)) (c .before .before .before .before .x3 .given .1)
+        (c .before .before .before .before .before .before .before .before .before .pre .4),
+  ),
+  omega (
+    arith,
+    c .before .before .before .before .before .before .before .before .before .pre .3 .left-fits,
+    subst (Ended (c .before .before .before .before .before .before .before .before .before .args .g)) (c .before .before .before .before .x3 .given .1)
+        (c .before .before .before .before .before .before .before .before .before .pre .4),
+  ),
+  c .before .before .before .before .before .before .before .before .before .pre .1 .fits,
+  c .before .before .before .before .before .before .before .before .before .pre .1 .tabled,
+)
 
 same-length : tie.Need-same-length
 same-length c = search needs
@@ -55,8 +87,15 @@ returns c =
     let order = order-of g (a .tables .now) in
     let above = table-order (g .code) (table-of (g .r) (above-in (a .tables .now))) in
     let s = c .before .before .sort in (
-      ap done (s .ensures) ∙ sym (ap (λ y. ended-of order above (g .p) y (a .value .now) (a .vector .now)) (c .before .before .before .before .before .before .before .x .given .1)),
-      omega (arith, sorted-rows above (g .p) (s .last .0) (s .result) (a .vector .now) (c .before .before .before .before .before .before .before .x .given .0 .0) (s .ensures), subst (Ended g) (c .before .before .before .before .before .before .before .x .given .1) (c .before .before .before .before .before .before .before .before .before .before .before .before .pre .4)),
+      ap done (s .ensures) ∙ sym (ap (λ y. ended-of order above (g .p) y (a .value .now) (a .vector .now))
+          (c .before .before .before .before .before .before .before .x .given .1)),
+      omega (
+        arith,
+        sorted-rows above (g .p) (s .last .0) (s .result) (a .vector .now)
+            (c .before .before .before .before .before .before .before .x .given .0 .0) (s .ensures),
+        subst (Ended g) (c .before .before .before .before .before .before .before .x .given .1)
+            (c .before .before .before .before .before .before .before .before .before .before .before .before .pre .4),
+      ),
     )
 
 returns-2 : tie.Need-returns-2
@@ -80,8 +119,15 @@ returns-3 c =
     let order = order-of g (a .tables .now) in
     let above = table-order (g .code) (table-of (g .r) (above-in (a .tables .now))) in
     let s = c .before .before .sort2 in (
-      ap (refused 9 0) (s .ensures) ∙ sym (ap (λ y. ended-of order above (g .p) y (a .value .now) (a .vector .now)) (c .before .before .before .before .before .before .before .x3 .given .1)),
-      omega (arith, sorted-rows order (g .p) (s .last .0) (s .result) (a .value .now) (c .before .before .before .before .before .before .before .x3 .given .0 .0) (s .ensures), subst (Ended g) (c .before .before .before .before .before .before .before .x3 .given .1) (c .before .before .before .before .before .before .before .before .before .before .before .before .pre .4)),
+      ap (refused 9 0) (s .ensures) ∙ sym (ap (λ y. ended-of order above (g .p) y (a .value .now) (a .vector .now))
+          (c .before .before .before .before .before .before .before .x3 .given .1)),
+      omega (
+        arith,
+        sorted-rows order (g .p) (s .last .0) (s .result) (a .value .now)
+            (c .before .before .before .before .before .before .before .x3 .given .0 .0) (s .ensures),
+        subst (Ended g) (c .before .before .before .before .before .before .before .x3 .given .1)
+            (c .before .before .before .before .before .before .before .before .before .before .before .before .pre .4),
+      ),
     )
 
 pub sorted-spec : {M : Type 1} → statement M

@@ -25,19 +25,39 @@ use Rattle.runs.proofs.run.steps.Tie as tie
 abbrev Inv-loop : tie.InvT-loop
 Inv-loop value₀ start vector₀ first level tables g w n₀ v₀ value vector n v =
     (n ≤ g .working) × (v ≤ g .vector) × (length value ≡ length value₀) × (length vector ≡ length vector₀) × T (good? (rows value 0 n)) ×
-    ((above : Monomial → Monomial → Comparison) → Reached (stage-of g level tables above) (strategy-of g tables w) (run-of value₀ start vector₀ first) (run-of value n vector v))
+    ((above : Monomial → Monomial → Comparison) → Reached (stage-of g level tables above) (strategy-of g tables w) (run-of value₀ start vector₀ first)
+    (run-of value n vector v))
 
 abbrev μ-loop : tie.MeasureT-loop
-μ-loop value₀ start vector₀ first level tables g w n₀ v₀ value vector n v = spent (g .p) (rows tables 0 (g .r)) (family-of g level (ends-in tables)) (rows value 0 n)
+μ-loop value₀ start vector₀ first level tables g w n₀ v₀ value vector n v =
+    spent (g .p) (rows tables 0 (g .r)) (family-of g level (ends-in tables)) (rows value 0 n)
 
 loop-holds : tie.Need-loop-holds Inv-loop μ-loop
-loop-holds c = let a = c .before .before .before .before .args in (omega arith, omega arith, refl, refl, c .before .before .before .before .pre .7, λ above. reached-start (stage-of (a .g) (a .level .now) (a .tables .now) above) (strategy-of (a .g) (a .tables .now) (a .w)) (run-of (a .value .now) (a .start) (a .vector .now) (a .first)))
+loop-holds c = let a = c .before .before .before .before .args in (
+  omega arith,
+  omega arith,
+  refl,
+  refl,
+  c .before .before .before .before .pre .7,
+  λ above. reached-start (stage-of (a .g) (a .level .now) (a .tables .now) above) (strategy-of (a .g) (a .tables .now) (a .w))
+      (run-of (a .value .now) (a .start) (a .vector .now) (a .first)),
+)
 
 one-step-requires : tie.Need-one-step-requires Inv-loop μ-loop
 one-step-requires c κs =
     let P = c .before .before .before .before .before .before .before .before .pre in
-    let i = c .before .before .before .loop .inv in
-    (P .0, P .1, P .2, rooms-again (c .before .before .before .before .before .before .before .before .args .g) (c .before .before .before .before .before .before .before .before .args .value .now) (c .before .before .before .before .before .before .before .before .args .vector .now) (c .before .before .before .loop .value) (c .before .before .before .loop .vector) (i .2) (i .3) (P .3), omega arith, i .0, i .1)
+    let i = c .before .before .before .loop .inv in (
+      P .0,
+      P .1,
+      P .2,
+      rooms-again (c .before .before .before .before .before .before .before .before .args .g)
+          (c .before .before .before .before .before .before .before .before .args .value .now)
+          (c .before .before .before .before .before .before .before .before .args .vector .now) (c .before .before .before .loop .value)
+          (c .before .before .before .loop .vector) (i .2) (i .3) (P .3),
+      omega arith,
+      i .0,
+      i .1,
+    )
 
 enum-known-x : tie.Need-enum-known-x Inv-loop μ-loop
 enum-known-x c = omega arith
@@ -80,7 +100,8 @@ loop-again c =
       omega (arith, l .inv .2),
       omega (arith, l .inv .3),
       step-keeps S (c .before .before .before .before .before .before .before .before .before .before .before .before .before .before .before .before .pre .6) W (picks-by-code order (a .w .pick)) r r′ (l .inv .4) (sym (told order)),
-      λ above. reached-on (stage-of g (a .level .now) (a .tables .now) above) W (run-of (a .value .now) (a .start) (a .vector .now) (a .first)) r r′ (l .inv .5 above) (told above),
+      λ above. reached-on (stage-of g (a .level .now) (a .tables .now) above) W (run-of (a .value .now) (a .start) (a .vector .now) (a .first)) r r′
+          (l .inv .5 above) (told above),
     )
 
 enum-known-x-2 : tie.Need-enum-known-x-2 Inv-loop μ-loop
@@ -102,7 +123,8 @@ returns c =
     let r = run-of (l .value) (l .n) (l .vector) (l .v) in
     let s = c .before .before .before .before .before .before .before .one-step in
     let x = c .before .x2 .given .0 .0 in (
-      λ above. reached-refused (stage-of g (a .level .now) (a .tables .now) above) W (run-of (a .value .now) (a .start) (a .vector .now) (a .first)) r x 0 [] (l .inv .5 above)
+      λ above. reached-refused (stage-of g (a .level .now) (a .tables .now) above) W
+          (run-of (a .value .now) (a .start) (a .vector .now) (a .first)) r x 0 [] (l .inv .5 above)
           (sym (ap (λ y. step-of order (g .p) y (s .last .0) (s .last .1 .1 .0)) (c .before .x2 .given .1)) ∙ s .ensures .0 above),
       tt,
     )
@@ -126,7 +148,8 @@ returns-2 c =
     let r = run-of (l .value) (l .n) (l .vector) (l .v) in
     let s = c .before .before .before .before .before .before .before .one-step in
     let x = c .before .x3 .given .0 .0 in (
-      λ above. reached-refused (stage-of g (a .level .now) (a .tables .now) above) W (run-of (a .value .now) (a .start) (a .vector .now) (a .first)) r 9 0 (descending order (g .p) (rows (s .last .0) 0 x)) (l .inv .5 above)
+      λ above. reached-refused (stage-of g (a .level .now) (a .tables .now) above) W
+          (run-of (a .value .now) (a .start) (a .vector .now) (a .first)) r 9 0 (descending order (g .p) (rows (s .last .0) 0 x)) (l .inv .5 above)
           (sym (ap (λ y. step-of order (g .p) y (s .last .0) (s .last .1 .1 .0)) (c .before .x3 .given .1)) ∙ s .ensures .0 above),
       subst (Room g) (c .before .x3 .given .1) (s .ensures .1),
     )
@@ -147,7 +170,8 @@ returns-3 c =
     let r = run-of (l .value) (l .n) (l .vector) (l .v) in
     let empty : rows (l .value) 0 (l .n) ≡ [] = ap (rows (l .value) 0) (omega arith) ∙ rows-none (l .value) 0 in (
       λ above. let S = stage-of g (a .level .now) (a .tables .now) above in
-          reached-end S W (run-of (a .value .now) (a .start) (a .vector .now) (a .first)) r (r .vector) (l .inv .5 above) (step-ends S order (a .w .pick) (a .w .drops) (a .w .stops) r empty),
+          reached-end S W (run-of (a .value .now) (a .start) (a .vector .now) (a .first)) r (r .vector) (l .inv .5 above)
+          (step-ends S order (a .w .pick) (a .w .drops) (a .w .stops) r empty),
       l .inv .1,
     )
 

@@ -11,7 +11,8 @@ place-requires : tie.Need-place-requires
 place-requires c κs = search needs
 
 returns : tie.Need-returns
-returns c = c .place .ensures .0 ∙ components-basis (c .before .before .before .before .args .state .now) (c .before .before .before .before .args .k) (c .before .before .if1 .taken)
+returns c = c .place .ensures .0 ∙ components-basis (c .before .before .before .before .args .state .now) (c .before .before .before .before .args .k)
+    (c .before .before .if1 .taken)
 
 sub-place : tie.Need-sub-place
 sub-place c = search needs
@@ -32,7 +33,8 @@ place-requires-2 : tie.Need-place-requires-2
 place-requires-2 c κs = search needs
 
 returns-2 : tie.Need-returns-2
-returns-2 c = c .place2 .ensures .0 ∙ components-above (c .before .before .before .before .args .state .now) (c .before .before .before .before .args .k) (c .before .before .if1 .left)
+returns-2 c = c .place2 .ensures .0 ∙ components-above (c .before .before .before .before .args .state .now)
+    (c .before .before .before .before .args .k) (c .before .before .if1 .left)
 
 pub components-of-spec : {M : Type 1} → statement M
 components-of-spec =

@@ -11,7 +11,8 @@ use Rattle.state.proofs.preparing.fill_tables.Tie as tie
 use Rattle.definitions.specs.Places.{all-levels}
 
 abbrev Inv-loop : tie.InvT-loop
-Inv-loop below₀ above₀ state k j₀ below above j = (j ≤ k) × (length below ≡ length below₀) × (length above ≡ length above₀) × Ready-pair state j below above
+Inv-loop below₀ above₀ state k j₀ below above j = (j ≤ k) × (length below ≡ length below₀) × (length above ≡ length above₀)
+    × Ready-pair state j below above
 
 abbrev μ-loop : tie.MeasureT-loop
 μ-loop below₀ above₀ state k j₀ below above j = k - j
@@ -24,10 +25,12 @@ advance-requires c κs =
     let a = c .before .before .before .before .before .before .before .args in
     let l = c .before .before .before .loop in
     let s = a .state .now in
-    let h : getD s 4 0 ≤ all-levels = height s (c .before .before .before .before .before .before .before .pre .0) (c .before .before .before .before .before .before .before .pre .1) in
+    let h : getD s 4 0 ≤ all-levels = height s (c .before .before .before .before .before .before .before .pre .0)
+    (c .before .before .before .before .before .before .before .pre .1) in
     let r = pair-above s (l .j) (l .below) (l .above) (l .inv .3) in
     let m : l .j < getD s 4 0 = omega (arith, c .before .before .loop-test .taken, c .before .before .before .before .before .before .before .pre .2) in
-    let cut = complete-cut s (c .before .before .before .before .before .before .before .pre .0) (c .before .before .before .before .before .before .before .pre .1) (l .j) m in
+    let cut = complete-cut s (c .before .before .before .before .before .before .before .pre .0)
+    (c .before .before .before .before .before .before .before .pre .1) (l .j) m in
     (omega arith, omega arith, omega arith, omega arith, r .few, cut .0, cut .1, ready-tabled s (l .j) (l .above) (omega arith) r)
 
 add-j : tie.Need-add-j Inv-loop μ-loop
@@ -38,14 +41,24 @@ loop-less c = omega arith
 
 loop-again : tie.Need-loop-again Inv-loop μ-loop
 loop-again c =
-    let a = c .before .before .before .before .before .before .before .before .before .before .before .before .args in
+    let at-8 = c .before .before .before .before .before .before .before .before in
+    let a = at-8 .before .before .before .before .args in
     let l = c .before .before .before .before .before .before .before .before .loop in
     let s = a .state .now in
-    let h : getD s 4 0 ≤ all-levels = height s (c .before .before .before .before .before .before .before .before .before .before .before .before .pre .0) (c .before .before .before .before .before .before .before .before .before .before .before .before .pre .1) in
+    let h : getD s 4 0 ≤ all-levels = height s (at-8 .before .before .before .before .pre .0) (at-8 .before .before .before .before .pre .1) in
     let r = pair-above s (l .j) (l .below) (l .above) (l .inv .3) in
-    let m : l .j < getD s 4 0 = omega (arith, c .before .before .before .before .before .before .before .loop-test .taken, c .before .before .before .before .before .before .before .before .before .before .before .before .pre .2) in
-    let cut = complete-cut s (c .before .before .before .before .before .before .before .before .before .before .before .before .pre .0) (c .before .before .before .before .before .before .before .before .before .before .before .before .pre .1) (l .j) m in
-    (omega arith, omega arith, omega arith, pair-more s (l .j) (l .above) (c .before .before .before .before .advance .last .0) (c .before .before .before .before .advance .last .1 .0) (cut .0) r (c .before .before .before .before .advance .ensures))
+    let m : l .j < getD s 4 0 = omega (
+      arith,
+      c .before .before .before .before .before .before .before .loop-test .taken,
+      at-8 .before .before .before .before .pre .2,
+    ) in
+    let cut = complete-cut s (at-8 .before .before .before .before .pre .0) (at-8 .before .before .before .before .pre .1) (l .j) m in (
+      omega arith,
+      omega arith,
+      omega arith,
+      pair-more s (l .j) (l .above) (c .before .before .before .before .advance .last .0)
+          (c .before .before .before .before .advance .last .1 .0) (cut .0) r (c .before .before .before .before .advance .ensures),
+    )
 
 same-length : tie.Need-same-length Inv-loop μ-loop
 same-length c = omega arith

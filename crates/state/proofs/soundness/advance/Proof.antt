@@ -56,10 +56,19 @@ part-fill-images-end-2 c = search needs
 
 fill-images-requires : tie.Need-fill-images-requires
 fill-images-requires c κs =
-    let a = c .before .before .before .before .before .before .before .before .before .before .before .before .before .before .args in
+    let at-8 = c .before .before .before .before .before .before .before .before in
+    let a = at-8 .before .before .before .before .before .before .args in
     let s = a .state .now in
-    let n = c .before .before .before .before .before .before .before .before .before .before .count-under .result in
-    (omega arith, omega arith, cut-parts s (a .k) (c .before .before .before .before .count-of .result) (c .before .before .before .before .count-of .ensures) (c .before .before .before .before .before .before .before .before .before .before .before .before .before .before .pre .6), omega arith, copied-tabled s (a .k) n (a .below .now) (a .above .now) (c .before .before .before .before .before .before .before .copy .last .0) (c .before .before .before .before .before .before .before .before .before .before .count-under .ensures) (omega arith) (omega arith) (c .before .before .before .before .before .before .before .copy .ensures) (c .before .before .before .before .before .before .before .before .before .before .before .before .before .before .pre .7))
+    let n = at-8 .before .before .count-under .result in (
+      omega arith,
+      omega arith,
+      cut-parts s (a .k) (c .before .before .before .before .count-of .result)
+          (c .before .before .before .before .count-of .ensures) (at-8 .before .before .before .before .before .before .pre .6),
+      omega arith,
+      copied-tabled s (a .k) n (a .below .now) (a .above .now) (c .before .before .before .before .before .before .before .copy .last .0)
+          (at-8 .before .before .count-under .ensures) (omega arith) (omega arith)
+          (c .before .before .before .before .before .before .before .copy .ensures) (at-8 .before .before .before .before .before .before .pre .7),
+    )
 
 same-length : tie.Need-same-length
 same-length c = search needs
@@ -69,9 +78,18 @@ same-length-2 c = search needs
 
 returns : tie.Need-returns
 returns c =
-    let a = c .before .before .before .before .before .before .before .before .before .before .before .before .before .before .before .before .before .args in
-    let n : c .before .before .before .before .before .before .before .before .before .before .before .before .before .count-under .result ≤ most-vectors = omega (arith, c .before .before .before .before .before .before .before .before .before .before .before .before .before .count-under .ensures, c .before .before .before .before .before .before .before .before .before .before .before .before .before .before .before .before .before .pre .4) in
-    advanced (a .state .now) (a .k) (c .before .before .before .before .before .before .before .before .before .before .before .before .before .count-under .result) (c .before .before .before .before .before .before .before .count-of .result) (a .below .now) (a .above .now) (c .before .before .before .before .before .before .before .before .before .before .copy .last .0) (c .before .before .fill-images .last .0) (c .before .before .before .before .before .before .before .before .before .before .before .before .before .count-under .ensures) (c .before .before .before .before .before .before .before .count-of .ensures) (omega (arith, c .before .before .before .before .before .before .before .before .before .before .before .before .before .before .before .before .before .pre .2)) (omega (arith, c .before .before .before .before .before .before .before .before .before .before .before .before .before .before .before .before .before .pre .3)) (c .before .before .before .before .before .before .before .before .before .before .copy .ensures) (c .before .before .fill-images .ensures .0) (c .before .before .fill-images .ensures .1)
+    let at-8 = c .before .before .before .before .before .before .before .before in
+    let at-16 = at-8 .before .before .before .before .before .before .before .before in
+    let a = at-16 .before .args in
+    let n : at-8 .before .before .before .before .before .count-under .result ≤ most-vectors =
+    omega (arith, at-8 .before .before .before .before .before .count-under .ensures, at-16 .before .pre .4) in
+    advanced (a .state .now) (a .k) (at-8 .before .before .before .before .before .count-under .result)
+    (c .before .before .before .before .before .before .before .count-of .result) (a .below .now) (a .above .now)
+    (at-8 .before .before .copy .last .0) (c .before .before .fill-images .last .0)
+    (at-8 .before .before .before .before .before .count-under .ensures)
+    (c .before .before .before .before .before .before .before .count-of .ensures) (omega (arith, at-16 .before .pre .2))
+    (omega (arith, at-16 .before .pre .3)) (at-8 .before .before .copy .ensures) (c .before .before .fill-images .ensures .0)
+    (c .before .before .fill-images .ensures .1)
 
 pub advance-spec : {M : Type 1} → statement M
 advance-spec =

@@ -26,7 +26,8 @@ place-requires : tie.Need-place-requires
 place-requires c κs = search needs
 
 returns-2 : tie.Need-returns-2
-returns-2 c = c .place .ensures .0 ∙ below-above (c .before .before .before .before .args .state .now) (c .before .before .before .before .args .k) (c .before .before .if1 .left)
+returns-2 c = c .place .ensures .0 ∙ below-above (c .before .before .before .before .args .state .now) (c .before .before .before .before .args .k)
+    (c .before .before .if1 .left)
 
 pub count-under-spec : {M : Type 1} → statement M
 count-under-spec =

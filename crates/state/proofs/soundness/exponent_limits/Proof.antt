@@ -34,10 +34,16 @@ loop-less : tie.Need-loop-less Inv-loop μ-loop
 loop-less c = omega arith
 
 loop-again : tie.Need-loop-again Inv-loop μ-loop
-loop-again c = let l = c .before .before .loop in (omega arith, simp length-set (l .inv .1), filled-more (λ k. getD (limits-definition (c .before .before .before .args .n)) k 0) (l .j) (c .limit .result) (l .w) (omega arith) (c .limit .ensures ∙ sym (getD-limits (c .before .before .before .args .n) (l .j) (omega arith))) (l .inv .2))
+loop-again c = let l = c .before .before .loop in (
+  omega arith,
+  simp length-set (l .inv .1),
+  filled-more (λ k. getD (limits-definition (c .before .before .before .args .n)) k 0) (l .j) (c .limit .result) (l .w) (omega arith)
+      (c .limit .ensures ∙ sym (getD-limits (c .before .before .before .args .n) (l .j) (omega arith))) (l .inv .2),
+)
 
 returns : tie.Need-returns Inv-loop μ-loop
-returns c = let l = c .before .loop in filled-list (limits-definition (c .before .before .args .n)) (l .w) (l .inv .1) (λ k h. l .inv .2 k (omega arith))
+returns c = let l = c .before .loop in filled-list (limits-definition (c .before .before .args .n)) (l .w) (l .inv .1)
+    (λ k h. l .inv .2 k (omega arith))
 
 pub exponent-limits-spec : {M : Type 1} → statement M
 exponent-limits-spec =

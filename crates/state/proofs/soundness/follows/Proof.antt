@@ -35,21 +35,24 @@ returns : tie.Need-returns
 returns c =
     let a = c .before .before .before .before .before .args in
     let h = row-holds? (a .b) (a .level .now) (a .i) in
-    let k : greater ≡ compare-keys (a .code) (key-of (a .before)) (key-of (a .image)) = sym (ap comparison-of (c .enum-told .given .1)) ∙ c .before .before .compare-images .ensures in
+    let k : greater ≡ compare-keys (a .code) (key-of (a .before)) (key-of (a .image)) = sym (ap comparison-of (c .enum-told .given .1))
+    ∙ c .before .before .compare-images .ensures in
     c .before .before .before .row-holds .ensures ∙ and-true h ∙ ap (λ d. h and greater? d) k
 
 returns-2 : tie.Need-returns-2
 returns-2 c =
     let a = c .before .before .before .before .before .args in
     let h = row-holds? (a .b) (a .level .now) (a .i) in
-    let k : equal ≡ compare-keys (a .code) (key-of (a .before)) (key-of (a .image)) = sym (ap comparison-of (c .enum-told2 .given .1)) ∙ c .before .before .compare-images .ensures in
+    let k : equal ≡ compare-keys (a .code) (key-of (a .before)) (key-of (a .image)) = sym (ap comparison-of (c .enum-told2 .given .1))
+    ∙ c .before .before .compare-images .ensures in
     and-false h ∙ ap (λ d. h and greater? d) k
 
 returns-3 : tie.Need-returns-3
 returns-3 c =
     let a = c .before .before .before .before .before .args in
     let h = row-holds? (a .b) (a .level .now) (a .i) in
-    let k : smaller ≡ compare-keys (a .code) (key-of (a .before)) (key-of (a .image)) = sym (ap comparison-of (c .enum-told3 .given .1)) ∙ c .before .before .compare-images .ensures in
+    let k : smaller ≡ compare-keys (a .code) (key-of (a .before)) (key-of (a .image)) = sym (ap comparison-of (c .enum-told3 .given .1))
+    ∙ c .before .before .compare-images .ensures in
     and-false h ∙ ap (λ d. h and greater? d) k
 
 pub follows-spec : {M : Type 1} → statement M

@@ -20,7 +20,8 @@ both-requires-2 : tie.Need-both-requires-2
 both-requires-2 c κs = search needs
 
 returns : tie.Need-returns
-returns c = c .both2 .ensures ∙ (λ i. c .before .before .before .before .between .ensures i and (c .before .both .ensures ∙ (λ j. c .before .before .before .between2 .ensures j and c .before .before .between3 .ensures j)) i)
+returns c = c .both2 .ensures ∙ (λ i. c .before .before .before .before .between .ensures i
+    and (c .before .both .ensures ∙ (λ j. c .before .before .before .between2 .ensures j and c .before .before .between3 .ensures j)) i)
 
 pub in-ranges-spec : {M : Type 1} → statement M
 in-ranges-spec =

@@ -39,8 +39,10 @@ fails-requires c κs = search needs
 returns : tie.Need-returns
 returns c =
     let a = c .before .before .before .before .before .before .args in
-    let e : c .before .before .between .result ≡ false = not-true (c .before .before .between .result) (sym (c .before .fails .ensures) ∙ c .if1 .taken) in
-    λ i. (sym e ∙ c .before .before .between .ensures) i and vectors-hold? (a .b) (a .most) (table-order (a .code) (table-of (a .n) (a .table .now))) (rows-from (a .state .now) (a .k)) 0 (ends-at document-01 (a .state .now) (a .k))
+    let e : c .before .before .between .result ≡ false = not-true (c .before .before .between .result)
+    (sym (c .before .fails .ensures) ∙ c .if1 .taken) in
+    λ i. (sym e ∙ c .before .before .between .ensures) i and vectors-hold? (a .b) (a .most) (table-order (a .code) (table-of (a .n) (a .table .now)))
+    (rows-from (a .state .now) (a .k)) 0 (ends-at document-01 (a .state .now) (a .k))
 
 mul-start : tie.Need-mul-start
 mul-start c = search needs
@@ -80,21 +82,36 @@ part-vectors-hold-end-2 c = search needs
 
 vectors-hold-requires : tie.Need-vectors-hold-requires
 vectors-hold-requires c κs =
-    let a = c .before .before .before .before .before .before .before .before .before .args in
+    let at-8 = c .before .before .before .before .before .before .before .before in
+    let a = at-8 .before .args in
     let s = a .state .now in
-    let e : c .before .before .before .before .before .between .result ≡ true = not-false (c .before .before .before .before .before .between .result) (sym (c .before .before .before .before .fails .ensures) ∙ c .before .before .before .if1 .left) in
-    let r : c .before .before .place .result ≤ a .high = omega (arith, c .before .before .place .ensures .0, between-high (a .low) (getD s (count-offset (a .k)) 0) (a .high) (is-true (sym (c .before .before .before .before .before .between .ensures) ∙ e))) in
-    (omega (arith, length-part (count-offset (a .k) + 1) s), omega (arith, length-part (rows-offset (a .k)) s), omega arith, c .before .before .before .before .before .before .before .before .before .pre .4)
+    let e : c .before .before .before .before .before .between .result
+    ≡ true = not-false (c .before .before .before .before .before .between .result)
+    (sym (c .before .before .before .before .fails .ensures) ∙ c .before .before .before .if1 .left) in
+    let r : c .before .before .place .result ≤ a .high = omega (
+      arith,
+      c .before .before .place .ensures .0,
+      between-high (a .low) (getD s (count-offset (a .k)) 0) (a .high)
+          (is-true (sym (c .before .before .before .before .before .between .ensures) ∙ e)),
+    ) in
+    (omega (arith, length-part (count-offset (a .k) + 1) s), omega (arith, length-part (rows-offset (a .k)) s), omega arith, at-8 .before .pre .4)
 
 returns-2 : tie.Need-returns-2
 returns-2 c =
-    let a = c .before .before .before .before .before .before .before .before .before .before .args in
+    let at-8 = c .before .before .before .before .before .before .before .before in
+    let a = at-8 .before .before .args in
     let s = a .state .now in
     let O = table-order (a .code) (table-of (a .n) (a .table .now)) in
-    let e : c .before .before .before .before .before .before .between .result ≡ true = not-false (c .before .before .before .before .before .before .between .result) (sym (c .before .before .before .before .before .fails .ensures) ∙ c .before .before .before .before .if1 .left) in
+    let e : c .before .before .before .before .before .before .between .result
+    ≡ true = not-false (c .before .before .before .before .before .before .between .result)
+    (sym (c .before .before .before .before .before .fails .ensures) ∙ c .before .before .before .before .if1 .left) in
     let z : count-offset (a .k) + 1 ≡ suc (count-offset (a .k)) = omega arith in
-    let es : take (c .before .before .before .place .result) (take (length s - (count-offset (a .k) + 1)) (drop (count-offset (a .k) + 1) s)) ≡ ends-at document-01 s (a .k) = (λ i. take (c .before .before .before .place .ensures .0 i) ((whole-part (count-offset (a .k) + 1) s ∙ ap (λ n. drop n s) z) i)) in
-    c .vectors-hold .ensures ∙ (λ i. vectors-hold? (a .b) (a .most) O (whole-part (rows-offset (a .k)) s i) 0 (es i)) ∙ (λ i. (sym e ∙ c .before .before .before .before .before .before .between .ensures) i and vectors-hold? (a .b) (a .most) O (rows-from s (a .k)) 0 (ends-at document-01 s (a .k)))
+    let es : take (c .before .before .before .place .result) (take (length s - (count-offset (a .k) + 1)) (drop (count-offset (a .k) + 1) s))
+    ≡ ends-at document-01 s (a .k) = (λ i. take (c .before .before .before .place .ensures .0 i)
+    ((whole-part (count-offset (a .k) + 1) s ∙ ap (λ n. drop n s) z) i)) in
+    c .vectors-hold .ensures ∙ (λ i. vectors-hold? (a .b) (a .most) O (whole-part (rows-offset (a .k)) s i) 0 (es i))
+    ∙ (λ i. (sym e ∙ c .before .before .before .before .before .before .between .ensures) i
+    and vectors-hold? (a .b) (a .most) O (rows-from s (a .k)) 0 (ends-at document-01 s (a .k)))
 
 pub level-holds-spec : {M : Type 1} → statement M
 level-holds-spec =

@@ -25,14 +25,22 @@ row-bounds-requires : tie.Need-row-bounds-requires
 row-bounds-requires c κs = search needs
 
 level-holds-requires : tie.Need-level-holds-requires
-level-holds-requires c κs = (omega arith, omega arith, omega arith, omega arith, c .before .before .before .before .before .before .before .before .pre .3)
+level-holds-requires c κs = (
+  omega arith,
+  omega arith,
+  omega arith,
+  omega arith,
+  c .before .before .before .before .before .before .before .before .pre .3,
+)
 
 returns : tie.Need-returns
 returns c =
-    let a = c .before .before .before .before .before .before .before .before .before .args in
+    let at-8 = c .before .before .before .before .before .before .before .before in
+    let a = at-8 .before .args in
     let s = a .state .now in
     let T = table-of (a .n) (a .table .now) in
-    c .level-holds .ensures ∙ ap (λ b. level-holds? 1 most-elements most-rows b (table-order (getD s 2 0) T) s (a .k)) (c .before .row-bounds .ensures) ∙ test-basis s (a .k) T (c .before .before .before .if1 .taken)
+    c .level-holds .ensures ∙ ap (λ b. level-holds? 1 most-elements most-rows b (table-order (getD s 2 0) T) s (a .k)) (c .before .row-bounds .ensures)
+    ∙ test-basis s (a .k) T (c .before .before .before .if1 .taken)
 
 sub-row-bounds : tie.Need-sub-row-bounds
 sub-row-bounds c = search needs
@@ -53,14 +61,22 @@ row-bounds-requires-2 : tie.Need-row-bounds-requires-2
 row-bounds-requires-2 c κs = search needs
 
 level-holds-requires-2 : tie.Need-level-holds-requires-2
-level-holds-requires-2 c κs = (omega arith, omega arith, omega arith, omega arith, c .before .before .before .before .before .before .before .before .pre .3)
+level-holds-requires-2 c κs = (
+  omega arith,
+  omega arith,
+  omega arith,
+  omega arith,
+  c .before .before .before .before .before .before .before .before .pre .3,
+)
 
 returns-2 : tie.Need-returns-2
 returns-2 c =
-    let a = c .before .before .before .before .before .before .before .before .before .args in
+    let at-8 = c .before .before .before .before .before .before .before .before in
+    let a = at-8 .before .args in
     let s = a .state .now in
     let T = table-of (a .n) (a .table .now) in
-    c .level-holds2 .ensures ∙ ap (λ b. level-holds? 0 most-vectors most-terms b (table-order (getD s 2 0) T) s (a .k)) (c .before .row-bounds2 .ensures) ∙ test-above s (a .k) T (c .before .before .before .if1 .left)
+    c .level-holds2 .ensures ∙ ap (λ b. level-holds? 0 most-vectors most-terms b (table-order (getD s 2 0) T) s (a .k))
+    (c .before .row-bounds2 .ensures) ∙ test-above s (a .k) T (c .before .before .before .if1 .left)
 
 pub level-test-spec : {M : Type 1} → statement M
 level-test-spec =

@@ -17,7 +17,8 @@ use Rattle.state.proofs.soundness.levels_hold.Statement.{statement}
 use Rattle.state.proofs.soundness.levels_hold.Tie as tie
 
 abbrev Inv-loop : tie.InvT-loop
-Inv-loop below₀ above₀ state h k₀ below above k = (k ≤ h) × (length below ≡ length below₀) × (length above ≡ length above₀) × T (levels-hold? state k) × Ready state k above
+Inv-loop below₀ above₀ state h k₀ below above k = (k ≤ h) × (length below ≡ length below₀) × (length above ≡ length above₀) × T (levels-hold? state k)
+    × Ready state k above
 
 abbrev μ-loop : tie.MeasureT-loop
 μ-loop below₀ above₀ state h k₀ below above k = h - k
@@ -30,8 +31,13 @@ count-under-requires c κs = omega arith
 
 level-test-requires : tie.Need-level-test-requires Inv-loop μ-loop
 level-test-requires c κs =
-    let l = c .before .before .before .loop in
-    (omega arith, omega arith, omega (arith, c .before .count-under .ensures, l .inv .4 .few), subst (λ n. Tabled n (l .above)) (sym (c .before .count-under .ensures)) (ready-tabled (c .before .before .before .before .before .before .before .args .state .now) (l .k) (l .above) (omega arith) (l .inv .4)))
+    let l = c .before .before .before .loop in (
+      omega arith,
+      omega arith,
+      omega (arith, c .before .count-under .ensures, l .inv .4 .few),
+      subst (λ n. Tabled n (l .above)) (sym (c .before .count-under .ensures))
+          (ready-tabled (c .before .before .before .before .before .before .before .args .state .now) (l .k) (l .above) (omega arith) (l .inv .4)),
+    )
 
 fails-requires : tie.Need-fails-requires Inv-loop μ-loop
 fails-requires c κs = omega arith
@@ -44,20 +50,27 @@ same-length-2 c = omega arith
 
 returns : tie.Need-returns Inv-loop μ-loop
 returns c =
-    let a = c .before .before .before .before .before .before .before .before .before .before .args in
+    let at-8 = c .before .before .before .before .before .before .before .before in
+    let a = at-8 .before .before .args in
     let l = c .before .before .before .before .before .before .loop in
     let s = a .state .now in
-    let own : c .before .before .level-test .result ≡ own-test? s (l .k) = c .before .before .level-test .ensures ∙ ap (level-test? s (l .k)) (ap (λ n. table-of n (l .above)) (c .before .before .before .before .count-under .ensures) ∙ l .inv .4 .made) in
-    sym (climb-fails s (a .h) (l .k) (omega arith) (sym own ∙ not-true (c .before .before .level-test .result) (sym (c .before .fails .ensures) ∙ c .if1 .taken)))
+    let own : c .before .before .level-test .result ≡ own-test? s (l .k) = c .before .before .level-test .ensures
+    ∙ ap (level-test? s (l .k)) (ap (λ n. table-of n (l .above)) (c .before .before .before .before .count-under .ensures) ∙ l .inv .4 .made) in
+    sym (climb-fails s (a .h) (l .k) (omega arith) (sym own ∙ not-true (c .before .before .level-test .result)
+    (sym (c .before .fails .ensures) ∙ c .if1 .taken)))
 
 advance-requires : tie.Need-advance-requires Inv-loop μ-loop
 advance-requires c κs =
-    let a = c .before .before .before .before .before .before .before .before .before .before .before .before .args in
+    let at-8 = c .before .before .before .before .before .before .before .before in
+    let a = at-8 .before .before .before .before .args in
     let l = c .before .before .before .before .before .before .before .before .loop in
     let s = a .state .now in
-    let own : c .before .before .before .before .level-test .result ≡ own-test? s (l .k) = c .before .before .before .before .level-test .ensures ∙ ap (level-test? s (l .k)) (ap (λ n. table-of n (l .above)) (c .before .before .before .before .before .before .count-under .ensures) ∙ l .inv .4 .made) in
-    let u : T (own-test? s (l .k)) = is-true (sym own ∙ not-false (c .before .before .before .before .level-test .result) (sym (c .before .before .before .fails .ensures) ∙ c .before .before .if1 .left)) in
-    let cut = test-cut s (c .before .before .before .before .before .before .before .before .before .before .before .before .pre .0) (l .k) (images (levels-at document-01 s (l .k))) (omega arith) u in
+    let own : c .before .before .before .before .level-test .result ≡ own-test? s (l .k) = c .before .before .before .before .level-test .ensures
+    ∙ ap (level-test? s (l .k)) (ap (λ n. table-of n (l .above)) (c .before .before .before .before .before .before .count-under .ensures)
+    ∙ l .inv .4 .made) in
+    let u : T (own-test? s (l .k)) = is-true (sym own ∙ not-false (c .before .before .before .before .level-test .result)
+    (sym (c .before .before .before .fails .ensures) ∙ c .before .before .if1 .left)) in
+    let cut = test-cut s (at-8 .before .before .before .before .pre .0) (l .k) (images (levels-at document-01 s (l .k))) (omega arith) u in
     (omega arith, omega arith, omega arith, omega arith, l .inv .4 .few, cut .0, cut .1, ready-tabled s (l .k) (l .above) (omega arith) (l .inv .4))
 
 add-k : tie.Need-add-k Inv-loop μ-loop
@@ -68,13 +81,24 @@ loop-less c = omega arith
 
 loop-again : tie.Need-loop-again Inv-loop μ-loop
 loop-again c =
-    let a = c .before .before .before .before .before .before .before .before .before .before .before .before .before .before .before .before .before .args in
-    let l = c .before .before .before .before .before .before .before .before .before .before .before .before .before .loop in
+    let at-8 = c .before .before .before .before .before .before .before .before in
+    let at-16 = at-8 .before .before .before .before .before .before .before .before in
+    let a = at-16 .before .args in
+    let l = at-8 .before .before .before .before .before .loop in
     let s = a .state .now in
-    let own : c .before .before .before .before .before .before .before .before .before .level-test .result ≡ own-test? s (l .k) = c .before .before .before .before .before .before .before .before .before .level-test .ensures ∙ ap (level-test? s (l .k)) (ap (λ n. table-of n (l .above)) (c .before .before .before .before .before .before .before .before .before .before .before .count-under .ensures) ∙ l .inv .4 .made) in
-    let u : T (own-test? s (l .k)) = is-true (sym own ∙ not-false (c .before .before .before .before .before .before .before .before .before .level-test .result) (sym (c .before .before .before .before .before .before .before .before .fails .ensures) ∙ c .before .before .before .before .before .before .before .if1 .left)) in
-    let cut = test-cut s (c .before .before .before .before .before .before .before .before .before .before .before .before .before .before .before .before .before .pre .0) (l .k) (images (levels-at document-01 s (l .k))) (omega arith) u in
-    (omega arith, omega arith, omega arith, climb-one s (l .k) (l .inv .3) u, ready-more s (l .k) (l .above) (c .before .before .before .before .advance .last .0) (c .before .before .before .before .advance .last .1 .0) (cut .0) (l .inv .4) (c .before .before .before .before .advance .ensures))
+    let own : at-8 .before .level-test .result ≡ own-test? s (l .k) = at-8 .before .level-test .ensures
+    ∙ ap (level-test? s (l .k)) (ap (λ n. table-of n (l .above)) (at-8 .before .before .before .count-under .ensures) ∙ l .inv .4 .made) in
+    let u : T (own-test? s (l .k)) = is-true (sym own ∙ not-false (at-8 .before .level-test .result)
+    (sym (c .before .before .before .before .before .before .before .before .fails .ensures)
+    ∙ c .before .before .before .before .before .before .before .if1 .left)) in
+    let cut = test-cut s (at-16 .before .pre .0) (l .k) (images (levels-at document-01 s (l .k))) (omega arith) u in (
+      omega arith,
+      omega arith,
+      omega arith,
+      climb-one s (l .k) (l .inv .3) u,
+      ready-more s (l .k) (l .above) (c .before .before .before .before .advance .last .0) (c .before .before .before .before .advance .last .1 .0)
+          (cut .0) (l .inv .4) (c .before .before .before .before .advance .ensures),
+    )
 
 same-length-3 : tie.Need-same-length-3 Inv-loop μ-loop
 same-length-3 c = omega arith
@@ -86,7 +110,8 @@ returns-2 : tie.Need-returns-2 Inv-loop μ-loop
 returns-2 c =
     let l = c .before .loop in
     let z : l .k ≡ c .before .before .before .before .before .args .h = omega arith in
-    sym (true-is (levels-hold? (c .before .before .before .before .before .args .state .now) (c .before .before .before .before .before .args .h)) (subst (λ n. T (levels-hold? (c .before .before .before .before .before .args .state .now) n)) z (l .inv .3)))
+    sym (true-is (levels-hold? (c .before .before .before .before .before .args .state .now) (c .before .before .before .before .before .args .h))
+    (subst (λ n. T (levels-hold? (c .before .before .before .before .before .args .state .now) n)) z (l .inv .3)))
 
 pub levels-hold-spec : {M : Type 1} → statement M
 levels-hold-spec =

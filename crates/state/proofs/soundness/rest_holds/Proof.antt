@@ -13,7 +13,9 @@ use Rattle.state.proofs.soundness.rest_holds.Statement.{statement}
 use Rattle.state.proofs.soundness.rest_holds.Tie as tie
 
 abbrev Inv-loop : tie.InvT-loop
-Inv-loop level from to b code table n before₀ i₀ before i = (from < i) × (i ≤ to) × (key-of before ≡ key (table-of n table) (row-at level (i - 1) .1)) × (all-hold? (follows? b (table-order code (table-of n table)) level) (from + 1) (to - (from + 1)) ≡ all-hold? (follows? b (table-order code (table-of n table)) level) i (to - i))
+Inv-loop level from to b code table n before₀ i₀ before i = (from < i) × (i ≤ to) × (key-of before ≡ key (table-of n table) (row-at level (i - 1) .1))
+    × (all-hold? (follows? b (table-order code (table-of n table)) level) (from + 1) (to - (from + 1))
+    ≡ all-hold? (follows? b (table-order code (table-of n table)) level) i (to - i))
 
 abbrev μ-loop : tie.MeasureT-loop
 μ-loop level from to b code table n before₀ i₀ before i = to - i
@@ -41,12 +43,16 @@ fails-requires c κs = omega arith
 
 returns : tie.Need-returns Inv-loop μ-loop
 returns c =
-    let a = c .before .before .before .before .before .before .before .before .before .args in
+    let at-8 = c .before .before .before .before .before .before .before .before in
+    let a = at-8 .before .args in
     let l = c .before .before .before .before .before .loop in
     let T = table-of (a .n) (a .table .now) in
     let F : ℕ → Bool = follows? (a .b) (table-order (a .code) T) (a .level .now) in
-    let e : c .before .before .follows .result ≡ F (l .i) = c .before .before .follows .ensures ∙ (λ j. row-holds? (a .b) (a .level .now) (l .i) and greater? (compare-keys (a .code) (l .inv .2 j) (c .before .before .before .image-at2 .ensures j))) in
-    sym (l .inv .3 ∙ hold-stops F (l .i) (a .to) (omega arith) (sym e ∙ not-true (c .before .before .follows .result) (sym (c .before .fails .ensures) ∙ c .if1 .taken)))
+    let e : c .before .before .follows .result ≡ F (l .i) = c .before .before .follows .ensures
+    ∙ (λ j. row-holds? (a .b) (a .level .now) (l .i) and greater? (compare-keys (a .code) (l .inv .2 j)
+    (c .before .before .before .image-at2 .ensures j))) in
+    sym (l .inv .3 ∙ hold-stops F (l .i) (a .to) (omega arith) (sym e ∙ not-true (c .before .before .follows .result)
+    (sym (c .before .fails .ensures) ∙ c .if1 .taken)))
 
 add-i-2 : tie.Need-add-i-2 Inv-loop μ-loop
 add-i-2 c = omega arith
@@ -56,13 +62,22 @@ loop-less c = omega arith
 
 loop-again : tie.Need-loop-again Inv-loop μ-loop
 loop-again c =
-    let a = c .before .before .before .before .before .before .before .before .before .args in
+    let at-8 = c .before .before .before .before .before .before .before .before in
+    let a = at-8 .before .args in
     let l = c .before .before .before .before .before .loop in
     let T = table-of (a .n) (a .table .now) in
     let F : ℕ → Bool = follows? (a .b) (table-order (a .code) T) (a .level .now) in
-    let e : c .before .before .follows .result ≡ F (l .i) = c .before .before .follows .ensures ∙ (λ j. row-holds? (a .b) (a .level .now) (l .i) and greater? (compare-keys (a .code) (l .inv .2 j) (c .before .before .before .image-at2 .ensures j))) in
-    let z : l .i + 1 - 1 ≡ l .i = omega arith in
-    (omega arith, omega arith, c .before .before .before .image-at2 .ensures ∙ ap (λ k. key T (row-at (a .level .now) k .1)) (sym z), l .inv .3 ∙ hold-on F (l .i) (a .to) (omega arith) (sym e ∙ not-false (c .before .before .follows .result) (sym (c .before .fails .ensures) ∙ c .if1 .left)))
+    let e : c .before .before .follows .result ≡ F (l .i) = c .before .before .follows .ensures
+    ∙ (λ j. row-holds? (a .b) (a .level .now) (l .i) and greater? (compare-keys (a .code) (l .inv .2 j)
+    (c .before .before .before .image-at2 .ensures j))) in
+    let z : l .i + 1 - 1 ≡ l .i = omega arith in (
+      omega arith,
+      omega arith,
+      c .before .before .before .image-at2 .ensures ∙ ap (λ k. key T (row-at (a .level .now) k .1)) (sym z),
+      l .inv .3
+          ∙ hold-on F (l .i) (a .to) (omega arith) (sym e ∙ not-false (c .before .before .follows .result)
+          (sym (c .before .fails .ensures) ∙ c .if1 .left)),
+    )
 
 returns-2 : tie.Need-returns-2 Inv-loop μ-loop
 returns-2 c =

@@ -9,7 +9,12 @@ exponent-limits-requires : tie.Need-exponent-limits-requires
 exponent-limits-requires c κs = search needs
 
 returns : tie.Need-returns
-returns c = λ i. record { top = c .before .less-one .ensures i; components = c .before .before .args .components; exponents = c .exponent-limits .ensures i }
+returns c = λ i. record {
+  top = c .before .less-one .ensures i;
+  components = c .before .before .args .components;
+  exponents =
+      c .exponent-limits .ensures i;
+}
 
 pub row-bounds-spec : {M : Type 1} → statement M
 row-bounds-spec = tie.close (tie.spec less-one-requires exponent-limits-requires returns)

@@ -16,15 +16,18 @@ returns : tie.Need-returns
 returns c =
     let a = c .before .before .before .args in
     let O = table-order (a .code) (table-of (a .n) (a .table .now)) in
-    let R : Bool = row-holds? (a .b) (a .level .now) (a .from) and all-hold? (follows? (a .b) O (a .level .now)) (suc (a .from)) (a .to - suc (a .from)) in
+    let R : Bool = row-holds? (a .b) (a .level .now) (a .from) and all-hold? (follows? (a .b) O (a .level .now)) (suc (a .from))
+    (a .to - suc (a .from)) in
     λ i. sym (le-ltb (a .from) (a .to) (c .if1 .taken)) i and leb (a .to) most-rows and leb (a .to - a .from) (a .most) and R
 
 returns-2 : tie.Need-returns-2
 returns-2 c =
     let a = c .before .before .before .before .args in
     let O = table-order (a .code) (table-of (a .n) (a .table .now)) in
-    let R : Bool = row-holds? (a .b) (a .level .now) (a .from) and all-hold? (follows? (a .b) O (a .level .now)) (suc (a .from)) (a .to - suc (a .from)) in
-    λ i. sym (lt-ltb (a .from) (a .to) (c .before .if1 .left)) i and sym (lt-leb (a .to) most-rows (c .if2 .taken)) i and leb (a .to - a .from) (a .most) and R
+    let R : Bool = row-holds? (a .b) (a .level .now) (a .from) and all-hold? (follows? (a .b) O (a .level .now)) (suc (a .from))
+    (a .to - suc (a .from)) in
+    λ i. sym (lt-ltb (a .from) (a .to) (c .before .if1 .left)) i and sym (lt-leb (a .to) most-rows (c .if2 .taken)) i
+    and leb (a .to - a .from) (a .most) and R
 
 sub-if3 : tie.Need-sub-if3
 sub-if3 c = search needs
@@ -33,8 +36,10 @@ returns-3 : tie.Need-returns-3
 returns-3 c =
     let a = c .before .before .before .before .before .args in
     let O = table-order (a .code) (table-of (a .n) (a .table .now)) in
-    let R : Bool = row-holds? (a .b) (a .level .now) (a .from) and all-hold? (follows? (a .b) O (a .level .now)) (suc (a .from)) (a .to - suc (a .from)) in
-    λ i. sym (lt-ltb (a .from) (a .to) (c .before .before .if1 .left)) i and sym (le-leb (a .to) most-rows (c .before .if2 .left)) i and sym (lt-leb (a .to - a .from) (a .most) (c .if3 .taken)) i and R
+    let R : Bool = row-holds? (a .b) (a .level .now) (a .from) and all-hold? (follows? (a .b) O (a .level .now)) (suc (a .from))
+    (a .to - suc (a .from)) in
+    λ i. sym (lt-ltb (a .from) (a .to) (c .before .before .if1 .left)) i and sym (le-leb (a .to) most-rows (c .before .if2 .left)) i
+    and sym (lt-leb (a .to - a .from) (a .most) (c .if3 .taken)) i and R
 
 row-holds-requires : tie.Need-row-holds-requires
 row-holds-requires c κs = search needs
@@ -49,10 +54,14 @@ returns-4 : tie.Need-returns-4
 returns-4 c =
     let a = c .before .before .before .before .before .before .before .before .args in
     let O = table-order (a .code) (table-of (a .n) (a .table .now)) in
-    let R : Bool = row-holds? (a .b) (a .level .now) (a .from) and all-hold? (follows? (a .b) O (a .level .now)) (suc (a .from)) (a .to - suc (a .from)) in
+    let R : Bool = row-holds? (a .b) (a .level .now) (a .from) and all-hold? (follows? (a .b) O (a .level .now)) (suc (a .from))
+    (a .to - suc (a .from)) in
     let z : a .from + 1 ≡ suc (a .from) = omega arith in
     c .both .ensures
-    ∙ (λ i. sym (lt-ltb (a .from) (a .to) (c .before .before .before .before .before .if1 .left)) i and sym (le-leb (a .to) most-rows (c .before .before .before .before .if2 .left)) i and sym (le-leb (a .to - a .from) (a .most) (c .before .before .before .if3 .left)) i and c .before .before .row-holds .ensures i and (c .before .rest-holds .ensures ∙ ap (λ k. all-hold? (follows? (a .b) O (a .level .now)) k (a .to - k)) z) i)
+    ∙ (λ i. sym (lt-ltb (a .from) (a .to) (c .before .before .before .before .before .if1 .left)) i
+    and sym (le-leb (a .to) most-rows (c .before .before .before .before .if2 .left)) i
+    and sym (le-leb (a .to - a .from) (a .most) (c .before .before .before .if3 .left)) i and c .before .before .row-holds .ensures i
+    and (c .before .rest-holds .ensures ∙ ap (λ k. all-hold? (follows? (a .b) O (a .level .now)) k (a .to - k)) z) i)
 
 pub vector-holds-spec : {M : Type 1} → statement M
 vector-holds-spec =

@@ -11,7 +11,8 @@ use Rattle.state.proofs.soundness.vectors_hold.Statement.{statement}
 use Rattle.state.proofs.soundness.vectors_hold.Tie as tie
 
 abbrev Inv-loop : tie.InvT-loop
-Inv-loop level ends r most b code table n from₀ j₀ from j = (j ≤ r) × (vectors-hold? b most (table-order code (table-of n table)) level 0 (take r ends) ≡ vectors-hold? b most (table-order code (table-of n table)) level from (drop j (take r ends)))
+Inv-loop level ends r most b code table n from₀ j₀ from j = (j ≤ r) × (vectors-hold? b most (table-order code (table-of n table)) level 0 (take r ends)
+    ≡ vectors-hold? b most (table-order code (table-of n table)) level from (drop j (take r ends)))
 
 abbrev μ-loop : tie.MeasureT-loop
 μ-loop level ends r most b code table n from₀ j₀ from j = r - j
@@ -36,13 +37,17 @@ fails-requires c κs = omega arith
 
 returns : tie.Need-returns Inv-loop μ-loop
 returns c =
-    let a = c .before .before .before .before .before .before .before .before .before .before .args in
+    let at-8 = c .before .before .before .before .before .before .before .before in
+    let a = at-8 .before .before .args in
     let l = c .before .before .before .before .before .before .loop in
     let O = table-order (a .code) (table-of (a .n) (a .table .now)) in
     let es = take (a .r) (a .ends .now) in
     let n : length es ≡ a .r = length-take-le (a .r) (a .ends .now) (omega arith) in
-    let q : getD es (l .j) 0 ≡ c .before .before .before .place .result = getD-take (a .r) (a .ends .now) (l .j) 0 (omega arith) ∙ sym (c .before .before .before .place .ensures .0) in
-    sym (l .inv .1 ∙ vectors-stop (a .b) (a .most) O (a .level .now) es (l .j) (l .from) (c .before .before .before .place .result) (omega arith) q (sym (c .before .before .vector-holds .ensures) ∙ not-true (c .before .before .vector-holds .result) (sym (c .before .fails .ensures) ∙ c .if1 .taken)))
+    let q : getD es (l .j) 0 ≡ c .before .before .before .place .result = getD-take (a .r) (a .ends .now) (l .j) 0 (omega arith)
+    ∙ sym (c .before .before .before .place .ensures .0) in
+    sym (l .inv .1 ∙ vectors-stop (a .b) (a .most) O (a .level .now) es (l .j) (l .from) (c .before .before .before .place .result) (omega arith) q
+    (sym (c .before .before .vector-holds .ensures) ∙ not-true (c .before .before .vector-holds .result)
+    (sym (c .before .fails .ensures) ∙ c .if1 .taken)))
 
 add-j : tie.Need-add-j Inv-loop μ-loop
 add-j c = omega arith
@@ -52,13 +57,19 @@ loop-less c = omega arith
 
 loop-again : tie.Need-loop-again Inv-loop μ-loop
 loop-again c =
-    let a = c .before .before .before .before .before .before .before .before .before .before .args in
+    let at-8 = c .before .before .before .before .before .before .before .before in
+    let a = at-8 .before .before .args in
     let l = c .before .before .before .before .before .before .loop in
     let O = table-order (a .code) (table-of (a .n) (a .table .now)) in
     let es = take (a .r) (a .ends .now) in
     let n : length es ≡ a .r = length-take-le (a .r) (a .ends .now) (omega arith) in
-    let q : getD es (l .j) 0 ≡ c .before .before .before .place .result = getD-take (a .r) (a .ends .now) (l .j) 0 (omega arith) ∙ sym (c .before .before .before .place .ensures .0) in
-    (omega arith, l .inv .1 ∙ vectors-on (a .b) (a .most) O (a .level .now) es (l .j) (l .from) (c .before .before .before .place .result) (omega arith) q (sym (c .before .before .vector-holds .ensures) ∙ not-false (c .before .before .vector-holds .result) (sym (c .before .fails .ensures) ∙ c .if1 .left)))
+    let q : getD es (l .j) 0 ≡ c .before .before .before .place .result = getD-take (a .r) (a .ends .now) (l .j) 0 (omega arith)
+    ∙ sym (c .before .before .before .place .ensures .0) in (
+      omega arith,
+      l .inv .1 ∙ vectors-on (a .b) (a .most) O (a .level .now) es (l .j) (l .from) (c .before .before .before .place .result)
+          (omega arith) q (sym (c .before .before .vector-holds .ensures)
+          ∙ not-false (c .before .before .vector-holds .result) (sym (c .before .fails .ensures) ∙ c .if1 .left)),
+    )
 
 returns-2 : tie.Need-returns-2 Inv-loop μ-loop
 returns-2 c =

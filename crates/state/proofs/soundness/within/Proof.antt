@@ -51,8 +51,12 @@ loop-again c =
     let at = c .before .before .before .before .before .args .at in
     let w = c .before .before .before .before .before .args .t3 in
     let f : ℕ → Bool = λ k. ltb (getD w k 0) (getD (exponents-raw s at) k 0) in
-    let q : ltb (getD w (l .j) 0) (getD s (at + l .j) 0) ≡ f (l .j) = ap (ltb (getD w (l .j) 0)) (sym (getD-raw s at (l .j) (omega arith))) in
-    (omega arith, l .inv .1, subst (Marked f (l .j + 1)) (sym (c .mark-above .ensures)) (marked-more f (l .j) (l .mark) (ltb (getD w (l .j) 0) (getD s (at + l .j) 0)) q (l .inv .2)))
+    let q : ltb (getD w (l .j) 0) (getD s (at + l .j) 0) ≡ f (l .j) = ap (ltb (getD w (l .j) 0)) (sym (getD-raw s at (l .j) (omega arith))) in (
+      omega arith,
+      l .inv .1,
+      subst (Marked f (l .j + 1)) (sym (c .mark-above .ensures))
+          (marked-more f (l .j) (l .mark) (ltb (getD w (l .j) 0) (getD s (at + l .j) 0)) q (l .inv .2)),
+    )
 
 returns : tie.Need-returns Inv-loop μ-loop
 returns c =
@@ -61,7 +65,8 @@ returns c =
     let at = c .before .before .before .args .at in
     let w = c .before .before .before .args .t3 in
     let q : l .j ≡ 8 = omega arith in
-    divides-marked (exponents-raw s at) w (l .mark) refl (l .inv .1) (subst (λ n. Marked (λ k. ltb (getD w k 0) (getD (exponents-raw s at) k 0)) n (l .mark)) q (l .inv .2))
+    divides-marked (exponents-raw s at) w (l .mark) refl (l .inv .1) (subst
+    (λ n. Marked (λ k. ltb (getD w k 0) (getD (exponents-raw s at) k 0)) n (l .mark)) q (l .inv .2))
 
 pub within-spec : {M : Type 1} → statement M
 within-spec =

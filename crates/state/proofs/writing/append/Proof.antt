@@ -70,9 +70,14 @@ returns c =
     let k = a .k in
     let n : rows-offset k + level-length - (rows-offset k) ≡ level-length = omega arith in
     let w = rows-of (rows (a .value .now) 0 (a .v)) in
-    let p : take (rows-offset k) s ++ (c .before .before .copy-rows .last .0 ++ drop (rows-offset k + level-length - (rows-offset k)) (drop (rows-offset k) s)) ≡ paste s (rows-offset k + a .used * row-length) w (a .v * row-length) =
-    (λ i. take (rows-offset k) s ++ ((c .before .before .copy-rows .ensures ∙ (λ j. paste (take (n j) (drop (rows-offset k) s)) (a .used * row-length) w (a .v * row-length))) i ++ drop (n i) (drop (rows-offset k) s)))
-    ∙ paste-part s w (rows-offset k) level-length (a .used * row-length) (a .v * row-length) (omega (arith, c .before .before .before .before .before .before .pre .0, c .before .before .before .before .before .before .pre .1)) (omega (arith, c .before .before .before .before .before .before .pre .3)) (omega (arith, length-spelled (a .value .now) 0 (a .v))) in
+    let p : take (rows-offset k) s ++ (c .before .before .copy-rows .last .0
+    ++ drop (rows-offset k + level-length - (rows-offset k)) (drop (rows-offset k) s))
+    ≡ paste s (rows-offset k + a .used * row-length) w (a .v * row-length) =
+    (λ i. take (rows-offset k) s ++ ((c .before .before .copy-rows .ensures
+    ∙ (λ j. paste (take (n j) (drop (rows-offset k) s)) (a .used * row-length) w (a .v * row-length))) i ++ drop (n i) (drop (rows-offset k) s)))
+    ∙ paste-part s w (rows-offset k) level-length (a .used * row-length) (a .v * row-length)
+    (omega (arith, c .before .before .before .before .before .before .pre .0, c .before .before .before .before .before .before .pre .1))
+    (omega (arith, c .before .before .before .before .before .before .pre .3)) (omega (arith, length-spelled (a .value .now) 0 (a .v))) in
     ap (λ l. set l (count-offset k + 1 + a .count) (a .used + a .v)) p
 
 pub append-spec : {M : Type 1} → statement M

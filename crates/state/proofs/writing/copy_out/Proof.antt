@@ -23,7 +23,8 @@ part-copy-end : tie.Need-part-copy-end
 part-copy-end c = search needs
 
 copy-requires : tie.Need-copy-requires
-copy-requires c κs = (omega arith, omega (arith, length-part (c .before .before .before .before .args .start) (c .before .before .before .before .args .state .now)))
+copy-requires c κs =
+    (omega arith, omega (arith, length-part (c .before .before .before .before .args .start) (c .before .before .before .before .args .state .now)))
 
 clear-requires : tie.Need-clear-requires
 clear-requires c κs = search needs
@@ -33,10 +34,13 @@ same-length c = search needs
 
 returns : tie.Need-returns
 returns c =
-    let a = c .before .before .before .before .before .before .before .before .before .before .before .args in
+    let at-8 = c .before .before .before .before .before .before .before .before in
+    let a = at-8 .before .before .before .args in
     let s = a .state .now in
-    c .before .before .clear .ensures ∙ ap (λ l. cleared l (a .n)) (c .before .before .before .before .before .before .copy .ensures ∙ ap (λ p. paste (a .out .now) 0 p (a .n)) (whole-part (a .start) s))
-    ∙ padded-out (a .out .now) (take (a .n) (drop (a .start) s)) (drop (a .start) s) (a .n) (omega (arith, c .before .before .before .before .before .before .before .before .before .before .before .pre .1)) (omega (arith, length-drop (a .start) s, c .before .before .before .before .before .before .before .before .before .before .before .pre .0)) refl
+    c .before .before .clear .ensures ∙ ap (λ l. cleared l (a .n)) (c .before .before .before .before .before .before .copy .ensures
+    ∙ ap (λ p. paste (a .out .now) 0 p (a .n)) (whole-part (a .start) s))
+    ∙ padded-out (a .out .now) (take (a .n) (drop (a .start) s)) (drop (a .start) s) (a .n) (omega (arith, at-8 .before .before .before .pre .1))
+    (omega (arith, length-drop (a .start) s, at-8 .before .before .before .pre .0)) refl
 
 pub copy-out-spec : {M : Type 1} → statement M
 copy-out-spec =

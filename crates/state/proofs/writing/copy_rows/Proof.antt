@@ -36,9 +36,16 @@ loop-less c = omega arith
 
 loop-again : tie.Need-loop-again Inv-loop μ-loop
 loop-again c =
-    let a = c .before .before .before .before .before .before .before .before .before .args in
-    let l = c .before .before .before .before .before .before .loop in
-    (omega arith, omega arith, c .before .before .put .ensures .0 ∙ ap (λ s. written s (a .used + l .j) (term-of (c .before .before .before .before .row .result))) (l .inv .2) ∙ copied-more (a .d .now) (a .value .now) (a .used) (l .j) (term-of (c .before .before .before .before .row .result)) (omega arith) (c .before .before .before .before .row .ensures))
+    let at-8 = c .before .before .before .before .before .before .before .before in
+    let a = at-8 .before .args in
+    let l = c .before .before .before .before .before .before .loop in (
+      omega arith,
+      omega arith,
+      c .before .before .put .ensures .0 ∙ ap
+          (λ s. written s (a .used + l .j) (term-of (c .before .before .before .before .row .result))) (l .inv .2)
+          ∙ copied-more (a .d .now) (a .value .now) (a .used) (l .j) (term-of (c .before .before .before .before .row .result)) (omega arith)
+          (c .before .before .before .before .row .ensures),
+    )
 
 same-length : tie.Need-same-length Inv-loop μ-loop
 same-length c = omega arith
@@ -47,7 +54,8 @@ returns : tie.Need-returns Inv-loop μ-loop
 returns c =
     let l = c .before .loop in
     let z : l .j ≡ c .before .before .before .before .args .v = omega arith in
-    l .inv .2 ∙ ap (λ n. paste (c .before .before .before .before .args .d .now) (c .before .before .before .before .args .used * row-length) (rows-of (rows (c .before .before .before .before .args .value .now) 0 n)) (n * row-length)) z
+    l .inv .2 ∙ ap (λ n. paste (c .before .before .before .before .args .d .now) (c .before .before .before .before .args .used * row-length)
+    (rows-of (rows (c .before .before .before .before .args .value .now) 0 n)) (n * row-length)) z
 
 pub copy-rows-spec : {M : Type 1} → statement M
 copy-rows-spec =

@@ -36,7 +36,8 @@ slice-write-state-2 c =
     let a = c .before .args in
     let s = a .state .now in
     let n : length (set s (count-offset (a .k)) (a .count)) ≡ length s = length-set s (count-offset (a .k)) (a .count) in
-    let m : length (set (set s (count-offset (a .k)) (a .count)) 4 (a .k + 1)) ≡ length s = length-set (set s (count-offset (a .k)) (a .count)) 4 (a .k + 1) ∙ n in
+    let m : length (set (set s (count-offset (a .k)) (a .count)) 4 (a .k + 1))
+    ≡ length s = length-set (set s (count-offset (a .k)) (a .count)) 4 (a .k + 1) ∙ n in
     omega (arith, c .before .pre .0)
 
 add-settle : tie.Need-add-settle
@@ -47,15 +48,21 @@ settle-requires c κs =
     let a = c .before .before .args in
     let s = a .state .now in
     let n : length (set s (count-offset (a .k)) (a .count)) ≡ length s = length-set s (count-offset (a .k)) (a .count) in
-    let m : length (set (set s (count-offset (a .k)) (a .count)) 4 (a .k + 1)) ≡ length s = length-set (set s (count-offset (a .k)) (a .count)) 4 (a .k + 1) ∙ n in
-    (omega (arith, c .before .before .pre .0), omega (arith, c .before .before .pre .1), new-height s (a .k) (a .count) (c .before .before .pre .0) (c .before .before .pre .1) (c .before .before .pre .2) (c .before .before .pre .3), new-words s (a .k) (a .count) (c .before .before .pre .0) (c .before .before .pre .1) (c .before .before .pre .2) (c .before .before .pre .3))
+    let m : length (set (set s (count-offset (a .k)) (a .count)) 4 (a .k + 1))
+    ≡ length s = length-set (set s (count-offset (a .k)) (a .count)) 4 (a .k + 1) ∙ n in (
+      omega (arith, c .before .before .pre .0),
+      omega (arith, c .before .before .pre .1),
+      new-height s (a .k) (a .count) (c .before .before .pre .0) (c .before .before .pre .1) (c .before .before .pre .2) (c .before .before .pre .3),
+      new-words s (a .k) (a .count) (c .before .before .pre .0) (c .before .before .pre .1) (c .before .before .pre .2) (c .before .before .pre .3),
+    )
 
 same-length : tie.Need-same-length
 same-length c =
     let a = c .before .before .before .before .before .args in
     let s = a .state .now in
     let n : length (set s (count-offset (a .k)) (a .count)) ≡ length s = length-set s (count-offset (a .k)) (a .count) in
-    let m : length (set (set s (count-offset (a .k)) (a .count)) 4 (a .k + 1)) ≡ length s = length-set (set s (count-offset (a .k)) (a .count)) 4 (a .k + 1) ∙ n in
+    let m : length (set (set s (count-offset (a .k)) (a .count)) 4 (a .k + 1))
+    ≡ length s = length-set (set s (count-offset (a .k)) (a .count)) 4 (a .k + 1) ∙ n in
     omega (arith, c .before .before .settle .kept .0)
 
 returns : tie.Need-returns
@@ -63,8 +70,11 @@ returns c =
     let a = c .before .before .before .before .before .args in
     let s = a .state .now in
     let n : length (set s (count-offset (a .k)) (a .count)) ≡ length s = length-set s (count-offset (a .k)) (a .count) in
-    let m : length (set (set s (count-offset (a .k)) (a .count)) 4 (a .k + 1)) ≡ length s = length-set (set s (count-offset (a .k)) (a .count)) 4 (a .k + 1) ∙ n in
-    c .before .before .settle .ensures ∙ (λ i. encode document-01 (m i) (new-state s (a .k) (a .count) (c .before .before .before .before .before .pre .0) (c .before .before .before .before .before .pre .1) (c .before .before .before .before .before .pre .2) (c .before .before .before .before .before .pre .3) i))
+    let m : length (set (set s (count-offset (a .k)) (a .count)) 4 (a .k + 1))
+    ≡ length s = length-set (set s (count-offset (a .k)) (a .count)) 4 (a .k + 1) ∙ n in
+    c .before .before .settle .ensures ∙ (λ i. encode document-01 (m i)
+    (new-state s (a .k) (a .count) (c .before .before .before .before .before .pre .0) (c .before .before .before .before .before .pre .1)
+    (c .before .before .before .before .before .pre .2) (c .before .before .before .before .before .pre .3) i))
 
 pub finish-spec : {M : Type 1} → statement M
 finish-spec =

@@ -46,11 +46,17 @@ same-length c = search needs
 
 returns : tie.Need-returns
 returns c =
-    let a = c .before .before .before .before .before .before .before .before .before .before .before .before .before .args in
+    let at-8 = c .before .before .before .before .before .before .before .before in
+    let a = at-8 .before .before .before .before .before .args in
     let s = a .state .now in
     let h = a .h in
-    let b = block-by (c .before .before .before .before .before .before .before .before .before .before .tidy .last .0) (c .before .before .before .before .before .before .before .before .before .before .tidy .last .0) (c .before .before .before .before .before .before .clear .last .0) (count-offset h) (rows-start - (count-offset h)) (rows-start - (count-offset h)) 0 0 refl refl refl (c .before .before .before .before .before .before .clear .ensures) in
-    c .before .before .clear2 .ensures ∙ ap (λ l. cleared l (rows-offset h)) b ∙ settled-by s (c .before .before .before .before .before .before .before .before .before .before .tidy .last .0) h (c .before .before .before .before .before .before .before .before .before .before .before .before .before .pre .0) (c .before .before .before .before .before .before .before .before .before .before .before .before .before .pre .1) (c .before .before .before .before .before .before .before .before .before .before .before .before .before .pre .2) (c .before .before .before .before .before .before .before .before .before .before .before .before .before .pre .3) (c .before .before .before .before .before .before .before .before .before .before .tidy .ensures)
+    let b = block-by (at-8 .before .before .tidy .last .0) (at-8 .before .before .tidy .last .0)
+    (c .before .before .before .before .before .before .clear .last .0) (count-offset h) (rows-start - (count-offset h))
+    (rows-start - (count-offset h)) 0 0 refl refl refl (c .before .before .before .before .before .before .clear .ensures) in
+    c .before .before .clear2 .ensures ∙ ap (λ l. cleared l (rows-offset h)) b
+    ∙ settled-by s (at-8 .before .before .tidy .last .0) h (at-8 .before .before .before .before .before .pre .0)
+    (at-8 .before .before .before .before .before .pre .1) (at-8 .before .before .before .before .before .pre .2)
+    (at-8 .before .before .before .before .before .pre .3) (at-8 .before .before .tidy .ensures)
 
 pub settle-spec : {M : Type 1} → statement M
 settle-spec =

@@ -20,7 +20,8 @@ tidy-level-requires : tie.Need-tidy-level-requires Inv-loop μ-loop
 tidy-level-requires c κs =
     let a = c .before .before .before .before .args in
     let l = c .before .before .loop in
-    let z = sized-at (a .state .now) (l .state) (c .before .before .before .before .pre .0) (a .h) (c .before .before .before .before .pre .1) (c .before .before .before .before .pre .2) (l .k) (omega arith) (l .inv .1) in
+    let z = sized-at (a .state .now) (l .state) (c .before .before .before .before .pre .0) (a .h) (c .before .before .before .before .pre .1)
+    (c .before .before .before .before .pre .2) (l .k) (omega arith) (l .inv .1) in
     (omega (arith, l .inv .1 .long), omega arith, z .0, z .1)
 
 add-k : tie.Need-add-k Inv-loop μ-loop
@@ -32,8 +33,14 @@ loop-less c = omega arith
 loop-again : tie.Need-loop-again Inv-loop μ-loop
 loop-again c =
     let a = c .before .before .before .before .before .before .before .args in
-    let l = c .before .before .before .before .before .loop in
-    (omega arith, subst (λ z. Tidied-to (a .state .now) z (l .k + 1)) (sym (c .before .before .tidy-level .ensures)) (tidied-more (a .state .now) (l .state) (l .k) (c .before .before .before .before .before .before .before .pre .0) (omega arith) (λ j m. all-sized (a .state .now) (c .before .before .before .before .before .before .before .pre .0) (a .h) (c .before .before .before .before .before .before .before .pre .1) (c .before .before .before .before .before .before .before .pre .2) j (omega (arith, c .before .before .before .before .loop-test .taken))) (l .inv .1)))
+    let l = c .before .before .before .before .before .loop in (
+      omega arith,
+      subst (λ z. Tidied-to (a .state .now) z (l .k + 1)) (sym (c .before .before .tidy-level .ensures))
+          (tidied-more (a .state .now) (l .state) (l .k) (c .before .before .before .before .before .before .before .pre .0) (omega arith)
+          (λ j m. all-sized (a .state .now) (c .before .before .before .before .before .before .before .pre .0) (a .h)
+          (c .before .before .before .before .before .before .before .pre .1) (c .before .before .before .before .before .before .before .pre .2) j
+          (omega (arith, c .before .before .before .before .loop-test .taken))) (l .inv .1)),
+    )
 
 same-length : tie.Need-same-length Inv-loop μ-loop
 same-length c = omega (arith, c .before .loop .inv .1 .long)

@@ -68,7 +68,15 @@ part-clear-end-2 : tie.Need-part-clear-end-2
 part-clear-end-2 c = search needs
 
 mul-clear-3 : tie.Need-mul-clear-3
-mul-clear-3 c = omega (arith, c .before .before .before .before .before .end-of .ensures, c .before .before .before .before .before .before .before .before .before .before .pre .3, ap (start-of (ends-from (c .before .before .before .before .before .before .before .before .before .before .args .state .now) (c .before .before .before .before .before .before .before .before .before .before .args .k))) (c .before .before .before .before .before .before .before .count-of .ensures))
+mul-clear-3 c =
+    let at-8 = c .before .before .before .before .before .before .before .before in
+    omega (
+      arith,
+      c .before .before .before .before .before .end-of .ensures,
+      at-8 .before .before .pre .3,
+      ap (start-of (ends-from (at-8 .before .before .args .state .now) (at-8 .before .before .args .k)))
+          (c .before .before .before .before .before .before .before .count-of .ensures),
+    )
 
 clear-requires-2 : tie.Need-clear-requires-2
 clear-requires-2 c κs = search needs
@@ -78,13 +86,22 @@ same-length c = search needs
 
 returns : tie.Need-returns
 returns c =
-    let a = c .before .before .before .before .before .before .before .before .before .before .before .before .before .args in
+    let at-8 = c .before .before .before .before .before .before .before .before in
+    let a = at-8 .before .before .before .before .before .args in
     let s = a .state .now in
     let k = a .k in
     let n : count-offset k + counts-length - (count-offset k) ≡ counts-length = omega arith in
     let m : rows-offset k + level-length - (rows-offset k) ≡ level-length = omega arith in
-    let b = block-by s s (c .before .before .before .before .before .before .clear .last .0) (count-offset k) counts-length (count-offset k + counts-length - (count-offset k)) (1 + count-at s k) (1 + c .before .before .before .before .before .before .before .before .before .before .count-of .result) refl n (ap (λ r. 1 + r) (c .before .before .before .before .before .before .before .before .before .before .count-of .ensures)) (c .before .before .before .before .before .before .clear .ensures) in
-    block-by (take (count-offset k) s ++ (c .before .before .before .before .before .before .clear .last .0 ++ drop (count-offset k + counts-length - (count-offset k)) (drop (count-offset k) s))) (block-cleared (count-offset k) counts-length (1 + count-at s k) s) (c .before .before .clear2 .last .0) (rows-offset k) level-length (rows-offset k + level-length - (rows-offset k)) (start-of (ends-from s k) (count-at s k) * row-length) (c .before .before .before .before .before .before .before .before .end-of .result * row-length) b m (ap (λ r. r * row-length) (c .before .before .before .before .before .before .before .before .end-of .ensures ∙ ap (start-of (ends-from s k)) (c .before .before .before .before .before .before .before .before .before .before .count-of .ensures))) (c .before .before .clear2 .ensures)
+    let b = block-by s s (c .before .before .before .before .before .before .clear .last .0) (count-offset k) counts-length
+    (count-offset k + counts-length - (count-offset k)) (1 + count-at s k) (1 + at-8 .before .before .count-of .result) refl n
+    (ap (λ r. 1 + r) (at-8 .before .before .count-of .ensures)) (c .before .before .before .before .before .before .clear .ensures) in
+    block-by (take (count-offset k) s ++ (c .before .before .before .before .before .before .clear .last .0
+    ++ drop (count-offset k + counts-length - (count-offset k)) (drop (count-offset k) s)))
+    (block-cleared (count-offset k) counts-length (1 + count-at s k) s) (c .before .before .clear2 .last .0) (rows-offset k) level-length
+    (rows-offset k + level-length - (rows-offset k)) (start-of (ends-from s k) (count-at s k) * row-length)
+    (c .before .before .before .before .before .before .before .before .end-of .result * row-length) b m
+    (ap (λ r. r * row-length) (c .before .before .before .before .before .before .before .before .end-of .ensures
+    ∙ ap (start-of (ends-from s k)) (at-8 .before .before .count-of .ensures))) (c .before .before .clear2 .ensures)
 
 pub tidy-level-spec : {M : Type 1} → statement M
 tidy-level-spec =

@@ -5,16 +5,22 @@ use Rattle.testing.proofs.frames.frames_form.Statement.{statement}
 use Rattle.testing.proofs.frames.frames_form.Tie as tie
 
 returns : tie.Need-returns
-returns c = let a = c .before .before .before .before .args in too-many (a .d .now) (a .limit) (a .c .now) (a .heads .now) (a .r) (a .code) (c .if1 .taken)
+returns c = let a = c .before .before .before .before .args in too-many (a .d .now) (a .limit) (a .c .now) (a .heads .now) (a .r) (a .code)
+    (c .if1 .taken)
 
 returns-2 : tie.Need-returns-2
-returns-2 c = let a = c .before .before .before .before .before .args in short-frame (a .d .now) (a .limit) (a .c .now) (a .heads .now) (a .r) (a .code) (c .before .if1 .left) (c .if2 .taken)
+returns-2 c = let a = c .before .before .before .before .before .args in
+    short-frame (a .d .now) (a .limit) (a .c .now) (a .heads .now) (a .r) (a .code) (c .before .if1 .left) (c .if2 .taken)
 
 returns-3 : tie.Need-returns-3
-returns-3 c = let a = c .before .before .before .before .before .before .args in short-region (a .d .now) (a .limit) (a .c .now) (a .heads .now) (a .r) (a .code) (c .before .before .if1 .left) (c .before .if2 .left) (c .if3 .taken)
+returns-3 c = let a = c .before .before .before .before .before .before .args in
+    short-region (a .d .now) (a .limit) (a .c .now) (a .heads .now) (a .r) (a .code) (c .before .before .if1 .left) (c .before .if2 .left)
+    (c .if3 .taken)
 
 returns-4 : tie.Need-returns-4
-returns-4 c = let a = c .before .before .before .before .before .before .before .args in short-heads (a .d .now) (a .limit) (a .c .now) (a .heads .now) (a .r) (a .code) (c .before .before .before .if1 .left) (c .before .before .if2 .left) (c .before .if3 .left) (c .if4 .taken)
+returns-4 c = let a = c .before .before .before .before .before .before .before .args in
+    short-heads (a .d .now) (a .limit) (a .c .now) (a .heads .now) (a .r) (a .code) (c .before .before .before .if1 .left)
+    (c .before .before .if2 .left) (c .before .if3 .left) (c .if4 .taken)
 
 form-requires : tie.Need-form-requires
 form-requires c κs = search needs
@@ -32,7 +38,12 @@ returns-5 : tie.Need-returns-5
 returns-5 c =
     let a = c .before .before .before .before .before .before .before .before .before .before .before .before .before .before .before .before .args in
     let x = c .before .before .before .before .before .before .form in
-    tells-frame (x .result) (x .last .0) (c .tell .result) (c .tell .last .1 .0) (c .tell .ensures) ∙ x .ensures .0 ∙ long-enough (a .d .now) (a .limit) (a .c .now) (a .heads .now) (a .r) (a .code) (c .before .before .before .before .before .before .before .before .before .before .before .before .if1 .left) (c .before .before .before .before .before .before .before .before .before .before .before .if2 .left) (c .before .before .before .before .before .before .before .before .before .before .if3 .left) (c .before .before .before .before .before .before .before .before .before .if4 .left)
+    tells-frame (x .result) (x .last .0) (c .tell .result) (c .tell .last .1 .0) (c .tell .ensures) ∙ x .ensures .0
+    ∙ long-enough (a .d .now) (a .limit) (a .c .now) (a .heads .now) (a .r) (a .code)
+    (c .before .before .before .before .before .before .before .before .before .before .before .before .if1 .left)
+    (c .before .before .before .before .before .before .before .before .before .before .before .if2 .left)
+    (c .before .before .before .before .before .before .before .before .before .before .if3 .left)
+    (c .before .before .before .before .before .before .before .before .before .if4 .left)
 
 pub frames-form-spec : {M : Type 1} → statement M
 frames-form-spec =

@@ -17,13 +17,22 @@ abbrev μ-loop : tie.MeasureT-loop
 μ-loop heads r spans k s n x₀ i₀ x i = n - i
 
 loop-holds : tie.Need-loop-holds Inv-loop μ-loop
-loop-holds c = let a = c .before .before .before .args in (omega arith, omega arith, counted-none (λ j. lower-mark (searched (rows (a .heads .now) 0 (a .r)) (row-at (a .s .now) j .1))))
+loop-holds c = let a = c .before .before .before .args in (
+  omega arith,
+  omega arith,
+  counted-none (λ j. lower-mark (searched (rows (a .heads .now) 0 (a .r)) (row-at (a .s .now) j .1))),
+)
 
 row-requires : tie.Need-row-requires Inv-loop μ-loop
 row-requires c κs = omega arith
 
 search-requires : tie.Need-search-requires Inv-loop μ-loop
-search-requires c κs = (omega arith, omega arith, c .before .before .before .before .before .before .before .pre .2, c .before .before .before .before .before .before .before .pre .3)
+search-requires c κs = (
+  omega arith,
+  omega arith,
+  c .before .before .before .before .before .before .before .pre .2,
+  c .before .before .before .before .before .before .before .pre .3,
+)
 
 mark-lower-requires : tie.Need-mark-lower-requires Inv-loop μ-loop
 mark-lower-requires c κs = search needs
@@ -40,8 +49,14 @@ loop-less c = omega arith
 loop-again : tie.Need-loop-again Inv-loop μ-loop
 loop-again c =
     let a = c .before .before .before .before .before .before .before .before .before .args in
-    let l = c .before .before .before .before .before .loop in
-    (omega (arith, c .mark-lower .ensures .1), omega arith, counted-step (λ j. lower-mark (searched (rows (a .heads .now) 0 (a .r)) (row-at (a .s .now) j .1))) (l .i) (l .x) (c .mark-lower .result) (l .inv .2) (c .mark-lower .ensures .0 ∙ ap lower-mark (c .before .search .ensures) ∙ ap (λ t. lower-mark (searched (rows (a .heads .now) 0 (a .r)) (t .1))) (c .before .before .before .row .ensures)))
+    let l = c .before .before .before .before .before .loop in (
+      omega (arith, c .mark-lower .ensures .1),
+      omega arith,
+      counted-step
+          (λ j. lower-mark (searched (rows (a .heads .now) 0 (a .r)) (row-at (a .s .now) j .1))) (l .i) (l .x) (c .mark-lower .result) (l .inv .2)
+          (c .mark-lower .ensures .0 ∙ ap lower-mark (c .before .search .ensures)
+          ∙ ap (λ t. lower-mark (searched (rows (a .heads .now) 0 (a .r)) (t .1))) (c .before .before .before .row .ensures)),
+    )
 
 returns : tie.Need-returns Inv-loop μ-loop
 returns c =

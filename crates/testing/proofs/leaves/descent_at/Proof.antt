@@ -22,7 +22,11 @@ greater-requires : tie.Need-greater-requires
 greater-requires c κs = search needs
 
 returns : tie.Need-returns
-returns c = let a = c .before .before .before .before .before .before .before .args in descent-is (a .code) (a .s .now) (a .i) (c .greater .result) (comparison-of (c .before .compare .result)) (term-of (c .before .before .before .before .before .row .result) .1) (term-of (c .before .before .before .before .row2 .result) .1) (c .greater .ensures) (c .before .compare .ensures) (ap (λ t. t .1) (c .before .before .before .before .before .row .ensures)) (ap (λ t. t .1) (c .before .before .before .before .row2 .ensures))
+returns c = let a = c .before .before .before .before .before .before .before .args in
+    descent-is (a .code) (a .s .now) (a .i) (c .greater .result) (comparison-of (c .before .compare .result))
+    (term-of (c .before .before .before .before .before .row .result) .1) (term-of (c .before .before .before .before .row2 .result) .1)
+    (c .greater .ensures) (c .before .compare .ensures) (ap (λ t. t .1) (c .before .before .before .before .before .row .ensures))
+    (ap (λ t. t .1) (c .before .before .before .before .row2 .ensures))
 
 pub descent-at-spec : {M : Type 1} → statement M
 descent-at-spec =

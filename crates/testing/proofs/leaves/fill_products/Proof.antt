@@ -31,7 +31,14 @@ loop-less : tie.Need-loop-less Inv-loop μ-loop
 loop-less c = omega arith
 
 loop-again : tie.Need-loop-again Inv-loop μ-loop
-loop-again c = let a = c .before .before .before .before .before .before .before .before .before .args in let l = c .before .before .before .before .before .before .loop in (omega arith, omega (arith, l .inv .1), c .before .before .put .ensures .0 ∙ filled-step (product-at (a .s .now)) (a .d .now) (l .d) (l .i) (term-of (c .before .before .before .before .product-at .result)) (l .inv .2) (c .before .before .before .before .product-at .ensures))
+loop-again c = let a = c .before .before .before .before .before .before .before .before .before .args in let l =
+    c .before .before .before .before .before .before .loop in (
+      omega arith,
+      omega (arith, l .inv .1),
+      c .before .before .put .ensures .0
+          ∙ filled-step (product-at (a .s .now)) (a .d .now) (l .d) (l .i) (term-of (c .before .before .before .before .product-at .result)) (l .inv .2)
+          (c .before .before .before .before .product-at .ensures),
+    )
 
 same-length : tie.Need-same-length Inv-loop μ-loop
 same-length c = omega (arith, c .before .loop .inv .1)

@@ -19,7 +19,8 @@ abbrev μ-loop : tie.MeasureT-loop
 μ-loop s n code k₀ i₀ k i = n - i
 
 returns : tie.Need-returns Inv-loop μ-loop
-returns c = let a = c .before .before .args in sym (ap (λ b. choose b 0 (counted (descent (a .code) (a .s .now)) (a .n))) (le-leb (length (a .s .now) / row-length) (a .n) (c .if1 .taken)))
+returns c = let a = c .before .before .args in sym (ap (λ b. choose b 0 (counted (descent (a .code) (a .s .now)) (a .n)))
+    (le-leb (length (a .s .now) / row-length) (a .n) (c .if1 .taken)))
 
 loop-holds : tie.Need-loop-holds Inv-loop μ-loop
 loop-holds c = let a = c .before .before .args in (omega arith, omega arith, counted-none (descent (a .code) (a .s .now)))
@@ -37,14 +38,20 @@ loop-less : tie.Need-loop-less Inv-loop μ-loop
 loop-less c = omega arith
 
 loop-again : tie.Need-loop-again Inv-loop μ-loop
-loop-again c = let a = c .before .before .before .before .before .args in let l = c .before .before .loop in (omega (arith, c .descent-at .ensures .1), omega arith, counted-step (descent (a .code) (a .s .now)) (l .i) (l .k) (c .descent-at .result) (l .inv .2) (c .descent-at .ensures .0))
+loop-again c = let a = c .before .before .before .before .before .args in let l = c .before .before .loop in (
+  omega (arith, c .descent-at .ensures .1),
+  omega arith,
+  counted-step (descent (a .code) (a .s .now)) (l .i) (l .k) (c .descent-at .result)
+      (l .inv .2) (c .descent-at .ensures .0),
+)
 
 returns-2 : tie.Need-returns-2 Inv-loop μ-loop
 returns-2 c =
     let a = c .before .before .before .before .args in
     let l = c .before .loop in
     let z : l .i ≡ a .n = omega arith in
-    l .inv .2 ∙ ap (counted (descent (a .code) (a .s .now))) z ∙ sym (ap (λ b. choose b 0 (counted (descent (a .code) (a .s .now)) (a .n))) (lt-leb (length (a .s .now) / row-length) (a .n) (c .before .before .if1 .left)))
+    l .inv .2 ∙ ap (counted (descent (a .code) (a .s .now))) z ∙ sym (ap (λ b. choose b 0 (counted (descent (a .code) (a .s .now)) (a .n)))
+    (lt-leb (length (a .s .now) / row-length) (a .n) (c .before .before .if1 .left)))
 
 pub leaves-descents-spec : {M : Type 1} → statement M
 leaves-descents-spec =

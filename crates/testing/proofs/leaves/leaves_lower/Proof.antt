@@ -44,7 +44,8 @@ components-of-requires : tie.Need-components-of-requires
 components-of-requires c κs =
     let a = c .before .before .before .before .before .before .before .before .before .before .args in
     let S = a .state .now in
-    let e = sym (c .before .before .before .before .before .before .before .ready .ensures) ∙ c .before .before .before .before .before .before .if1 .taken in
+    let e = sym (c .before .before .before .before .before .before .before .ready .ensures)
+    ∙ c .before .before .before .before .before .before .if1 .taken in
     let t = ready-said S (a .k) (a .s .now) (a .n) e in
     let h = height S (t .long) (t .sound) in
     (t .long, omega (arith, t .level, h))
@@ -53,7 +54,8 @@ add-c : tie.Need-add-c
 add-c c =
     let a = c .before .before .before .before .before .before .before .before .before .before .before .args in
     let S = a .state .now in
-    let e = sym (c .before .before .before .before .before .before .before .before .ready .ensures) ∙ c .before .before .before .before .before .before .before .if1 .taken in
+    let e = sym (c .before .before .before .before .before .before .before .before .ready .ensures)
+    ∙ c .before .before .before .before .before .before .before .if1 .taken in
     let t = ready-said S (a .k) (a .s .now) (a .n) e in
     omega (arith, c .components-of .ensures, components-few S (t .long) (t .sound) (a .k) (t .level))
 
@@ -67,24 +69,39 @@ count-lower-requires : tie.Need-count-lower-requires
 count-lower-requires c κs =
     let a = c .before .before .before .before .before .before .before .before .before .before .before .before .before .args in
     let S = a .state .now in
-    let e = sym (c .before .before .before .before .before .before .before .before .before .before .ready .ensures) ∙ c .before .before .before .before .before .before .before .before .before .if1 .taken in
+    let e = sym (c .before .before .before .before .before .before .before .before .before .before .ready .ensures)
+    ∙ c .before .before .before .before .before .before .before .before .before .if1 .taken in
     let t = ready-said S (a .k) (a .s .now) (a .n) e in
-    let l = led-spans S (a .k) (c .before .before .before .count-of .result) (c .before .before .components-of .result) (c .before .before .before .before .before .before .fill-leads .last .0) (c .before .before .before .before .before .before .fill-leads .last .1 .0) (c .before .before .before .count-of .ensures) (c .before .before .components-of .ensures) (c .before .before .before .before .before .before .fill-leads .ensures) in
-    (omega (arith, c .before .before .before .count-of .ensures, complete-cut S (t .long) (t .sound) (a .k) (t .level) .0), omega (arith, c .before .before .components-of .ensures, components-few S (t .long) (t .sound) (a .k) (t .level)), l .0, l .1, omega (arith, t .enough))
+    let l = led-spans S (a .k) (c .before .before .before .count-of .result) (c .before .before .components-of .result)
+    (c .before .before .before .before .before .before .fill-leads .last .0)
+    (c .before .before .before .before .before .before .fill-leads .last .1 .0) (c .before .before .before .count-of .ensures)
+    (c .before .before .components-of .ensures) (c .before .before .before .before .before .before .fill-leads .ensures) in (
+      omega (arith, c .before .before .before .count-of .ensures, complete-cut S (t .long) (t .sound) (a .k) (t .level) .0),
+      omega (arith, c .before .before .components-of .ensures, components-few S (t .long) (t .sound) (a .k) (t .level)),
+      l .0,
+      l .1,
+      omega (arith, t .enough),
+    )
 
 returns : tie.Need-returns
 returns c =
     let a = c .before .before .before .before .before .before .before .before .before .before .before .before .before .before .args in
     let S = a .state .now in
-    let e = sym (c .before .before .before .before .before .before .before .before .before .before .before .ready .ensures) ∙ c .before .before .before .before .before .before .before .before .before .before .if1 .taken in
+    let e = sym (c .before .before .before .before .before .before .before .before .before .before .before .ready .ensures)
+    ∙ c .before .before .before .before .before .before .before .before .before .before .if1 .taken in
     let t = ready-said S (a .k) (a .s .now) (a .n) e in
-    c .count-lower .ensures ∙ ap (λ v. counted (λ i. lower-mark (searched v (row-at (a .s .now) i .1))) (a .n)) (ap (rows (c .before .before .before .before .before .before .before .fill-leads .last .0) 0) (c .before .before .before .before .count-of .ensures) ∙ c .before .before .before .before .before .before .before .fill-leads .ensures .made) ∙ sym (ap (λ b. choose b (counted (λ i. lower-mark (searched (heads (getD S 0 0) (level-at document-01 S (a .k))) (row-at (a .s .now) i .1))) (a .n)) 0) e)
+    c .count-lower .ensures ∙ ap (λ v. counted (λ i. lower-mark (searched v (row-at (a .s .now) i .1))) (a .n))
+    (ap (rows (c .before .before .before .before .before .before .before .fill-leads .last .0) 0)
+    (c .before .before .before .before .count-of .ensures) ∙ c .before .before .before .before .before .before .before .fill-leads .ensures .made)
+    ∙ sym (ap (λ b. choose b (counted (λ i. lower-mark (searched (heads (getD S 0 0) (level-at document-01 S (a .k))) (row-at (a .s .now) i .1)))
+    (a .n)) 0) e)
 
 returns-2 : tie.Need-returns-2
 returns-2 c =
     let a = c .before .before .before .before .args in
     let S = a .state .now in
-    sym (ap (λ b. choose b (counted (λ i. lower-mark (searched (heads (getD S 0 0) (level-at document-01 S (a .k))) (row-at (a .s .now) i .1))) (a .n)) 0) (sym (c .before .ready .ensures) ∙ c .if1 .left))
+    sym (ap (λ b. choose b (counted (λ i. lower-mark (searched (heads (getD S 0 0) (level-at document-01 S (a .k))) (row-at (a .s .now) i .1))) (a .n))
+    0) (sym (c .before .ready .ensures) ∙ c .if1 .left))
 
 pub leaves-lower-spec : {M : Type 1} → statement M
 leaves-lower-spec =

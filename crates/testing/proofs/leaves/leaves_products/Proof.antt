@@ -17,7 +17,8 @@ same-length : tie.Need-same-length
 same-length c = search needs
 
 returns-3 : tie.Need-returns-3
-returns-3 c = let a = c .before .before .before .before .before .before .before .before .args in c .before .before .fill-products .ensures ∙ with-room (a .s .now) (a .d .now) (a .n) (c .before .before .before .before .before .if1 .left) (c .before .before .before .before .if2 .left)
+returns-3 c = let a = c .before .before .before .before .before .before .before .before .args in c .before .before .fill-products .ensures
+    ∙ with-room (a .s .now) (a .d .now) (a .n) (c .before .before .before .before .before .if1 .left) (c .before .before .before .before .if2 .left)
 
 pub leaves-products-spec : {M : Type 1} → statement M
 leaves-products-spec =

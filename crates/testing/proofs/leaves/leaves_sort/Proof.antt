@@ -20,7 +20,8 @@ use Rattle.testing.proofs.leaves.leaves_sort.Statement.{statement}
 use Rattle.testing.proofs.leaves.leaves_sort.Tie as tie
 
 returns : tie.Need-returns
-returns c = let a = c .before .before .before .before .args in rows-none (a .d .now) ∙ sym (ap (λ b. choose b [] (sorted (a .state .now) (a .k) (a .s .now) (a .n))) (lt-ltb (length (a .d .now) / row-length) (a .n) (c .if1 .taken)))
+returns c = let a = c .before .before .before .before .args in rows-none (a .d .now)
+    ∙ sym (ap (λ b. choose b [] (sorted (a .state .now) (a .k) (a .s .now) (a .n))) (lt-ltb (length (a .d .now) / row-length) (a .n) (c .if1 .taken)))
 
 ready-requires : tie.Need-ready-requires
 ready-requires c κs = search needs
@@ -61,7 +62,8 @@ shared-slice-read-code : tie.Need-shared-slice-read-code
 shared-slice-read-code c =
     let a = c .before .before .before .before .before .before .before .before .before .before .before .before .before .args in
     let S = a .state .now in
-    let e = sym (c .before .before .before .before .before .before .before .before .ready .ensures) ∙ c .before .before .before .before .before .before .before .if2 .taken in
+    let e = sym (c .before .before .before .before .before .before .before .before .ready .ensures)
+    ∙ c .before .before .before .before .before .before .before .if2 .taken in
     let t = ready-said S (a .k) (a .s .now) (a .n) e in
     omega (arith, t .long)
 
@@ -69,7 +71,8 @@ shared-slice-read-p : tie.Need-shared-slice-read-p
 shared-slice-read-p c =
     let a = c .before .before .before .before .before .before .before .before .before .before .before .before .before .before .args in
     let S = a .state .now in
-    let e = sym (c .before .before .before .before .before .before .before .before .before .ready .ensures) ∙ c .before .before .before .before .before .before .before .before .if2 .taken in
+    let e = sym (c .before .before .before .before .before .before .before .before .before .ready .ensures)
+    ∙ c .before .before .before .before .before .before .before .before .if2 .taken in
     let t = ready-said S (a .k) (a .s .now) (a .n) e in
     omega (arith, t .long)
 
@@ -80,12 +83,22 @@ sort-requires : tie.Need-sort-requires
 sort-requires c κs =
     let a = c .before .before .before .before .before .before .before .before .before .before .before .before .before .before .before .before .args in
     let S = a .state .now in
-    let e = sym (c .before .before .before .before .before .before .before .before .before .before .before .ready .ensures) ∙ c .before .before .before .before .before .before .before .before .before .before .if2 .taken in
+    let e = sym (c .before .before .before .before .before .before .before .before .before .before .before .ready .ensures)
+    ∙ c .before .before .before .before .before .before .before .before .before .before .if2 .taken in
     let t = ready-said S (a .k) (a .s .now) (a .n) e in
     let h = height S (t .long) (t .sound) in
     let m : a .k < all-levels = omega (arith, t .level, h) in
-    let l = table-ready S (a .k) (c .before .before .before .before .before .before .before .fill-tables .last .0) (c .before .before .before .before .before .before .before .fill-tables .last .1 .0) (c .before .before .before .before .before .before .before .fill-tables .ensures) in
-    (omega (arith, prime-above S (t .long) (t .sound)), omega (arith, t .enough), omega (arith, c .before .before .before .before .before .before .before .before .before .before .before .before .if1 .left), omega (arith, l .few, c .before .before .before .before .count-of .ensures), table-bounded S (a .k) (c .before .before .before .before .count-of .result) (c .before .before .before .before .before .before .before .fill-tables .last .1 .0) m (c .before .before .before .before .count-of .ensures) l)
+    let l = table-ready S (a .k) (c .before .before .before .before .before .before .before .fill-tables .last .0)
+    (c .before .before .before .before .before .before .before .fill-tables .last .1 .0)
+    (c .before .before .before .before .before .before .before .fill-tables .ensures) in (
+      omega (arith, prime-above S (t .long) (t .sound)),
+      omega (arith, t .enough),
+      omega (arith, c .before .before .before .before .before .before .before .before .before .before .before .before .if1 .left),
+      omega (arith, l .few, c .before .before .before .before .count-of .ensures),
+      table-bounded S (a .k) (c .before .before .before .before .count-of .result)
+          (c .before .before .before .before .before .before .before .fill-tables .last .1 .0) m
+          (c .before .before .before .before .count-of .ensures) l,
+    )
 
 same-length : tie.Need-same-length
 same-length c = search needs
@@ -94,16 +107,27 @@ returns-2 : tie.Need-returns-2
 returns-2 c =
     let a = c .before .before .before .before .before .before .before .before .before .before .before .before .before .before .before .before .before .before .before .args in
     let S = a .state .now in
-    let e = sym (c .before .before .before .before .before .before .before .before .before .before .before .before .before .before .ready .ensures) ∙ c .before .before .before .before .before .before .before .before .before .before .before .before .before .if2 .taken in
+    let e = sym (c .before .before .before .before .before .before .before .before .before .before .before .before .before .before .ready .ensures)
+    ∙ c .before .before .before .before .before .before .before .before .before .before .before .before .before .if2 .taken in
     let t = ready-said S (a .k) (a .s .now) (a .n) e in
-    let l = table-ready S (a .k) (c .before .before .before .before .before .before .before .before .before .before .fill-tables .last .0) (c .before .before .before .before .before .before .before .before .before .before .fill-tables .last .1 .0) (c .before .before .before .before .before .before .before .before .before .before .fill-tables .ensures) in
-    c .before .before .sort .ensures ∙ ap (λ x. descending (table-order (getD S 2 0) x) (getD S 0 0) (rows (a .s .now) 0 (a .n))) (ap (λ m. table-of m (c .before .before .before .before .before .before .before .before .before .before .fill-tables .last .1 .0)) (c .before .before .before .before .before .before .before .count-of .ensures) ∙ l .made) ∙ sym (λ i. choose (le-ltb (length (a .d .now) / row-length) (a .n) (c .before .before .before .before .before .before .before .before .before .before .before .before .before .before .before .if1 .left) i) [] (choose (e i) (descending (table-order (getD S 2 0) (images (levels-at document-01 S (suc (a .k))))) (getD S 0 0) (rows (a .s .now) 0 (a .n))) []))
+    let l = table-ready S (a .k) (c .before .before .before .before .before .before .before .before .before .before .fill-tables .last .0)
+    (c .before .before .before .before .before .before .before .before .before .before .fill-tables .last .1 .0)
+    (c .before .before .before .before .before .before .before .before .before .before .fill-tables .ensures) in
+    c .before .before .sort .ensures ∙ ap (λ x. descending (table-order (getD S 2 0) x) (getD S 0 0) (rows (a .s .now) 0 (a .n)))
+    (ap (λ m. table-of m (c .before .before .before .before .before .before .before .before .before .before .fill-tables .last .1 .0))
+    (c .before .before .before .before .before .before .before .count-of .ensures) ∙ l .made)
+    ∙ sym (λ i. choose (le-ltb (length (a .d .now) / row-length) (a .n)
+    (c .before .before .before .before .before .before .before .before .before .before .before .before .before .before .before .if1 .left) i) []
+    (choose (e i) (descending (table-order (getD S 2 0) (images (levels-at document-01 S (suc (a .k))))) (getD S 0 0) (rows (a .s .now) 0 (a .n)))
+    []))
 
 returns-3 : tie.Need-returns-3
 returns-3 c =
     let a = c .before .before .before .before .before .before .args in
     let S = a .state .now in
-    rows-none (a .d .now) ∙ sym (λ i. choose (le-ltb (length (a .d .now) / row-length) (a .n) (c .before .before .if1 .left) i) [] (choose ((sym (c .before .ready .ensures) ∙ c .if2 .left) i) (descending (table-order (getD S 2 0) (images (levels-at document-01 S (suc (a .k))))) (getD S 0 0) (rows (a .s .now) 0 (a .n))) []))
+    rows-none (a .d .now) ∙ sym (λ i. choose (le-ltb (length (a .d .now) / row-length) (a .n) (c .before .before .if1 .left) i) []
+    (choose ((sym (c .before .ready .ensures) ∙ c .if2 .left) i) (descending
+    (table-order (getD S 2 0) (images (levels-at document-01 S (suc (a .k))))) (getD S 0 0) (rows (a .s .now) 0 (a .n))) []))
 
 pub leaves-sort-spec : {M : Type 1} → statement M
 leaves-sort-spec =

@@ -25,7 +25,8 @@ same-length c = search needs
 returns-2 : tie.Need-returns-2
 returns-2 c =
     let a = c .before .before .before .before .before .before .before .args in let s = a .state .now in
-    c .before .before .read .ensures ∙ sym (λ i. choose (le-ltb (length s) state-length (omega arith) i) (16, 0, s) (read-as (length s) (problem document-01 (a .file .now))))
+    c .before .before .read .ensures ∙ sym (λ i. choose (le-ltb (length s) state-length (omega arith) i) (16, 0, s)
+    (read-as (length s) (problem document-01 (a .file .now))))
 
 pub reader-read-spec : {M : Type 1} → statement M
 reader-read-spec = tie.close (tie.spec returns read-requires same-length returns-2)

@@ -24,7 +24,8 @@ lift-level-requires c κs =
     let a = c .before .before .before .before .before .before .before .before .args in
     let s = a .state .now in
     let P = c .before .before .before .before .before .before .before .before .pre in
-    let h : value-length ≤ length (a .work .now) = subst (λ x. work-words document-01 (way-of x) ≤ length (a .work .now)) (c .before .before .enum-told .given .1) (P .4) in
+    let h : value-length ≤ length (a .work .now) = subst (λ x. work-words document-01 (way-of x) ≤ length (a .work .now))
+    (c .before .before .enum-told .given .1) (P .4) in
     (P .0, omega (arith, P .3), h, P .5)
 
 enum-known-way : tie.Need-enum-known-way
@@ -38,7 +39,8 @@ lift-level-requires-2 c κs =
     let a = c .before .before .before .before .before .before .before .before .before .args in
     let s = a .state .now in
     let P = c .before .before .before .before .before .before .before .before .before .pre in
-    let h : value-length ≤ length (a .work .now) = subst (λ x. work-words document-01 (way-of x) ≤ length (a .work .now)) (c .before .before .before .way .given .1) (P .4) in
+    let h : value-length ≤ length (a .work .now) = subst (λ x. work-words document-01 (way-of x) ≤ length (a .work .now))
+    (c .before .before .before .way .given .1) (P .4) in
     (P .0, omega (arith, P .3), h, P .5)
 
 enum-told-2 : tie.Need-enum-told-2
@@ -52,7 +54,8 @@ lift-level-requires-3 c κs =
     let a = c .before .before .before .before .before .before .before .before .before .args in
     let s = a .state .now in
     let P = c .before .before .before .before .before .before .before .before .before .pre in
-    let h : tree-length ≤ length (a .work .now) = subst (λ x. work-words document-01 (way-of x) ≤ length (a .work .now)) (c .before .before .before .enum-told2 .given .1) (P .4) in
+    let h : tree-length ≤ length (a .work .now) = subst (λ x. work-words document-01 (way-of x) ≤ length (a .work .now))
+    (c .before .before .before .enum-told2 .given .1) (P .4) in
     (P .0, P .3, h, P .5)
 
 same-length : tie.Need-same-length
@@ -67,7 +70,9 @@ returns c =
     let s = a .state .now in
     let P = c .before .before .before .before .before .before .before .before .before .before .before .before .before .pre in
     let L = c .before .before .before .before .lift-level in
-    subst (λ x. ((n : ℕ) × (v : Words) × (leveled-of (L .result) (L .last .0) v ≡ lifted-within (a .b) s (a .k) (way-of x) (a .cache .now) n)) × Stored-as (L .result) (L .last .0)) (sym (c .before .before .before .before .before .before .before .enum-told .given .1)) (L .ensures .0, L .ensures .1)
+    subst (λ x. ((n : ℕ) × (v : Words) × (leveled-of (L .result) (L .last .0) v ≡ lifted-within (a .b) s (a .k) (way-of x) (a .cache .now) n))
+    × Stored-as (L .result) (L .last .0)) (sym (c .before .before .before .before .before .before .before .enum-told .given .1))
+    (L .ensures .0, L .ensures .1)
 
 same-length-3 : tie.Need-same-length-3
 same-length-3 c = search needs
@@ -81,7 +86,9 @@ returns-2 c =
     let s = a .state .now in
     let P = c .before .before .before .before .before .before .before .before .before .before .before .before .before .before .pre in
     let L = c .before .before .before .before .lift-level2 in
-    subst (λ x. ((n : ℕ) × (v : Words) × (leveled-of (L .result) (L .last .0) v ≡ lifted-within (a .b) s (a .k) (way-of x) (a .cache .now) n)) × Stored-as (L .result) (L .last .0)) (sym (c .before .before .before .before .before .before .before .before .way .given .1)) (L .ensures .0, L .ensures .1)
+    subst (λ x. ((n : ℕ) × (v : Words) × (leveled-of (L .result) (L .last .0) v ≡ lifted-within (a .b) s (a .k) (way-of x) (a .cache .now) n))
+    × Stored-as (L .result) (L .last .0)) (sym (c .before .before .before .before .before .before .before .before .way .given .1))
+    (L .ensures .0, L .ensures .1)
 
 same-length-5 : tie.Need-same-length-5
 same-length-5 c = search needs
@@ -98,7 +105,10 @@ returns-3 c =
     let s = a .state .now in
     let P = c .before .before .before .before .before .before .before .before .before .before .before .before .before .before .before .before .pre in
     let L = c .before .before .before .before .before .before .lift-level3 in
-    subst (λ x. ((n : ℕ) × (v : Words) × (leveled-of (L .result) (L .last .0) v ≡ lifted-within (a .b) s (a .k) (way-of x) (a .cache .now) n)) × Stored-as (L .result) (L .last .0)) (sym (c .before .before .before .before .before .before .before .before .before .before .enum-told2 .given .1)) ((0, [], L .ensures .0), L .ensures .1)
+    subst (λ x. ((n : ℕ) × (v : Words) × (leveled-of (L .result) (L .last .0) v ≡ lifted-within (a .b) s (a .k) (way-of x) (a .cache .now) n))
+    × Stored-as (L .result) (L .last .0))
+    (sym (c .before .before .before .before .before .before .before .before .before .before .enum-told2 .given .1))
+    ((0, [], L .ensures .0), L .ensures .1)
 
 pub lift-by-spec : {M : Type 1} → statement M
 lift-by-spec =

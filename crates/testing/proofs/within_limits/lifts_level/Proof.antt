@@ -22,16 +22,22 @@ complete-requires : tie.Need-complete-requires
 complete-requires c κs =
     let a = c .before .before .before .before .before .before .before .before .before .args in
     let s = a .state .now in
-    let f = fits-says s (a .work .now) (a .out .now) (way-of (c .before .before .before .before .way-by .result)) (bounds-by (a .working) (a .vector) (a .tree) (a .room)) (is-true (sym (c .before .fits2 .ensures) ∙ c .if1 .taken)) in
+    let f = fits-says s (a .work .now) (a .out .now) (way-of (c .before .before .before .before .way-by .result))
+    (bounds-by (a .working) (a .vector) (a .tree) (a .room)) (is-true (sym (c .before .fits2 .ensures) ∙ c .if1 .taken)) in
     f .state
 
 lift-by-requires : tie.Need-lift-by-requires
 lift-by-requires c κs =
     let a = c .before .before .before .before .before .before .before .before .before .before .before .before .before .before .args in
     let s = a .state .now in
-    let f = fits-says s (a .work .now) (a .out .now) (way-of (c .before .before .before .before .before .before .before .before .before .way-by .result)) (bounds-by (a .working) (a .vector) (a .tree) (a .room)) (is-true (sym (c .before .before .before .before .before .before .fits2 .ensures) ∙ c .before .before .before .before .before .if1 .taken)) in
-    let e : complete-number s (a .level) (way-of (c .before .before .before .before .before .before .before .before .before .way-by .result)) ≡ 0 = sym (c .before .before .before .before .complete .ensures) ∙ (omega arith) in
-    let c = passed s (a .level) (way-of (c .before .before .before .before .before .before .before .before .before .way-by .result)) (f .state) e .liftable in
+    let f = fits-says s (a .work .now) (a .out .now)
+    (way-of (c .before .before .before .before .before .before .before .before .before .way-by .result))
+    (bounds-by (a .working) (a .vector) (a .tree) (a .room)) (is-true
+    (sym (c .before .before .before .before .before .before .fits2 .ensures) ∙ c .before .before .before .before .before .if1 .taken)) in
+    let e : complete-number s (a .level) (way-of (c .before .before .before .before .before .before .before .before .before .way-by .result))
+    ≡ 0 = sym (c .before .before .before .before .complete .ensures) ∙ (omega arith) in
+    let c = passed s (a .level) (way-of (c .before .before .before .before .before .before .before .before .before .way-by .result))
+    (f .state) e .liftable in
     (c .base, c .low, c .high, f .out, f .work, f .within)
 
 tell-requires : tie.Need-tell-requires
@@ -52,8 +58,11 @@ returns c =
     let s = a .state .now in
     let L = c .before .before .before .before .before .before .before .before .before .lift-by in
     let t = c .tell .ensures in
-    let e : c .before .before .before .before .before .before .before .before .before .before .before .before .before .before .complete .result ≡ 0 = omega arith in
-    subst (λ y. Called (bounds-by (a .working) (a .vector) (a .tree) (a .room)) s (a .work .now) (a .out .now) (a .cache .now) (a .level) y (c .tell .result) (c .tell .last .1 .0) (c .tell .last .1 .1 .0) (L .last .0)) (c .before .before .before .before .before .before .before .before .before .before .before .before .before .before .before .before .before .before .before .way-by .ensures) (lifted (bounds-by (a .working) (a .vector) (a .tree) (a .room)) s (a .work .now) (a .out .now) (a .cache .now) (a .level) (way-of (c .before .before .before .before .before .before .before .before .before .before .before .before .before .before .before .before .before .before .before .way-by .result)) (sym (c .before .before .before .before .before .before .before .before .before .before .before .before .before .before .before .if1 .taken) ∙ c .before .before .before .before .before .before .before .before .before .before .before .before .before .before .before .before .fits2 .ensures) (sym e ∙ c .before .before .before .before .before .before .before .before .before .before .before .before .before .before .complete .ensures) (L .result) (c .tell .result) (c .tell .last .1 .0) (c .tell .last .1 .1 .0) (L .ensures .0 .0) (L .last .0) (L .ensures .0 .1) (t .0) (t .1) (t .2) (L .ensures .1) (L .ensures .0 .2))
+    let e : c .before .before .before .before .before .before .before .before .before .before .before .before .before .before .complete .result
+    ≡ 0 = omega arith in
+    subst (λ y. Called (bounds-by (a .working) (a .vector) (a .tree) (a .room)) s (a .work .now) (a .out .now) (a .cache .now) (a .level) y
+    (c .tell .result) (c .tell .last .1 .0) (c .tell .last .1 .1 .0) (L .last .0))
+    (c .before .before .before .before .before .before .before .before .before .before .before .before .before .before .before .before .before .before .before .way-by .ensures) (lifted (bounds-by (a .working) (a .vector) (a .tree) (a .room)) s (a .work .now) (a .out .now) (a .cache .now) (a .level) (way-of (c .before .before .before .before .before .before .before .before .before .before .before .before .before .before .before .before .before .before .before .way-by .result)) (sym (c .before .before .before .before .before .before .before .before .before .before .before .before .before .before .before .if1 .taken) ∙ c .before .before .before .before .before .before .before .before .before .before .before .before .before .before .before .before .fits2 .ensures) (sym e ∙ c .before .before .before .before .before .before .before .before .before .before .before .before .before .before .complete .ensures) (L .result) (c .tell .result) (c .tell .last .1 .0) (c .tell .last .1 .1 .0) (L .ensures .0 .0) (L .last .0) (L .ensures .0 .1) (t .0) (t .1) (t .2) (L .ensures .1) (L .ensures .0 .2))
 
 same-length-4 : tie.Need-same-length-4
 same-length-4 c = search needs
@@ -65,7 +74,12 @@ returns-2 : tie.Need-returns-2
 returns-2 c =
     let a = c .before .before .before .before .before .before .before .before .before .before .before .args in
     let s = a .state .now in
-    subst (λ y. Called (bounds-by (a .working) (a .vector) (a .tree) (a .room)) s (a .work .now) (a .out .now) (a .cache .now) (a .level) y (c .before .complete .result) 0 0 (a .out .now)) (c .before .before .before .before .before .before .way-by .ensures) (refused-early (bounds-by (a .working) (a .vector) (a .tree) (a .room)) s (a .work .now) (a .out .now) (a .cache .now) (a .level) (way-of (c .before .before .before .before .before .before .way-by .result)) (sym (c .before .before .if1 .taken) ∙ c .before .before .before .fits2 .ensures) (c .before .complete .result) (c .before .complete .ensures) (λ z. not-suc-le-zero {n = 0} (omega (arith, z))) (a .out .now))
+    subst (λ y. Called (bounds-by (a .working) (a .vector) (a .tree) (a .room)) s (a .work .now) (a .out .now) (a .cache .now) (a .level) y
+    (c .before .complete .result) 0 0 (a .out .now)) (c .before .before .before .before .before .before .way-by .ensures)
+    (refused-early (bounds-by (a .working) (a .vector) (a .tree) (a .room)) s (a .work .now) (a .out .now) (a .cache .now) (a .level)
+    (way-of (c .before .before .before .before .before .before .way-by .result))
+    (sym (c .before .before .if1 .taken) ∙ c .before .before .before .fits2 .ensures) (c .before .complete .result) (c .before .complete .ensures)
+    (λ z. not-suc-le-zero {n = 0} (omega (arith, z))) (a .out .now))
 
 same-length-6 : tie.Need-same-length-6
 same-length-6 c = search needs
@@ -77,7 +91,10 @@ returns-3 : tie.Need-returns-3
 returns-3 c =
     let a = c .before .before .before .before .before .before .before .before .before .args in
     let s = a .state .now in
-    subst (λ y. Called (bounds-by (a .working) (a .vector) (a .tree) (a .room)) s (a .work .now) (a .out .now) (a .cache .now) (a .level) y 16 0 0 (a .out .now)) (c .before .before .before .before .way-by .ensures) (short (bounds-by (a .working) (a .vector) (a .tree) (a .room)) s (a .work .now) (a .out .now) (a .cache .now) (a .level) (way-of (c .before .before .before .before .way-by .result)) (sym (c .if1 .left) ∙ c .before .fits2 .ensures) (a .out .now))
+    subst (λ y. Called (bounds-by (a .working) (a .vector) (a .tree) (a .room)) s (a .work .now) (a .out .now) (a .cache .now) (a .level) y 16 0 0
+    (a .out .now)) (c .before .before .before .before .way-by .ensures)
+    (short (bounds-by (a .working) (a .vector) (a .tree) (a .room)) s (a .work .now) (a .out .now) (a .cache .now) (a .level)
+    (way-of (c .before .before .before .before .way-by .result)) (sym (c .if1 .left) ∙ c .before .fits2 .ensures) (a .out .now))
 
 pub lifts-level-spec : {M : Type 1} → statement M
 lifts-level-spec =

@@ -39,8 +39,19 @@ add-rows-requires c κs =
     let a = c .before .before .before .before .before .before .before .before .before .before .args in
     let P = c .before .before .before .before .before .before .before .before .before .before .pre in
     let g = a .g in
-    let z = subst (Sized 0 (g .tree) (a .room)) (c .before .before .before .s .given .1) (P .5) in
-    (P .0 .prime, P .1, P .2, P .6 .fits, P .6 .tabled, omega (arith, ap length (c .before .held .ensures), length-part (a .cache .now) (c .before .before .before .s .given .0 .0 * row-length) (c .before .before .before .s .given .0 .1 .0 * row-length) (omega (arith, z .0, z .1, P .4))))
+    let z = subst (Sized 0 (g .tree) (a .room)) (c .before .before .before .s .given .1) (P .5) in (
+      P .0 .prime,
+      P .1,
+      P .2,
+      P .6 .fits,
+      P .6 .tabled,
+      omega (
+        arith,
+        ap length (c .before .held .ensures),
+        length-part (a .cache .now) (c .before .before .before .s .given .0 .0 * row-length) (c .before .before .before .s .given .0 .1 .0 * row-length)
+            (omega (arith, z .0, z .1, P .4)),
+      ),
+    )
 
 joined-requires : tie.Need-joined-requires
 joined-requires c κs = search needs
@@ -69,8 +80,19 @@ add-rows-requires-2 c κs =
     let a = c .before .before .before .before .before .before .before .before .before .before .before .args in
     let P = c .before .before .before .before .before .before .before .before .before .before .before .pre in
     let g = a .g in
-    let z = subst (Sized 0 (g .tree) (a .room)) (c .before .before .before .before .s2 .given .1) (P .5) in
-    (P .0 .prime, P .1, P .2, P .6 .fits, P .6 .tabled, omega (arith, ap length (c .before .held2 .ensures), length-part (a .work .now) ((g .tree - c .before .before .before .before .s2 .given .0 .0) * row-length) (c .before .before .before .before .s2 .given .0 .0 * row-length) (omega (arith, z .0, P .3))))
+    let z = subst (Sized 0 (g .tree) (a .room)) (c .before .before .before .before .s2 .given .1) (P .5) in (
+      P .0 .prime,
+      P .1,
+      P .2,
+      P .6 .fits,
+      P .6 .tabled,
+      omega (
+        arith,
+        ap length (c .before .held2 .ensures),
+        length-part (a .work .now) ((g .tree - c .before .before .before .before .s2 .given .0 .0) * row-length)
+            (c .before .before .before .before .s2 .given .0 .0 * row-length) (omega (arith, z .0, P .3)),
+      ),
+    )
 
 joined-requires-2 : tie.Need-joined-requires-2
 joined-requires-2 c κs = search needs
@@ -90,8 +112,14 @@ returns c =
     let O = table-order (g .code) (table-of (g .r) (above-in (a .tables .now))) in
     let total = rows (a .vector .now) 0 (a .n) in
     let x = c .before .before .before .add-rows in
-    let u = c .before .before .before .before .before .before .before .s .given .0 .1 .1 .0 in
-    (cached-fills O (g .p) (g .vector) (a .c) (g .tree) total (a .cache .now) (a .work .now) (x .last .0) (c .before .before .before .before .before .before .before .s .given .0 .0) (c .before .before .before .before .before .before .before .s .given .0 .1 .0) u (x .result) (a .s) (c .joined .result) _ (c .before .before .before .before .before .before .before .s .given .1) (c .joined .ensures) (c .before .before .before .before .before .held .ensures) (x .ensures .0), fits-joined 0 (g .vector) (g .vector) (a .room) u (x .result) (c .joined .result) (c .joined .ensures) (x .ensures .1) (omega arith) (z .1))
+    let u = c .before .before .before .before .before .before .before .s .given .0 .1 .1 .0 in (
+      cached-fills O (g .p) (g .vector) (a .c) (g .tree) total (a .cache .now) (a .work .now) (x .last .0)
+          (c .before .before .before .before .before .before .before .s .given .0 .0)
+          (c .before .before .before .before .before .before .before .s .given .0 .1 .0) u (x .result) (a .s) (c .joined .result) _
+          (c .before .before .before .before .before .before .before .s .given .1) (c .joined .ensures)
+          (c .before .before .before .before .before .held .ensures) (x .ensures .0),
+      fits-joined 0 (g .vector) (g .vector) (a .room) u (x .result) (c .joined .result) (c .joined .ensures) (x .ensures .1) (omega arith) (z .1),
+    )
 
 same-length-2 : tie.Need-same-length-2
 same-length-2 c = search needs
@@ -105,16 +133,24 @@ returns-2 c =
     let O = table-order (g .code) (table-of (g .r) (above-in (a .tables .now))) in
     let total = rows (a .vector .now) 0 (a .n) in
     let x = c .before .before .before .add-rows2 in
-    let u = c .before .before .before .before .before .before .before .before .s2 .given .0 .1 .0 in
-    (waiting-fills O (g .p) (g .vector) (a .c) (g .tree) total (a .cache .now) (a .work .now) (x .last .0) (c .before .before .before .before .before .before .before .before .s2 .given .0 .0) u (x .result) (a .s) (c .joined2 .result) _ (c .before .before .before .before .before .before .before .before .s2 .given .1) (c .joined2 .ensures) (c .before .before .before .before .before .held2 .ensures) (x .ensures .0), fits-joined 0 (g .vector) (g .vector) (a .room) u (x .result) (c .joined2 .result) (c .joined2 .ensures) (x .ensures .1) (omega arith) (z .1))
+    let u = c .before .before .before .before .before .before .before .before .s2 .given .0 .1 .0 in (
+      waiting-fills O (g .p) (g .vector) (a .c) (g .tree) total (a .cache .now) (a .work .now) (x .last .0)
+          (c .before .before .before .before .before .before .before .before .s2 .given .0 .0) u (x .result) (a .s) (c .joined2 .result) _
+          (c .before .before .before .before .before .before .before .before .s2 .given .1) (c .joined2 .ensures)
+          (c .before .before .before .before .before .held2 .ensures) (x .ensures .0),
+      fits-joined 0 (g .vector) (g .vector) (a .room) u (x .result) (c .joined2 .result) (c .joined2 .ensures) (x .ensures .1) (omega arith) (z .1),
+    )
 
 returns-3 : tie.Need-returns-3
 returns-3 c =
     let a = c .before .before .before .before .before .before .before .before .args in
     let g = a .g in
     let O = table-order (g .code) (table-of (g .r) (above-in (a .tables .now))) in
-    let total = rows (a .vector .now) 0 (a .n) in
-    (refusal-fills O (g .p) (g .vector) (a .c) (g .tree) total (a .cache .now) (a .work .now) (a .vector .now) (c .before .s3 .given .0 .0) (a .s) (c .before .s3 .given .1), tt)
+    let total = rows (a .vector .now) 0 (a .n) in (
+      refusal-fills O (g .p) (g .vector) (a .c) (g .tree) total (a .cache .now) (a .work .now) (a .vector .now) (c .before .s3 .given .0 .0) (a .s)
+          (c .before .s3 .given .1),
+      tt,
+    )
 
 pub add-result-spec : {M : Type 1} → statement M
 add-result-spec =

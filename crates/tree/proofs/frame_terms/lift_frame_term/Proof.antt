@@ -31,8 +31,13 @@ lift-vector-requires c κs =
     let P = c .before .before .before .before .before .before .before .before .before .before .before .before .before .before .before .pre in
     let g = a .g in
     let pl = c .before .before .before .before .before .place in
-    let ro = c .before .before .before .before .rows-of in
-    (P .0, P .1, omega (arith, P .2, c .before .before .before .before .before .before .before .before .put .kept .0), omega (arith, ro .ensures .1, P .0 .family .rows-fit (pl .result - 1) (omega (arith, pl .ensures, P .3, P .4))), ro .ensures .3)
+    let ro = c .before .before .before .before .rows-of in (
+      P .0,
+      P .1,
+      omega (arith, P .2, c .before .before .before .before .before .before .before .before .put .kept .0),
+      omega (arith, ro .ensures .1, P .0 .family .rows-fit (pl .result - 1) (omega (arith, pl .ensures, P .3, P .4))),
+      ro .ensures .3,
+    )
 
 same-length : tie.Need-same-length
 same-length c = search needs
@@ -56,8 +61,13 @@ returns c =
     let m = monomial-of (a .m) in
     let one : Term = (1, m) in
     let first = first-stored (a .vector .now) (pt .last .0) 0 one (pt .ensures .0) (pt .ensures .1) (omega (arith, P .1, P .2)) in
-    let whole = whole-of g (a .level .now) (ends-in (a .tables .now)) (m .1) (ro .result .from) (ro .result .to) (P .0 .family) (P .3) (P .4) (ro .ensures .0 ∙ ap (first-row (ends-in (a .tables .now))) (pl .ensures)) (ro .ensures .1 ∙ ap (λ x. getD (ends-in (a .tables .now)) (x - 1) 0) (pl .ensures)) in
-    ((lv .ensures .0 ∙ (λ i. vector-definition S (lift-term S (a .room) (g .tree)) 1 (m .0) (sym whole i) (first i, cache-of (a .used) (a .cache .now)))), lv .ensures .1)
+    let whole = whole-of g (a .level .now) (ends-in (a .tables .now)) (m .1) (ro .result .from) (ro .result .to) (P .0 .family) (P .3) (P .4)
+    (ro .ensures .0 ∙ ap (first-row (ends-in (a .tables .now))) (pl .ensures))
+    (ro .ensures .1 ∙ ap (λ x. getD (ends-in (a .tables .now)) (x - 1) 0) (pl .ensures)) in (
+      (lv .ensures .0 ∙ (λ i. vector-definition S (lift-term S (a .room) (g .tree)) 1 (m .0) (sym whole i)
+          (first i, cache-of (a .used) (a .cache .now)))),
+      lv .ensures .1,
+    )
 
 pub lift-frame-term-spec : {M : Type 1} → statement M
 lift-frame-term-spec =

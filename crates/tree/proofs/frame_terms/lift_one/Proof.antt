@@ -26,7 +26,11 @@ use Rattle.tree.proofs.frame_terms.lift_one.Statement.{statement}
 use Rattle.tree.proofs.frame_terms.lift_one.Tie as tie
 
 row-requires : tie.Need-row-requires
-row-requires c κs = omega (arith, c .before .before .before .before .before .before .pre .2 .fits, c .before .before .before .before .before .before .pre .3)
+row-requires c κs = omega (
+  arith,
+  c .before .before .before .before .before .before .pre .2 .fits,
+  c .before .before .before .before .before .before .pre .3,
+)
 
 mul-start : tie.Need-mul-start
 mul-start c = search needs
@@ -58,14 +62,26 @@ lift-frame-term-requires c κs =
     let P = c .before .before .before .before .before .before .before .before .before .before .before .before .pre in
     let g = a .g in
     let row = c .before .before .before .before .before .row in
-    let f = frame-component g (a .count) (a .frame .now) (a .i) (term-of (row .result)) (P .2) (P .3) (row .ensures) in
-    (P .0, P .1, omega (arith, length-part (a .out .now) (a .used * row-length + ends-length) (a .used * row-length + ends-length + g .vector * row-length - (a .used * row-length + ends-length)) (omega (arith, P .4, P .6))), f .0, f .1)
+    let f = frame-component g (a .count) (a .frame .now) (a .i) (term-of (row .result)) (P .2) (P .3) (row .ensures) in (
+      P .0,
+      P .1,
+      omega (
+        arith,
+        length-part (a .out .now) (a .used * row-length + ends-length)
+            (a .used * row-length + ends-length + g .vector * row-length - (a .used * row-length + ends-length)) (omega (arith, P .4, P .6)),
+      ),
+      f .0,
+      f .1,
+    )
 
 enum-known-s : tie.Need-enum-known-s
 enum-known-s c = search needs
 
 sub-if1 : tie.Need-sub-if1
-sub-if1 c = omega (arith, c .before .before .before .before .before .before .before .before .before .before .before .before .before .before .before .before .before .before .before .before .before .before .before .pre .6)
+sub-if1 c = omega (
+  arith,
+  c .before .before .before .before .before .before .before .before .before .before .before .before .before .before .before .before .before .before .before .before .before .before .before .pre .6,
+)
 
 same-length : tie.Need-same-length
 same-length c = search needs
@@ -88,17 +104,34 @@ returns c =
     let l : Lifted = (lifted-vectors (a .out .now) (a .i), a .used) in
     let m′ = monomial-of (row .result .monomial) in
     let m = row-at (a .frame .now) (a .i) .1 in
-    let same : m′ ≡ m = ap (λ (t : Term). t .1) (row .ensures) in
-    ((one-full S (a .room) l K m m′ (lf .last .0) (lf .last .1 .0) (lf .result) same (lf .ensures .0) (c .before .before .before .s .given .0 .0) (c .before .before .before .s .given .0 .1 .0) (c .before .before .before .s .given .1) (omega (arith, P .6, c .if1 .taken))), tt)
+    let same : m′ ≡ m = ap (λ (t : Term). t .1) (row .ensures) in (
+      (one-full S (a .room) l K m m′ (lf .last .0) (lf .last .1 .0) (lf .result) same (lf .ensures .0) (c .before .before .before .s .given .0 .0)
+          (c .before .before .before .s .given .0 .1 .0) (c .before .before .before .s .given .1) (omega (arith, P .6, c .if1 .taken))),
+      tt,
+    )
 
 add-out : tie.Need-add-out
-add-out c = omega (arith, c .before .before .before .before .before .before .before .before .before .before .before .before .before .before .before .before .before .before .before .before .before .before .before .before .pre .5, c .before .before .before .before .before .before .before .before .before .before .before .before .before .before .before .before .before .before .before .before .before .before .before .before .pre .6, c .if1 .left)
+add-out c = omega (
+  arith,
+  c .before .before .before .before .before .before .before .before .before .before .before .before .before .before .before .before .before .before .before .before .before .before .before .before .pre .5,
+  c .before .before .before .before .before .before .before .before .before .before .before .before .before .before .before .before .before .before .before .before .before .before .before .before .pre .6,
+  c .if1 .left,
+)
 
 cast-out : tie.Need-cast-out
-cast-out c = omega (arith, c .before .before .before .before .before .before .before .before .before .before .before .before .before .before .before .before .before .before .before .before .before .before .before .before .pre .5, c .before .before .before .before .before .before .before .before .before .before .before .before .before .before .before .before .before .before .before .before .before .before .before .before .pre .6, c .if1 .left)
+cast-out c = omega (
+  arith,
+  c .before .before .before .before .before .before .before .before .before .before .before .before .before .before .before .before .before .before .before .before .before .before .before .before .pre .5,
+  c .before .before .before .before .before .before .before .before .before .before .before .before .before .before .before .before .before .before .before .before .before .before .before .before .pre .6,
+  c .if1 .left,
+)
 
 mul-out : tie.Need-mul-out
-mul-out c = omega (arith, c .before .before .before .before .before .before .before .before .before .before .before .before .before .before .before .before .before .before .before .before .before .before .before .before .pre .2 .few, c .before .before .before .before .before .before .before .before .before .before .before .before .before .before .before .before .before .before .before .before .before .before .before .before .pre .3)
+mul-out c = omega (
+  arith,
+  c .before .before .before .before .before .before .before .before .before .before .before .before .before .before .before .before .before .before .before .before .before .before .before .before .pre .2 .few,
+  c .before .before .before .before .before .before .before .before .before .before .before .before .before .before .before .before .before .before .before .before .before .before .before .before .pre .3,
+)
 
 slice-write-out : tie.Need-slice-write-out
 slice-write-out c =
@@ -108,11 +141,25 @@ slice-write-out c =
     let lf = c .before .before .before .before .before .before .before .before .before .before .before .lift-frame-term in
     let order : a .used * row-length + ends-length ≤ a .used * row-length + ends-length + g .vector * row-length = omega arith in
     let room : a .used * row-length + ends-length + g .vector * row-length ≤ length (a .out .now) = omega (arith, P .4, P .6) in
-    let long : length (lf .last .0) ≡ a .used * row-length + ends-length + g .vector * row-length - (a .used * row-length + ends-length) = lf .kept .0 ∙ length-part (a .out .now) (a .used * row-length + ends-length) (a .used * row-length + ends-length + g .vector * row-length - (a .used * row-length + ends-length)) (omega (arith, P .4, P .6)) in
-    omega (arith, length-made (a .out .now) (lf .last .0) (a .used * row-length + ends-length) (a .used * row-length + ends-length + g .vector * row-length) order room long, P .2 .few, P .3, P .4)
+    let long : length (lf .last .0) ≡ a .used * row-length + ends-length + g .vector * row-length - (a .used * row-length + ends-length) = lf .kept .0
+    ∙ length-part (a .out .now) (a .used * row-length + ends-length)
+    (a .used * row-length + ends-length + g .vector * row-length - (a .used * row-length + ends-length)) (omega (arith, P .4, P .6)) in
+    omega (
+      arith,
+      length-made (a .out .now) (lf .last .0) (a .used * row-length + ends-length)
+          (a .used * row-length + ends-length + g .vector * row-length) order room long,
+      P .2 .few,
+      P .3,
+      P .4,
+    )
 
 add-t31 : tie.Need-add-t31
-add-t31 c = omega (arith, c .before .before .before .before .before .before .before .before .before .before .before .before .before .before .before .before .before .before .before .before .before .before .before .before .pre .5, c .before .before .before .before .before .before .before .before .before .before .before .before .before .before .before .before .before .before .before .before .before .before .before .before .pre .6, c .if1 .left)
+add-t31 c = omega (
+  arith,
+  c .before .before .before .before .before .before .before .before .before .before .before .before .before .before .before .before .before .before .before .before .before .before .before .before .pre .5,
+  c .before .before .before .before .before .before .before .before .before .before .before .before .before .before .before .before .before .before .before .before .before .before .before .before .pre .6,
+  c .if1 .left,
+)
 
 enum-known-s-2 : tie.Need-enum-known-s-2
 enum-known-s-2 c = search needs
@@ -147,12 +194,17 @@ returns-2 c =
     let end = a .used * row-length + ends-length + g .vector * row-length in
     let order : a .used * row-length + ends-length ≤ a .used * row-length + ends-length + g .vector * row-length = omega arith in
     let room : a .used * row-length + ends-length + g .vector * row-length ≤ length (a .out .now) = omega (arith, P .4, P .6) in
-    let long : length (lf .last .0) ≡ a .used * row-length + ends-length + g .vector * row-length - (a .used * row-length + ends-length) = lf .kept .0 ∙ length-part (a .out .now) (a .used * row-length + ends-length) (a .used * row-length + ends-length + g .vector * row-length - (a .used * row-length + ends-length)) (omega (arith, P .4, P .6)) in
+    let long : length (lf .last .0) ≡ a .used * row-length + ends-length + g .vector * row-length - (a .used * row-length + ends-length) = lf .kept .0
+    ∙ length-part (a .out .now) (a .used * row-length + ends-length)
+    (a .used * row-length + ends-length + g .vector * row-length - (a .used * row-length + ends-length)) (omega (arith, P .4, P .6)) in
     let small : a .i < most-vectors = omega (arith, P .2 .few, P .3) in
     let has : v * row-length ≤ length (lf .last .0) = omega (arith, long, f .0) in
     let still : a .used + v ≤ g .room = omega (arith, P .6, c .if1 .left) in
-    let X : Level → Result (Lifted × Cache) = λ w. done ((w, a .used + v), cache-of u (lf .last .1 .0)) in
-    ((ap X (vectors-made (a .out .now) (lf .last .0) (a .i) (a .used) v end order room long small has (P .7)) ∙ one-kept S (a .room) l K m m′ (lf .last .0) (lf .last .1 .0) (lf .result) same (lf .ensures .0) v u b still), (still, f .1, kept-made (a .out .now) (lf .last .0) (a .i) (a .used) v end order room long small has (P .7)))
+    let X : Level → Result (Lifted × Cache) = λ w. done ((w, a .used + v), cache-of u (lf .last .1 .0)) in (
+      (ap X (vectors-made (a .out .now) (lf .last .0) (a .i) (a .used) v end order room long small has (P .7))
+          ∙ one-kept S (a .room) l K m m′ (lf .last .0) (lf .last .1 .0) (lf .result) same (lf .ensures .0) v u b still),
+      (still, f .1, kept-made (a .out .now) (lf .last .0) (a .i) (a .used) v end order room long small has (P .7)),
+    )
 
 same-length-7 : tie.Need-same-length-7
 same-length-7 c = search needs
@@ -175,8 +227,11 @@ returns-3 c =
     let l : Lifted = (lifted-vectors (a .out .now) (a .i), a .used) in
     let m′ = monomial-of (row .result .monomial) in
     let m = row-at (a .frame .now) (a .i) .1 in
-    let same : m′ ≡ m = ap (λ (t : Term). t .1) (row .ensures) in
-    ((one-refused S (a .room) l K m m′ (lf .last .0) (lf .last .1 .0) (lf .result) same (lf .ensures .0) (c .before .s2 .given .0 .0) (c .before .s2 .given .1)), tt)
+    let same : m′ ≡ m = ap (λ (t : Term). t .1) (row .ensures) in (
+      (one-refused S (a .room) l K m m′ (lf .last .0) (lf .last .1 .0) (lf .result) same (lf .ensures .0) (c .before .s2 .given .0 .0)
+          (c .before .s2 .given .1)),
+      tt,
+    )
 
 pub lift-one-spec : {M : Type 1} → statement M
 lift-one-spec =

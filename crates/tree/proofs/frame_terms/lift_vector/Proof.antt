@@ -24,7 +24,12 @@ use Rattle.tree.proofs.frame_terms.lift_vector.Tie as tie
 abbrev Inv-loop : tie.InvT-loop
 Inv-loop vector₀ n cache₀ used room work₀ q from to level tables g k₀ v₀ i₀ vector cache work k v i =
     (k ≤ g .vector) × (v ≤ room) × (length vector ≡ length vector₀) × (length cache ≡ length cache₀) × (length work ≡ length work₀) ×
-    (vector-definition (stage-of g level tables (table-order (g .code) (table-of (g .r) (above-in tables)))) (lift-term (stage-of g level tables (table-order (g .code) (table-of (g .r) (above-in tables)))) room (g .tree)) 1 q (rows level from (to - from)) (rows vector₀ 0 n, cache-of used cache₀) ≡ filling-from (stage-of g level tables (table-order (g .code) (table-of (g .r) (above-in tables)))) (lift-term (stage-of g level tables (table-order (g .code) (table-of (g .r) (above-in tables)))) room (g .tree)) q level to i (rows vector 0 k, cache-of v cache))
+    (vector-definition (stage-of g level tables (table-order (g .code) (table-of (g .r) (above-in tables))))
+    (lift-term (stage-of g level tables (table-order (g .code) (table-of (g .r) (above-in tables)))) room (g .tree)) 1 q
+    (rows level from (to - from)) (rows vector₀ 0 n, cache-of used cache₀)
+    ≡ filling-from (stage-of g level tables (table-order (g .code) (table-of (g .r) (above-in tables))))
+    (lift-term (stage-of g level tables (table-order (g .code) (table-of (g .r) (above-in tables)))) room (g .tree)) q level to i
+    (rows vector 0 k, cache-of v cache))
 
 abbrev μ-loop : tie.MeasureT-loop
 μ-loop vector₀ n cache₀ used room work₀ q from to level tables g k₀ v₀ i₀ vector cache work k v i = to - i
@@ -33,21 +38,32 @@ loop-holds : tie.Need-loop-holds Inv-loop μ-loop
 loop-holds c = let P = c .before .before .before .before .before .pre in (P .1, P .0 .used-fits, refl, refl, refl, refl)
 
 multiplied-requires : tie.Need-multiplied-requires Inv-loop μ-loop
-multiplied-requires c κs = let P = c .before .before .before .before .before .before .before .pre in (P .0 .tables .prime, omega (arith, c .loop-test .taken, P .3))
+multiplied-requires c κs = let P = c .before .before .before .before .before .before .before .pre in
+    (P .0 .tables .prime, omega (arith, c .loop-test .taken, P .3))
 
 lift-term-requires : tie.Need-lift-term-requires Inv-loop μ-loop
 lift-term-requires c κs =
     let a = c .before .before .before .before .before .before .before .before .before .before .before .before .before .args in
     let P = c .before .before .before .before .before .before .before .before .before .before .before .before .before .pre in
-    let l = c .before .before .before .before .before .before .before .loop in
-    (lent-again (a .g) (a .used) (l .v) (a .room) (a .cache .now) (l .cache) (a .work .now) (l .work) (a .level .now) (a .tables .now) (P .0) (l .inv .1) (l .inv .3) (l .inv .4), omega arith)
+    let l = c .before .before .before .before .before .before .before .loop in (
+      lent-again (a .g) (a .used) (l .v) (a .room) (a .cache .now) (l .cache) (a .work .now) (l .work) (a .level .now) (a .tables .now) (P .0)
+          (l .inv .1) (l .inv .3) (l .inv .4),
+      omega arith,
+    )
 
 add-result-requires : tie.Need-add-result-requires Inv-loop μ-loop
 add-result-requires c κs =
     let P = c .before .before .before .before .before .before .before .before .before .before .before .before .before .before .before .before .before .before .before .before .before .pre in
     let l = c .before .before .before .before .before .before .before .before .before .before .before .before .before .before .before .loop in
-    let lt = c .before .before .before .before .before .before .before .lift-term in
-    (P .0 .tables, l .inv .0, omega (arith, P .2, l .inv .2), omega (arith, P .0 .tree-fits, l .inv .4, lt .kept .1 .1 .1 .0), omega (arith, P .0 .room-fits, l .inv .3, lt .kept .0), lt .ensures .1, P .0 .images)
+    let lt = c .before .before .before .before .before .before .before .lift-term in (
+      P .0 .tables,
+      l .inv .0,
+      omega (arith, P .2, l .inv .2),
+      omega (arith, P .0 .tree-fits, l .inv .4, lt .kept .1 .1 .1 .0),
+      omega (arith, P .0 .room-fits, l .inv .3, lt .kept .0),
+      lt .ensures .1,
+      P .0 .images,
+    )
 
 enum-known-y : tie.Need-enum-known-y Inv-loop μ-loop
 enum-known-y c = omega arith
@@ -56,13 +72,25 @@ enum-told : tie.Need-enum-told Inv-loop μ-loop
 enum-told c = omega arith
 
 same-length : tie.Need-same-length Inv-loop μ-loop
-same-length c = omega (arith, c .before .before .before .before .add-result .kept .0, c .before .before .before .before .before .before .before .before .before .before .before .before .before .before .before .before .before .before .before .before .loop .inv .2)
+same-length c = omega (
+  arith,
+  c .before .before .before .before .add-result .kept .0,
+  c .before .before .before .before .before .before .before .before .before .before .before .before .before .before .before .before .before .before .before .before .loop .inv .2,
+)
 
 same-length-2 : tie.Need-same-length-2 Inv-loop μ-loop
-same-length-2 c = omega (arith, c .before .before .before .before .before .before .before .before .before .before .before .before .lift-term .kept .0, c .before .before .before .before .before .before .before .before .before .before .before .before .before .before .before .before .before .before .before .before .loop .inv .3)
+same-length-2 c = omega (
+  arith,
+  c .before .before .before .before .before .before .before .before .before .before .before .before .lift-term .kept .0,
+  c .before .before .before .before .before .before .before .before .before .before .before .before .before .before .before .before .before .before .before .before .loop .inv .3,
+)
 
 same-length-3 : tie.Need-same-length-3 Inv-loop μ-loop
-same-length-3 c = omega (arith, c .before .before .before .before .before .before .before .before .before .before .before .before .lift-term .kept .1 .1 .1 .0, c .before .before .before .before .before .before .before .before .before .before .before .before .before .before .before .before .before .before .before .before .loop .inv .4)
+same-length-3 c = omega (
+  arith,
+  c .before .before .before .before .before .before .before .before .before .before .before .before .lift-term .kept .1 .1 .1 .0,
+  c .before .before .before .before .before .before .before .before .before .before .before .before .before .before .before .before .before .before .before .before .loop .inv .4,
+)
 
 returns : tie.Need-returns Inv-loop μ-loop
 returns c =
@@ -75,15 +103,26 @@ returns c =
     let x = c .before .before .before .before .before .before .before .before .before .before .before .before .before .before .before .before .before .before .multiplied in
     let t = term-of (x .result .term) in
     let p = multiple (g .p) 1 (a .q) (row-at (a .level .now) (l .i)) in
-    let inside : l .i < a .to = omega (arith, c .before .before .before .before .before .before .before .before .before .before .before .before .before .before .before .before .before .before .before .loop-test .taken) in
-    let fits : fits? most-exponent (p .1 .0) ≡ true = sym (fits-as (x .result .fits) (fits? most-exponent (p .1 .0)) t p (x .ensures)) ∙ c .before .before .before .before .before .before .before .before .before .before .before .before .before .before .before .before .if1 .taken in
+    let inside : l .i < a .to =
+    omega (arith, c .before .before .before .before .before .before .before .before .before .before .before .before .before .before .before .before .before .before .before .loop-test .taken) in
+    let fits : fits? most-exponent (p .1 .0) ≡ true = sym (fits-as (x .result .fits) (fits? most-exponent (p .1 .0)) t p (x .ensures))
+    ∙ c .before .before .before .before .before .before .before .before .before .before .before .before .before .before .before .before .if1 .taken in
     let lt = c .before .before .before .before .before .before .before .before .before .before .before .before .lift-term in
     let ad = c .before .before .before .before .add-result in
-    let product : t ≡ p = formed-as (x .result .fits) (fits? most-exponent (p .1 .0)) t p (x .ensures) (c .before .before .before .before .before .before .before .before .before .before .before .before .before .before .before .before .if1 .taken) in
-    ((sym (l .inv .5 ∙ filling-stops S T (a .q) (a .level .now) (a .to) (l .i) (l .k) (l .vector) (lt .last .1 .1 .1 .0) (ad .last .0) (lt .last .0) (cache-of (l .v) (l .cache)) t (lt .result) (ad .result) inside fits product (lt .ensures .0) (ad .ensures .0) (c .enum-told .given .0 .0) (c .enum-told .given .1))), ad .ensures .1)
+    let product : t ≡ p = formed-as (x .result .fits) (fits? most-exponent (p .1 .0)) t p (x .ensures)
+    (c .before .before .before .before .before .before .before .before .before .before .before .before .before .before .before .before .if1 .taken) in (
+      (sym (l .inv .5 ∙ filling-stops S T (a .q) (a .level .now) (a .to) (l .i) (l .k) (l .vector) (lt .last .1 .1 .1 .0) (ad .last .0) (lt .last .0)
+          (cache-of (l .v) (l .cache)) t (lt .result) (ad .result) inside fits product (lt .ensures .0) (ad .ensures .0) (c .enum-told .given .0 .0)
+          (c .enum-told .given .1))),
+      ad .ensures .1,
+    )
 
 add-i : tie.Need-add-i Inv-loop μ-loop
-add-i c = omega (arith, c .before .before .before .before .before .before .before .before .before .before .before .before .before .before .before .before .before .before .before .before .loop-test .taken, c .before .before .before .before .before .before .before .before .before .before .before .before .before .before .before .before .before .before .before .before .before .before .before .before .before .before .before .pre .4)
+add-i c = omega (
+  arith,
+  c .before .before .before .before .before .before .before .before .before .before .before .before .before .before .before .before .before .before .before .before .loop-test .taken,
+  c .before .before .before .before .before .before .before .before .before .before .before .before .before .before .before .before .before .before .before .before .before .before .before .before .before .before .before .pre .4,
+)
 
 loop-less : tie.Need-loop-less Inv-loop μ-loop
 loop-less c = omega arith
@@ -99,14 +138,26 @@ loop-again c =
     let x = c .before .before .before .before .before .before .before .before .before .before .before .before .before .before .before .before .before .before .before .multiplied in
     let t = term-of (x .result .term) in
     let p = multiple (g .p) 1 (a .q) (row-at (a .level .now) (l .i)) in
-    let inside : l .i < a .to = omega (arith, c .before .before .before .before .before .before .before .before .before .before .before .before .before .before .before .before .before .before .before .before .loop-test .taken) in
-    let fits : fits? most-exponent (p .1 .0) ≡ true = sym (fits-as (x .result .fits) (fits? most-exponent (p .1 .0)) t p (x .ensures)) ∙ c .before .before .before .before .before .before .before .before .before .before .before .before .before .before .before .before .before .if1 .taken in
+    let inside : l .i < a .to =
+    omega (arith, c .before .before .before .before .before .before .before .before .before .before .before .before .before .before .before .before .before .before .before .before .loop-test .taken) in
+    let fits : fits? most-exponent (p .1 .0) ≡ true = sym (fits-as (x .result .fits) (fits? most-exponent (p .1 .0)) t p (x .ensures))
+    ∙ c .before .before .before .before .before .before .before .before .before .before .before .before .before .before .before .before .before .if1 .taken in
     let lt = c .before .before .before .before .before .before .before .before .before .before .before .before .before .lift-term in
     let ad = c .before .before .before .before .before .add-result in
-    let product : t ≡ p = formed-as (x .result .fits) (fits? most-exponent (p .1 .0)) t p (x .ensures) (c .before .before .before .before .before .before .before .before .before .before .before .before .before .before .before .before .before .if1 .taken) in
+    let product : t ≡ p = formed-as (x .result .fits) (fits? most-exponent (p .1 .0)) t p (x .ensures)
+    (c .before .before .before .before .before .before .before .before .before .before .before .before .before .before .before .before .before .if1 .taken) in
     let b = c .before .y .given .1 in
-    let f = subst (Fits 0 (g .vector) (a .room)) b (ad .ensures .1) in
-    (omega (arith, f .0), f .1, omega (arith, ad .kept .0, l .inv .2), omega (arith, lt .kept .0, l .inv .3), omega (arith, lt .kept .1 .1 .1 .0, l .inv .4), (l .inv .5 ∙ filling-on S T (a .q) (a .level .now) (a .to) (l .i) (l .k) (l .vector) (lt .last .1 .1 .1 .0) (ad .last .0) (lt .last .0) (cache-of (l .v) (l .cache)) t (lt .result) (ad .result) inside fits product (lt .ensures .0) (ad .ensures .0) (c .before .y .given .0 .0) (c .before .y .given .0 .1 .0) b))
+    let f = subst (Fits 0 (g .vector) (a .room)) b (ad .ensures .1) in (
+      omega (arith, f .0),
+      f .1,
+      omega (arith, ad .kept .0, l .inv .2),
+      omega (arith, lt .kept .0, l .inv .3),
+      omega (arith, lt .kept .1 .1 .1 .0, l .inv .4),
+      (l .inv .5 ∙ filling-on S T (a .q) (a .level .now) (a .to) (l .i) (l .k) (l .vector)
+          (lt .last .1 .1 .1 .0) (ad .last .0) (lt .last .0) (cache-of (l .v) (l .cache)) t (lt .result) (ad .result) inside fits product
+          (lt .ensures .0)
+          (ad .ensures .0) (c .before .y .given .0 .0) (c .before .y .given .0 .1 .0) b),
+    )
 
 same-length-4 : tie.Need-same-length-4 Inv-loop μ-loop
 same-length-4 c = omega arith
@@ -129,8 +180,11 @@ returns-2 c =
     let t = term-of (x .result .term) in
     let p = multiple (g .p) 1 (a .q) (row-at (a .level .now) (l .i)) in
     let inside : l .i < a .to = omega (arith, c .before .before .before .loop-test .taken) in
-    let fits : fits? most-exponent (p .1 .0) ≡ false = sym (fits-as (x .result .fits) (fits? most-exponent (p .1 .0)) t p (x .ensures)) ∙ c .if1 .left in
-    ((sym (l .inv .5 ∙ filling-unfit S T (a .q) (a .level .now) (a .to) (l .i) (rows (l .vector) 0 (l .k), cache-of (l .v) (l .cache)) inside fits)), tt)
+    let fits : fits? most-exponent (p .1 .0) ≡ false = sym (fits-as (x .result .fits) (fits? most-exponent (p .1 .0)) t p (x .ensures))
+    ∙ c .if1 .left in (
+      (sym (l .inv .5 ∙ filling-unfit S T (a .q) (a .level .now) (a .to) (l .i) (rows (l .vector) 0 (l .k), cache-of (l .v) (l .cache)) inside fits)),
+      tt,
+    )
 
 same-length-7 : tie.Need-same-length-7 Inv-loop μ-loop
 same-length-7 c = omega arith
@@ -148,8 +202,10 @@ returns-3 c =
     let g = a .g in
     let S : Stage = stage-of g (a .level .now) (a .tables .now) (table-order (g .code) (table-of (g .r) (above-in (a .tables .now)))) in
     let l = c .before .loop in
-    let T : Lift-term = lift-term S (a .room) (g .tree) in
-    ((sym (l .inv .5 ∙ filling-ends S T (a .q) (a .level .now) (a .to) (l .i) (rows (l .vector) 0 (l .k), cache-of (l .v) (l .cache)) (omega arith))), (omega (arith, l .inv .0), l .inv .1))
+    let T : Lift-term = lift-term S (a .room) (g .tree) in (
+      (sym (l .inv .5 ∙ filling-ends S T (a .q) (a .level .now) (a .to) (l .i) (rows (l .vector) 0 (l .k), cache-of (l .v) (l .cache)) (omega arith))),
+      (omega (arith, l .inv .0), l .inv .1),
+    )
 
 pub lift-vector-spec : {M : Type 1} → statement M
 lift-vector-spec =

@@ -26,7 +26,8 @@ use Rattle.cache.specs.Entries.{cache-of, entry-of, Inside, Sized}
 use Rattle.cache.proofs.BoundedSums.{rows-none}
 use Rattle.tree.specs.subtrees.Sums.{sum-of, Fits, passed-as}
 use Rattle.tree.proofs.subtrees.Joining.{lent-again}
-use Rattle.tree.proofs.subtrees.Lifting.{listing-from, listing-unfit, listing-ends, listing-on, listing-stops, term-lower, term-found, term-opened, opened-full, opened-deep, opened-list, first-stored, stored-keeps, rest-of, handed-on}
+use Rattle.tree.proofs.subtrees.Lifting.{listing-from, listing-unfit, listing-ends, listing-on, listing-stops, term-lower, term-found, term-opened}
+use Rattle.tree.proofs.subtrees.Lifting.{opened-full, opened-deep, opened-list, first-stored, stored-keeps, rest-of, handed-on}
 use borrow.Fn.Kinds.{In}
 use borrow.Fn.PlainCycle.{Measures, is, falls, and}
 use Rattle.tree.proofs.subtrees.lift_list.Reads as lift-list
@@ -88,7 +89,12 @@ open-subtree-below t =
 abbrev lift-list-Inv-loop : lift-list-lts.InvT-loop
 lift-list-Inv-loop cache₀ used room work₀ a n c q from to level tables g left k₀ v₀ i₀ cache work k v i =
     (a + k ≤ g .tree) × (v ≤ room) × (length cache ≡ length cache₀) × (length work ≡ length work₀) × Keeps a work₀ work ×
-    (list-definition (stage-of g level tables (table-order (g .code) (table-of (g .r) (above-in tables)))) (term-definition (stage-of g level tables (table-order (g .code) (table-of (g .r) (above-in tables)))) room left) a c q (rows level from (to - from)) (rows work₀ a n, cache-of used cache₀) ≡ listing-from (stage-of g level tables (table-order (g .code) (table-of (g .r) (above-in tables)))) (term-definition (stage-of g level tables (table-order (g .code) (table-of (g .r) (above-in tables)))) room left) a c q level to i (rows work a k, cache-of v cache))
+    (list-definition (stage-of g level tables (table-order (g .code) (table-of (g .r) (above-in tables))))
+    (term-definition (stage-of g level tables (table-order (g .code) (table-of (g .r) (above-in tables)))) room left) a c q
+    (rows level from (to - from)) (rows work₀ a n, cache-of used cache₀)
+    ≡ listing-from (stage-of g level tables (table-order (g .code) (table-of (g .r) (above-in tables))))
+    (term-definition (stage-of g level tables (table-order (g .code) (table-of (g .r) (above-in tables)))) room left) a c q level to i
+    (rows work a k, cache-of v cache))
 
 abbrev lift-list-μ-loop : lift-list-lts.MeasureT-loop
 lift-list-μ-loop cache₀ used room work₀ a n c q from to level tables g left k₀ v₀ i₀ cache work k v i =
@@ -112,7 +118,8 @@ lift-list-multiplied-requires : (t : ℕ) → lift-list-lts.Need-multiplied-requ
   add-subtree-reads.Asked,
   add-subtree-reads.Learnt,
 ) (lift-list-at t) lift-list.Post lift-list-Inv-loop lift-list-μ-loop
-lift-list-multiplied-requires t c κs = let P = c .before .before .before .before .before .before .pre .1 in (P .0 .tables .prime, omega (arith, c .loop-test .taken, P .2))
+lift-list-multiplied-requires t c κs = let P = c .before .before .before .before .before .before .pre .1 in
+    (P .0 .tables .prime, omega (arith, c .loop-test .taken, P .2))
 
 lift-list-add-lift-term : (t : ℕ) → lift-list-lts.Need-add-lift-term (
   multiplied-reads.Asked,
@@ -135,8 +142,14 @@ lift-list-lift-term-requires : (t : ℕ) → lift-list-lts.Need-lift-term-requir
 lift-list-lift-term-requires t c κs =
     let a = c .before .before .before .before .before .before .before .before .before .before .before .before .args in
     let P = c .before .before .before .before .before .before .before .before .before .before .before .before .pre .1 in
-    let l = c .before .before .before .before .before .before .before .loop in
-    (omega (arith, c .before .before .before .before .before .before .before .before .before .before .before .before .pre .0), (lent-again (a .g) (a .used) (l .v) (a .room) (a .cache .now) (l .cache) (a .work .now) (l .work) (a .level .now) (a .tables .now) (P .0) (l .inv .1) (l .inv .2) (l .inv .3), l .inv .0))
+    let l = c .before .before .before .before .before .before .before .loop in (
+      omega (arith, c .before .before .before .before .before .before .before .before .before .before .before .before .pre .0),
+      (
+        lent-again (a .g) (a .used) (l .v) (a .room) (a .cache .now) (l .cache) (a .work .now) (l .work) (a .level .now) (a .tables .now) (P .0)
+            (l .inv .1) (l .inv .2) (l .inv .3),
+        l .inv .0,
+      ),
+    )
 
 lift-list-add-subtree-requires : (t : ℕ) → lift-list-lts.Need-add-subtree-requires (
   multiplied-reads.Asked,
@@ -149,8 +162,14 @@ lift-list-add-subtree-requires : (t : ℕ) → lift-list-lts.Need-add-subtree-re
 lift-list-add-subtree-requires t c κs =
     let P = c .before .before .before .before .before .before .before .before .before .before .before .before .before .before .before .before .before .before .before .pre .1 in
     let l = c .before .before .before .before .before .before .before .before .before .before .before .before .before .before .loop in
-    let lt = c .before .before .before .before .before .before .lift-term in
-    (P .0 .tables, l .inv .0, omega (arith, P .0 .tree-fits, l .inv .3, lt .kept .1 .1 .1 .0), omega (arith, P .0 .room-fits, l .inv .2, lt .kept .0), lt .ensures .1, P .0 .images)
+    let lt = c .before .before .before .before .before .before .lift-term in (
+      P .0 .tables,
+      l .inv .0,
+      omega (arith, P .0 .tree-fits, l .inv .3, lt .kept .1 .1 .1 .0),
+      omega (arith, P .0 .room-fits, l .inv .2, lt .kept .0),
+      lt .ensures .1,
+      P .0 .images,
+    )
 
 lift-list-enum-known-y : (t : ℕ) → lift-list-lts.Need-enum-known-y (
   multiplied-reads.Asked,
@@ -180,7 +199,11 @@ lift-list-same-length : (t : ℕ) → lift-list-lts.Need-same-length (
   add-subtree-reads.Asked,
   add-subtree-reads.Learnt,
 ) (lift-list-at t) lift-list.Post lift-list-Inv-loop lift-list-μ-loop
-lift-list-same-length t c = omega (arith, c .before .before .before .before .before .before .before .before .before .before .before .lift-term .kept .0, c .before .before .before .before .before .before .before .before .before .before .before .before .before .before .before .before .before .before .before .loop .inv .2)
+lift-list-same-length t c = omega (
+  arith,
+  c .before .before .before .before .before .before .before .before .before .before .before .lift-term .kept .0,
+  c .before .before .before .before .before .before .before .before .before .before .before .before .before .before .before .before .before .before .before .loop .inv .2,
+)
 
 lift-list-same-length-2 : (t : ℕ) → lift-list-lts.Need-same-length-2 (
   multiplied-reads.Asked,
@@ -190,7 +213,13 @@ lift-list-same-length-2 : (t : ℕ) → lift-list-lts.Need-same-length-2 (
   add-subtree-reads.Asked,
   add-subtree-reads.Learnt,
 ) (lift-list-at t) lift-list.Post lift-list-Inv-loop lift-list-μ-loop
-lift-list-same-length-2 t c = omega (arith, c .before .before .before .before .before .before .before .before .before .before .before .lift-term .kept .1 .1 .1 .0, c .before .before .before .before .before .before .before .before .before .before .before .before .before .before .before .before .before .before .before .loop .inv .3, c .before .before .before .before .add-subtree .kept .1 .1 .0)
+lift-list-same-length-2 t c =
+    omega (
+      arith,
+      c .before .before .before .before .before .before .before .before .before .before .before .lift-term .kept .1 .1 .1 .0,
+      c .before .before .before .before .before .before .before .before .before .before .before .before .before .before .before .before .before .before .before .loop .inv .3,
+      c .before .before .before .before .add-subtree .kept .1 .1 .0,
+    )
 
 lift-list-returns : (t : ℕ) → lift-list-lts.Need-returns (
   multiplied-reads.Asked,
@@ -210,12 +239,21 @@ lift-list-returns t c =
     let x = c .before .before .before .before .before .before .before .before .before .before .before .before .before .before .before .before .before .multiplied in
     let t = term-of (x .result .term) in
     let p = multiple (g .p) (a .c) (a .q) (row-at (a .level .now) (l .i)) in
-    let inside : l .i < a .to = omega (arith, c .before .before .before .before .before .before .before .before .before .before .before .before .before .before .before .before .before .before .loop-test .taken) in
-    let fits : fits? most-exponent (p .1 .0) ≡ true = sym (fits-as (x .result .fits) (fits? most-exponent (p .1 .0)) t p (x .ensures)) ∙ c .before .before .before .before .before .before .before .before .before .before .before .before .before .before .before .if1 .taken in
+    let inside : l .i < a .to =
+    omega (arith, c .before .before .before .before .before .before .before .before .before .before .before .before .before .before .before .before .before .before .loop-test .taken) in
+    let fits : fits? most-exponent (p .1 .0) ≡ true = sym (fits-as (x .result .fits) (fits? most-exponent (p .1 .0)) t p (x .ensures))
+    ∙ c .before .before .before .before .before .before .before .before .before .before .before .before .before .before .before .if1 .taken in
     let lt = c .before .before .before .before .before .before .before .before .before .before .before .lift-term in
     let ad = c .before .before .before .before .add-subtree in
-    let product : t ≡ p = formed-as (x .result .fits) (fits? most-exponent (p .1 .0)) t p (x .ensures) (c .before .before .before .before .before .before .before .before .before .before .before .before .before .before .before .if1 .taken) in
-    ((sym (l .inv .5 ∙ listing-stops S T (a .a) (a .c) (a .q) (a .level .now) (a .to) (l .i) (l .k) (l .work) (lt .last .1 .1 .1 .0) (ad .last .1 .1 .0) (lt .last .0) (cache-of (l .v) (l .cache)) t (lt .result) (ad .result) inside fits product (lt .ensures .2) (lt .ensures .0) (ad .ensures .0) (c .enum-told .given .0 .0) (c .enum-told .given .1))), ad .ensures .1, (λ k h. ad .ensures .2 k h ∙ lt .ensures .2 k (omega (arith, h)) ∙ l .inv .4 k h))
+    let product : t ≡ p = formed-as (x .result .fits) (fits? most-exponent (p .1 .0)) t p (x .ensures)
+    (c .before .before .before .before .before .before .before .before .before .before .before .before .before .before .before .if1 .taken) in (
+      (sym (l .inv .5 ∙ listing-stops S T (a .a) (a .c) (a .q) (a .level .now) (a .to) (l .i) (l .k) (l .work) (lt .last .1 .1 .1 .0)
+          (ad .last .1 .1 .0)
+          (lt .last .0) (cache-of (l .v) (l .cache)) t (lt .result) (ad .result) inside fits product (lt .ensures .2) (lt .ensures .0) (ad .ensures .0)
+          (c .enum-told .given .0 .0) (c .enum-told .given .1))),
+      ad .ensures .1,
+      (λ k h. ad .ensures .2 k h ∙ lt .ensures .2 k (omega (arith, h)) ∙ l .inv .4 k h),
+    )
 
 lift-list-add-i : (t : ℕ) → lift-list-lts.Need-add-i (
   multiplied-reads.Asked,
@@ -225,7 +263,8 @@ lift-list-add-i : (t : ℕ) → lift-list-lts.Need-add-i (
   add-subtree-reads.Asked,
   add-subtree-reads.Learnt,
 ) (lift-list-at t) lift-list.Post lift-list-Inv-loop lift-list-μ-loop
-lift-list-add-i t c = omega (arith, c .before .before .before .before .before .before .before .before .before .before .before .before .before .before .before .before .before .before .before .loop-test .taken, c .before .before .before .before .before .before .before .before .before .before .before .before .before .before .before .before .before .before .before .before .before .before .before .before .before .pre .1 .3)
+lift-list-add-i t c =
+    omega (arith, c .before .before .before .before .before .before .before .before .before .before .before .before .before .before .before .before .before .before .before .loop-test .taken, c .before .before .before .before .before .before .before .before .before .before .before .before .before .before .before .before .before .before .before .before .before .before .before .before .before .pre .1 .3)
 
 lift-list-loop-less : (t : ℕ) → lift-list-lts.Need-loop-less (
   multiplied-reads.Asked,
@@ -255,14 +294,25 @@ lift-list-loop-again t c =
     let x = c .before .before .before .before .before .before .before .before .before .before .before .before .before .before .before .before .before .before .multiplied in
     let t = term-of (x .result .term) in
     let p = multiple (g .p) (a .c) (a .q) (row-at (a .level .now) (l .i)) in
-    let inside : l .i < a .to = omega (arith, c .before .before .before .before .before .before .before .before .before .before .before .before .before .before .before .before .before .before .before .loop-test .taken) in
-    let fits : fits? most-exponent (p .1 .0) ≡ true = sym (fits-as (x .result .fits) (fits? most-exponent (p .1 .0)) t p (x .ensures)) ∙ c .before .before .before .before .before .before .before .before .before .before .before .before .before .before .before .before .if1 .taken in
+    let inside : l .i < a .to =
+    omega (arith, c .before .before .before .before .before .before .before .before .before .before .before .before .before .before .before .before .before .before .before .loop-test .taken) in
+    let fits : fits? most-exponent (p .1 .0) ≡ true = sym (fits-as (x .result .fits) (fits? most-exponent (p .1 .0)) t p (x .ensures))
+    ∙ c .before .before .before .before .before .before .before .before .before .before .before .before .before .before .before .before .if1 .taken in
     let lt = c .before .before .before .before .before .before .before .before .before .before .before .before .lift-term in
     let ad = c .before .before .before .before .before .add-subtree in
-    let product : t ≡ p = formed-as (x .result .fits) (fits? most-exponent (p .1 .0)) t p (x .ensures) (c .before .before .before .before .before .before .before .before .before .before .before .before .before .before .before .before .if1 .taken) in
+    let product : t ≡ p = formed-as (x .result .fits) (fits? most-exponent (p .1 .0)) t p (x .ensures)
+    (c .before .before .before .before .before .before .before .before .before .before .before .before .before .before .before .before .if1 .taken) in
     let b = c .before .y .given .1 in
-    let f = subst (Fits (a .a) (g .tree) (a .room)) b (ad .ensures .1) in
-    (f .0, f .1, omega (arith, lt .kept .0, l .inv .2), omega (arith, lt .kept .1 .1 .1 .0, l .inv .3, ad .kept .1 .1 .0), (λ k h. ad .ensures .2 k h ∙ lt .ensures .2 k (omega (arith, h)) ∙ l .inv .4 k h), (l .inv .5 ∙ listing-on S T (a .a) (a .c) (a .q) (a .level .now) (a .to) (l .i) (l .k) (l .work) (lt .last .1 .1 .1 .0) (ad .last .1 .1 .0) (lt .last .0) (cache-of (l .v) (l .cache)) t (lt .result) (ad .result) inside fits product (lt .ensures .2) (lt .ensures .0) (ad .ensures .0) (c .before .y .given .0 .0) (c .before .y .given .0 .1 .0) b))
+    let f = subst (Fits (a .a) (g .tree) (a .room)) b (ad .ensures .1) in (
+      f .0,
+      f .1,
+      omega (arith, lt .kept .0, l .inv .2),
+      omega (arith, lt .kept .1 .1 .1 .0, l .inv .3, ad .kept .1 .1 .0),
+      (λ k h. ad .ensures .2 k h ∙ lt .ensures .2 k (omega (arith, h)) ∙ l .inv .4 k h),
+      (l .inv .5 ∙ listing-on S T (a .a) (a .c) (a .q) (a .level .now) (a .to) (l .i) (l .k) (l .work) (lt .last .1 .1 .1 .0) (ad .last .1 .1 .0)
+          (lt .last .0) (cache-of (l .v) (l .cache)) t (lt .result) (ad .result) inside fits product (lt .ensures .2) (lt .ensures .0) (ad .ensures .0)
+          (c .before .y .given .0 .0) (c .before .y .given .0 .1 .0) b),
+    )
 
 lift-list-same-length-3 : (t : ℕ) → lift-list-lts.Need-same-length-3 (
   multiplied-reads.Asked,
@@ -303,8 +353,13 @@ lift-list-returns-2 t c =
     let t = term-of (x .result .term) in
     let p = multiple (g .p) (a .c) (a .q) (row-at (a .level .now) (l .i)) in
     let inside : l .i < a .to = omega (arith, c .before .before .before .loop-test .taken) in
-    let fits : fits? most-exponent (p .1 .0) ≡ false = sym (fits-as (x .result .fits) (fits? most-exponent (p .1 .0)) t p (x .ensures)) ∙ c .if1 .left in
-    ((sym (l .inv .5 ∙ listing-unfit S T (a .a) (a .c) (a .q) (a .level .now) (a .to) (l .i) (rows (l .work) (a .a) (l .k), cache-of (l .v) (l .cache)) inside fits)), tt, l .inv .4)
+    let fits : fits? most-exponent (p .1 .0) ≡ false = sym (fits-as (x .result .fits) (fits? most-exponent (p .1 .0)) t p (x .ensures))
+    ∙ c .if1 .left in (
+      (sym (l .inv .5 ∙ listing-unfit S T (a .a) (a .c) (a .q) (a .level .now) (a .to) (l .i)
+          (rows (l .work) (a .a) (l .k), cache-of (l .v) (l .cache)) inside fits)),
+      tt,
+      l .inv .4,
+    )
 
 lift-list-same-length-5 : (t : ℕ) → lift-list-lts.Need-same-length-5 (
   multiplied-reads.Asked,
@@ -340,8 +395,12 @@ lift-list-returns-3 t c =
     let g = a .g in
     let S : Stage = stage-of g (a .level .now) (a .tables .now) (table-order (g .code) (table-of (g .r) (above-in (a .tables .now)))) in
     let l = c .before .loop in
-    let T : Lift-term = term-definition S (a .room) (a .left) in
-    ((sym (l .inv .5 ∙ listing-ends S T (a .a) (a .c) (a .q) (a .level .now) (a .to) (l .i) (rows (l .work) (a .a) (l .k), cache-of (l .v) (l .cache)) (omega arith))), (l .inv .0, l .inv .1), l .inv .4)
+    let T : Lift-term = term-definition S (a .room) (a .left) in (
+      (sym (l .inv .5 ∙ listing-ends S T (a .a) (a .c) (a .q) (a .level .now) (a .to) (l .i) (rows (l .work) (a .a) (l .k), cache-of (l .v) (l .cache))
+          (omega arith))),
+      (l .inv .0, l .inv .1),
+      l .inv .4,
+    )
 
 lift-term-reducer-of-requires : (t : ℕ) → lift-term-lts.Need-reducer-of-requires (
   reducer-of-reads.Asked,
@@ -388,8 +447,12 @@ lift-term-returns t c =
     let S : Stage = stage-of g (a .level .now) (a .tables .now) (table-order (g .code) (table-of (g .r) (above-in (a .tables .now)))) in
     let K = cache-of (a .used) (a .cache .now) in
     let m = monomial-of (a .m) in
-    let f = c .before .before .before .reducer-of in
-    ((ap (λ (v : Vector). done (v, 0, K)) (rows-none (a .cache .now) 0) ∙ sym (term-lower S (a .room) (a .left) (a .a) K m (sym (ap (λ y. answered y (f .result .quotient)) (c .enum-told .given .1)) ∙ f .ensures))), (omega arith, P .0 .used-fits), λ k h. refl)
+    let f = c .before .before .before .reducer-of in (
+      (ap (λ (v : Vector). done (v, 0, K)) (rows-none (a .cache .now) 0)
+          ∙ sym (term-lower S (a .room) (a .left) (a .a) K m (sym (ap (λ y. answered y (f .result .quotient)) (c .enum-told .given .1)) ∙ f .ensures))),
+      (omega arith, P .0 .used-fits),
+      λ k h. refl,
+    )
 
 lift-term-look-up-requires : (t : ℕ) → lift-term-lts.Need-look-up-requires (
   reducer-of-reads.Asked,
@@ -399,7 +462,12 @@ lift-term-look-up-requires : (t : ℕ) → lift-term-lts.Need-look-up-requires (
   open-subtree-below t,
   open-subtree.Post,
 ) (lift-term-at t) lift-term.Post
-lift-term-look-up-requires t c κs = omega (arith, c .before .before .before .before .before .before .before .before .before .before .pre .1 .0 .used-fits, c .before .before .before .before .before .before .before .before .before .before .pre .1 .0 .room-fits)
+lift-term-look-up-requires t c κs =
+    omega (
+      arith,
+      c .before .before .before .before .before .before .before .before .before .before .pre .1 .0 .used-fits,
+      c .before .before .before .before .before .before .before .before .before .before .pre .1 .0 .room-fits,
+    )
 
 lift-term-enum-known-e : (t : ℕ) → lift-term-lts.Need-enum-known-e (
   reducer-of-reads.Asked,
@@ -439,9 +507,12 @@ lift-term-open-subtree-requires t c κs =
     let f = c .before .before .before .before .before .before .before .before .before .before .reducer-of in
     let j = c .before .before .before .before .before .before .before .answer .given .0 .0 in
     let x = c .before .before .before .before .before .before .before .answer .given .0 .1 .0 in
-    let eq = sym (ap (λ y. answered y (f .result .quotient)) (c .before .before .before .before .before .before .before .answer .given .1)) ∙ f .ensures in
-    let n = reducer-number (g .p) (rows (a .tables .now) 0 (g .r)) (1, m) j x (f .result .quotient) eq in
-    (omega (arith, c .before .before .before .before .before .before .before .before .before .before .before .before .before .before .before .pre .0), (P .0, P .1, n .0, omega (arith, n .1, length-rows (a .tables .now) 0 (g .r))))
+    let eq = sym (ap (λ y. answered y (f .result .quotient)) (c .before .before .before .before .before .before .before .answer .given .1))
+    ∙ f .ensures in
+    let n = reducer-number (g .p) (rows (a .tables .now) 0 (g .r)) (1, m) j x (f .result .quotient) eq in (
+      omega (arith, c .before .before .before .before .before .before .before .before .before .before .before .before .before .before .before .pre .0),
+      (P .0, P .1, n .0, omega (arith, n .1, length-rows (a .tables .now) 0 (g .r))),
+    )
 
 lift-term-same-length : (t : ℕ) → lift-term-lts.Need-same-length (
   reducer-of-reads.Asked,
@@ -481,9 +552,15 @@ lift-term-returns-2 t c =
     let f = c .before .before .before .before .before .before .before .before .before .before .before .before .before .before .before .reducer-of in
     let j = c .before .before .before .before .before .before .before .before .before .before .before .before .answer .given .0 .0 in
     let x = c .before .before .before .before .before .before .before .before .before .before .before .before .answer .given .0 .1 .0 in
-    let eq = sym (ap (λ y. answered y (f .result .quotient)) (c .before .before .before .before .before .before .before .before .before .before .before .before .answer .given .1)) ∙ f .ensures in
-    let op = c .before .before .before .before .open-subtree in
-    ((op .ensures .0 ∙ sym (term-opened S (a .room) (a .left) (a .a) K m j x (f .result .quotient) eq (sym (ap (entry-of (a .cache .now)) (c .before .before .before .before .before .before .before .enum-told2 .given .1)) ∙ c .before .before .before .before .before .before .before .before .before .look-up .ensures .0))), op .ensures .1, op .ensures .2)
+    let eq = sym (ap (λ y. answered y (f .result .quotient))
+    (c .before .before .before .before .before .before .before .before .before .before .before .before .answer .given .1)) ∙ f .ensures in
+    let op = c .before .before .before .before .open-subtree in (
+      (op .ensures .0 ∙ sym (term-opened S (a .room) (a .left) (a .a) K m j x (f .result .quotient) eq
+          (sym (ap (entry-of (a .cache .now)) (c .before .before .before .before .before .before .before .enum-told2 .given .1))
+          ∙ c .before .before .before .before .before .before .before .before .before .look-up .ensures .0))),
+      op .ensures .1,
+      op .ensures .2,
+    )
 
 lift-term-same-length-3 : (t : ℕ) → lift-term-lts.Need-same-length-3 (
   reducer-of-reads.Asked,
@@ -514,8 +591,13 @@ lift-term-returns-3 t c =
     let j = c .before .before .before .before .before .before .answer .given .0 .0 in
     let x = c .before .before .before .before .before .before .answer .given .0 .1 .0 in
     let eq = sym (ap (λ y. answered y (f .result .quotient)) (c .before .before .before .before .before .before .answer .given .1)) ∙ f .ensures in
-    let b = c .before .e .given .1 in
-    ((sym (term-found S (a .room) (a .left) (a .a) K m j x (f .result .quotient) (rows (a .cache .now) (c .before .e .given .0 .0) (c .before .e .given .0 .1 .0)) eq (sym (ap (entry-of (a .cache .now)) b) ∙ c .before .before .before .look-up .ensures .0))), (subst (Inside (a .used)) b (c .before .before .before .look-up .ensures .1), P .0 .used-fits), λ k h. refl)
+    let b = c .before .e .given .1 in (
+      (sym (term-found S (a .room) (a .left) (a .a) K m j x (f .result .quotient)
+          (rows (a .cache .now) (c .before .e .given .0 .0) (c .before .e .given .0 .1 .0)) eq
+          (sym (ap (entry-of (a .cache .now)) b) ∙ c .before .before .before .look-up .ensures .0))),
+      (subst (Inside (a .used)) b (c .before .before .before .look-up .ensures .1), P .0 .used-fits),
+      λ k h. refl,
+    )
 
 open-subtree-returns : (t : ℕ) → open-subtree-lts.Need-returns (
   negative-reads.Asked,
@@ -595,7 +677,11 @@ open-subtree-cast-component : (t : ℕ) → open-subtree-lts.Need-cast-component
   keep-reads.Asked,
   keep-reads.Learnt,
 ) (open-subtree-at t) open-subtree.Post
-open-subtree-cast-component t c = omega (arith, c .before .before .before .before .before .before .before .before .pre .1 .3, c .before .before .before .before .before .before .before .before .pre .1 .0 .tables .few)
+open-subtree-cast-component t c = omega (
+  arith,
+  c .before .before .before .before .before .before .before .before .pre .1 .3,
+  c .before .before .before .before .before .before .before .before .pre .1 .0 .tables .few,
+)
 
 open-subtree-put-requires : (t : ℕ) → open-subtree-lts.Need-put-requires (
   negative-reads.Asked,
@@ -611,7 +697,11 @@ open-subtree-put-requires : (t : ℕ) → open-subtree-lts.Need-put-requires (
   keep-reads.Asked,
   keep-reads.Learnt,
 ) (open-subtree-at t) open-subtree.Post
-open-subtree-put-requires t c κs = omega (arith, c .before .before .before .if1 .left, c .before .before .before .before .before .before .before .before .before .pre .1 .0 .tree-fits)
+open-subtree-put-requires t c κs = omega (
+  arith,
+  c .before .before .before .if1 .left,
+  c .before .before .before .before .before .before .before .before .before .pre .1 .0 .tree-fits,
+)
 
 open-subtree-rows-of-requires : (t : ℕ) → open-subtree-lts.Need-rows-of-requires (
   negative-reads.Asked,
@@ -627,7 +717,9 @@ open-subtree-rows-of-requires : (t : ℕ) → open-subtree-lts.Need-rows-of-requ
   keep-reads.Asked,
   keep-reads.Learnt,
 ) (open-subtree-at t) open-subtree.Post
-open-subtree-rows-of-requires t c κs = let P = c .before .before .before .before .before .before .before .before .before .before .before .before .pre .1 in (P .2, omega (arith, P .0 .tables .long), omega (arith, P .3, P .0 .family .ends-fit))
+open-subtree-rows-of-requires t c κs = let P =
+    c .before .before .before .before .before .before .before .before .before .before .before .before .pre .1 in
+    (P .2, omega (arith, P .0 .tables .long), omega (arith, P .3, P .0 .family .ends-fit))
 
 open-subtree-add-lift-list : (t : ℕ) → open-subtree-lts.Need-add-lift-list (
   negative-reads.Asked,
@@ -680,8 +772,22 @@ open-subtree-lift-list-requires t c κs =
     let P = c .before .before .before .before .before .before .before .before .before .before .before .before .before .before .before .pre .1 in
     let g = a .g in
     let S : Stage = stage-of g (a .level .now) (a .tables .now) (table-order (g .code) (table-of (g .r) (above-in (a .tables .now)))) in
-    let ro = c .before .before .rows-of in
-    (omega (arith, c .before .before .before .before .before .before .before .before .before .before .before .before .before .before .before .pre .0, c .before .before .before .before .before .before .before .before .if2 .left), (lent-again g (a .used) (a .used) (a .room) (a .cache .now) (a .cache .now) (a .work .now) (c .before .before .before .before .before .put .last .0) (a .level .now) (a .tables .now) (P .0) (P .0 .used-fits) refl (c .before .before .before .before .before .put .kept .0), omega (arith, c .before .before .before .before .before .before .before .before .before .if1 .left), omega (arith, ro .ensures .1, P .0 .family .rows-fit (a .j - 1) (omega (arith, P .2, P .3))), ro .ensures .3))
+    let ro = c .before .before .rows-of in (
+      omega (
+        arith,
+        c .before .before .before .before .before .before .before .before .before .before .before .before .before .before .before .pre .0,
+        c .before .before .before .before .before .before .before .before .if2 .left,
+      ),
+      (
+        lent-again g (a .used) (a .used) (a .room) (a .cache .now) (a .cache .now) (a .work .now)
+            (c .before .before .before .before .before .put .last .0) (a .level .now) (a .tables .now) (P .0) (P .0 .used-fits) refl
+            (c .before .before .before .before .before .put .kept .0),
+        omega
+            (arith, c .before .before .before .before .before .before .before .before .before .if1 .left),
+        omega (arith, ro .ensures .1, P .0 .family .rows-fit (a .j - 1) (omega (arith, P .2, P .3))),
+        ro .ensures .3,
+      ),
+    )
 
 open-subtree-enum-known-s : (t : ℕ) → open-subtree-lts.Need-enum-known-s (
   negative-reads.Asked,
@@ -790,11 +896,22 @@ open-subtree-returns-3 t c =
     let pt = c .before .before .before .before .before .before .before .before .before .before .before .before .before .put in
     let ne = c .before .before .before .before .before .before .before .before .before .before .before .before .before .before .before .negative in
     let t : Term = (ne .result, (a .q, a .j)) in
-    let fits : a .a * row-length + row-length ≤ length W = omega (arith, c .before .before .before .before .before .before .before .before .before .before .before .before .before .before .before .before .before .if1 .left, P .0 .tree-fits) in
+    let fits : a .a * row-length + row-length ≤ length W = omega (
+      arith,
+      c .before .before .before .before .before .before .before .before .before .before .before .before .before .before .before .before .before .if1 .left,
+      P .0 .tree-fits,
+    ) in
     let stays = stored-keeps W (pt .last .0) (a .a) t (pt .ensures .0) (pt .ensures .1) fits in
     let b = c .before .enum-told .given .1 in
-    let pa = c .passed in
-    ((handed-on (a .room) m (a .a) (g .tree) (c .before .enum-told .given .0 .0) (ll .last .0) (ll .last .1 .1 .1 .0) (ll .result) (pa .result) b (pa .ensures) ∙ ap (λ y. y >>= λ r. done (finish (a .room) m r)) (ll .ensures .0) ∙ sym (opened-list S (a .room) (a .left) (a .a) K m (a .j) (minus (g .p) (a .c)) (ne .result) (a .q) (rows (a .level .now) (ro .result .from + 1) (ro .result .to - (ro .result .from + 1))) (rows (pt .last .0) (a .a) 1) (omega (arith, c .before .before .before .before .before .before .before .before .before .before .before .before .before .before .before .before .before .if1 .left)) (omega (arith, c .before .before .before .before .before .before .before .before .before .before .before .before .before .before .before .before .if2 .left)) (ne .ensures) (rest-of g (a .level .now) (ends-in (a .tables .now)) (a .j) (ro .result .from) (ro .result .to) (P .0 .family) (P .2) (P .3) (ro .ensures .0) (ro .ensures .1)) (first-stored W (pt .last .0) (a .a) t (pt .ensures .0) (pt .ensures .1) fits))), subst (Sized (a .a) (g .tree) (a .room)) (sym (pa .ensures ∙ ap passed-as b)) tt, λ k h. ll .ensures .2 k h ∙ stays k h)
+    let pa = c .passed in (
+      (handed-on (a .room) m (a .a) (g .tree) (c .before .enum-told .given .0 .0) (ll .last .0) (ll .last .1 .1 .1 .0) (ll .result) (pa .result) b
+          (pa .ensures) ∙ ap (λ y. y >>= λ r. done (finish (a .room) m r)) (ll .ensures .0)
+          ∙ sym (opened-list S (a .room) (a .left) (a .a) K m (a .j) (minus (g .p) (a .c)) (ne .result) (a .q)
+          (rows (a .level .now) (ro .result .from + 1) (ro .result .to - (ro .result .from + 1))) (rows (pt .last .0) (a .a) 1)
+          (omega (arith, c .before .before .before .before .before .before .before .before .before .before .before .before .before .before .before .before .before .if1 .left)) (omega (arith, c .before .before .before .before .before .before .before .before .before .before .before .before .before .before .before .before .if2 .left)) (ne .ensures) (rest-of g (a .level .now) (ends-in (a .tables .now)) (a .j) (ro .result .from) (ro .result .to) (P .0 .family) (P .2) (P .3) (ro .ensures .0) (ro .ensures .1)) (first-stored W (pt .last .0) (a .a) t (pt .ensures .0) (pt .ensures .1) fits))),
+      subst (Sized (a .a) (g .tree) (a .room)) (sym (pa .ensures ∙ ap passed-as b)) tt,
+      λ k h. ll .ensures .2 k h ∙ stays k h,
+    )
 
 open-subtree-keep-requires : (t : ℕ) → open-subtree-lts.Need-keep-requires (
   negative-reads.Asked,
@@ -816,8 +933,18 @@ open-subtree-keep-requires t c κs =
     let g = a .g in
     let S : Stage = stage-of g (a .level .now) (a .tables .now) (table-order (g .code) (table-of (g .r) (above-in (a .tables .now)))) in
     let ll = c .before .before .before .before .before .before .before .before .before .lift-list in
-    let f = subst (Fits (a .a) (g .tree) (a .room)) (c .before .before .before .s .given .1) (ll .ensures .1) in
-    (f .1, omega (arith, P .0 .room-fits, ll .kept .0), f .0, omega (arith, P .0 .tree-fits, c .before .before .before .before .before .before .before .before .before .before .before .before .before .before .before .put .kept .0, ll .kept .1 .1 .1 .0), P .0 .tree-small)
+    let f = subst (Fits (a .a) (g .tree) (a .room)) (c .before .before .before .s .given .1) (ll .ensures .1) in (
+      f .1,
+      omega (arith, P .0 .room-fits, ll .kept .0),
+      f .0,
+      omega (
+        arith,
+        P .0 .tree-fits,
+        c .before .before .before .before .before .before .before .before .before .before .before .before .before .before .before .put .kept .0,
+        ll .kept .1 .1 .1 .0,
+      ),
+      P .0 .tree-small,
+    )
 
 open-subtree-same-length-3 : (t : ℕ) → open-subtree-lts.Need-same-length-3 (
   negative-reads.Asked,
@@ -878,11 +1005,22 @@ open-subtree-returns-4 t c =
     let pt = c .before .before .before .before .before .before .before .before .before .before .before .before .before .before .before .before .before .before .before .before .put in
     let ne = c .before .before .before .before .before .before .before .before .before .before .before .before .before .before .before .before .before .before .before .before .before .before .negative in
     let t : Term = (ne .result, (a .q, a .j)) in
-    let fits : a .a * row-length + row-length ≤ length W = omega (arith, c .before .before .before .before .before .before .before .before .before .before .before .before .before .before .before .before .before .before .before .before .before .before .before .before .if1 .left, P .0 .tree-fits) in
+    let fits : a .a * row-length + row-length ≤ length W = omega (
+      arith,
+      c .before .before .before .before .before .before .before .before .before .before .before .before .before .before .before .before .before .before .before .before .before .before .before .before .if1 .left,
+      P .0 .tree-fits,
+    ) in
     let stays = stored-keeps W (pt .last .0) (a .a) t (pt .ensures .0) (pt .ensures .1) fits in
     let b = c .before .before .before .before .before .before .before .before .s .given .1 in
-    let kp = c .before .before .before .before .keep in
-    ((kp .ensures .0 ∙ ap (λ y. y >>= λ r. done (finish (a .room) m r)) (sym (ap (λ y. sum-of (a .a) y (ll .last .0) (ll .last .1 .1 .1 .0)) b) ∙ ll .ensures .0) ∙ sym (opened-list S (a .room) (a .left) (a .a) K m (a .j) (minus (g .p) (a .c)) (ne .result) (a .q) (rows (a .level .now) (ro .result .from + 1) (ro .result .to - (ro .result .from + 1))) (rows (pt .last .0) (a .a) 1) (omega (arith, c .before .before .before .before .before .before .before .before .before .before .before .before .before .before .before .before .before .before .before .before .before .before .before .before .if1 .left)) (omega (arith, c .before .before .before .before .before .before .before .before .before .before .before .before .before .before .before .before .before .before .before .before .before .before .before .if2 .left)) (ne .ensures) (rest-of g (a .level .now) (ends-in (a .tables .now)) (a .j) (ro .result .from) (ro .result .to) (P .0 .family) (P .2) (P .3) (ro .ensures .0) (ro .ensures .1)) (first-stored W (pt .last .0) (a .a) t (pt .ensures .0) (pt .ensures .1) fits))), kp .ensures .1, λ k h. kp .ensures .2 k h ∙ ll .ensures .2 k h ∙ stays k h)
+    let kp = c .before .before .before .before .keep in (
+      (kp .ensures .0 ∙ ap (λ y. y >>= λ r. done (finish (a .room) m r))
+          (sym (ap (λ y. sum-of (a .a) y (ll .last .0) (ll .last .1 .1 .1 .0)) b) ∙ ll .ensures .0)
+          ∙ sym (opened-list S (a .room) (a .left) (a .a) K m (a .j) (minus (g .p) (a .c)) (ne .result) (a .q)
+          (rows (a .level .now) (ro .result .from + 1) (ro .result .to - (ro .result .from + 1))) (rows (pt .last .0) (a .a) 1)
+          (omega (arith, c .before .before .before .before .before .before .before .before .before .before .before .before .before .before .before .before .before .before .before .before .before .before .before .before .if1 .left)) (omega (arith, c .before .before .before .before .before .before .before .before .before .before .before .before .before .before .before .before .before .before .before .before .before .before .before .if2 .left)) (ne .ensures) (rest-of g (a .level .now) (ends-in (a .tables .now)) (a .j) (ro .result .from) (ro .result .to) (P .0 .family) (P .2) (P .3) (ro .ensures .0) (ro .ensures .1)) (first-stored W (pt .last .0) (a .a) t (pt .ensures .0) (pt .ensures .1) fits))),
+      kp .ensures .1,
+      λ k h. kp .ensures .2 k h ∙ ll .ensures .2 k h ∙ stays k h,
+    )
 
 pub +lift-list+lift-term+open-subtree-spec : {M : Type 1} → statement M
 +lift-list+lift-term+open-subtree-spec =

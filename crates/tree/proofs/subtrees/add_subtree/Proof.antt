@@ -49,8 +49,15 @@ add-part-requires-2 c κs =
     let a = c .before .before .before .before .before .before .before .before .before .args in
     let P = c .before .before .before .before .before .before .before .before .before .pre in
     let g = a .g in
-    let z = subst (Sized (a .a + a .n) (g .tree) (a .room)) (c .before .before .before .s2 .given .1) (P .4) in
-    (P .0 .prime, omega (arith, z .0), omega (arith, P .2), P .5 .fits, P .5 .tabled, omega (arith, z .0, P .2), apart-work (g .tree - c .before .before .before .s2 .given .0 .0))
+    let z = subst (Sized (a .a + a .n) (g .tree) (a .room)) (c .before .before .before .s2 .given .1) (P .4) in (
+      P .0 .prime,
+      omega (arith, z .0),
+      omega (arith, P .2),
+      P .5 .fits,
+      P .5 .tabled,
+      omega (arith, z .0, P .2),
+      apart-work (g .tree - c .before .before .before .s2 .given .0 .0),
+    )
 
 joined-requires-2 : tie.Need-joined-requires-2
 joined-requires-2 c κs = search needs
@@ -69,8 +76,15 @@ returns c =
     let z = subst (Sized (a .a + a .n) (g .tree) (a .room)) (c .before .before .before .before .before .before .s .given .1) (P .4) in
     let O = table-order (g .code) (table-of (g .r) (above-in (a .tables .now))) in
     let total = rows (a .work .now) (a .a) (a .n) in
-    let x = c .before .before .before .add-part in
-    (cached-joins O (g .p) (g .tree) (a .a) (a .c) total (a .cache .now) (a .work .now) (x .last .1 .0) (c .before .before .before .before .before .before .s .given .0 .0) (c .before .before .before .before .before .before .s .given .0 .1 .0) (c .before .before .before .before .before .before .s .given .0 .1 .1 .0) (x .result) (a .s) (c .joined .result) (c .before .before .before .before .before .before .s .given .1) (c .joined .ensures) (x .ensures .0), fits-joined (a .a) (g .tree) (g .tree) (a .room) (c .before .before .before .before .before .before .s .given .0 .1 .1 .0) (x .result) (c .joined .result) (c .joined .ensures) (x .ensures .1) (omega arith) (z .1), x .ensures .2)
+    let x = c .before .before .before .add-part in (
+      cached-joins O (g .p) (g .tree) (a .a) (a .c) total (a .cache .now) (a .work .now) (x .last .1 .0)
+          (c .before .before .before .before .before .before .s .given .0 .0) (c .before .before .before .before .before .before .s .given .0 .1 .0)
+          (c .before .before .before .before .before .before .s .given .0 .1 .1 .0) (x .result) (a .s) (c .joined .result)
+          (c .before .before .before .before .before .before .s .given .1) (c .joined .ensures) (x .ensures .0),
+      fits-joined (a .a) (g .tree) (g .tree) (a .room) (c .before .before .before .before .before .before .s .given .0 .1 .1 .0) (x .result)
+          (c .joined .result) (c .joined .ensures) (x .ensures .1) (omega arith) (z .1),
+      x .ensures .2,
+    )
 
 same-length-2 : tie.Need-same-length-2
 same-length-2 c = search needs
@@ -85,16 +99,25 @@ returns-2 c =
     let total = rows (a .work .now) (a .a) (a .n) in
     let x = c .before .before .before .add-part2 in
     let n = c .before .before .before .before .before .before .before .s2 .given .0 .0 in
-    let u = c .before .before .before .before .before .before .before .s2 .given .0 .1 .0 in
-    (waiting-joins O (g .p) (g .tree) (a .a) (a .c) total (a .cache .now) (a .work .now) (x .last .1 .0) n u (x .result) (a .s) (c .joined2 .result) (c .before .before .before .before .before .before .before .s2 .given .1) (c .joined2 .ensures) (x .ensures .0), fits-joined (a .a) (g .tree - n) (g .tree) (a .room) u (x .result) (c .joined2 .result) (c .joined2 .ensures) (x .ensures .1) (omega arith) (z .1), x .ensures .2)
+    let u = c .before .before .before .before .before .before .before .s2 .given .0 .1 .0 in (
+      waiting-joins O (g .p) (g .tree) (a .a) (a .c) total (a .cache .now) (a .work .now) (x .last .1 .0) n u (x .result) (a .s) (c .joined2 .result)
+          (c .before .before .before .before .before .before .before .s2 .given .1) (c .joined2 .ensures) (x .ensures .0),
+      fits-joined (a .a) (g .tree - n) (g .tree) (a .room) u (x .result) (c .joined2 .result) (c .joined2 .ensures) (x .ensures .1) (omega arith)
+          (z .1),
+      x .ensures .2,
+    )
 
 returns-3 : tie.Need-returns-3
 returns-3 c =
     let a = c .before .before .before .before .before .before .before .args in
     let g = a .g in
     let O = table-order (g .code) (table-of (g .r) (above-in (a .tables .now))) in
-    let total = rows (a .work .now) (a .a) (a .n) in
-    (refusal-joins O (g .p) (g .tree) (a .a) (a .c) total (a .cache .now) (a .work .now) (a .work .now) (c .before .s3 .given .0 .0) (a .s) (c .before .s3 .given .1), tt, λ k h. refl)
+    let total = rows (a .work .now) (a .a) (a .n) in (
+      refusal-joins O (g .p) (g .tree) (a .a) (a .c) total (a .cache .now) (a .work .now) (a .work .now) (c .before .s3 .given .0 .0) (a .s)
+          (c .before .s3 .given .1),
+      tt,
+      λ k h. refl,
+    )
 
 pub add-subtree-spec : {M : Type 1} → statement M
 add-subtree-spec =

@@ -20,7 +20,11 @@ place-requires : tie.Need-place-requires
 place-requires c κs = search needs
 
 returns-2 : tie.Need-returns-2
-returns-2 c = (c .place .ensures .0 ∙ first-later (c .before .before .before .before .args .ends .now) (c .before .before .before .before .args .j) (c .before .before .before .before .pre .0) (c .before .before .if1 .left), c .place .ensures .1)
+returns-2 c = (
+  c .place .ensures .0 ∙ first-later (c .before .before .before .before .args .ends .now) (c .before .before .before .before .args .j)
+      (c .before .before .before .before .pre .0) (c .before .before .if1 .left),
+  c .place .ensures .1,
+)
 
 pub first-of-spec : {M : Type 1} → statement M
 first-of-spec =

@@ -32,8 +32,13 @@ loop-again : tie.Need-loop-again Inv-loop μ-loop
 loop-again c =
     let l = c .before .loop in
     let s = c .before .before .args .s .now in
-    let a = c .before .before .args .a in
-    (omega arith, omega (arith, length-set (l .s) (l .k) 0), inr (omega arith), ap (λ u. set u (l .k) 0) (l .inv .3) ∙ cleared-more s a (l .k) (omega arith) (omega arith))
+    let a = c .before .before .args .a in (
+      omega arith,
+      omega (arith, length-set (l .s) (l .k) 0),
+      inr (omega arith),
+      ap (λ u. set u (l .k) 0) (l .inv .3)
+          ∙ cleared-more s a (l .k) (omega arith) (omega arith),
+    )
 
 same-length : tie.Need-same-length Inv-loop μ-loop
 same-length c = omega arith

@@ -43,8 +43,12 @@ loop-again : tie.Need-loop-again Inv-loop μ-loop
 loop-again c =
     let l = c .before .before .before .loop in
     let s = c .before .before .before .before .before .args .s .now in
-    let at = c .before .before .before .before .before .args .at in
-    (omega arith, simp length-set (l .inv .1), filled-more (λ k. byte (getD s (at + k) 0)) (l .j) (c .narrow .result) (l .e) (omega arith) (c .narrow .ensures) (l .inv .2))
+    let at = c .before .before .before .before .before .args .at in (
+      omega arith,
+      simp length-set (l .inv .1),
+      filled-more (λ k. byte (getD s (at + k) 0)) (l .j) (c .narrow .result) (l .e) (omega arith)
+          (c .narrow .ensures) (l .inv .2),
+    )
 
 returns : tie.Need-returns Inv-loop μ-loop
 returns c =

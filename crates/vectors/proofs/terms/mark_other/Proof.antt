@@ -17,13 +17,15 @@ wide-requires c κs = search needs
 returns : tie.Need-returns
 returns c =
     let a = c .before .before .before .args in
-    let e : eqb (a .x) (byte (a .word)) ≡ false = ne-eqb (a .x) (byte (a .word)) (λ q. c .if1 .taken (c .before .before .clamped .ensures .0 ∙ sym q ∙ sym (c .before .wide .ensures .0))) in
+    let e : eqb (a .x) (byte (a .word)) ≡ false = ne-eqb (a .x) (byte (a .word))
+    (λ q. c .if1 .taken (c .before .before .clamped .ensures .0 ∙ sym q ∙ sym (c .before .wide .ensures .0))) in
     sym (ap (λ b. mark-by (not b) (a .mark)) e)
 
 returns-2 : tie.Need-returns-2
 returns-2 c =
     let a = c .before .before .before .args in
-    let e : eqb (a .x) (byte (a .word)) ≡ true = eq-eqb (a .x) (byte (a .word)) (sym (c .before .wide .ensures .0) ∙ sym (c .if1 .left) ∙ c .before .before .clamped .ensures .0) in
+    let e : eqb (a .x) (byte (a .word)) ≡ true = eq-eqb (a .x) (byte (a .word))
+    (sym (c .before .wide .ensures .0) ∙ sym (c .if1 .left) ∙ c .before .before .clamped .ensures .0) in
     sym (ap (λ b. mark-by (not b) (a .mark)) e)
 
 pub mark-other-spec : {M : Type 1} → statement M

@@ -9,7 +9,8 @@ use Rattle.vectors.proofs.terms.open.Tie as tie
 use Rattle.definitions.specs.Places.{row-length}
 
 abbrev Inv-loop : tie.InvT-loop
-Inv-loop s₀ n i start k₀ s k = (start ≡ i * row-length) × (start ≤ k) × (k ≤ n * row-length) × (length s ≡ length s₀) × (s ≡ opened s₀ k (n * row-length))
+Inv-loop s₀ n i start k₀ s k = (start ≡ i * row-length) × (start ≤ k) × (k ≤ n * row-length) × (length s ≡ length s₀)
+    × (s ≡ opened s₀ k (n * row-length))
 
 abbrev μ-loop : tie.MeasureT-loop
 μ-loop s₀ n i start k₀ s k = k
@@ -56,7 +57,8 @@ loop-again c =
       omega arith,
       omega (arith, length-set (l .s) (m + row-length) (getD (l .s) m 0)),
       ap (λ u. set u (m + row-length) (getD u m 0)) (l .inv .4 ∙ ap (λ k. opened s k b) e)
-          ∙ ap (set (opened s (m + 1) b) (m + row-length)) (opened-below s (m + 1) b m (omega arith) (omega arith) (omega arith)) ∙ opened-more s m b (omega arith) (omega arith),
+          ∙ ap (set (opened s (m + 1) b) (m + row-length)) (opened-below s (m + 1) b m (omega arith) (omega arith) (omega arith))
+          ∙ opened-more s m b (omega arith) (omega arith),
     )
 
 same-length : tie.Need-same-length Inv-loop μ-loop

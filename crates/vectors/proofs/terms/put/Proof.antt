@@ -20,8 +20,11 @@ same-length c = search needs
 
 returns : tie.Need-returns
 returns c =
-    let a = c .before .before .before .before .before .before .before .before .args in
-    (c .before .before .store-words .ensures ∙ ap (λ w. paste (a .s .now) (a .i * row-length) w row-length) (c .before .before .before .before .words .ensures .0), c .before .before .before .before .words .ensures .1)
+    let a = c .before .before .before .before .before .before .before .before .args in (
+      c .before .before .store-words .ensures ∙ ap (λ w. paste (a .s .now) (a .i * row-length) w row-length)
+          (c .before .before .before .before .words .ensures .0),
+      c .before .before .before .before .words .ensures .1,
+    )
 
 pub put-spec : {M : Type 1} → statement M
 put-spec =

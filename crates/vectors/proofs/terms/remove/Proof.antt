@@ -9,7 +9,8 @@ use Rattle.vectors.proofs.terms.remove.Tie as tie
 use Rattle.definitions.specs.Places.{row-length}
 
 abbrev Inv-loop : tie.InvT-loop
-Inv-loop s₀ n i end k₀ s k = (end ≡ n * row-length - row-length) × (i * row-length ≤ k) × (k ≤ end) × (length s ≡ length s₀) × (s ≡ closed s₀ (i * row-length) k)
+Inv-loop s₀ n i end k₀ s k = (end ≡ n * row-length - row-length) × (i * row-length ≤ k) × (k ≤ end) × (length s ≡ length s₀)
+    × (s ≡ closed s₀ (i * row-length) k)
 
 abbrev μ-loop : tie.MeasureT-loop
 μ-loop s₀ n i end k₀ s k = end - k
@@ -56,7 +57,9 @@ loop-again c =
       omega arith,
       omega arith,
       omega (arith, length-set (l .s) (l .k) (getD (l .s) (l .k + row-length) 0)),
-      ap (λ u. set u (l .k) (getD u (l .k + row-length) 0)) (l .inv .4) ∙ ap (set (closed s a (l .k)) (l .k)) (closed-ahead s a (l .k) (omega arith) (omega arith)) ∙ closed-more s a (l .k) (omega arith) (omega arith),
+      ap (λ u. set u (l .k) (getD u (l .k + row-length) 0)) (l .inv .4)
+          ∙ ap (set (closed s a (l .k)) (l .k)) (closed-ahead s a (l .k) (omega arith) (omega arith))
+          ∙ closed-more s a (l .k) (omega arith) (omega arith),
     )
 
 same-length : tie.Need-same-length Inv-loop μ-loop

@@ -28,7 +28,9 @@ returns c =
     let a = c .before .before .before .args in
     let m = monomial-of (a .m) in
     let s = a .s .now in
-    components-differ (m .1) (getD s (a .i * row-length + component-offset) 0) (same-exponents? (m .0) (exponents-at s (a .i * row-length + exponents-offset))) (λ q. c .if1 .taken (sym q)) ∙ ap (λ t. same-monomial? m (t .1)) (sym (row-is s (a .i)))
+    components-differ (m .1) (getD s (a .i * row-length + component-offset) 0)
+    (same-exponents? (m .0) (exponents-at s (a .i * row-length + exponents-offset))) (λ q. c .if1 .taken (sym q))
+    ∙ ap (λ t. same-monomial? m (t .1)) (sym (row-is s (a .i)))
 
 add-same-words : tie.Need-add-same-words
 add-same-words c = search needs
@@ -41,7 +43,9 @@ returns-2 c =
     let a = c .before .before .before .before .before .args in
     let m = monomial-of (a .m) in
     let s = a .s .now in
-    components-equal (m .1) (getD s (a .i * row-length + component-offset) 0) (same-exponents? (m .0) (exponents-at s (a .i * row-length + exponents-offset))) (c .same-words .result) (sym (c .before .before .if1 .left)) (c .same-words .ensures) ∙ ap (λ t. same-monomial? m (t .1)) (sym (row-is s (a .i)))
+    components-equal (m .1) (getD s (a .i * row-length + component-offset) 0)
+    (same-exponents? (m .0) (exponents-at s (a .i * row-length + exponents-offset))) (c .same-words .result) (sym (c .before .before .if1 .left))
+    (c .same-words .ensures) ∙ ap (λ t. same-monomial? m (t .1)) (sym (row-is s (a .i)))
 
 pub same-row-spec : {M : Type 1} → statement M
 same-row-spec =

@@ -48,8 +48,13 @@ loop-again c =
     let at = c .before .before .before .before .before .args .at in
     let e = c .before .before .before .before .before .args .t3 in
     let f : ℕ → Bool = λ k. not (eqb (getD e k 0) (getD (exponents-at s at) k 0)) in
-    let q : not (eqb (getD e (l .j) 0) (byte (getD s (at + l .j) 0))) ≡ f (l .j) = ap (λ x. not (eqb (getD e (l .j) 0) x)) (sym (getD-exponents s at (l .j) (omega arith))) in
-    (omega arith, l .inv .1, subst (Marked f (l .j + 1)) (sym (c .mark-other .ensures)) (marked-more f (l .j) (l .mark) (not (eqb (getD e (l .j) 0) (byte (getD s (at + l .j) 0)))) q (l .inv .2)))
+    let q : not (eqb (getD e (l .j) 0) (byte (getD s (at + l .j) 0))) ≡ f (l .j) =
+    ap (λ x. not (eqb (getD e (l .j) 0) x)) (sym (getD-exponents s at (l .j) (omega arith))) in (
+      omega arith,
+      l .inv .1,
+      subst (Marked f (l .j + 1)) (sym (c .mark-other .ensures))
+          (marked-more f (l .j) (l .mark) (not (eqb (getD e (l .j) 0) (byte (getD s (at + l .j) 0)))) q (l .inv .2)),
+    )
 
 returns : tie.Need-returns Inv-loop μ-loop
 returns c =
@@ -58,7 +63,8 @@ returns c =
     let at = c .before .before .before .args .at in
     let e = c .before .before .before .args .t3 in
     let q : l .j ≡ 8 = omega arith in
-    same-marked e (exponents-at s at) (l .mark) (l .inv .1) refl (subst (λ n. Marked (λ k. not (eqb (getD e k 0) (getD (exponents-at s at) k 0))) n (l .mark)) q (l .inv .2))
+    same-marked e (exponents-at s at) (l .mark) (l .inv .1) refl (subst
+    (λ n. Marked (λ k. not (eqb (getD e k 0) (getD (exponents-at s at) k 0))) n (l .mark)) q (l .inv .2))
 
 pub same-words-spec : {M : Type 1} → statement M
 same-words-spec =

@@ -13,13 +13,20 @@ use Rattle.vectors.proofs.terms.words.Tie as tie
 use Rattle.definitions.specs.Places.{row-length}
 
 abbrev Inv-loop : tie.InvT-loop
-Inv-loop c m e w₀ j₀ w j = (j ≤ 8) × (length e ≡ 8) × (length w ≡ row-length) × ((k : ℕ) → k < j → getD e k 0 < 256) × Filled (λ k. getD (c ∷ m ∷ e) k 0) (2 + j) w
+Inv-loop c m e w₀ j₀ w j = (j ≤ 8) × (length e ≡ 8) × (length w ≡ row-length) × ((k : ℕ) → k < j → getD e k 0 < 256)
+    × Filled (λ k. getD (c ∷ m ∷ e) k 0) (2 + j) w
 
 abbrev μ-loop : tie.MeasureT-loop
 μ-loop c m e w₀ j₀ w j = 8 - j
 
 loop-holds : tie.Need-loop-holds Inv-loop μ-loop
-loop-holds c = (omega arith, omega arith, refl, (λ k h. absurd (not-suc-le-zero h)), two-first (c .args .c) (c .args .m) (c .args .t3) (0 ∷ 0 ∷ 0 ∷ 0 ∷ 0 ∷ 0 ∷ 0 ∷ 0 ∷ []))
+loop-holds c = (
+  omega arith,
+  omega arith,
+  refl,
+  (λ k h. absurd (not-suc-le-zero h)),
+  two-first (c .args .c) (c .args .m) (c .args .t3) (0 ∷ 0 ∷ 0 ∷ 0 ∷ 0 ∷ 0 ∷ 0 ∷ 0 ∷ []),
+)
 
 array-read-wide : tie.Need-array-read-wide Inv-loop μ-loop
 array-read-wide c = omega arith
@@ -53,14 +60,19 @@ loop-again c =
       l .inv .1,
       simp length-set (l .inv .2),
       small-more (a .t3) (l .j) (c .wide .result) (c .wide .ensures .0) (c .wide .ensures .1) (l .inv .3),
-      subst (λ n. Filled g n (set (l .w) (l .j + 2) (c .wide .result))) e (subst (λ n. Filled g (2 + l .j + 1) (set (l .w) n (c .wide .result))) f (filled-more g (2 + l .j) (c .wide .result) (l .w) (omega arith) (c .wide .ensures .0 ∙ sym (past-two (a .c) (a .m) (a .t3) (l .j))) (l .inv .4))),
+      subst (λ n. Filled g n (set (l .w) (l .j + 2) (c .wide .result))) e
+          (subst (λ n. Filled g (2 + l .j + 1) (set (l .w) n (c .wide .result))) f
+          (filled-more g (2 + l .j) (c .wide .result) (l .w) (omega arith) (c .wide .ensures .0 ∙ sym (past-two (a .c) (a .m) (a .t3) (l .j)))
+          (l .inv .4))),
     )
 
 returns : tie.Need-returns Inv-loop μ-loop
 returns c =
     let l = c .before .loop in
-    let a = c .before .before .args in
-    (filled-list (a .c ∷ a .m ∷ a .t3) (l .w) (omega arith) (λ k h. l .inv .4 k (omega arith)), eight-small (a .t3) (l .inv .1) (λ k h. l .inv .3 k (omega arith)))
+    let a = c .before .before .args in (
+      filled-list (a .c ∷ a .m ∷ a .t3) (l .w) (omega arith) (λ k h. l .inv .4 k (omega arith)),
+      eight-small (a .t3) (l .inv .1) (λ k h. l .inv .3 k (omega arith)),
+    )
 
 pub words-spec : {M : Type 1} → statement M
 words-spec =

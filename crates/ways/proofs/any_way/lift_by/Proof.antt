@@ -17,7 +17,8 @@ lift-level-requires : tie.Need-lift-level-requires
 lift-level-requires c κs =
     let a = c .before .before .before .before .before .before .before .args in
     let P = c .before .before .before .before .before .before .before .pre in
-    let h : value-length ≤ length (a .work .now) = subst (λ x. work-words document-01 (way-of x) ≤ length (a .work .now)) (c .before .before .enum-told .given .1) (P .1) in
+    let h : value-length ≤ length (a .work .now) = subst (λ x. work-words document-01 (way-of x) ≤ length (a .work .now))
+    (c .before .before .enum-told .given .1) (P .1) in
     (P .0, h, by-leading refl refl refl)
 
 enum-known-way : tie.Need-enum-known-way
@@ -27,7 +28,8 @@ lift-level-requires-2 : tie.Need-lift-level-requires-2
 lift-level-requires-2 c κs =
     let a = c .before .before .before .before .before .before .before .before .args in
     let P = c .before .before .before .before .before .before .before .before .pre in
-    let h : value-length ≤ length (a .work .now) = subst (λ x. work-words document-01 (way-of x) ≤ length (a .work .now)) (c .before .before .before .way .given .1) (P .1) in
+    let h : value-length ≤ length (a .work .now) = subst (λ x. work-words document-01 (way-of x) ≤ length (a .work .now))
+    (c .before .before .before .way .given .1) (P .1) in
     (P .0, h, by-picks refl refl)
 
 enum-told-2 : tie.Need-enum-told-2
@@ -37,7 +39,8 @@ lift-tree-requires : tie.Need-lift-tree-requires
 lift-tree-requires c κs =
     let a = c .before .before .before .before .before .before .before .before .args in
     let P = c .before .before .before .before .before .before .before .before .pre in
-    let h : tree-length ≤ length (a .work .now) = subst (λ x. work-words document-01 (way-of x) ≤ length (a .work .now)) (c .before .before .before .enum-told2 .given .1) (P .1) in
+    let h : tree-length ≤ length (a .work .now) = subst (λ x. work-words document-01 (way-of x) ≤ length (a .work .now))
+    (c .before .before .before .enum-told2 .given .1) (P .1) in
     (P .0, h)
 
 same-length : tie.Need-same-length
@@ -51,7 +54,8 @@ returns c =
     let m = c .before .before .before .before .before .before .before in
     let a = m .before .before .before .before .before .args in
     let L = c .before .before .before .before .lift-level in
-    subst (λ x. Lifted-by (a .state .now) (a .k) (lifting-by (way-of x) (a .cache .now)) (L .result) (L .last .0)) (sym (m .enum-told .given .1)) (L .ensures)
+    subst (λ x. Lifted-by (a .state .now) (a .k) (lifting-by (way-of x) (a .cache .now)) (L .result) (L .last .0)) (sym (m .enum-told .given .1))
+    (L .ensures)
 
 same-length-3 : tie.Need-same-length-3
 same-length-3 c = search needs
@@ -80,7 +84,8 @@ returns-3 c =
     let m = c .before .before .before .before .before .before .before .before .before .before in
     let a = m .before .before .before .before .before .args in
     let L = c .before .before .before .before .before .before .lift-tree in
-    subst (λ x. Lifted-by (a .state .now) (a .k) (lifting-by (way-of x) (a .cache .now)) (L .result) (L .last .0)) (sym (m .enum-told2 .given .1)) (L .ensures)
+    subst (λ x. Lifted-by (a .state .now) (a .k) (lifting-by (way-of x) (a .cache .now)) (L .result) (L .last .0)) (sym (m .enum-told2 .given .1))
+    (L .ensures)
 
 pub lift-by-spec : {M : Type 1} → statement M
 lift-by-spec =

@@ -39,12 +39,22 @@ lift-all-requires c κs =
     let s = a .state .now in
     let P = c .before .before .before .before .before .before .before .before .before .before .before .pre in
     let g = c .before .before .before .before .ground-of in
-    let ask = asked s (a .j) (P .0) (a .tables .now) (P .1) (a .b) (g .result) (take (length s - (rows-offset (a .j))) (drop (rows-offset (a .j)) s)) (g .ensures) (whole-part (rows-offset (a .j)) s) (a .count) (a .frame .now) (P .2) in
+    let ask = asked s (a .j) (P .0) (a .tables .now) (P .1) (a .b) (g .result) (take (length s - (rows-offset (a .j))) (drop (rows-offset (a .j)) s))
+    (g .ensures) (whole-part (rows-offset (a .j)) s) (a .count) (a .frame .now) (P .2) in
     let v = ask .4 in
     let t = ask .5 in
     let r = ask .6 in
-    let i = P .5 in
-    (ask .0, ask .1, ask .2, ask .3, omega (arith, t, i .tree, P .4), omega (arith, t, i .tree), omega (arith, v, i .filled), omega (arith, v, i .vector, r, i .room, P .3), omega (arith, r, i .room))
+    let i = P .5 in (
+      ask .0,
+      ask .1,
+      ask .2,
+      ask .3,
+      omega (arith, t, i .tree, P .4),
+      omega (arith, t, i .tree),
+      omega (arith, v, i .filled),
+      omega (arith, v, i .vector, r, i .room, P .3),
+      omega (arith, r, i .room),
+    )
 
 same-length : tie.Need-same-length
 same-length c = search needs
@@ -62,7 +72,9 @@ returns c =
     let P = c .before .before .before .before .before .before .before .before .before .before .before .before .before .before .before .before .before .before .pre in
     let g = c .before .before .before .before .before .before .before .before .before .before .before .ground-of in
     let L = c .before .before .before .before .before .before .lift-all in (
-      lifted-same s (a .j) (P .0) (a .tables .now) (P .1) (a .b) (g .result) (take (length s - (rows-offset (a .j))) (drop (rows-offset (a .j)) s)) (g .ensures) (whole-part (rows-offset (a .j)) s) (length (a .cache .now) / row-length) (frame-terms (a .frame .now) (a .count)) (lifted-of (L .result) (a .count) (L .last .0) []) (L .ensures .0),
+      lifted-same s (a .j) (P .0) (a .tables .now) (P .1) (a .b) (g .result) (take (length s - (rows-offset (a .j))) (drop (rows-offset (a .j)) s))
+          (g .ensures) (whole-part (rows-offset (a .j)) s) (length (a .cache .now) / row-length) (frame-terms (a .frame .now) (a .count))
+          (lifted-of (L .result) (a .count) (L .last .0) []) (L .ensures .0),
       subst (λ g. Whole g (a .count) (L .result) (L .last .0)) (g .ensures) (L .ensures .1),
     )
 

@@ -34,7 +34,31 @@ slice-aggregate-form-2 : tie.Need-slice-aggregate-form-2
 slice-aggregate-form-2 c = search needs
 
 form-requires : tie.Need-form-requires
-form-requires c κs = (omega arith, omega (arith, c .before .before .count-of .ensures, few-vectors (c .before .before .before .before .before .before .before .before .args .state .now) (c .before .before .before .before .before .before .before .before .args .j) (c .before .before .before .before .before .before .before .before .pre .0)), omega (arith, c .before .before .count-of .ensures, few-vectors (c .before .before .before .before .before .before .before .before .args .state .now) (c .before .before .before .before .before .before .before .before .args .j) (c .before .before .before .before .before .before .before .before .pre .0), c .before .before .before .before .before .before .before .before .pre .1 .long), omega (arith, c .before .before .count-of .ensures, few-vectors (c .before .before .before .before .before .before .before .before .args .state .now) (c .before .before .before .before .before .before .before .before .args .j) (c .before .before .before .before .before .before .before .before .pre .0)))
+form-requires c κs = (
+  omega arith,
+  omega (
+    arith,
+    c .before .before .count-of .ensures,
+    few-vectors (c .before .before .before .before .before .before .before .before .args .state .now)
+        (c .before .before .before .before .before .before .before .before .args .j)
+        (c .before .before .before .before .before .before .before .before .pre .0),
+  ),
+  omega (
+    arith,
+    c .before .before .count-of .ensures,
+    few-vectors (c .before .before .before .before .before .before .before .before .args .state .now)
+        (c .before .before .before .before .before .before .before .before .args .j)
+        (c .before .before .before .before .before .before .before .before .pre .0),
+    c .before .before .before .before .before .before .before .before .pre .1 .long,
+  ),
+  omega (
+    arith,
+    c .before .before .count-of .ensures,
+    few-vectors (c .before .before .before .before .before .before .before .before .args .state .now)
+        (c .before .before .before .before .before .before .before .before .args .j)
+        (c .before .before .before .before .before .before .before .before .pre .0),
+  ),
+)
 
 enum-told : tie.Need-enum-told
 enum-told c = search needs
@@ -50,14 +74,30 @@ lift-frame-requires c κs =
     let a = c .before .before .before .before .before .before .before .before .before .before .before .before .before .before .before .before .before .before .args in
     let s = a .state .now in
     let P = c .before .before .before .before .before .before .before .before .before .before .before .before .before .before .before .before .before .before .pre in
-    let r : c .before .before .before .before .before .before .before .before .before .before .before .before .count-of .result ≡ count-at s (a .j) = c .before .before .before .before .before .before .before .before .before .before .before .before .count-of .ensures in
-    let F0 = monomials-of (rows (a .tables .now) 0 (c .before .before .before .before .before .before .before .before .before .before .before .before .count-of .result)) in
-    let lead : F0 ≡ leading-monomials (level-at document-01 s (a .j)) = ap (λ k. monomials-of (rows (a .tables .now) 0 k)) r ∙ leading-at s (a .j) (P .0) (a .tables .now) (spans-in (a .tables .now)) (P .1 .led) in
+    let r : c .before .before .before .before .before .before .before .before .before .before .before .before .count-of .result
+    ≡ count-at s (a .j) = c .before .before .before .before .before .before .before .before .before .before .before .before .count-of .ensures in
+    let F0 = monomials-of
+    (rows (a .tables .now) 0
+    (c .before .before .before .before .before .before .before .before .before .before .before .before .count-of .result)) in
+    let lead : F0 ≡ leading-monomials (level-at document-01 s (a .j)) = ap (λ k. monomials-of (rows (a .tables .now) 0 k)) r
+    ∙ leading-at s (a .j) (P .0) (a .tables .now) (spans-in (a .tables .now)) (P .1 .led) in
     let F = c .before .before .before .before .before .before .before .before .before .form in
     let n = c .before .before .before .before .before .n .given .0 .0 in
-    let told : done (monomials-of (rows (F .last .0) 0 n)) ≡ if-few (leb (length (frame 1 F0)) most-vectors) (frame 1 F0) = sym (ap (λ y. framed-of y (F .last .0)) (c .before .before .before .before .before .n .given .1)) ∙ F .ensures .0 in
-    let m : n ≤ most-vectors = subst (few most-vectors) (c .before .before .before .before .before .n .given .1) (F .ensures .1) in
-    (P .0, P .1, record { few = m; fits = omega (arith, m); terms = whole-frame 1 F0 (leading-monomials (level-at document-01 s (a .j))) (frame-terms (F .last .0) n) lead told }, P .2, P .3, P .4)
+    let told : done (monomials-of (rows (F .last .0) 0 n)) ≡ if-few (leb (length (frame 1 F0)) most-vectors) (frame 1 F0) =
+    sym (ap (λ y. framed-of y (F .last .0)) (c .before .before .before .before .before .n .given .1)) ∙ F .ensures .0 in
+    let m : n ≤ most-vectors = subst (few most-vectors) (c .before .before .before .before .before .n .given .1) (F .ensures .1) in (
+      P .0,
+      P .1,
+      record {
+        few = m;
+        fits = omega (arith, m);
+        terms = whole-frame 1 F0 (leading-monomials (level-at document-01 s (a .j)))
+            (frame-terms (F .last .0) n) lead told;
+      },
+      P .2,
+      P .3,
+      P .4,
+    )
 
 enum-known-used : tie.Need-enum-known-used
 enum-known-used c = search needs
@@ -73,11 +113,17 @@ returns c =
     let a = c .before .before .before .before .before .before .before .before .before .before .before .before .before .args in
     let s = a .state .now in
     let P = c .before .before .before .before .before .before .before .before .before .before .before .before .before .pre in
-    let r : c .before .before .before .before .before .before .before .count-of .result ≡ count-at s (a .j) = c .before .before .before .before .before .before .before .count-of .ensures in
+    let r : c .before .before .before .before .before .before .before .count-of .result
+    ≡ count-at s (a .j) = c .before .before .before .before .before .before .before .count-of .ensures in
     let F0 = monomials-of (rows (a .tables .now) 0 (c .before .before .before .before .before .before .before .count-of .result)) in
-    let lead : F0 ≡ leading-monomials (level-at document-01 s (a .j)) = ap (λ k. monomials-of (rows (a .tables .now) 0 k)) r ∙ leading-at s (a .j) (P .0) (a .tables .now) (spans-in (a .tables .now)) (P .1 .led) in
-    let F = c .before .before .before .before .form in
-    (too-many (getD s 2 0) (level-at document-01 s (a .j)) F0 (λ ms. lift-all (stage-at (a .b) s (a .j)) (tree (stage-at (a .b) s (a .j)) (length (a .cache .now) / row-length)) ([], 0) [] ms) lead (sym (ap (λ y. framed-of y (F .last .0)) (c .enum-told .given .1)) ∙ F .ensures .0), tt)
+    let lead : F0 ≡ leading-monomials (level-at document-01 s (a .j)) = ap (λ k. monomials-of (rows (a .tables .now) 0 k)) r
+    ∙ leading-at s (a .j) (P .0) (a .tables .now) (spans-in (a .tables .now)) (P .1 .led) in
+    let F = c .before .before .before .before .form in (
+      too-many (getD s 2 0) (level-at document-01 s (a .j)) F0 (λ ms. lift-all (stage-at (a .b) s (a .j))
+          (tree (stage-at (a .b) s (a .j)) (length (a .cache .now) / row-length)) ([], 0) [] ms) lead
+          (sym (ap (λ y. framed-of y (F .last .0)) (c .enum-told .given .1)) ∙ F .ensures .0),
+      tt,
+    )
 
 same-length : tie.Need-same-length
 same-length c = search needs
@@ -94,14 +140,23 @@ returns-2 c =
     let s = a .state .now in
     let P = c .before .before .before .before .before .before .before .before .before .before .before .before .before .before .before .before .before .before .before .before .before .before .before .before .before .before .before .before .pre in
     let r : c .before .before .before .before .before .before .before .before .before .before .before .before .before .before .before .before .before .before .before .before .before .before .count-of .result ≡ count-at s (a .j) = c .before .before .before .before .before .before .before .before .before .before .before .before .before .before .before .before .before .before .before .before .before .before .count-of .ensures in
-    let F0 = monomials-of (rows (a .tables .now) 0 (c .before .before .before .before .before .before .before .before .before .before .before .before .before .before .before .before .before .before .before .before .before .before .count-of .result)) in
-    let lead : F0 ≡ leading-monomials (level-at document-01 s (a .j)) = ap (λ k. monomials-of (rows (a .tables .now) 0 k)) r ∙ leading-at s (a .j) (P .0) (a .tables .now) (spans-in (a .tables .now)) (P .1 .led) in
+    let F0 = monomials-of
+    (rows (a .tables .now) 0
+    (c .before .before .before .before .before .before .before .before .before .before .before .before .before .before .before .before .before .before .before .before .before .before .count-of .result)) in
+    let lead : F0 ≡ leading-monomials (level-at document-01 s (a .j)) = ap (λ k. monomials-of (rows (a .tables .now) 0 k)) r
+    ∙ leading-at s (a .j) (P .0) (a .tables .now) (spans-in (a .tables .now)) (P .1 .led) in
     let F = c .before .before .before .before .before .before .before .before .before .before .before .before .before .before .before .before .before .before .before .form in
     let n = c .before .before .before .before .before .before .before .before .before .before .before .before .before .before .before .n .given .0 .0 in
-    let told : done (monomials-of (rows (F .last .0) 0 n)) ≡ if-few (leb (length (frame 1 F0)) most-vectors) (frame 1 F0) = sym (ap (λ y. framed-of y (F .last .0)) (c .before .before .before .before .before .before .before .before .before .before .before .before .before .before .before .n .given .1)) ∙ F .ensures .0 in
+    let told : done (monomials-of (rows (F .last .0) 0 n)) ≡ if-few (leb (length (frame 1 F0)) most-vectors) (frame 1 F0) =
+    sym (ap (λ y. framed-of y (F .last .0))
+    (c .before .before .before .before .before .before .before .before .before .before .before .before .before .before .before .n .given .1))
+    ∙ F .ensures .0 in
     let L = c .before .before .before .before .before .before .before .before .before .lift-frame in (
-      sym (ap (λ y. lifted-of y n (L .last .0) []) (c .before .used .given .1)) ∙ L .ensures .0 ∙ few-enough (getD s 2 0) (level-at document-01 s (a .j)) F0 (frame-terms (F .last .0) n) (λ ms. lift-all (stage-at (a .b) s (a .j)) (tree (stage-at (a .b) s (a .j)) (length (a .cache .now) / row-length)) ([], 0) [] ms) lead told,
-      (let h = subst (λ y. Whole (ground-at (a .b) s (a .j)) n y (L .last .0)) (c .before .used .given .1) (L .ensures .1) in (omega (arith, h .0, P .4 .room), h .1)),
+      sym (ap (λ y. lifted-of y n (L .last .0) []) (c .before .used .given .1)) ∙ L .ensures .0
+          ∙ few-enough (getD s 2 0) (level-at document-01 s (a .j)) F0 (frame-terms (F .last .0) n)
+          (λ ms. lift-all (stage-at (a .b) s (a .j)) (tree (stage-at (a .b) s (a .j)) (length (a .cache .now) / row-length)) ([], 0) [] ms) lead told,
+      (let h = subst (λ y. Whole (ground-at (a .b) s (a .j)) n y (L .last .0)) (c .before .used .given .1) (L .ensures .1) in
+          (omega (arith, h .0, P .4 .room), h .1)),
     )
 
 same-length-4 : tie.Need-same-length-4
@@ -119,13 +174,21 @@ returns-3 c =
     let s = a .state .now in
     let P = c .before .before .before .before .before .before .before .before .before .before .before .before .before .before .before .before .before .before .before .before .before .before .before .before .before .before .before .before .pre in
     let r : c .before .before .before .before .before .before .before .before .before .before .before .before .before .before .before .before .before .before .before .before .before .before .count-of .result ≡ count-at s (a .j) = c .before .before .before .before .before .before .before .before .before .before .before .before .before .before .before .before .before .before .before .before .before .before .count-of .ensures in
-    let F0 = monomials-of (rows (a .tables .now) 0 (c .before .before .before .before .before .before .before .before .before .before .before .before .before .before .before .before .before .before .before .before .before .before .count-of .result)) in
-    let lead : F0 ≡ leading-monomials (level-at document-01 s (a .j)) = ap (λ k. monomials-of (rows (a .tables .now) 0 k)) r ∙ leading-at s (a .j) (P .0) (a .tables .now) (spans-in (a .tables .now)) (P .1 .led) in
+    let F0 = monomials-of
+    (rows (a .tables .now) 0
+    (c .before .before .before .before .before .before .before .before .before .before .before .before .before .before .before .before .before .before .before .before .before .before .count-of .result)) in
+    let lead : F0 ≡ leading-monomials (level-at document-01 s (a .j)) = ap (λ k. monomials-of (rows (a .tables .now) 0 k)) r
+    ∙ leading-at s (a .j) (P .0) (a .tables .now) (spans-in (a .tables .now)) (P .1 .led) in
     let F = c .before .before .before .before .before .before .before .before .before .before .before .before .before .before .before .before .before .before .before .form in
     let n = c .before .before .before .before .before .before .before .before .before .before .before .before .before .before .before .n .given .0 .0 in
-    let told : done (monomials-of (rows (F .last .0) 0 n)) ≡ if-few (leb (length (frame 1 F0)) most-vectors) (frame 1 F0) = sym (ap (λ y. framed-of y (F .last .0)) (c .before .before .before .before .before .before .before .before .before .before .before .before .before .before .before .n .given .1)) ∙ F .ensures .0 in
+    let told : done (monomials-of (rows (F .last .0) 0 n)) ≡ if-few (leb (length (frame 1 F0)) most-vectors) (frame 1 F0) =
+    sym (ap (λ y. framed-of y (F .last .0))
+    (c .before .before .before .before .before .before .before .before .before .before .before .before .before .before .before .n .given .1))
+    ∙ F .ensures .0 in
     let L = c .before .before .before .before .before .before .before .before .before .lift-frame in (
-      sym (ap (λ y. lifted-of y n (L .last .0) []) (c .before .x .given .1)) ∙ L .ensures .0 ∙ few-enough (getD s 2 0) (level-at document-01 s (a .j)) F0 (frame-terms (F .last .0) n) (λ ms. lift-all (stage-at (a .b) s (a .j)) (tree (stage-at (a .b) s (a .j)) (length (a .cache .now) / row-length)) ([], 0) [] ms) lead told,
+      sym (ap (λ y. lifted-of y n (L .last .0) []) (c .before .x .given .1)) ∙ L .ensures .0
+          ∙ few-enough (getD s 2 0) (level-at document-01 s (a .j)) F0 (frame-terms (F .last .0) n)
+          (λ ms. lift-all (stage-at (a .b) s (a .j)) (tree (stage-at (a .b) s (a .j)) (length (a .cache .now) / row-length)) ([], 0) [] ms) lead told,
       tt,
     )
 
@@ -144,13 +207,21 @@ returns-4 c =
     let s = a .state .now in
     let P = c .before .before .before .before .before .before .before .before .before .before .before .before .before .before .before .before .before .before .before .before .before .before .before .before .before .before .before .before .pre in
     let r : c .before .before .before .before .before .before .before .before .before .before .before .before .before .before .before .before .before .before .before .before .before .before .count-of .result ≡ count-at s (a .j) = c .before .before .before .before .before .before .before .before .before .before .before .before .before .before .before .before .before .before .before .before .before .before .count-of .ensures in
-    let F0 = monomials-of (rows (a .tables .now) 0 (c .before .before .before .before .before .before .before .before .before .before .before .before .before .before .before .before .before .before .before .before .before .before .count-of .result)) in
-    let lead : F0 ≡ leading-monomials (level-at document-01 s (a .j)) = ap (λ k. monomials-of (rows (a .tables .now) 0 k)) r ∙ leading-at s (a .j) (P .0) (a .tables .now) (spans-in (a .tables .now)) (P .1 .led) in
+    let F0 = monomials-of
+    (rows (a .tables .now) 0
+    (c .before .before .before .before .before .before .before .before .before .before .before .before .before .before .before .before .before .before .before .before .before .before .count-of .result)) in
+    let lead : F0 ≡ leading-monomials (level-at document-01 s (a .j)) = ap (λ k. monomials-of (rows (a .tables .now) 0 k)) r
+    ∙ leading-at s (a .j) (P .0) (a .tables .now) (spans-in (a .tables .now)) (P .1 .led) in
     let F = c .before .before .before .before .before .before .before .before .before .before .before .before .before .before .before .before .before .before .before .form in
     let n = c .before .before .before .before .before .before .before .before .before .before .before .before .before .before .before .n .given .0 .0 in
-    let told : done (monomials-of (rows (F .last .0) 0 n)) ≡ if-few (leb (length (frame 1 F0)) most-vectors) (frame 1 F0) = sym (ap (λ y. framed-of y (F .last .0)) (c .before .before .before .before .before .before .before .before .before .before .before .before .before .before .before .n .given .1)) ∙ F .ensures .0 in
+    let told : done (monomials-of (rows (F .last .0) 0 n)) ≡ if-few (leb (length (frame 1 F0)) most-vectors) (frame 1 F0) =
+    sym (ap (λ y. framed-of y (F .last .0))
+    (c .before .before .before .before .before .before .before .before .before .before .before .before .before .before .before .n .given .1))
+    ∙ F .ensures .0 in
     let L = c .before .before .before .before .before .before .before .before .before .lift-frame in (
-      sym (ap (λ y. lifted-of y n (L .last .0) []) (c .before .x2 .given .1)) ∙ L .ensures .0 ∙ few-enough (getD s 2 0) (level-at document-01 s (a .j)) F0 (frame-terms (F .last .0) n) (λ ms. lift-all (stage-at (a .b) s (a .j)) (tree (stage-at (a .b) s (a .j)) (length (a .cache .now) / row-length)) ([], 0) [] ms) lead told,
+      sym (ap (λ y. lifted-of y n (L .last .0) []) (c .before .x2 .given .1)) ∙ L .ensures .0
+          ∙ few-enough (getD s 2 0) (level-at document-01 s (a .j)) F0 (frame-terms (F .last .0) n)
+          (λ ms. lift-all (stage-at (a .b) s (a .j)) (tree (stage-at (a .b) s (a .j)) (length (a .cache .now) / row-length)) ([], 0) [] ms) lead told,
       tt,
     )
 
