@@ -7,10 +7,10 @@ ghost use lib.ListN.{length};
 ghost use Rattle.definitions.specs.Monomial.{Vector};
 ghost use Rattle.definitions.specs.Lifting.{accept-from};
 ghost use Rattle.definitions.specs.Layout.{Words, rows, rows-of, padded};
-ghost use Rattle.definitions.specs.Places.{row-length, value-length, table-length, spans-length, tables-length, ends-length, lifted-length};
+ghost use Rattle.definitions.specs.Places.{row-length, value-length, table-length, spans-length, ends-length, lifted-length};
+ghost use Rattle.definitions.specs.Places.{tables-length};
 ghost use Rattle.state.specs.soundness.Places.{count-below};
 ghost use Rattle.runs.specs.frame_terms.Vectors.{frame-terms};
-ghost use Rattle.runs.specs.reduction.Grounds.{tables-length};
 ghost use Rattle.level.specs.by_runs.Stages.{
   Base,
   usual,
@@ -107,10 +107,10 @@ fn join_tables(tables: &mut [u16], spans: &[u16], ends: &[u16], below: &[u16], a
     ensures { λ _. ⌜ now (tables .exit) ≡ joined (now (tables .entry)) (now (spans .entry)) (now (ends .entry)) (now (below .entry))
         (now (above .entry)) ⌝ }
 {
-    terms::copy(tables, reduction::SPANS, spans, words::SPANS_LENGTH);
-    terms::copy(tables, reduction::ENDS, ends, words::ENDS_LENGTH);
-    terms::copy(tables, reduction::BELOW, below, words::TABLE_LENGTH);
-    terms::copy(tables, reduction::ABOVE, above, words::TABLE_LENGTH);
+    terms::copy(tables, words::TABLES_SPANS, spans, words::SPANS_LENGTH);
+    terms::copy(tables, words::TABLES_ENDS, ends, words::ENDS_LENGTH);
+    terms::copy(tables, words::TABLES_BELOW, below, words::TABLE_LENGTH);
+    terms::copy(tables, words::TABLES_ABOVE, above, words::TABLE_LENGTH);
 }
 
 // The tables of a lifting over level j.

@@ -11,11 +11,11 @@ ghost use Rattle.definitions.specs.Reducer.{answer};
 ghost use Rattle.definitions.specs.Run.{add-term, unless-dropped, dropped?, add-products, multiple, by-code, greatest as greatest-definition};
 ghost use Rattle.definitions.specs.Layout.{row-at, rows};
 ghost use Rattle.definitions.specs.Places.{row-length};
+ghost use Rattle.definitions.specs.Places.{tables-below};
 ghost use Rattle.orders.specs.Images.{key, key-of, table-of, table-order, Tabled};
 ghost use Rattle.reducers.specs.search.Search.{answer-of};
 ghost use Rattle.vectors.specs.terms.Rows.{term-of};
 ghost use Rattle.runs.specs.reduction.Grounds.{
-  below-start,
   reduction-of,
   ends-in,
   below-in,
@@ -50,16 +50,6 @@ pub struct Ground {
     pub room: usize,
 }
 
-// Where the tables of a lifting stand in the one slice that has them: 128 heads first, then their spans, the ends of the level's vectors, the images
-// below and above.
-pub const SPANS: usize = words::TABLES_SPANS;
-
-pub const ENDS: usize = words::TABLES_ENDS;
-
-pub const BELOW: usize = words::TABLES_BELOW;
-
-pub const ABOVE: usize = words::TABLES_ABOVE;
-
 // The rows that a value has now, or a refusal's number.
 pub enum Added {
     Rows(usize),
@@ -92,7 +82,7 @@ fn add_fitting(
 {
     if drops {
         let m = t.monomial;
-        let found = search::search(tables, g.r, &tables[SPANS..], g.components, m);
+        let found = search::search(tables, g.r, &tables[words::TABLES_SPANS..], g.components, m);
         let Answer::Reducer(_j, _h) = found else {
             return Added::Rows(n);
         };
@@ -186,7 +176,7 @@ pub fn add_multiple(
     ensures { λ x. ⌜ (added-of x (now (value .exit)) ≡ add-products (reduction-of g (now (tables .entry))) drops c q
         (vector-of (family-of g (now (level .entry)) (ends-in (now (tables .entry)))) j) (rows (now (value .entry)) 0 n)) × Within (g .working) x ⌝ }
 {
-    let ends = &tables[ENDS..];
+    let ends = &tables[words::TABLES_ENDS..];
     let from = first_of(ends, j);
     let to = words::place(ends[j - 1]);
     add_all(value, n, level, from, to, c, q, tables, g, drops)
@@ -227,13 +217,13 @@ pub fn greatest(value: &[u16], n: usize, code: u16, below: &[u16], images: usize
 
 // The place that the pick code says, of n terms.
 pub fn pick(value: &[u16], n: usize, pick: u16, tables: &[u16], g: Ground) -> usize
-    requires { ⌜ (0 < n) × (n * row-length ≤ length (now value)) × (below-start ≤ length (now tables))
+    requires { ⌜ (0 < n) × (n * row-length ≤ length (now value)) × (tables-below ≤ length (now tables))
         × (g .images * row-length ≤ length (below-in (now tables))) × Tabled (g .images) (below-in (now tables)) ⌝ }
     ensures { λ r. ⌜ some r ≡ by-code (table-order (g .code) (table-of (g .images) (below-in (now (tables .entry))))) pick
         (rows (now (value .entry)) 0 n) ⌝ }
 {
     match pick {
-        1 => greatest(value, n, g.code, &tables[BELOW..], g.images),
+        1 => greatest(value, n, g.code, &tables[words::TABLES_BELOW..], g.images),
         2 => n - 1,
         _ => 0,
     }
@@ -244,5 +234,12 @@ pub fn reducer_of(tables: &[u16], g: Ground, t: Term) -> Found
     requires { ⌜ Tables g (now tables) ⌝ }
     ensures { λ x. ⌜ answer-of x ≡ answer (g .p) (rows (now (tables .entry)) 0 (g .r)) (term-of t) ⌝ }
 {
-    search::reducer_of(tables, g.r, &tables[SPANS..], g.components, g.p, t)
+    search::reducer_of(
+        tables,
+        g.r,
+        &tables[words::TABLES_SPANS..],
+        g.components,
+        g.p,
+        t,
+    )
 }

@@ -200,7 +200,7 @@ fn sorted(value: &mut [u16], vector: &mut [u16], x: Outcome, tables: &[u16], g: 
                 vector,
                 v,
                 g.code,
-                &tables[reduction::ABOVE..],
+                &tables[words::TABLES_ABOVE..],
                 g.r,
                 g.p,
             );
@@ -213,7 +213,7 @@ fn sorted(value: &mut [u16], vector: &mut [u16], x: Outcome, tables: &[u16], g: 
                 value,
                 n,
                 g.code,
-                &tables[reduction::BELOW..],
+                &tables[words::TABLES_BELOW..],
                 g.images,
                 g.p,
             );

@@ -52,7 +52,7 @@ fn add_result<'a>(
         ≡ added-vector (table-order (g .code) (table-of (g .r) (above-in (now (tables .entry))))) (g .p) (g .vector) c (rows (now (vector .entry)) 0 n)
         (subtree-of (g .tree) s (now (cache .entry)) (now (work .entry)))) × Fits 0 (g .vector) room z ⌝ }
 {
-    let above = &tables[reduction::ABOVE..];
+    let above = &tables[words::TABLES_ABOVE..];
     match s {
         Subtree::Cached(from, len, used) => {
             let part = cache::held(cache, work, true, from, len);

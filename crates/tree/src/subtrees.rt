@@ -8,10 +8,11 @@ ghost use lib.ListN.{length, getD};
 ghost use Rattle.definitions.specs.Field.{minus};
 ghost use Rattle.definitions.specs.Layout.{rows};
 ghost use Rattle.definitions.specs.Tree.{lift-term as term-definition, lift-list as list-definition, open-subtree as open-definition};
-ghost use Rattle.definitions.specs.Places.{row-length, ends-start};
+ghost use Rattle.definitions.specs.Places.{row-length};
+ghost use Rattle.definitions.specs.Places.{tables-ends};
 ghost use Rattle.monomial.specs.Values.{monomial-of};
 ghost use Rattle.orders.specs.Images.{table-of, table-order};
-ghost use Rattle.runs.specs.reduction.Grounds.{ends-start, first-row, ends-in, above-in, Tables};
+ghost use Rattle.runs.specs.reduction.Grounds.{first-row, ends-in, above-in, Tables};
 ghost use Rattle.runs.specs.run.Stages.{stage-of, Images};
 ghost use Rattle.cache.specs.Area.{Keeps};
 ghost use Rattle.cache.specs.Entries.{cache-of, subtree-of, Sized};
@@ -51,11 +52,11 @@ fn first_of(ends: &[u16], j: usize) -> usize
 
 // The rows of f_j, all of them.
 pub fn rows_of(tables: &[u16], j: usize) -> Span
-    requires { ⌜ (1 ≤ j) × (ends-start ≤ length (now tables)) × (j ≤ length (ends-in (now tables))) ⌝ }
+    requires { ⌜ (1 ≤ j) × (tables-ends ≤ length (now tables)) × (j ≤ length (ends-in (now tables))) ⌝ }
     ensures { λ x. ⌜ (x .from ≡ first-row (ends-in (now (tables .entry))) j) × (x .to ≡ getD (ends-in (now (tables .entry))) (j - 1) 0)
         × (x .from < 65536) × (x .to < 65536) ⌝ }
 {
-    let ends = &tables[reduction::ENDS..];
+    let ends = &tables[words::TABLES_ENDS..];
     let from = first_of(ends, j);
     let to = words::place(ends[j - 1]);
     Span { from, to }
@@ -99,7 +100,7 @@ fn add_subtree(
         ≡ added-to (table-order (g .code) (table-of (g .r) (above-in (now (tables .entry))))) (g .p) (g .tree) a c (rows (now (work .entry)) a n)
         (subtree-of (g .tree) s (now (cache .entry)) (now (work .entry)))) × Fits a (g .tree) room z × Keeps a (now (work .entry)) (now (work .exit)) ⌝ }
 {
-    let above = &tables[reduction::ABOVE..];
+    let above = &tables[words::TABLES_ABOVE..];
     match s {
         Subtree::Cached(from, len, used) => {
             let x = cache::add_part(

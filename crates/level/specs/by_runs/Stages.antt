@@ -14,12 +14,13 @@ use Rattle.definitions.specs.Run.{by-code}
 use Rattle.definitions.specs.Frame.{frame}
 use Rattle.definitions.specs.Lifting.{limited-frame, lift-all, accept}
 use Rattle.definitions.specs.Layout.{Words, rows, rows-of, padded, level-at, levels-at, holds-state?}
-use Rattle.definitions.specs.Places.{most-exponent, most-vectors, most-rows, most-terms, most-tree-terms, all-levels, row-length, ends-start, state-length}
-use Rattle.definitions.specs.Places.{table-length, spans-length, tables-length, ends-length}
+use Rattle.definitions.specs.Places.{most-exponent, most-vectors, most-rows, most-terms, most-tree-terms, all-levels, row-length, state-length}
+use Rattle.definitions.specs.Places.{table-length, spans-length, ends-length}
+use Rattle.definitions.specs.Places.{tables-above, tables-below, tables-ends, tables-length, tables-spans}
 use Rattle.state.specs.soundness.Places.{count-at, count-below, ends-from}
 use Rattle.state.specs.soundness.Tabled.{Ready}
 use Rattle.state.specs.preparing.Prepared.{components-at, Led}
-use Rattle.runs.specs.reduction.Grounds.{spans-start, ends-start, below-start, above-start, tables-length, spans-in, ends-in, below-in, above-in}
+use Rattle.runs.specs.reduction.Grounds.{spans-in, ends-in, below-in, above-in}
 use Rattle.runs.specs.declared.reduction.Ground.{Ground}
 use Rattle.runs.specs.declared.run.Strategy.{Strategy}
 use Rattle.runs.specs.frame_terms.Vectors.{lifted-vectors, Kept, frame-terms, lifts, lifted-of, Whole}
@@ -93,8 +94,8 @@ strategy-at b s j w = record { drops = w .drops; pick = by-code (stage-at b s j 
 
 -- behind the heads
 abbrev pub joined : Words → Words → Words → Words → Words → Words
-joined heads spans ends below above = paste (paste (paste (paste heads spans-start spans spans-length) ends-start ends ends-length) below-start below
-    table-length) above-start above table-length
+joined heads spans ends below above = paste (paste (paste (paste heads tables-spans spans spans-length) tables-ends ends ends-length) tables-below below
+    table-length) tables-above above table-length
 
 pub record Tables-at (s : Words) (j : ℕ) (tables : Words) : Type 0 where
   pub long : tables-length ≤ length tables

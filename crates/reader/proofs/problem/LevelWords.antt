@@ -42,9 +42,9 @@ module _ (q : Parameters) (size : ℕ) where
   pub laid-begun : state-length ≤ size → begun (replicate size 0) q ≡ laid q 0 [] [] size
   laid-begun h =
       let e : size ≡ suc (suc (suc (suc (suc (suc (size - ends-start)))))) = omega arith in
-      let z : 1289 - 0 + (size - rows-start - 0) ≡ size - ends-start = omega arith in
+      let z : rows-start - ends-start - 0 + (size - rows-start - 0) ≡ size - ends-start = omega arith in
       ap (λ n. begun (replicate n 0) q) e ∙ ap (λ l. q .p ∷ q .n ∷ q .code ∷ q .s ∷ 1 ∷ 0 ∷ l)
-      (sym (zeros-meet (1289 - 0) (size - rows-start - 0) (size - ends-start) z))
+      (sym (zeros-meet (rows-start - ends-start - 0) (size - rows-start - 0) (size - ends-start) z))
 
   module _ (r : ℕ) (ends rows : Words) (room : length ends ≤ most-vectors) where
     front : Words

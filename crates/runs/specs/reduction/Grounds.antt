@@ -12,7 +12,8 @@ use Rattle.definitions.specs.Stage.{Reduction, Stage}
 use Rattle.definitions.specs.Run as definition
 use Rattle.definitions.specs.Run.{Run, by-code}
 use Rattle.definitions.specs.Layout.{Words, rows, vectors-at}
-use Rattle.definitions.specs.Places.{most-exponent, row-length, ends-start, table-length, tables-ends, tables-below, tables-above, tables-length}
+use Rattle.definitions.specs.Places.{most-exponent, row-length, table-length}
+use Rattle.definitions.specs.Places.{tables-above, tables-below, tables-ends, tables-length, tables-spans}
 use Rattle.orders.specs.Images.{table-of, table-order, Tabled}
 use Rattle.reducers.specs.search.Search.{Small, Spanned}
 use Rattle.runs.specs.declared.reduction.Ground.{Ground}
@@ -42,36 +43,21 @@ limits-of g = record {
 -- ## The tables of a lifting in one slice, one after the other: rows of 128 heads, their spans, the ends of the level's vectors, the images below and
 -- above
 
-abbrev pub spans-start : ℕ
-spans-start = table-length
-
-abbrev pub ends-start : ℕ
-ends-start = tables-ends
-
-abbrev pub below-start : ℕ
-below-start = tables-below
-
-abbrev pub above-start : ℕ
-above-start = tables-above
-
-abbrev pub tables-length : ℕ
-tables-length = tables-length
-
 -- the words from place a on
 abbrev pub part : ℕ → Words → Words
 part a s = take (length s - a) (drop a s)
 
 abbrev pub spans-in : Words → Words
-spans-in tables = part spans-start tables
+spans-in tables = part tables-spans tables
 
 abbrev pub ends-in : Words → Words
-ends-in tables = part ends-start tables
+ends-in tables = part tables-ends tables
 
 abbrev pub below-in : Words → Words
-below-in tables = part below-start tables
+below-in tables = part tables-below tables
 
 abbrev pub above-in : Words → Words
-above-in tables = part above-start tables
+above-in tables = part tables-above tables
 
 -- the heads' rows
 abbrev pub reduction-of : Ground → Words → Reduction

@@ -1,10 +1,10 @@
 use borrow.Author.Needs.{needs}
 use mathlib.Core.Path.{ap, _∙_}
 use lib.Seq.{paste}
-use Rattle.runs.specs.reduction.Grounds.{ends-start, below-start, above-start}
 use Rattle.level.proofs.by_runs.join_tables.Statement.{statement}
 use Rattle.level.proofs.by_runs.join_tables.Tie as tie
-use Rattle.definitions.specs.Places.{most-vectors, ends-start, table-length}
+use Rattle.definitions.specs.Places.{most-vectors, table-length}
+use Rattle.definitions.specs.Places.{tables-above, tables-below, tables-ends}
 
 copy-requires : tie.Need-copy-requires
 copy-requires c κs = search needs
@@ -25,11 +25,11 @@ returns : tie.Need-returns
 returns c =
     let a = c .before .before .before .before .before .before .before .before .before .before .before .before .before .before .before .before .before .before .before .before .before .args in
     c .before .before .copy4 .ensures
-    ∙ ap (λ z. paste z above-start (a .above .now) table-length) (
+    ∙ ap (λ z. paste z tables-above (a .above .now) table-length) (
     c .before .before .before .before .before .before .copy3 .ensures
-    ∙ ap (λ z. paste z below-start (a .below .now) table-length)
+    ∙ ap (λ z. paste z tables-below (a .below .now) table-length)
     (c .before .before .before .before .before .before .before .before .before .before .copy2 .ensures
-    ∙ ap (λ z. paste z ends-start (a .ends .now) most-vectors)
+    ∙ ap (λ z. paste z tables-ends (a .ends .now) most-vectors)
     (c .before .before .before .before .before .before .before .before .before .before .before .before .before .before .copy .ensures))
     )
 
