@@ -62,8 +62,8 @@ returns c =
     let one : Term = (1, m) in
     let first = first-stored (a .vector .now) (pt .last .0) 0 one (pt .ensures .0) (pt .ensures .1) (omega (arith, P .1, P .2)) in
     let whole = whole-of g (a .level .now) (ends-in (a .tables .now)) (m .1) (ro .result .from) (ro .result .to) (P .0 .family) (P .3) (P .4)
-    (ro .ensures .0 ∙ ap (first-row (ends-in (a .tables .now))) (pl .ensures))
-    (ro .ensures .1 ∙ ap (λ x. getD (ends-in (a .tables .now)) (x - 1) 0) (pl .ensures)) in (
+    (ro .ensures .0 ∙ ap (first-row (ends-in (a .tables .now))) (pl .ensures .0))
+    (ro .ensures .1 ∙ ap (λ x. getD (ends-in (a .tables .now)) (x - 1) 0) (pl .ensures .0)) in (
       (lv .ensures .0 ∙ (λ i. vector-definition S (lift-term S (a .room) (g .tree)) 1 (m .0) (sym whole i)
           (first i, cache-of (a .used) (a .cache .now)))),
       lv .ensures .1,
