@@ -4,14 +4,13 @@
 ghost use mathlib.Core.Path.{_≡_};
 ghost use mathlib.Core.Option.{some};
 ghost use Prim.Native.Nat.{_+_, _-_, _*_, _≤_, _<_};
-ghost use lib.ListN.{length};
+ghost use lib.ListN.{length, getD};
 ghost use Rattle.definitions.specs.Monomial.{vector-of};
 ghost use Rattle.definitions.specs.Vectors.{store};
 ghost use Rattle.definitions.specs.Reducer.{answer};
 ghost use Rattle.definitions.specs.Run.{add-term, unless-dropped, dropped?, add-products, multiple, by-code, greatest as greatest-definition};
 ghost use Rattle.definitions.specs.Layout.{row-at, rows};
-ghost use Rattle.definitions.specs.Places.{row-length};
-ghost use Rattle.definitions.specs.Places.{tables-below};
+ghost use Rattle.definitions.specs.Places.{row-length, tables-ends, tables-below};
 ghost use Rattle.orders.specs.Images.{key, key-of, table-of, table-order, Tabled};
 ghost use Rattle.reducers.specs.search.Search.{answer-of};
 ghost use Rattle.vectors.specs.terms.Rows.{term-of};
@@ -31,6 +30,7 @@ use orders::Image;
 use reducers::search;
 use reducers::search::Answer;
 use reducers::search::Found;
+use reducers::search::Span;
 use vectors::sums;
 use vectors::sums::Running;
 use vectors::sums::Stored;
@@ -148,15 +148,26 @@ pub fn add_all(
     Added::Rows(k)
 }
 
-// The first row of vector j.
 fn first_of(ends: &[u16], j: usize) -> usize
     requires { ⌜ (1 ≤ j) × (j ≤ length (now ends)) ⌝ }
-    ensures { λ r. ⌜ r ≡ first-row (now (ends .entry)) j ⌝ }
+    ensures { λ r. ⌜ (r ≡ first-row (now (ends .entry)) j) × (r < 65536) ⌝ }
 {
     if j == 1 {
         return 0;
     }
     words::place(ends[j - 2])
+}
+
+// The rows of f_j, all of them.
+pub fn rows_of(tables: &[u16], j: usize) -> Span
+    requires { ⌜ (1 ≤ j) × (tables-ends ≤ length (now tables)) × (j ≤ length (ends-in (now tables))) ⌝ }
+    ensures { λ x. ⌜ (x .from ≡ first-row (ends-in (now (tables .entry))) j) × (x .to ≡ getD (ends-in (now (tables .entry))) (j - 1) 0)
+        × (x .from < 65536) × (x .to < 65536) ⌝ }
+{
+    let ends = &tables[words::TABLES_ENDS..];
+    let from = first_of(ends, j);
+    let to = words::place(ends[j - 1]);
+    Span { from, to }
 }
 
 // The products of c·q and the terms of f_j.
@@ -176,9 +187,9 @@ pub fn add_multiple(
     ensures { λ x. ⌜ (added-of x (now (value .exit)) ≡ add-products (reduction-of g (now (tables .entry))) drops c q
         (vector-of (family-of g (now (level .entry)) (ends-in (now (tables .entry)))) j) (rows (now (value .entry)) 0 n)) × Within (g .working) x ⌝ }
 {
-    let ends = &tables[words::TABLES_ENDS..];
-    let from = first_of(ends, j);
-    let to = words::place(ends[j - 1]);
+    let part = rows_of(tables, j);
+    let from = part.from;
+    let to = part.to;
     add_all(value, n, level, from, to, c, q, tables, g, drops)
 }
 

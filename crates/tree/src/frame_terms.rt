@@ -154,7 +154,7 @@ fn lift_frame_term(
         },
     );
     let component = m.component;
-    let part = subtrees::rows_of(tables, words::place(component));
+    let part = reduction::rows_of(tables, words::place(component));
     let from = part.from;
     let to = part.to;
     let q = m.exponents;

@@ -34,34 +34,6 @@ pub enum Sum {
     Refused(u16),
 }
 
-// Rows of a level.
-pub struct Span {
-    pub from: usize,
-    pub to: usize,
-}
-
-fn first_of(ends: &[u16], j: usize) -> usize
-    requires { ⌜ (1 ≤ j) × (j ≤ length (now ends)) ⌝ }
-    ensures { λ r. ⌜ (r ≡ first-row (now (ends .entry)) j) × (r < 65536) ⌝ }
-{
-    if j == 1 {
-        return 0;
-    }
-    words::place(ends[j - 2])
-}
-
-// The rows of f_j, all of them.
-pub fn rows_of(tables: &[u16], j: usize) -> Span
-    requires { ⌜ (1 ≤ j) × (tables-ends ≤ length (now tables)) × (j ≤ length (ends-in (now tables))) ⌝ }
-    ensures { λ x. ⌜ (x .from ≡ first-row (ends-in (now (tables .entry))) j) × (x .to ≡ getD (ends-in (now (tables .entry))) (j - 1) 0)
-        × (x .from < 65536) × (x .to < 65536) ⌝ }
-{
-    let ends = &tables[words::TABLES_ENDS..];
-    let from = first_of(ends, j);
-    let to = words::place(ends[j - 1]);
-    Span { from, to }
-}
-
 // A sum that has grown, beside the cache.
 pub fn joined(x: Stored, used: usize) -> Sum
     ensures { λ z. ⌜ z ≡ joined-as x used ⌝ }
@@ -240,7 +212,7 @@ fn open_subtree(
             },
         },
     );
-    let part = rows_of(tables, j);
+    let part = reduction::rows_of(tables, j);
     let from = part.from;
     let to = part.to;
     let s = lift_list(

@@ -1,12 +1,11 @@
 use borrow.Author.Needs.{needs}
-use native.Mathlib.Omega.{arith}
 use mathlib.Core.Path.{_∙_}
-use Rattle.runs.proofs.reduction.Families.{first-later, first-one}
+use Rattle.runs.proofs.reduction.Families.{first-later}
 use Rattle.runs.proofs.reduction.first_of.Statement.{statement}
 use Rattle.runs.proofs.reduction.first_of.Tie as tie
 
 returns : tie.Need-returns
-returns c = first-one (c .before .before .args .ends .now) (c .before .before .args .j) (c .if1 .taken)
+returns c = search needs
 
 sub-place : tie.Need-sub-place
 sub-place c = search needs
@@ -21,8 +20,11 @@ place-requires : tie.Need-place-requires
 place-requires c κs = search needs
 
 returns-2 : tie.Need-returns-2
-returns-2 c = c .place .ensures .0 ∙ first-later (c .before .before .before .before .args .ends .now) (c .before .before .before .before .args .j)
-    (omega arith) (c .before .before .if1 .left)
+returns-2 c = (
+  c .place .ensures .0 ∙ first-later (c .before .before .before .before .args .ends .now) (c .before .before .before .before .args .j)
+      (c .before .before .before .before .pre .0) (c .before .before .if1 .left),
+  c .place .ensures .1,
+)
 
 pub first-of-spec : {M : Type 1} → statement M
 first-of-spec =

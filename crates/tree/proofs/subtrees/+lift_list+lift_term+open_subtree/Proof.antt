@@ -46,7 +46,7 @@ use Rattle.reducers.proofs.search.multiplied.Reads as multiplied-reads
 use Rattle.runs.proofs.reduction.reducer_of.Reads as reducer-of-reads
 use Rattle.tree.proofs.subtrees.add_subtree.Reads as add-subtree-reads
 use Rattle.tree.proofs.subtrees.passed.Reads as passed-reads
-use Rattle.tree.proofs.subtrees.rows_of.Reads as rows-of-reads
+use Rattle.runs.proofs.reduction.rows_of.Reads as rows-of-reads
 use Rattle.vectors.proofs.terms.put.Reads as put-reads
 use Rattle.tree.proofs.subtrees.+lift_list+lift_term+open_subtree.{statement}
 use Rattle.tree.proofs.subtrees.+lift_list+lift_term+open_subtree.Tie.{close}
