@@ -23,11 +23,16 @@ same-length-3 c = search needs
 
 returns : tie.Need-returns
 returns c =
-    let a = c .before .before .before .before .before .before .before .before .before .before .before .before .before .before .args in
+    let a =
+    let at-8 = c .before .before .before .before .before .before .before .before in
+    (at-8 .before .before .before .before .before .before) .args in
+    let way-by-there =
+    let at-8 = c .before .before .before .before .before .before .before .before in
+    (at-8 .before .before) .way-by in
     let L = c .before .before .before .before .before .before .lift in (
       L .ensures .0,
       L .ensures .1 ∙ ap (λ w. lift-call document-01 (L .ensures .0) (a .level) w (a .state .now) (a .work .now) (a .cache .now))
-          (c .before .before .before .before .before .before .before .before .before .before .way-by .ensures),
+          (way-by-there .ensures),
     )
 
 pub tagetessash-lift-spec : {M : Type 1} → statement M

@@ -39,9 +39,13 @@ same-length-2 c = search needs
 
 returns : tie.Need-returns
 returns c =
-    let a = c .before .before .before .before .before .before .before .before .before .before .before .before .before .args in
+    let a =
+    let at-8 = c .before .before .before .before .before .before .before .before in
+    (at-8 .before .before .before .before .before) .args in
+    let P =
+    let at-8 = c .before .before .before .before .before .before .before .before in
+    (at-8 .before .before .before .before .before) .pre in
     let s = a .state .now in
-    let P = c .before .before .before .before .before .before .before .before .before .before .before .before .before .pre in
     let x = c .before .before .before .before .before .before .before .before .accept-level in
     let n = x .ensures .0 in
     let v = x .ensures .1 in
@@ -61,20 +65,31 @@ same-length-4 c = search needs
 
 returns-2 : tie.Need-returns-2
 returns-2 c =
-    let a = c .before .before .before .before .before .before .before .before .before .before .before .before .before .before .before .before .before .before .args in
+    let a =
+    let at-8 = c .before .before .before .before .before .before .before .before in
+    let at-16 = at-8 .before .before .before .before .before .before .before .before in
+    (at-16 .before .before) .args in
+    let P =
+    let at-8 = c .before .before .before .before .before .before .before .before in
+    let at-16 = at-8 .before .before .before .before .before .before .before .before in
+    (at-16 .before .before) .pre in
+    let x =
+    let at-8 = c .before .before .before .before .before .before .before .before in
+    (at-8 .before .before .before .before .before) .accept-level in
+    let number-there =
+    let at-8 = c .before .before .before .before .before .before .before .before in
+    (at-8 .before) .number in
     let s = a .state .now in
-    let P = c .before .before .before .before .before .before .before .before .before .before .before .before .before .before .before .before .before .before .pre in
-    let x = c .before .before .before .before .before .before .before .before .before .before .before .before .before .accept-level in
     let n = x .ensures .0 in
     let v = x .ensures .1 in
     let area = length (a .work .now) in
     let w = x .last .0 in
-    let number = c .before .before .before .before .before .before .before .before .before .number .given .0 .0 in
-    let place = c .before .before .before .before .before .before .before .before .before .number .given .0 .1 .0 in (
+    let number = number-there .given .0 .0 in
+    let place = number-there .given .0 .1 .0 in (
       n,
       (λ i. (number, place, c .before .before .before .before .before .before .clear2 .ensures i, c .before .before .clear3 .ensures i))
           ∙ accept-refused s (P .0 .long) (P .1) area n v number place w (omega arith)
-          (sym (ap (λ y. accepted-with y v) (c .before .before .before .before .before .before .before .before .before .number .given .1))
+          (sym (ap (λ y. accepted-with y v) (number-there .given .1))
           ∙ x .ensures .2),
       accept-over s (P .0 .long) (P .1) area n v (x .result) (x .ensures .2),
     )
@@ -87,10 +102,16 @@ same-length-6 c = search needs
 
 returns-3 : tie.Need-returns-3
 returns-3 c =
-    let a = c .before .before .before .before .before .before .before .before .before .before .before .before .before .before .args in
+    let a =
+    let at-8 = c .before .before .before .before .before .before .before .before in
+    (at-8 .before .before .before .before .before .before) .args in
+    let P =
+    let at-8 = c .before .before .before .before .before .before .before .before in
+    (at-8 .before .before .before .before .before .before) .pre in
+    let x =
+    let at-8 = c .before .before .before .before .before .before .before .before in
+    (at-8 .before) .accept-level in
     let s = a .state .now in
-    let P = c .before .before .before .before .before .before .before .before .before .before .before .before .before .before .pre in
-    let x = c .before .before .before .before .before .before .before .before .before .accept-level in
     let n = x .ensures .0 in
     let v = x .ensures .1 in
     let area = length (a .work .now) in

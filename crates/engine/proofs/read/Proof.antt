@@ -23,7 +23,8 @@ same-length-2 c = search needs
 
 returns-3 : tie.Need-returns-3
 returns-3 c =
-    let a = c .before .before .before .before .before .before .before .before .before .before .before .before .args in
+    let at-8 = c .before .before .before .before .before .before .before .before in
+    let a = at-8 .before .before .before .before .args in
     let x = c .before .before .before .before .read-file in
     read-long (a .file .now) (a .state .now) (a .work .now) (omega arith) (omega arith) (x .ensures .0)
     (read-reply (x .result) (x .last .1 .0) (x .last .1 .1 .0)) (x .ensures .1) (x .ensures .2)

@@ -15,8 +15,9 @@ read-requires c κs = search needs
 
 accept-requires : tie.Need-accept-requires
 accept-requires c κs =
-    let a = c .before .before .before .before .before .before .before .before .before .before .args in
-    let P = c .before .before .before .before .before .before .before .before .before .before .pre in
+    let at-8 = c .before .before .before .before .before .before .before .before in
+    let a = at-8 .before .before .args in
+    let P = at-8 .before .before .pre in
     let size = length (a .state .now) in
     let file = a .file .now in
     let r = c .before .before .before .before .before .read in
@@ -33,11 +34,17 @@ same-length-2 c = search needs
 
 returns : tie.Need-returns
 returns c =
-    let a = c .before .before .before .before .before .before .before .before .before .before .before .before .before .before .before .args in
-    let P = c .before .before .before .before .before .before .before .before .before .before .before .before .before .before .before .pre in
+    let a =
+    let at-8 = c .before .before .before .before .before .before .before .before in
+    (at-8 .before .before .before .before .before .before .before) .args in
+    let P =
+    let at-8 = c .before .before .before .before .before .before .before .before in
+    (at-8 .before .before .before .before .before .before .before) .pre in
+    let r =
+    let at-8 = c .before .before .before .before .before .before .before .before in
+    (at-8 .before .before) .read in
     let size = length (a .state .now) in
     let file = a .file .now in
-    let r = c .before .before .before .before .before .before .before .before .before .before .read in
     let zero = zero-is-read size file (sym (ap (λ t. t .0) (r .ensures)) ∙ (omega arith)) in
     let f = zero .0 in
     let words : r .last .1 .0 ≡ words-read size f = ap (λ t. t .2) (r .ensures ∙ ap (read-as size) (zero .1)) in
@@ -59,8 +66,9 @@ same-length-4 c = search needs
 
 returns-2 : tie.Need-returns-2
 returns-2 c =
-    let a = c .before .before .before .before .before .before .before .before .before .before .before .before .args in
-    let P = c .before .before .before .before .before .before .before .before .before .before .before .before .pre in
+    let at-8 = c .before .before .before .before .before .before .before .before in
+    let a = at-8 .before .before .before .before .args in
+    let P = at-8 .before .before .before .before .pre in
     let r = c .before .before .before .before .before .before .before .read in
     let z = file-refused (length (a .state .now)) (length (a .work .now)) (P .0) (a .file .now) (r .result .number) (r .result .place) (r .last .1 .0)
     (λ e. omega (arith, e)) (r .ensures) (a .work .now) refl in

@@ -37,7 +37,8 @@ own-pick-requires c κs = search needs
 
 returns-2 : tie.Need-returns-2
 returns-2 c =
-    let a = c .before .before .before .before .before .before .before .before .before .before .args in
+    let at-8 = c .before .before .before .before .before .before .before .before in
+    let a = at-8 .before .before .args in
     let s = a .state .now in
     sym (λ i. choose ((sym (c .before .before .before .before .before .before .before .before .sound .ensures)
     ∙ c .before .before .before .before .before .before .before .if1 .taken) i)
@@ -48,7 +49,8 @@ returns-2 c =
 
 returns-3 : tie.Need-returns-3
 returns-3 c =
-    let a = c .before .before .before .before .before .before .before .before .before .before .args in
+    let at-8 = c .before .before .before .before .before .before .before .before in
+    let a = at-8 .before .before .args in
     let s = a .state .now in
     sym (λ i. choose ((sym (c .before .before .before .before .before .before .before .before .sound .ensures)
     ∙ c .before .before .before .before .before .before .before .if1 .taken) i)

@@ -51,7 +51,9 @@ same-length-3 c = search needs
 returns-3 : tie.Need-returns-3
 returns-3 c =
     let t = c .before .before .before .before .before .before in
-    let l = t .before .before .before .before .before .before .before .before .before .before in
+    let l =
+    let at-8 = t .before .before .before .before .before .before .before .before in
+    (at-8 .before .before) in
     let m = l .before .before .before .before .before in
     let a = m .before .before .before .before .before .before .before .before .args in
     let s = a .state .now in

@@ -45,8 +45,18 @@ same-length-3 c = search needs
 
 returns-4 : tie.Need-returns-4
 returns-4 c =
-    let a = c .before .before .before .before .before .before .before .before .before .before .before .before .before .before .before .before .before .before .before .before .before .before .before .before .before .before .before .before .before .args in
-    let R = c .before .before .before .before .before .before .before .before .before .before .before .before .before .before .before .before .before .before .print in
+    let a =
+    let at-8 = c .before .before .before .before .before .before .before .before in
+    let at-16 = at-8 .before .before .before .before .before .before .before .before in
+    let at-24 = at-16 .before .before .before .before .before .before .before .before in
+    (at-24 .before .before .before .before .before) .args in
+    let R =
+    let at-8 = c .before .before .before .before .before .before .before .before in
+    let at-16 = at-8 .before .before .before .before .before .before .before .before in
+    (at-16 .before .before) .print in
+    let clear-there =
+    let at-8 = c .before .before .before .before .before .before .before .before in
+    (at-8 .before .before) .clear in
     let w = whole-sheet (a .file .now) (a .state .now) (a .work .now) (a .out .now) (omega arith) (omega arith) (omega arith) (R .ensures .0 .bound)
     (R .ensures .0 .bytes) (R .ensures .0 .gives) (R .result) (R .last .1 .0) (R .last .1 .1 .0) (R .last .1 .1 .1 .0) (R .ensures .0 .printed)
     (omega arith) (omega arith) (omega arith) in (
@@ -56,7 +66,7 @@ returns-4 c =
         R .result,
         c .before .before .before .before .before .before .clear2 .ensures i,
         c .before .before .clear3 .ensures i,
-        c .before .before .before .before .before .before .before .before .before .before .clear .ensures i,
+        clear-there .ensures i,
       )) ∙ w .1,
     )
 

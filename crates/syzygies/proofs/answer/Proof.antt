@@ -19,7 +19,9 @@ same-length-3 c = search needs
 
 returns : tie.Need-returns
 returns c =
-    let S = c .before .before .before .before .before .before .before .before .before .before .before .before .before .before in
+    let S =
+    let at-8 = c .before .before .before .before .before .before .before .before in
+    (at-8 .before .before .before .before .before .before) in
     let a = S .args in
     let R = c .before .before .before .before .before .before .sheet in
     let f =

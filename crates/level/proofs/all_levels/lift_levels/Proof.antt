@@ -31,10 +31,14 @@ lift-next-requires c κs =
     (record { low = I .0; high = omega arith; base = I .2 }, omega (arith, I .5, c .before .before .before .before .before .before .pre .1))
 
 same-length : tie.Need-same-length Inv-loop μ-loop
-same-length c = let I = c .before .before .before .before .before .before .before .before .before .loop .inv in omega (arith, I .4)
+same-length c =
+    let at-8 = c .before .before .before .before .before .before .before .before in
+    let I = at-8 .before .loop .inv in omega (arith, I .4)
 
 same-length-2 : tie.Need-same-length-2 Inv-loop μ-loop
-same-length-2 c = let I = c .before .before .before .before .before .before .before .before .before .loop .inv in omega (arith, I .5)
+same-length-2 c =
+    let at-8 = c .before .before .before .before .before .before .before .before in
+    let I = at-8 .before .loop .inv in omega (arith, I .5)
 
 returns : tie.Need-returns Inv-loop μ-loop
 returns c =

@@ -32,9 +32,10 @@ part-accept-all-end c = search needs
 
 accept-all-requires : tie.Need-accept-all-requires
 accept-all-requires c κs =
-    let a = c .before .before .before .before .before .before .before .before .before .args in
+    let at-8 = c .before .before .before .before .before .before .before .before in
+    let a = at-8 .before .args in
     let s = a .state .now in
-    let P = c .before .before .before .before .before .before .before .before .before .pre in
+    let P = at-8 .before .pre in
     let ask = asked s 0 (P .0) (a .tables .now) (P .1) usual (c .before .before .before .ground-of .result)
     (take (length s - rows-start) (drop rows-start s)) (c .before .before .before .ground-of .ensures
     ∙ ap (λ b. ground-at b s 0) (c .before .before .before .before .usual .ensures)) (whole-part rows-start s) (a .count) (a .frame .now) (P .2) in
@@ -61,29 +62,50 @@ slice-aggregate-settle c = search needs
 
 settle-requires : tie.Need-settle-requires
 settle-requires c κs =
+    let ground-of-there =
+    let at-8 = c .before .before .before .before .before .before .before .before in
+    (at-8 .before) .ground-of in
+    let usual-there =
+    let at-8 = c .before .before .before .before .before .before .before .before in
+    (at-8 .before .before) .usual in
+    let asked =
+    let at-8 = c .before .before .before .before .before .before .before .before in
+    (at-8 .before .before .before .before .before .before .before) .pre in
     let x = c .before .before .before .before .before .accept-all in
-    left-room (c .before .before .before .before .before .before .before .before .before .ground-of .result) (x .result) (x .last .1 .0) (x .last .0)
-    (ap (λ g. g .working) (c .before .before .before .before .before .before .before .before .before .ground-of .ensures)
-    ∙ ap (λ b. b .working) (c .before .before .before .before .before .before .before .before .before .before .usual .ensures)) (x .ensures .1)
+    left-room (ground-of-there .result) (x .result) (x .last .1 .0) (x .last .0)
+    (ap (λ g. g .working) (ground-of-there .ensures)
+    ∙ ap (λ b. b .working) (usual-there .ensures)) (x .ensures .1)
     (omega arith) (omega
-    (arith, c .before .before .before .before .before .before .before .before .before .before .before .before .before .before .before .pre .3))
+    (arith, asked .3))
 
 same-length : tie.Need-same-length
 same-length c = search needs
 
 returns : tie.Need-returns
 returns c =
-    let a = c .before .before .before .before .before .before .before .before .before .before .before .before .before .before .before .before .before .before .args in
+    let a =
+    let at-8 = c .before .before .before .before .before .before .before .before in
+    let at-16 = at-8 .before .before .before .before .before .before .before .before in
+    (at-16 .before .before) .args in
+    let P =
+    let at-8 = c .before .before .before .before .before .before .before .before in
+    let at-16 = at-8 .before .before .before .before .before .before .before .before in
+    (at-16 .before .before) .pre in
+    let ground-of-there =
+    let at-8 = c .before .before .before .before .before .before .before .before in
+    (at-8 .before .before .before .before) .ground-of in
+    let usual-there =
+    let at-8 = c .before .before .before .before .before .before .before .before in
+    (at-8 .before .before .before .before .before) .usual in
     let s = a .state .now in
-    let P = c .before .before .before .before .before .before .before .before .before .before .before .before .before .before .before .before .before .before .pre in
     let x = c .before .before .before .before .before .before .before .before .accept-all in
     let y = c .before .before .settle in
     let told = accepted-same s 0 (P .0) (a .tables .now) (P .1) usual
-    (c .before .before .before .before .before .before .before .before .before .before .before .before .ground-of .result)
+    (ground-of-there .result)
     (take (length s - rows-start) (drop rows-start s))
-    (c .before .before .before .before .before .before .before .before .before .before .before .before .ground-of .ensures
+    (ground-of-there .ensures
     ∙ ap (λ b. ground-at b s 0)
-    (c .before .before .before .before .before .before .before .before .before .before .before .before .before .usual .ensures))
+    (usual-there .ensures))
     (whole-part rows-start s)
     (x .ensures .0 .0) (frame-terms (a .frame .now) (a .count)) (accepted-of (x .result) (x .last .1 .0)) (x .ensures .0 .1) in (
       x .ensures .0 .0,

@@ -65,26 +65,34 @@ slice-aggregate-accept-frame c = search needs
 
 accept-frame-requires : tie.Need-accept-frame-requires
 accept-frame-requires c κs =
-    let a = c .before .before .before .before .before .before .before .before .before .before .before .before .before .before .args in
+    let a =
+    let at-8 = c .before .before .before .before .before .before .before .before in
+    (at-8 .before .before .before .before .before .before) .args in
+    let count-of-there =
+    let at-8 = c .before .before .before .before .before .before .before .before in
+    (at-8 .before .before) .count-of in
+    let asked =
+    let at-8 = c .before .before .before .before .before .before .before .before in
+    (at-8 .before .before .before .before .before .before) .pre in
     let s = a .state .now in
     let F = c .before .before .before .before .before .before .before .form in
     let n = c .before .before .before .n .given .0 .0 in
-    let r : c .before .before .before .before .before .before .before .before .before .before .count-of .result
-    ≡ count-at s 0 = c .before .before .before .before .before .before .before .before .before .before .count-of .ensures in
+    let r : count-of-there .result
+    ≡ count-at s 0 = count-of-there .ensures in
     let lead : monomials-of
-    (rows (a .tables .now) 0 (c .before .before .before .before .before .before .before .before .before .before .count-of .result))
+    (rows (a .tables .now) 0 (count-of-there .result))
     ≡ leading-monomials (level-at document-01 s 0) = ap (λ k. monomials-of (rows (a .tables .now) 0 k)) r
-    ∙ leading-at s 0 (c .before .before .before .before .before .before .before .before .before .before .before .before .before .before .pre .0)
+    ∙ leading-at s 0 (asked .0)
     (a .tables .now) (spans-in (a .tables .now))
-    (c .before .before .before .before .before .before .before .before .before .before .before .before .before .before .pre .1 .led) in
+    (asked .1 .led) in
     let told : done (monomials-of (rows (F .last .0) 0 n)) ≡ if-few (leb
     (length (frame 1 (monomials-of
-    (rows (a .tables .now) 0 (c .before .before .before .before .before .before .before .before .before .before .count-of .result))))) most-vectors)
+    (rows (a .tables .now) 0 (count-of-there .result))))) most-vectors)
     (frame 1 (monomials-of
-    (rows (a .tables .now) 0 (c .before .before .before .before .before .before .before .before .before .before .count-of .result)))) =
+    (rows (a .tables .now) 0 (count-of-there .result)))) =
     sym (ap (λ y. framed-of y (F .last .0)) (c .before .before .before .n .given .1)) ∙ F .ensures .0 in
     let m : n ≤ most-vectors = subst (few most-vectors) (c .before .before .before .n .given .1) (F .ensures .1) in
-    let P = c .before .before .before .before .before .before .before .before .before .before .before .before .before .before .pre in (
+    let P = asked in (
       P .0,
       P .1,
       record {
@@ -92,7 +100,7 @@ accept-frame-requires c κs =
         fits = omega (arith, m);
         terms = whole-frame 1
             (monomials-of (rows (a .tables .now) 0
-            (c .before .before .before .before .before .before .before .before .before .before .count-of .result)))
+            (count-of-there .result)))
             (leading-monomials (level-at document-01 s 0)) (frame-terms (F .last .0) n) lead told;
       },
       P .2,
@@ -100,14 +108,15 @@ accept-frame-requires c κs =
 
 returns : tie.Need-returns
 returns c =
-    let a = c .before .before .before .before .before .before .before .before .before .before .before .args in
+    let at-8 = c .before .before .before .before .before .before .before .before in
+    let a = at-8 .before .before .before .args in
     let s = a .state .now in
     let r : c .before .before .before .before .before .before .before .count-of .result
     ≡ count-at s 0 = c .before .before .before .before .before .before .before .count-of .ensures in
     let lead : monomials-of (rows (a .tables .now) 0 (c .before .before .before .before .before .before .before .count-of .result))
     ≡ leading-monomials (level-at document-01 s 0) = ap (λ k. monomials-of (rows (a .tables .now) 0 k)) r
-    ∙ leading-at s 0 (c .before .before .before .before .before .before .before .before .before .before .before .pre .0) (a .tables .now)
-    (spans-in (a .tables .now)) (c .before .before .before .before .before .before .before .before .before .before .before .pre .1 .led) in (
+    ∙ leading-at s 0 (at-8 .before .before .before .pre .0) (a .tables .now)
+    (spans-in (a .tables .now)) (at-8 .before .before .before .pre .1 .led) in (
       0,
       [],
       too-many (getD s 2 0) (level-at document-01 s 0) (monomials-of (rows (a .tables .now) 0
@@ -122,31 +131,43 @@ same-length c = search needs
 
 returns-2 : tie.Need-returns-2
 returns-2 c =
-    let a = c .before .before .before .before .before .before .before .before .before .before .before .before .before .before .before .before .before .args in
+    let a =
+    let at-8 = c .before .before .before .before .before .before .before .before in
+    let at-16 = at-8 .before .before .before .before .before .before .before .before in
+    (at-16 .before) .args in
+    let F =
+    let at-8 = c .before .before .before .before .before .before .before .before in
+    (at-8 .before .before) .form in
+    let count-of-there =
+    let at-8 = c .before .before .before .before .before .before .before .before in
+    (at-8 .before .before .before .before .before) .count-of in
+    let asked =
+    let at-8 = c .before .before .before .before .before .before .before .before in
+    let at-16 = at-8 .before .before .before .before .before .before .before .before in
+    (at-16 .before) .pre in
     let s = a .state .now in
-    let F = c .before .before .before .before .before .before .before .before .before .before .form in
     let n = c .before .before .before .before .before .before .n .given .0 .0 in
-    let r : c .before .before .before .before .before .before .before .before .before .before .before .before .before .count-of .result
-    ≡ count-at s 0 = c .before .before .before .before .before .before .before .before .before .before .before .before .before .count-of .ensures in
+    let r : count-of-there .result
+    ≡ count-at s 0 = count-of-there .ensures in
     let lead : monomials-of
     (rows (a .tables .now) 0
-    (c .before .before .before .before .before .before .before .before .before .before .before .before .before .count-of .result))
+    (count-of-there .result))
     ≡ leading-monomials (level-at document-01 s 0) = ap (λ k. monomials-of (rows (a .tables .now) 0 k)) r
-    ∙ leading-at s 0 (c .before .before .before .before .before .before .before .before .before .before .before .before .before .before .before .before .before .pre .0) (a .tables .now) (spans-in (a .tables .now)) (c .before .before .before .before .before .before .before .before .before .before .before .before .before .before .before .before .before .pre .1 .led) in
+    ∙ leading-at s 0 (asked .0) (a .tables .now) (spans-in (a .tables .now)) (asked .1 .led) in
     let told : done (monomials-of (rows (F .last .0) 0 n)) ≡ if-few (leb
     (length (frame 1 (monomials-of
     (rows (a .tables .now) 0
-    (c .before .before .before .before .before .before .before .before .before .before .before .before .before .count-of .result))))) most-vectors)
+    (count-of-there .result))))) most-vectors)
     (frame 1 (monomials-of
     (rows (a .tables .now) 0
-    (c .before .before .before .before .before .before .before .before .before .before .before .before .before .count-of .result)))) =
+    (count-of-there .result)))) =
     sym (ap (λ y. framed-of y (F .last .0)) (c .before .before .before .before .before .before .n .given .1)) ∙ F .ensures .0 in
     let L = c .before .before .accept-frame in (
       L .ensures .0,
       L .ensures .1,
       L .ensures .2 ∙ few-enough (getD s 2 0) (level-at document-01 s 0)
           (monomials-of (rows (a .tables .now) 0
-          (c .before .before .before .before .before .before .before .before .before .before .before .before .before .count-of .result)))
+          (count-of-there .result)))
           (frame-terms (F .last .0) n) (λ ms. accept-from (stage-at usual s 0) (L .ensures .0) 1 ms) lead told,
       L .ensures .3,
     )

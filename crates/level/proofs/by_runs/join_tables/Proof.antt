@@ -23,14 +23,23 @@ same-length c = search needs
 
 returns : tie.Need-returns
 returns c =
-    let a = c .before .before .before .before .before .before .before .before .before .before .before .before .before .before .before .before .before .before .before .before .before .args in
+    let a =
+    let at-8 = c .before .before .before .before .before .before .before .before in
+    let at-16 = at-8 .before .before .before .before .before .before .before .before in
+    (at-16 .before .before .before .before .before) .args in
+    let copy2-there =
+    let at-8 = c .before .before .before .before .before .before .before .before in
+    (at-8 .before .before) .copy2 in
+    let copy-there =
+    let at-8 = c .before .before .before .before .before .before .before .before in
+    (at-8 .before .before .before .before .before .before) .copy in
     c .before .before .copy4 .ensures
     ∙ ap (λ z. paste z tables-above (a .above .now) table-length) (
     c .before .before .before .before .before .before .copy3 .ensures
     ∙ ap (λ z. paste z tables-below (a .below .now) table-length)
-    (c .before .before .before .before .before .before .before .before .before .before .copy2 .ensures
+    (copy2-there .ensures
     ∙ ap (λ z. paste z tables-ends (a .ends .now) most-vectors)
-    (c .before .before .before .before .before .before .before .before .before .before .before .before .before .before .copy .ensures))
+    (copy-there .ensures))
     )
 
 pub join-tables-spec : {M : Type 1} → statement M

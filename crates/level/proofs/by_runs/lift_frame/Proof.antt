@@ -36,9 +36,10 @@ part-lift-all-end c = search needs
 
 lift-all-requires : tie.Need-lift-all-requires
 lift-all-requires c κs =
-    let a = c .before .before .before .before .before .before .before .before .before .before .args in
+    let at-8 = c .before .before .before .before .before .before .before .before in
+    let a = at-8 .before .before .args in
     let s = a .state .now in
-    let P = c .before .before .before .before .before .before .before .before .before .before .pre in
+    let P = at-8 .before .before .pre in
     let ask = asked s (a .j) (P .0) (a .tables .now) (P .1) (a .b) (c .before .before .before .before .ground-of .result)
     (take (length s - (rows-offset (a .j))) (drop (rows-offset (a .j)) s))
     (c .before .before .before .before .ground-of .ensures) (whole-part (rows-offset (a .j)) s) (a .count) (a .frame .now) (P .2) in
@@ -72,22 +73,29 @@ same-length-2 c = search needs
 
 returns : tie.Need-returns
 returns c =
-    let a = c .before .before .before .before .before .before .before .before .before .before .before .before .before .before .before .before .args in
+    let a =
+    let at-8 = c .before .before .before .before .before .before .before .before in
+    (at-8 .before .before .before .before .before .before .before .before) .args in
+    let P =
+    let at-8 = c .before .before .before .before .before .before .before .before in
+    (at-8 .before .before .before .before .before .before .before .before) .pre in
+    let ground-of-there =
+    let at-8 = c .before .before .before .before .before .before .before .before in
+    (at-8 .before .before) .ground-of in
     let s = a .state .now in
-    let P = c .before .before .before .before .before .before .before .before .before .before .before .before .before .before .before .before .pre in
     let L = c .before .before .before .before .before .lift-all in (
       (
         L .ensures .0 .0,
         L .last .1 .1 .0,
         lifted-same s (a .j) (P .0) (a .tables .now) (P .1) (a .b)
-            (c .before .before .before .before .before .before .before .before .before .before .ground-of .result)
+            (ground-of-there .result)
             (take (length s - (rows-offset (a .j))) (drop (rows-offset (a .j)) s))
-            (c .before .before .before .before .before .before .before .before .before .before .ground-of .ensures) (whole-part (rows-offset (a .j)) s)
+            (ground-of-there .ensures) (whole-part (rows-offset (a .j)) s)
             (a .w) (L .ensures .0 .0) (frame-terms (a .frame .now) (a .count)) (lifted-of (L .result) (a .count) (L .last .0) (L .last .1 .1 .0))
             (L .ensures .0 .1),
       ),
       subst (λ g. Whole g (a .count) (L .result) (L .last .0))
-          (c .before .before .before .before .before .before .before .before .before .before .ground-of .ensures) (L .ensures .1),
+          (ground-of-there .ensures) (L .ensures .1),
     )
 
 pub lift-frame-spec : {M : Type 1} → statement M

@@ -66,28 +66,36 @@ slice-aggregate-lift-frame c = search needs
 
 lift-frame-requires : tie.Need-lift-frame-requires
 lift-frame-requires c κs =
-    let a = c .before .before .before .before .before .before .before .before .before .before .before .before .before .before .before .before .args in
+    let a =
+    let at-8 = c .before .before .before .before .before .before .before .before in
+    (at-8 .before .before .before .before .before .before .before .before) .args in
+    let count-of-there =
+    let at-8 = c .before .before .before .before .before .before .before .before in
+    (at-8 .before .before .before) .count-of in
+    let asked =
+    let at-8 = c .before .before .before .before .before .before .before .before in
+    (at-8 .before .before .before .before .before .before .before .before) .pre in
     let s = a .state .now in
     let F = c .before .before .before .before .before .before .before .before .form in
     let n = c .before .before .before .before .n .given .0 .0 in
-    let r : c .before .before .before .before .before .before .before .before .before .before .before .count-of .result
-    ≡ count-at s (a .j) = c .before .before .before .before .before .before .before .before .before .before .before .count-of .ensures in
+    let r : count-of-there .result
+    ≡ count-at s (a .j) = count-of-there .ensures in
     let lead : monomials-of
-    (rows (a .tables .now) 0 (c .before .before .before .before .before .before .before .before .before .before .before .count-of .result))
+    (rows (a .tables .now) 0 (count-of-there .result))
     ≡ leading-monomials (level-at document-01 s (a .j)) = ap (λ k. monomials-of (rows (a .tables .now) 0 k)) r
     ∙ leading-at s (a .j)
-    (c .before .before .before .before .before .before .before .before .before .before .before .before .before .before .before .before .pre .0)
+    (asked .0)
     (a .tables .now) (spans-in (a .tables .now))
-    (c .before .before .before .before .before .before .before .before .before .before .before .before .before .before .before .before .pre .1 .led) in
+    (asked .1 .led) in
     let told : done (monomials-of (rows (F .last .0) 0 n)) ≡ if-few (leb
     (length (frame 1 (monomials-of
-    (rows (a .tables .now) 0 (c .before .before .before .before .before .before .before .before .before .before .before .count-of .result)))))
+    (rows (a .tables .now) 0 (count-of-there .result)))))
     most-vectors) (frame 1
     (monomials-of (rows (a .tables .now) 0
-    (c .before .before .before .before .before .before .before .before .before .before .before .count-of .result)))) =
+    (count-of-there .result)))) =
     sym (ap (λ y. framed-of y (F .last .0)) (c .before .before .before .before .n .given .1)) ∙ F .ensures .0 in
     let m : n ≤ most-vectors = subst (few most-vectors) (c .before .before .before .before .n .given .1) (F .ensures .1) in
-    let P = c .before .before .before .before .before .before .before .before .before .before .before .before .before .before .before .before .pre in (
+    let P = asked in (
       P .0,
       P .1,
       record {
@@ -95,7 +103,7 @@ lift-frame-requires c κs =
         fits = omega (arith, m);
         terms = whole-frame 1
             (monomials-of (rows (a .tables .now) 0
-            (c .before .before .before .before .before .before .before .before .before .before .before .count-of .result)))
+            (count-of-there .result)))
             (leading-monomials (level-at document-01 s (a .j))) (frame-terms (F .last .0) n) lead told;
       },
       P .2,
@@ -114,15 +122,16 @@ enum-known-x-2 c = search needs
 
 returns : tie.Need-returns
 returns c =
-    let a = c .before .before .before .before .before .before .before .before .before .before .before .before .args in
+    let at-8 = c .before .before .before .before .before .before .before .before in
+    let a = at-8 .before .before .before .before .args in
     let s = a .state .now in
     let r : c .before .before .before .before .before .before .before .count-of .result
     ≡ count-at s (a .j) = c .before .before .before .before .before .before .before .count-of .ensures in
     let lead : monomials-of (rows (a .tables .now) 0 (c .before .before .before .before .before .before .before .count-of .result))
     ≡ leading-monomials (level-at document-01 s (a .j)) = ap (λ k. monomials-of (rows (a .tables .now) 0 k)) r
-    ∙ leading-at s (a .j) (c .before .before .before .before .before .before .before .before .before .before .before .before .pre .0)
+    ∙ leading-at s (a .j) (at-8 .before .before .before .before .pre .0)
     (a .tables .now) (spans-in (a .tables .now))
-    (c .before .before .before .before .before .before .before .before .before .before .before .before .pre .1 .led) in (
+    (at-8 .before .before .before .before .pre .1 .led) in (
       (
         0,
         [],
@@ -143,20 +152,37 @@ same-length-2 c = search needs
 
 returns-2 : tie.Need-returns-2
 returns-2 c =
-    let a = c .before .before .before .before .before .before .before .before .before .before .before .before .before .before .before .before .before .before .before .before .before .before .before .before .args in
+    let a =
+    let at-8 = c .before .before .before .before .before .before .before .before in
+    let at-16 = at-8 .before .before .before .before .before .before .before .before in
+    (at-16 .before .before .before .before .before .before .before .before) .args in
+    let F =
+    let at-8 = c .before .before .before .before .before .before .before .before in
+    (at-8 .before .before .before .before .before .before .before .before) .form in
+    let n-there =
+    let at-8 = c .before .before .before .before .before .before .before .before in
+    (at-8 .before .before .before .before) .n in
+    let count-of-there =
+    let at-8 = c .before .before .before .before .before .before .before .before in
+    let at-16 = at-8 .before .before .before .before .before .before .before .before in
+    (at-16 .before .before .before) .count-of in
+    let asked =
+    let at-8 = c .before .before .before .before .before .before .before .before in
+    let at-16 = at-8 .before .before .before .before .before .before .before .before in
+    (at-16 .before .before .before .before .before .before .before .before) .pre in
     let s = a .state .now in
-    let F = c .before .before .before .before .before .before .before .before .before .before .before .before .before .before .before .before .form in
-    let n = c .before .before .before .before .before .before .before .before .before .before .before .before .n .given .0 .0 in
-    let r : c .before .before .before .before .before .before .before .before .before .before .before .before .before .before .before .before .before .before .before .count-of .result ≡ count-at s (a .j) = c .before .before .before .before .before .before .before .before .before .before .before .before .before .before .before .before .before .before .before .count-of .ensures in
+    let n = n-there .given .0 .0 in
+    let r : count-of-there .result ≡ count-at s (a .j) = count-of-there .ensures in
     let lead : monomials-of
     (rows (a .tables .now) 0
-    (c .before .before .before .before .before .before .before .before .before .before .before .before .before .before .before .before .before .before .before .count-of .result)) ≡ leading-monomials (level-at document-01 s (a .j)) = ap (λ k. monomials-of (rows (a .tables .now) 0 k)) r ∙ leading-at s (a .j) (c .before .before .before .before .before .before .before .before .before .before .before .before .before .before .before .before .before .before .before .before .before .before .before .before .pre .0) (a .tables .now) (spans-in (a .tables .now)) (c .before .before .before .before .before .before .before .before .before .before .before .before .before .before .before .before .before .before .before .before .before .before .before .before .pre .1 .led) in
+    (count-of-there .result)) ≡ leading-monomials (level-at document-01 s (a .j)) = ap (λ k. monomials-of (rows (a .tables .now) 0 k)) r
+    ∙ leading-at s (a .j) (asked .0) (a .tables .now) (spans-in (a .tables .now)) (asked .1 .led) in
     let told : done (monomials-of (rows (F .last .0) 0 n)) ≡ if-few (leb
     (length (frame 1 (monomials-of
     (rows (a .tables .now) 0
-    (c .before .before .before .before .before .before .before .before .before .before .before .before .before .before .before .before .before .before .before .count-of .result))))) most-vectors) (frame 1 (monomials-of (rows (a .tables .now) 0 (c .before .before .before .before .before .before .before .before .before .before .before .before .before .before .before .before .before .before .before .count-of .result)))) =
+    (count-of-there .result))))) most-vectors) (frame 1 (monomials-of (rows (a .tables .now) 0 (count-of-there .result)))) =
     sym (ap (λ y. framed-of y (F .last .0))
-    (c .before .before .before .before .before .before .before .before .before .before .before .before .n .given .1)) ∙ F .ensures .0 in
+    (n-there .given .1)) ∙ F .ensures .0 in
     let L = c .before .before .before .before .before .before .before .lift-frame in (
       (
         L .ensures .0 .0,
@@ -164,13 +190,14 @@ returns-2 c =
         sym (ap (λ y. lifted-of y n (L .last .0) (L .ensures .0 .1)) (c .before .used .given .1)) ∙ L .ensures .0 .2
             ∙ few-enough (getD s 2 0) (level-at document-01 s (a .j)) (monomials-of
             (rows (a .tables .now) 0
-            (c .before .before .before .before .before .before .before .before .before .before .before .before .before .before .before .before .before .before .before .count-of .result))) (frame-terms (F .last .0) n) (λ ms. lift-all (stage-at (a .b) s (a .j)) (lifts (stage-at (a .b) s (a .j)) (strategy-at (a .b) s (a .j) (a .w)) (L .ensures .0 .0)) ([], 0) [] ms) lead told,
+            (count-of-there .result))) (frame-terms (F .last .0) n) (λ ms. lift-all (stage-at (a .b) s (a .j))
+            (lifts (stage-at (a .b) s (a .j)) (strategy-at (a .b) s (a .j) (a .w)) (L .ensures .0 .0)) ([], 0) [] ms) lead told,
       ),
       (let h = subst (λ y. Whole (ground-at (a .b) s (a .j)) n y (L .last .0)) (c .before .used .given .1) (L .ensures .1) in (
         omega (
           arith,
           h .0,
-          c .before .before .before .before .before .before .before .before .before .before .before .before .before .before .before .before .before .before .before .before .before .before .before .before .pre .4 .room,
+          asked .4 .room,
         ),
         h .1,
       )),
@@ -184,20 +211,37 @@ same-length-4 c = search needs
 
 returns-3 : tie.Need-returns-3
 returns-3 c =
-    let a = c .before .before .before .before .before .before .before .before .before .before .before .before .before .before .before .before .before .before .before .before .before .before .before .before .args in
+    let a =
+    let at-8 = c .before .before .before .before .before .before .before .before in
+    let at-16 = at-8 .before .before .before .before .before .before .before .before in
+    (at-16 .before .before .before .before .before .before .before .before) .args in
+    let F =
+    let at-8 = c .before .before .before .before .before .before .before .before in
+    (at-8 .before .before .before .before .before .before .before .before) .form in
+    let n-there =
+    let at-8 = c .before .before .before .before .before .before .before .before in
+    (at-8 .before .before .before .before) .n in
+    let count-of-there =
+    let at-8 = c .before .before .before .before .before .before .before .before in
+    let at-16 = at-8 .before .before .before .before .before .before .before .before in
+    (at-16 .before .before .before) .count-of in
+    let asked =
+    let at-8 = c .before .before .before .before .before .before .before .before in
+    let at-16 = at-8 .before .before .before .before .before .before .before .before in
+    (at-16 .before .before .before .before .before .before .before .before) .pre in
     let s = a .state .now in
-    let F = c .before .before .before .before .before .before .before .before .before .before .before .before .before .before .before .before .form in
-    let n = c .before .before .before .before .before .before .before .before .before .before .before .before .n .given .0 .0 in
-    let r : c .before .before .before .before .before .before .before .before .before .before .before .before .before .before .before .before .before .before .before .count-of .result ≡ count-at s (a .j) = c .before .before .before .before .before .before .before .before .before .before .before .before .before .before .before .before .before .before .before .count-of .ensures in
+    let n = n-there .given .0 .0 in
+    let r : count-of-there .result ≡ count-at s (a .j) = count-of-there .ensures in
     let lead : monomials-of
     (rows (a .tables .now) 0
-    (c .before .before .before .before .before .before .before .before .before .before .before .before .before .before .before .before .before .before .before .count-of .result)) ≡ leading-monomials (level-at document-01 s (a .j)) = ap (λ k. monomials-of (rows (a .tables .now) 0 k)) r ∙ leading-at s (a .j) (c .before .before .before .before .before .before .before .before .before .before .before .before .before .before .before .before .before .before .before .before .before .before .before .before .pre .0) (a .tables .now) (spans-in (a .tables .now)) (c .before .before .before .before .before .before .before .before .before .before .before .before .before .before .before .before .before .before .before .before .before .before .before .before .pre .1 .led) in
+    (count-of-there .result)) ≡ leading-monomials (level-at document-01 s (a .j)) = ap (λ k. monomials-of (rows (a .tables .now) 0 k)) r
+    ∙ leading-at s (a .j) (asked .0) (a .tables .now) (spans-in (a .tables .now)) (asked .1 .led) in
     let told : done (monomials-of (rows (F .last .0) 0 n)) ≡ if-few (leb
     (length (frame 1 (monomials-of
     (rows (a .tables .now) 0
-    (c .before .before .before .before .before .before .before .before .before .before .before .before .before .before .before .before .before .before .before .count-of .result))))) most-vectors) (frame 1 (monomials-of (rows (a .tables .now) 0 (c .before .before .before .before .before .before .before .before .before .before .before .before .before .before .before .before .before .before .before .count-of .result)))) =
+    (count-of-there .result))))) most-vectors) (frame 1 (monomials-of (rows (a .tables .now) 0 (count-of-there .result)))) =
     sym (ap (λ y. framed-of y (F .last .0))
-    (c .before .before .before .before .before .before .before .before .before .before .before .before .n .given .1)) ∙ F .ensures .0 in
+    (n-there .given .1)) ∙ F .ensures .0 in
     let L = c .before .before .before .before .before .before .before .lift-frame in (
       (
         L .ensures .0 .0,
@@ -205,7 +249,8 @@ returns-3 c =
         sym (ap (λ y. lifted-of y n (L .last .0) (L .ensures .0 .1)) (c .before .x .given .1)) ∙ L .ensures .0 .2
             ∙ few-enough (getD s 2 0) (level-at document-01 s (a .j)) (monomials-of
             (rows (a .tables .now) 0
-            (c .before .before .before .before .before .before .before .before .before .before .before .before .before .before .before .before .before .before .before .count-of .result))) (frame-terms (F .last .0) n) (λ ms. lift-all (stage-at (a .b) s (a .j)) (lifts (stage-at (a .b) s (a .j)) (strategy-at (a .b) s (a .j) (a .w)) (L .ensures .0 .0)) ([], 0) [] ms) lead told,
+            (count-of-there .result))) (frame-terms (F .last .0) n) (λ ms. lift-all (stage-at (a .b) s (a .j))
+            (lifts (stage-at (a .b) s (a .j)) (strategy-at (a .b) s (a .j) (a .w)) (L .ensures .0 .0)) ([], 0) [] ms) lead told,
       ),
       tt,
     )
@@ -218,20 +263,37 @@ same-length-6 c = search needs
 
 returns-4 : tie.Need-returns-4
 returns-4 c =
-    let a = c .before .before .before .before .before .before .before .before .before .before .before .before .before .before .before .before .before .before .before .before .before .before .before .before .args in
+    let a =
+    let at-8 = c .before .before .before .before .before .before .before .before in
+    let at-16 = at-8 .before .before .before .before .before .before .before .before in
+    (at-16 .before .before .before .before .before .before .before .before) .args in
+    let F =
+    let at-8 = c .before .before .before .before .before .before .before .before in
+    (at-8 .before .before .before .before .before .before .before .before) .form in
+    let n-there =
+    let at-8 = c .before .before .before .before .before .before .before .before in
+    (at-8 .before .before .before .before) .n in
+    let count-of-there =
+    let at-8 = c .before .before .before .before .before .before .before .before in
+    let at-16 = at-8 .before .before .before .before .before .before .before .before in
+    (at-16 .before .before .before) .count-of in
+    let asked =
+    let at-8 = c .before .before .before .before .before .before .before .before in
+    let at-16 = at-8 .before .before .before .before .before .before .before .before in
+    (at-16 .before .before .before .before .before .before .before .before) .pre in
     let s = a .state .now in
-    let F = c .before .before .before .before .before .before .before .before .before .before .before .before .before .before .before .before .form in
-    let n = c .before .before .before .before .before .before .before .before .before .before .before .before .n .given .0 .0 in
-    let r : c .before .before .before .before .before .before .before .before .before .before .before .before .before .before .before .before .before .before .before .count-of .result ≡ count-at s (a .j) = c .before .before .before .before .before .before .before .before .before .before .before .before .before .before .before .before .before .before .before .count-of .ensures in
+    let n = n-there .given .0 .0 in
+    let r : count-of-there .result ≡ count-at s (a .j) = count-of-there .ensures in
     let lead : monomials-of
     (rows (a .tables .now) 0
-    (c .before .before .before .before .before .before .before .before .before .before .before .before .before .before .before .before .before .before .before .count-of .result)) ≡ leading-monomials (level-at document-01 s (a .j)) = ap (λ k. monomials-of (rows (a .tables .now) 0 k)) r ∙ leading-at s (a .j) (c .before .before .before .before .before .before .before .before .before .before .before .before .before .before .before .before .before .before .before .before .before .before .before .before .pre .0) (a .tables .now) (spans-in (a .tables .now)) (c .before .before .before .before .before .before .before .before .before .before .before .before .before .before .before .before .before .before .before .before .before .before .before .before .pre .1 .led) in
+    (count-of-there .result)) ≡ leading-monomials (level-at document-01 s (a .j)) = ap (λ k. monomials-of (rows (a .tables .now) 0 k)) r
+    ∙ leading-at s (a .j) (asked .0) (a .tables .now) (spans-in (a .tables .now)) (asked .1 .led) in
     let told : done (monomials-of (rows (F .last .0) 0 n)) ≡ if-few (leb
     (length (frame 1 (monomials-of
     (rows (a .tables .now) 0
-    (c .before .before .before .before .before .before .before .before .before .before .before .before .before .before .before .before .before .before .before .count-of .result))))) most-vectors) (frame 1 (monomials-of (rows (a .tables .now) 0 (c .before .before .before .before .before .before .before .before .before .before .before .before .before .before .before .before .before .before .before .count-of .result)))) =
+    (count-of-there .result))))) most-vectors) (frame 1 (monomials-of (rows (a .tables .now) 0 (count-of-there .result)))) =
     sym (ap (λ y. framed-of y (F .last .0))
-    (c .before .before .before .before .before .before .before .before .before .before .before .before .n .given .1)) ∙ F .ensures .0 in
+    (n-there .given .1)) ∙ F .ensures .0 in
     let L = c .before .before .before .before .before .before .before .lift-frame in (
       (
         L .ensures .0 .0,
@@ -239,7 +301,8 @@ returns-4 c =
         sym (ap (λ y. lifted-of y n (L .last .0) (L .ensures .0 .1)) (c .before .x2 .given .1)) ∙ L .ensures .0 .2
             ∙ few-enough (getD s 2 0) (level-at document-01 s (a .j)) (monomials-of
             (rows (a .tables .now) 0
-            (c .before .before .before .before .before .before .before .before .before .before .before .before .before .before .before .before .before .before .before .count-of .result))) (frame-terms (F .last .0) n) (λ ms. lift-all (stage-at (a .b) s (a .j)) (lifts (stage-at (a .b) s (a .j)) (strategy-at (a .b) s (a .j) (a .w)) (L .ensures .0 .0)) ([], 0) [] ms) lead told,
+            (count-of-there .result))) (frame-terms (F .last .0) n) (λ ms. lift-all (stage-at (a .b) s (a .j))
+            (lifts (stage-at (a .b) s (a .j)) (strategy-at (a .b) s (a .j) (a .w)) (L .ensures .0 .0)) ([], 0) [] ms) lead told,
       ),
       tt,
     )

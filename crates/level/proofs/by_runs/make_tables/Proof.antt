@@ -66,11 +66,21 @@ same-length c = search needs
 
 returns : tie.Need-returns
 returns c =
-    let a = c .before .before .before .before .before .before .before .before .before .before .before .before .before .before .before .before .before .before .before .before .before .args in
-    let P = c .before .before .before .before .before .before .before .before .before .before .before .before .before .before .before .before .before .before .before .before .before .pre in
+    let a =
+    let at-8 = c .before .before .before .before .before .before .before .before in
+    let at-16 = at-8 .before .before .before .before .before .before .before .before in
+    (at-16 .before .before .before .before .before) .args in
+    let P =
+    let at-8 = c .before .before .before .before .before .before .before .before in
+    let at-16 = at-8 .before .before .before .before .before .before .before .before in
+    (at-16 .before .before .before .before .before) .pre in
+    let L =
+    let at-8 = c .before .before .before .before .before .before .before .before in
+    (at-8 .before .before .before .before .before .before .before .before) .fill-leads in
+    let T =
+    let at-8 = c .before .before .before .before .before .before .before .before in
+    (at-8 .before .before) .fill-tables in
     let s = a .state .now in
-    let L = c .before .before .before .before .before .before .before .before .before .before .before .before .before .before .before .before .fill-leads in
-    let T = c .before .before .before .before .before .before .before .before .before .before .fill-tables in
     let e : a .j + 1 ≡ suc (a .j) = omega arith in
     let r = subst (λ k. Ready-pair s k (T .last .0) (T .last .1 .0)) e (T .ensures) in
     subst (Tables-at s (a .j)) (sym (c .before .before .join-tables .ensures))

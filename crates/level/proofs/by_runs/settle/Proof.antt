@@ -33,11 +33,12 @@ same-length c = search needs
 
 returns-3 : tie.Need-returns-3
 returns-3 c =
-    let a = c .before .before .before .before .before .before .before .before .before .args in
+    let at-8 = c .before .before .before .before .before .before .before .before in
+    let a = at-8 .before .args in
     let g = c .before .before .before .before .before .x2 .given in
     let w = c .before .before .show .last .0 in
     let h = subst (λ y. Left-in y (a .vector .now) (a .work .now)) (g .1)
-    (c .before .before .before .before .before .before .before .before .before .pre) in
+    (at-8 .before .pre) in
     let e : length (a .work .now) ≡ length w = omega arith in
     let same : rows (a .vector .now) 0 (g .0 .1 .0) ≡ value-in (a .x) (a .vector .now) = ap (λ y. value-in y (a .vector .now)) (sym (g .1)) in
     let own = c .before .before .show .ensures ∙ ap (λ l. padded l (rows-of (rows (a .vector .now) 0 (g .0 .1 .0)))) e in (

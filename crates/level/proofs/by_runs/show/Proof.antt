@@ -26,7 +26,8 @@ same-length c = search needs
 
 returns : tie.Need-returns
 returns c =
-    let a = c .before .before .before .before .before .before .before .before .before .before .args in
+    let at-8 = c .before .before .before .before .before .before .before .before in
+    let a = at-8 .before .before .args in
     let w = rows-of (rows (a .vector .now) 0 (a .n)) in
     let n : length w ≡ a .n * row-length = length-spelled (a .vector .now) 0 (a .n) in
     c .before .before .clear .ensures ∙ ap (λ z. cleared z (a .n * row-length)) (c .before .before .before .before .before .before .copy-rows .ensures)

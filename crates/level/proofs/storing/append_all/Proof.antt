@@ -95,23 +95,26 @@ append-requires c κs =
     )
 
 add-i : tie.Need-add-i Inv-loop μ-loop
-add-i c = omega (arith, c .before .before .before .before .before .before .before .before .before .before .before .pre .3 .few)
+add-i c =
+    let at-8 = c .before .before .before .before .before .before .before .before in
+    omega (arith, at-8 .before .before .before .pre .3 .few)
 
 loop-less : tie.Need-loop-less Inv-loop μ-loop
 loop-less c = omega arith
 
 loop-again : tie.Need-loop-again Inv-loop μ-loop
 loop-again c =
-    let P = c .before .before .before .before .before .before .before .before .before .before .before .pre in
+    let at-8 = c .before .before .before .before .before .before .before .before in
+    let P = at-8 .before .before .before .pre in
     let a = P .3 in
     let l = c .before .before .before .before .before .before .before .before .loop in
-    let out = c .before .before .before .before .before .before .before .before .before .before .before .args .out .now in
-    let h : l .i < c .before .before .before .before .before .before .before .before .before .before .before .args .count = omega arith in
+    let out = at-8 .before .before .before .args .out .now in
+    let h : l .i < at-8 .before .before .before .args .count = omega arith in
     let fill : l .used < getD out (l .i) 0 = omega (arith, a .filled (l .i) h, l .inv .0 .1) in
     let room : getD out (l .i) 0 ≤ most-rows = a .room (l .i) h in
-    let s = c .before .before .before .before .before .before .before .before .before .before .before .args .state .now in (
-      storing-on s out (c .before .before .before .before .before .before .before .before .before .before .before .args .k)
-          (c .before .before .before .before .before .before .before .before .before .before .before .args .count) (P .0) (P .1) a (l .state) (l .i)
+    let s = at-8 .before .before .before .args .state .now in (
+      storing-on s out (at-8 .before .before .before .args .k)
+          (at-8 .before .before .before .args .count) (P .0) (P .1) a (l .state) (l .i)
           (l .used) (c .before .before .before .before .before .place .result)
           (take (length out - (ends-length + l .used * row-length)) (drop (ends-length + l .used * row-length) out))
           (c .before .before .append .last .0) h (l .inv .0) (c .before .before .before .before .before .place .ensures .0)

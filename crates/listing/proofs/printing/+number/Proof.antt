@@ -123,7 +123,9 @@ number-returns-2 : (t : ℕ) → number-lts.Need-returns-2 (
   number-below t,
   number.Post,
 ) (number-at t) number.Post
-number-returns-2 t c = spelled (more-digits (c .before .before .before .before .before .before .before .before .before .before .before .args .v)
+number-returns-2 t c =
+    let at-8 = c .before .before .before .before .before .before .before .before in
+    spelled (more-digits (at-8 .before .before .before .args .v)
     (omega arith)) (after (c .before .before .before .before .before .before .before .number .ensures)
     (spelled (ap (λ x. x ∷ []) (c .before .before .before .before .digit2 .ensures)) (c .before .before .byte2 .ensures)))
 

@@ -27,8 +27,9 @@ same-length c = search needs
 
 returns : tie.Need-returns
 returns c =
-    let a = c .before .before .before .before .before .before .before .before .before .before .before .args in
-    let P = c .before .before .before .before .before .before .before .before .before .before .before .pre in
+    let at-8 = c .before .before .before .before .before .before .before .before in
+    let a = at-8 .before .before .before .args in
+    let P = at-8 .before .before .before .pre in
     let f = cut-level (a .count) (a .level .now) (a .ends .now) in
     let e = ap (λ c. vector-lines (a .n) (a .k) 1 f ++ printed 90 (a .k ∷ c ∷ []))
     (sym (length-cut (a .count) (a .level .now) (a .ends .now) (P .2 .ends-fit))) in (

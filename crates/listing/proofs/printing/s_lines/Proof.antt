@@ -58,8 +58,9 @@ loop-less c = omega arith
 
 loop-again : tie.Need-loop-again Inv-loop μ-loop
 loop-again c =
+    let at-8 = c .before .before .before .before .before .before .before .before in
     let L = c .before .before .before .before .before .before .loop in
-    let a = c .before .before .before .before .before .before .before .before .before .args in
+    let a = at-8 .before .args in
     let e : (L .i - a .from) + 1 ≡ L .i + 1 - a .from = omega (arith, L .inv .0) in
     let d : a .from + (L .i - a .from) ≡ L .i = omega (arith, L .inv .0) in
     let t : term-of (c .before .before .before .before .row .result) ≡ row-at (a .level .now) (a .from + (L .i - a .from)) =

@@ -16,32 +16,39 @@ word-requires-2 c κs = omega (
 )
 
 exponents-requires : tie.Need-exponents-requires
-exponents-requires c κs = (
-  c .before .before .before .before .before .before .before .before .before .before .before .before .pre .0,
-  omega (
-    arith,
-    c .before .before .before .before .before .before .before .before .before .before .before .before .pre .0,
-    c .before .before .before .before .before .before .before .before .before .before .before .before .pre .1,
-    c .before .before .before .before .before .before .before .word .ensures .1,
-    c .before .before .before .word2 .ensures .1,
-  ),
-)
+exponents-requires c κs =
+    let at-8 = c .before .before .before .before .before .before .before .before in (
+      at-8 .before .before .before .before .pre .0,
+      omega (
+        arith,
+        at-8 .before .before .before .before .pre .0,
+        at-8 .before .before .before .before .pre .1,
+        c .before .before .before .before .before .before .before .word .ensures .1,
+        c .before .before .before .word2 .ensures .1,
+      ),
+    )
 
 same-length : tie.Need-same-length
 same-length c = search needs
 
 returns : tie.Need-returns
-returns c = (
-  after (c .before .before .before .before .before .before .before .before .before .before .word .ensures .0)
-      (after (c .before .before .before .before .before .before .word2 .ensures .0) (c .before .before .exponents .ensures .0)),
-  omega (
-    arith,
-    c .before .before .before .before .before .before .before .before .before .before .before .before .before .before .before .pre .0,
-    c .before .before .before .before .before .before .before .before .before .before .word .ensures .1,
-    c .before .before .before .before .before .before .word2 .ensures .1,
-    c .before .before .exponents .ensures .1,
-  ),
-)
+returns c =
+    let word-there =
+    let at-8 = c .before .before .before .before .before .before .before .before in
+    (at-8 .before .before) .word in
+    let asked =
+    let at-8 = c .before .before .before .before .before .before .before .before in
+    (at-8 .before .before .before .before .before .before .before) .pre in (
+      after (word-there .ensures .0)
+          (after (c .before .before .before .before .before .before .word2 .ensures .0) (c .before .before .exponents .ensures .0)),
+      omega (
+        arith,
+        asked .0,
+        word-there .ensures .1,
+        c .before .before .before .before .before .before .word2 .ensures .1,
+        c .before .before .exponents .ensures .1,
+      ),
+    )
 
 pub term-spec : {M : Type 1} → statement M
 term-spec =

@@ -57,8 +57,9 @@ loop-less c = omega arith
 
 loop-again : tie.Need-loop-again Inv-loop μ-loop
 loop-again c =
-    let P = c .before .before .before .before .before .before .before .before .before .before .before .pre in
-    let a = c .before .before .before .before .before .before .before .before .before .before .before .args in
+    let at-8 = c .before .before .before .before .before .before .before .before in
+    let P = at-8 .before .before .before .pre in
+    let a = at-8 .before .before .before .args in
     let L = c .before .before .before .before .before .before .before .loop in
     let e : c .before .before .before .before .place .result ≡ getD (a .ends .now) (L .j) 0 = c .before .before .before .before .place .ensures .0 in
     let s : L .start ≡ start-of (a .ends .now) (L .j) = L .inv .2 in

@@ -19,25 +19,32 @@ term-requires c κs = (
 )
 
 byte-requires-2 : tie.Need-byte-requires-2
-byte-requires-2 c κs = omega (
-  arith,
-  c .before .before .before .before .before .before .before .before .before .before .pre .1,
-  c .before .before .before .before .before .before .before .byte .ensures .ends,
-  c .before .before .before .term .ensures .1,
-)
+byte-requires-2 c κs =
+    let at-8 = c .before .before .before .before .before .before .before .before in
+    omega (
+      arith,
+      at-8 .before .before .pre .1,
+      c .before .before .before .before .before .before .before .byte .ensures .ends,
+      c .before .before .before .term .ensures .1,
+    )
 
 same-length : tie.Need-same-length
 same-length c = search needs
 
 returns : tie.Need-returns
 returns c =
-    let a = c .before .before .before .before .before .before .before .before .before .before .before .before .before .args in
+    let a =
+    let at-8 = c .before .before .before .before .before .before .before .before in
+    (at-8 .before .before .before .before .before) .args in
+    let byte-there =
+    let at-8 = c .before .before .before .before .before .before .before .before in
+    (at-8 .before .before) .byte in
     let e = ap (λ z. 87 ∷ z) (sym (fields-listed (term-fields (a .n) (term-of (a .t))))) in (
-      spelled e (after (c .before .before .before .before .before .before .before .before .before .before .byte .ensures)
+      spelled e (after (byte-there .ensures)
           (after (c .before .before .before .before .before .before .term .ensures .0) (c .before .before .byte2 .ensures))),
       omega (
         arith,
-        c .before .before .before .before .before .before .before .before .before .before .byte .ensures .ends,
+        byte-there .ensures .ends,
         c .before .before .before .before .before .before .term .ensures .1,
         c .before .before .byte2 .ensures .ends,
       ),

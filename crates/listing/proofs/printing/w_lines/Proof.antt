@@ -48,8 +48,9 @@ loop-less c = omega arith
 
 loop-again : tie.Need-loop-again Inv-loop μ-loop
 loop-again c =
+    let at-8 = c .before .before .before .before .before .before .before .before in
     let L = c .before .before .before .before .before .before .loop in
-    let a = c .before .before .before .before .before .before .before .before .before .args in
+    let a = at-8 .before .args in
     let v = rows (a .s .now) 0 (L .i) in
     let d : L .i ≡ 0 + L .i = omega arith in
     let s = ap (λ u. w-lines (a .n) v ++ printed letter-W (term-fields (a .n) u))

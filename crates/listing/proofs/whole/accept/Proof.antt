@@ -20,9 +20,13 @@ enum-told c = search needs
 
 print-lifted-requires : tie.Need-print-lifted-requires
 print-lifted-requires c κs =
-    let a = c .before .before .before .before .before .before .before .before .before .before .before .before .before .args in
+    let a =
+    let at-8 = c .before .before .before .before .before .before .before .before in
+    (at-8 .before .before .before .before .before) .args in
+    let P =
+    let at-8 = c .before .before .before .before .before .before .before .before in
+    (at-8 .before .before .before .before .before) .pre in
     let s = a .state .now in
-    let P = c .before .before .before .before .before .before .before .before .before .before .before .before .before .pre in
     let x = c .before .before .before .before .before .before .before .accept-level in
     let n = x .ensures .0 in
     let v = x .ensures .1 in
@@ -48,13 +52,24 @@ pair-line-requires-2 c κs = omega arith
 
 w-lines-requires : tie.Need-w-lines-requires
 w-lines-requires c κs =
-    let a = c .before .before .before .before .before .before .before .before .before .before .before .before .before .before .before .before .before .before .before .args in
+    let a =
+    let at-8 = c .before .before .before .before .before .before .before .before in
+    let at-16 = at-8 .before .before .before .before .before .before .before .before in
+    (at-16 .before .before .before) .args in
+    let P =
+    let at-8 = c .before .before .before .before .before .before .before .before in
+    let at-16 = at-8 .before .before .before .before .before .before .before .before in
+    (at-16 .before .before .before) .pre in
+    let x =
+    let at-8 = c .before .before .before .before .before .before .before .before in
+    (at-8 .before .before .before .before .before) .accept-level in
+    let place-there =
+    let at-8 = c .before .before .before .before .before .before .before .before in
+    (at-8 .before) .place in
     let s = a .state .now in
-    let P = c .before .before .before .before .before .before .before .before .before .before .before .before .before .before .before .before .before .before .before .pre in
-    let x = c .before .before .before .before .before .before .before .before .before .before .before .before .before .accept-level in
     let n = x .ensures .0 in
     let v = x .ensures .1 in
-    let h = subst (λ y. Shown y v (x .last .0)) (c .before .before .before .before .before .before .before .before .before .place .given .1)
+    let h = subst (λ y. Shown y v (x .last .0)) (place-there .given .1)
     (x .ensures .3) in (
       omega (arith, c .before .before .before .before .before .before .place2 .ensures .0, few-variables s (P .0 .long) (P .0 .holds)),
       h .2,
@@ -72,14 +87,25 @@ same-length-3 c = search needs
 
 returns : tie.Need-returns
 returns c =
-    let a = c .before .before .before .before .before .before .before .before .before .before .before .before .before .before .before .before .before .before .before .before .args in
+    let a =
+    let at-8 = c .before .before .before .before .before .before .before .before in
+    let at-16 = at-8 .before .before .before .before .before .before .before .before in
+    (at-16 .before .before .before .before) .args in
+    let P =
+    let at-8 = c .before .before .before .before .before .before .before .before in
+    let at-16 = at-8 .before .before .before .before .before .before .before .before in
+    (at-16 .before .before .before .before) .pre in
+    let x =
+    let at-8 = c .before .before .before .before .before .before .before .before in
+    (at-8 .before .before .before .before .before .before) .accept-level in
+    let enum-told-there =
+    let at-8 = c .before .before .before .before .before .before .before .before in
+    (at-8 .before .before) .enum-told in
     let s = a .state .now in
-    let P = c .before .before .before .before .before .before .before .before .before .before .before .before .before .before .before .before .before .before .before .before .pre in
-    let x = c .before .before .before .before .before .before .before .before .before .before .before .before .before .before .accept-level in
     let n = x .ensures .0 in
     let v = x .ensures .1 in
     let R = c .before .before .before .before .before .before .print-lifted .ensures in
-    let e = sym (ap (λ y. accepted-with y v) (c .before .before .before .before .before .before .before .before .before .before .enum-told .given .1))
+    let e = sym (ap (λ y. accepted-with y v) (enum-told-there .given .1))
     ∙ x .ensures .2 in (
       record {
         bound = n + R .0 .bound;
@@ -102,10 +128,16 @@ same-length-6 c = search needs
 
 returns-2 : tie.Need-returns-2
 returns-2 c =
-    let a = c .before .before .before .before .before .before .before .before .before .before .before .before .before .before .before .args in
+    let a =
+    let at-8 = c .before .before .before .before .before .before .before .before in
+    (at-8 .before .before .before .before .before .before .before) .args in
+    let P =
+    let at-8 = c .before .before .before .before .before .before .before .before in
+    (at-8 .before .before .before .before .before .before .before) .pre in
+    let x =
+    let at-8 = c .before .before .before .before .before .before .before .before in
+    (at-8 .before) .accept-level in
     let s = a .state .now in
-    let P = c .before .before .before .before .before .before .before .before .before .before .before .before .before .before .before .pre in
-    let x = c .before .before .before .before .before .before .before .before .before .accept-level in
     let n = x .ensures .0 in
     let v = x .ensures .1 in
     let g = c .before .before .before .before .before .number .given in
@@ -126,19 +158,33 @@ same-length-9 c = search needs
 
 returns-3 : tie.Need-returns-3
 returns-3 c =
-    let a = c .before .before .before .before .before .before .before .before .before .before .before .before .before .before .before .before .before .before .before .before .before .before .args in
+    let a =
+    let at-8 = c .before .before .before .before .before .before .before .before in
+    let at-16 = at-8 .before .before .before .before .before .before .before .before in
+    (at-16 .before .before .before .before .before .before) .args in
+    let P =
+    let at-8 = c .before .before .before .before .before .before .before .before in
+    let at-16 = at-8 .before .before .before .before .before .before .before .before in
+    (at-16 .before .before .before .before .before .before) .pre in
+    let x =
+    let at-8 = c .before .before .before .before .before .before .before .before in
+    (at-8 .before .before .before .before .before .before .before .before) .accept-level in
+    let place-there =
+    let at-8 = c .before .before .before .before .before .before .before .before in
+    (at-8 .before .before .before .before) .place in
+    let place2-there =
+    let at-8 = c .before .before .before .before .before .before .before .before in
+    (at-8 .before) .place2 in
     let s = a .state .now in
-    let P = c .before .before .before .before .before .before .before .before .before .before .before .before .before .before .before .before .before .before .before .before .before .before .pre in
-    let x = c .before .before .before .before .before .before .before .before .before .before .before .before .before .before .before .before .accept-level in
     let n = x .ensures .0 in
     let v = x .ensures .1 in
-    let g = c .before .before .before .before .before .before .before .before .before .before .before .before .place .given in
+    let g = place-there .given in
     let h = subst (λ y. Shown y v (x .last .0)) (g .1) (x .ensures .3) in
     let e = sym (ap (λ y. accepted-with y v) (g .1)) ∙ x .ensures .2 in
     let q = c .before .before .before .before .before .before .before .pair-line2 .ensures in
     let w = c .before .before .w-lines .ensures in
-    let m : c .before .before .before .before .before .before .before .before .before .place2 .result
-    ≡ getD s 1 0 = c .before .before .before .before .before .before .before .before .before .place2 .ensures .0 in (
+    let m : place2-there .result
+    ≡ getD s 1 0 = place2-there .ensures .0 in (
       record {
         bound = n;
         bytes = printed 88 (9 ∷ g .0 .0 ∷ []) ++ w-lines (getD s 1 0) v;

@@ -68,9 +68,10 @@ part-level-lines-end-2 c = search needs
 
 level-lines-requires : tie.Need-level-lines-requires
 level-lines-requires c κs =
-    let a = c .before .before .before .before .before .before .before .before .before .args in
+    let at-8 = c .before .before .before .before .before .before .before .before in
+    let a = at-8 .before .args in
     let s = a .state .now in
-    let b = c .before .before .before .before .before .before .before .before .before .pre .0 in
+    let b = at-8 .before .pre .0 in
     let h = complete-cut s (b .long) (b .holds) (a .k) (b .has) in
     let e : c .before .before .before .before .before .before .count-of .result
     ≡ count-at s (a .k) = c .before .before .before .before .before .before .count-of .ensures in
@@ -80,7 +81,7 @@ level-lines-requires c κs =
       t .0,
       t .1,
       t .2,
-      c .before .before .before .before .before .before .before .before .before .pre .1,
+      at-8 .before .pre .1,
     )
 
 same-length : tie.Need-same-length
@@ -88,10 +89,11 @@ same-length c = search needs
 
 returns : tie.Need-returns
 returns c =
-    let a = c .before .before .before .before .before .before .before .before .before .before .before .before .args in
+    let at-8 = c .before .before .before .before .before .before .before .before in
+    let a = at-8 .before .before .before .before .args in
     let s = a .state .now in
-    let e : c .before .before .before .before .before .before .before .before .before .count-of .result
-    ≡ count-at s (a .k) = c .before .before .before .before .before .before .before .before .before .count-of .ensures in
+    let e : at-8 .before .count-of .result
+    ≡ count-at s (a .k) = at-8 .before .count-of .ensures in
     let n : c .before .before .before .before .before .before .before .place .result
     ≡ getD s 1 0 = c .before .before .before .before .before .before .before .place .ensures .0 in
     let l : c .before .before .before .before .before .before .narrow .result

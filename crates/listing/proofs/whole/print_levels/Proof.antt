@@ -57,9 +57,10 @@ loop-less c = omega arith
 
 loop-again : tie.Need-loop-again Inv-loop μ-loop
 loop-again c =
+    let at-8 = c .before .before .before .before .before .before .before .before in
     let l = c .before .before .before .before .before .loop in
     let I = l .inv in
-    let s = c .before .before .before .before .before .before .before .before .before .before .args .state .now in
+    let s = at-8 .before .before .args .state .now in
     let v = c .before .before .print-level .ensures in
     (omega arith, omega arith, spelled (next-lines s (l .k) (I .0)) (after (I .2) (v .0)), omega (arith, I .0, I .3, v .1), omega (arith, I .4))
 

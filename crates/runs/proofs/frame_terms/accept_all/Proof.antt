@@ -38,19 +38,20 @@ row-requires c κs = omega (arith, c .before .before .before .before .before .be
 
 run-requires : tie.Need-run-requires Inv-loop μ-loop
 run-requires c κs =
-    let P = c .before .before .before .before .before .before .before .before .before .before .before .pre in
+    let at-8 = c .before .before .before .before .before .before .before .before in
+    let P = at-8 .before .before .before .pre in
     let l = c .before .before .before .before .before .loop in
-    let f = frame-component (c .before .before .before .before .before .before .before .before .before .before .before .args .g)
-    (c .before .before .before .before .before .before .before .before .before .before .before .args .count)
-    (c .before .before .before .before .before .before .before .before .before .before .before .args .frame .now) (l .i)
+    let f = frame-component (at-8 .before .before .before .args .g)
+    (at-8 .before .before .before .args .count)
+    (at-8 .before .before .before .args .frame .now) (l .i)
     (term-of (c .before .before .before .row .result)) (P .7) (omega arith) (c .before .before .before .row .ensures) in (
       P .0,
       P .1,
       P .2,
       P .3,
-      rooms-again (c .before .before .before .before .before .before .before .before .before .before .before .args .g)
-          (c .before .before .before .before .before .before .before .before .before .before .before .args .value .now)
-          (c .before .before .before .before .before .before .before .before .before .before .before .args .vector .now) (l .value) (l .vector)
+      rooms-again (at-8 .before .before .before .args .g)
+          (at-8 .before .before .before .args .value .now)
+          (at-8 .before .before .before .args .vector .now) (l .value) (l .vector)
           (l .inv .1) (l .inv .2) (P .4),
       P .5,
       P .6,
@@ -65,30 +66,51 @@ enum-known-x : tie.Need-enum-known-x Inv-loop μ-loop
 enum-known-x c = omega arith
 
 add-place-of : tie.Need-add-place-of Inv-loop μ-loop
-add-place-of c = omega
-    (arith, c .before .before .before .before .before .before .before .before .before .before .before .before .before .before .before .before .before .before .before .pre .7 .few)
+add-place-of c =
+    let asked =
+    let at-8 = c .before .before .before .before .before .before .before .before in
+    let at-16 = at-8 .before .before .before .before .before .before .before .before in
+    (at-16 .before .before .before) .pre in
+    omega
+    (arith, asked .7 .few)
 
 place-of-requires : tie.Need-place-of-requires Inv-loop μ-loop
 place-of-requires c κs = omega arith
 
 same-length : tie.Need-same-length Inv-loop μ-loop
-same-length c = omega
-    (arith, c .before .before .before .before .before .before .before .before .before .before .before .before .before .before .loop .inv .1)
+same-length c =
+    let loop-there =
+    let at-8 = c .before .before .before .before .before .before .before .before in
+    (at-8 .before .before .before .before .before .before) .loop in
+    omega
+    (arith, loop-there .inv .1)
 
 same-length-2 : tie.Need-same-length-2 Inv-loop μ-loop
-same-length-2 c = omega
-    (arith, c .before .before .before .before .before .before .before .before .before .before .before .before .before .before .loop .inv .2)
+same-length-2 c =
+    let loop-there =
+    let at-8 = c .before .before .before .before .before .before .before .before in
+    (at-8 .before .before .before .before .before .before) .loop in
+    omega
+    (arith, loop-there .inv .2)
 
 returns : tie.Need-returns Inv-loop μ-loop
 returns c =
-    let a = c .before .before .before .before .before .before .before .before .before .before .before .before .before .before .before .before .before .before .before .before .args in
+    let a =
+    let at-8 = c .before .before .before .before .before .before .before .before in
+    let at-16 = at-8 .before .before .before .before .before .before .before .before in
+    (at-16 .before .before .before .before) .args in
+    let l =
+    let at-8 = c .before .before .before .before .before .before .before .before in
+    (at-8 .before .before .before .before .before .before) .loop in
+    let row-there =
+    let at-8 = c .before .before .before .before .before .before .before .before in
+    (at-8 .before .before .before .before) .row in
     let g = a .g in
-    let l = c .before .before .before .before .before .before .before .before .before .before .before .before .before .before .loop in
     let S = stage-of g (a .level .now) (a .tables .now) (table-order (g .code) (table-of (g .r) (above-in (a .tables .now)))) in
     let r = c .before .before .before .before .before .before .before .before .run in
-    let t : term-of (c .before .before .before .before .before .before .before .before .before .before .before .before .row .result)
+    let t : term-of (row-there .result)
     ≡ row-at (a .frame .now) (l .i) =
-    c .before .before .before .before .before .before .before .before .before .before .before .before .row .ensures in
+    row-there .ensures in
     let k = r .ensures .0 .0 in
     let came : outcome-of (r .result) (r .last .0) (r .last .1 .0) ≡ run S (accepting-strategy S) k (row-at (a .frame .now) (l .i) .1) =
     r .ensures .0 .1 ∙ ap (λ x. run S (accepting-strategy S) k (x .1)) t in
@@ -101,26 +123,47 @@ enum-known-n : tie.Need-enum-known-n Inv-loop μ-loop
 enum-known-n c = omega arith
 
 add-t23 : tie.Need-add-t23 Inv-loop μ-loop
-add-t23 c = omega (
-  arith,
-  c .before .before .before .before .before .before .before .before .before .before .before .before .before .before .before .before .before .before .before .pre .7 .few,
-)
+add-t23 c =
+    let asked =
+    let at-8 = c .before .before .before .before .before .before .before .before in
+    let at-16 = at-8 .before .before .before .before .before .before .before .before in
+    (at-16 .before .before .before) .pre in
+    omega (
+      arith,
+      asked .7 .few,
+    )
 
 same-length-3 : tie.Need-same-length-3 Inv-loop μ-loop
-same-length-3 c = omega (arith, c .before .before .before .before .before .before .before .before .before .before .before .before .before .loop .inv .1)
+same-length-3 c =
+    let loop-there =
+    let at-8 = c .before .before .before .before .before .before .before .before in
+    (at-8 .before .before .before .before .before) .loop in
+    omega (arith, loop-there .inv .1)
 
 same-length-4 : tie.Need-same-length-4 Inv-loop μ-loop
-same-length-4 c = omega (arith, c .before .before .before .before .before .before .before .before .before .before .before .before .before .loop .inv .2)
+same-length-4 c =
+    let loop-there =
+    let at-8 = c .before .before .before .before .before .before .before .before in
+    (at-8 .before .before .before .before .before) .loop in
+    omega (arith, loop-there .inv .2)
 
 returns-2 : tie.Need-returns-2 Inv-loop μ-loop
 returns-2 c =
-    let a = c .before .before .before .before .before .before .before .before .before .before .before .before .before .before .before .before .before .before .before .args in
+    let a =
+    let at-8 = c .before .before .before .before .before .before .before .before in
+    let at-16 = at-8 .before .before .before .before .before .before .before .before in
+    (at-16 .before .before .before) .args in
+    let l =
+    let at-8 = c .before .before .before .before .before .before .before .before in
+    (at-8 .before .before .before .before .before) .loop in
+    let row-there =
+    let at-8 = c .before .before .before .before .before .before .before .before in
+    (at-8 .before .before .before) .row in
     let g = a .g in
-    let l = c .before .before .before .before .before .before .before .before .before .before .before .before .before .loop in
     let S = stage-of g (a .level .now) (a .tables .now) (table-order (g .code) (table-of (g .r) (above-in (a .tables .now)))) in
     let r = c .before .before .before .before .before .before .before .run in
-    let t : term-of (c .before .before .before .before .before .before .before .before .before .before .before .row .result)
-    ≡ row-at (a .frame .now) (l .i) = c .before .before .before .before .before .before .before .before .before .before .before .row .ensures in
+    let t : term-of (row-there .result)
+    ≡ row-at (a .frame .now) (l .i) = row-there .ensures in
     let k = r .ensures .0 .0 in
     let came : outcome-of (r .result) (r .last .0) (r .last .1 .0) ≡ run S (accepting-strategy S) k (row-at (a .frame .now) (l .i) .1) =
     r .ensures .0 .1 ∙ ap (λ x. run S (accepting-strategy S) k (x .1)) t in
@@ -131,23 +174,36 @@ returns-2 c =
     )
 
 add-i : tie.Need-add-i Inv-loop μ-loop
-add-i c = omega (
-  arith,
-  c .before .before .before .before .before .before .before .before .before .before .before .before .before .before .before .before .before .before .before .pre .7 .few,
-)
+add-i c =
+    let asked =
+    let at-8 = c .before .before .before .before .before .before .before .before in
+    let at-16 = at-8 .before .before .before .before .before .before .before .before in
+    (at-16 .before .before .before) .pre in
+    omega (
+      arith,
+      asked .7 .few,
+    )
 
 loop-less : tie.Need-loop-less Inv-loop μ-loop
 loop-less c = omega arith
 
 loop-again : tie.Need-loop-again Inv-loop μ-loop
 loop-again c =
-    let a = c .before .before .before .before .before .before .before .before .before .before .before .before .before .before .before .before .before .before .before .args in
+    let a =
+    let at-8 = c .before .before .before .before .before .before .before .before in
+    let at-16 = at-8 .before .before .before .before .before .before .before .before in
+    (at-16 .before .before .before) .args in
+    let l =
+    let at-8 = c .before .before .before .before .before .before .before .before in
+    (at-8 .before .before .before .before .before) .loop in
+    let row-there =
+    let at-8 = c .before .before .before .before .before .before .before .before in
+    (at-8 .before .before .before) .row in
     let g = a .g in
-    let l = c .before .before .before .before .before .before .before .before .before .before .before .before .before .loop in
     let S = stage-of g (a .level .now) (a .tables .now) (table-order (g .code) (table-of (g .r) (above-in (a .tables .now)))) in
     let r = c .before .before .before .before .before .before .before .run in
-    let t : term-of (c .before .before .before .before .before .before .before .before .before .before .before .row .result)
-    ≡ row-at (a .frame .now) (l .i) = c .before .before .before .before .before .before .before .before .before .before .before .row .ensures in
+    let t : term-of (row-there .result)
+    ≡ row-at (a .frame .now) (l .i) = row-there .ensures in
     let k = r .ensures .0 .0 in
     let came : outcome-of (r .result) (r .last .0) (r .last .1 .0) ≡ run S (accepting-strategy S) k (row-at (a .frame .now) (l .i) .1) =
     r .ensures .0 .1 ∙ ap (λ x. run S (accepting-strategy S) k (x .1)) t in

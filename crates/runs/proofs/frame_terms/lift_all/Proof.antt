@@ -39,15 +39,16 @@ loop-holds c = let a = c .before .before .before .before .before .before .args i
 
 lift-one-requires : tie.Need-lift-one-requires Inv-loop μ-loop
 lift-one-requires c κs =
-    let P = c .before .before .before .before .before .before .before .before .before .before .before .pre in
+    let at-8 = c .before .before .before .before .before .before .before .before in
+    let P = at-8 .before .before .before .pre in
     let l = c .before .before .before .before .loop in (
       P .0,
       P .1,
       P .2,
       P .3,
-      rooms-again (c .before .before .before .before .before .before .before .before .before .before .before .args .g)
-          (c .before .before .before .before .before .before .before .before .before .before .before .args .value .now)
-          (c .before .before .before .before .before .before .before .before .before .before .before .args .vector .now) (l .value) (l .vector)
+      rooms-again (at-8 .before .before .before .args .g)
+          (at-8 .before .before .before .args .value .now)
+          (at-8 .before .before .before .args .vector .now) (l .value) (l .vector)
           (l .inv .3) (l .inv .4) (P .4),
       P .5,
       P .6,
@@ -66,25 +67,44 @@ enum-known-x : tie.Need-enum-known-x Inv-loop μ-loop
 enum-known-x c = omega arith
 
 same-length : tie.Need-same-length Inv-loop μ-loop
-same-length c = omega
-    (arith, c .before .before .before .before .before .before .before .before .before .before .before .before .before .before .loop .inv .2)
+same-length c =
+    let loop-there =
+    let at-8 = c .before .before .before .before .before .before .before .before in
+    (at-8 .before .before .before .before .before .before) .loop in
+    omega
+    (arith, loop-there .inv .2)
 
 same-length-2 : tie.Need-same-length-2 Inv-loop μ-loop
-same-length-2 c = omega
-    (arith, c .before .before .before .before .before .before .before .before .before .before .before .before .before .before .loop .inv .3)
+same-length-2 c =
+    let loop-there =
+    let at-8 = c .before .before .before .before .before .before .before .before in
+    (at-8 .before .before .before .before .before .before) .loop in
+    omega
+    (arith, loop-there .inv .3)
 
 same-length-3 : tie.Need-same-length-3 Inv-loop μ-loop
-same-length-3 c = omega
-    (arith, c .before .before .before .before .before .before .before .before .before .before .before .before .before .before .loop .inv .4)
+same-length-3 c =
+    let loop-there =
+    let at-8 = c .before .before .before .before .before .before .before .before in
+    (at-8 .before .before .before .before .before .before) .loop in
+    omega
+    (arith, loop-there .inv .4)
 
 returns : tie.Need-returns Inv-loop μ-loop
 returns c =
-    let a = c .before .before .before .before .before .before .before .before .before .before .before .before .before .before .before .before .before .before .before .before .before .args in
+    let a =
+    let at-8 = c .before .before .before .before .before .before .before .before in
+    let at-16 = at-8 .before .before .before .before .before .before .before .before in
+    (at-16 .before .before .before .before .before) .args in
+    let l =
+    let at-8 = c .before .before .before .before .before .before .before .before in
+    (at-8 .before .before .before .before .before .before) .loop in
+    let o =
+    let at-8 = c .before .before .before .before .before .before .before .before in
+    (at-8 .before) .lift-one in
     let g = a .g in
-    let l = c .before .before .before .before .before .before .before .before .before .before .before .before .before .before .loop in
     let S = stage-of g (a .level .now) (a .tables .now) (table-order (g .code) (table-of (g .r) (above-in (a .tables .now)))) in
     let W = strategy-of g (a .tables .now) (a .w) in
-    let o = c .before .before .before .before .before .before .before .before .before .lift-one in
     let k = o .ensures .0 .0 in
     let before : Lifted = (lifted-vectors (l .out) (l .i), l .used) in (
       going-refused S W (a .frame .now) (a .count) before (l .i) k (c .before .x .given .0 .0) 0 [] (l .inv .6) (omega arith)
@@ -96,25 +116,44 @@ enum-known-n : tie.Need-enum-known-n Inv-loop μ-loop
 enum-known-n c = omega arith
 
 same-length-4 : tie.Need-same-length-4 Inv-loop μ-loop
-same-length-4 c = omega
-    (arith, c .before .before .before .before .before .before .before .before .before .before .before .before .before .before .loop .inv .2)
+same-length-4 c =
+    let loop-there =
+    let at-8 = c .before .before .before .before .before .before .before .before in
+    (at-8 .before .before .before .before .before .before) .loop in
+    omega
+    (arith, loop-there .inv .2)
 
 same-length-5 : tie.Need-same-length-5 Inv-loop μ-loop
-same-length-5 c = omega
-    (arith, c .before .before .before .before .before .before .before .before .before .before .before .before .before .before .loop .inv .3)
+same-length-5 c =
+    let loop-there =
+    let at-8 = c .before .before .before .before .before .before .before .before in
+    (at-8 .before .before .before .before .before .before) .loop in
+    omega
+    (arith, loop-there .inv .3)
 
 same-length-6 : tie.Need-same-length-6 Inv-loop μ-loop
-same-length-6 c = omega
-    (arith, c .before .before .before .before .before .before .before .before .before .before .before .before .before .before .loop .inv .4)
+same-length-6 c =
+    let loop-there =
+    let at-8 = c .before .before .before .before .before .before .before .before in
+    (at-8 .before .before .before .before .before .before) .loop in
+    omega
+    (arith, loop-there .inv .4)
 
 returns-2 : tie.Need-returns-2 Inv-loop μ-loop
 returns-2 c =
-    let a = c .before .before .before .before .before .before .before .before .before .before .before .before .before .before .before .before .before .before .before .before .before .args in
+    let a =
+    let at-8 = c .before .before .before .before .before .before .before .before in
+    let at-16 = at-8 .before .before .before .before .before .before .before .before in
+    (at-16 .before .before .before .before .before) .args in
+    let l =
+    let at-8 = c .before .before .before .before .before .before .before .before in
+    (at-8 .before .before .before .before .before .before) .loop in
+    let o =
+    let at-8 = c .before .before .before .before .before .before .before .before in
+    (at-8 .before) .lift-one in
     let g = a .g in
-    let l = c .before .before .before .before .before .before .before .before .before .before .before .before .before .before .loop in
     let S = stage-of g (a .level .now) (a .tables .now) (table-order (g .code) (table-of (g .r) (above-in (a .tables .now)))) in
     let W = strategy-of g (a .tables .now) (a .w) in
-    let o = c .before .before .before .before .before .before .before .before .before .lift-one in
     let k = o .ensures .0 .0 in
     let before : Lifted = (lifted-vectors (l .out) (l .i), l .used) in (
       going-refused S W (a .frame .now) (a .count) before (l .i) k 9 0 (rows (o .last .1 .1 .1 .1 .0) 0 (c .before .n .given .0 .0)) (l .inv .6)
@@ -123,22 +162,34 @@ returns-2 c =
     )
 
 add-i : tie.Need-add-i Inv-loop μ-loop
-add-i c = omega (
-  arith,
-  c .before .before .before .before .before .before .before .before .before .before .before .before .before .before .before .before .before .before .before .before .before .pre .7 .few,
-)
+add-i c =
+    let asked =
+    let at-8 = c .before .before .before .before .before .before .before .before in
+    let at-16 = at-8 .before .before .before .before .before .before .before .before in
+    (at-16 .before .before .before .before .before) .pre in
+    omega (
+      arith,
+      asked .7 .few,
+    )
 
 loop-less : tie.Need-loop-less Inv-loop μ-loop
 loop-less c = omega arith
 
 loop-again : tie.Need-loop-again Inv-loop μ-loop
 loop-again c =
-    let a = c .before .before .before .before .before .before .before .before .before .before .before .before .before .before .before .before .before .before .before .before .before .args in
+    let a =
+    let at-8 = c .before .before .before .before .before .before .before .before in
+    let at-16 = at-8 .before .before .before .before .before .before .before .before in
+    (at-16 .before .before .before .before .before) .args in
+    let l =
+    let at-8 = c .before .before .before .before .before .before .before .before in
+    (at-8 .before .before .before .before .before .before) .loop in
+    let o =
+    let at-8 = c .before .before .before .before .before .before .before .before in
+    (at-8 .before) .lift-one in
     let g = a .g in
-    let l = c .before .before .before .before .before .before .before .before .before .before .before .before .before .before .loop in
     let S = stage-of g (a .level .now) (a .tables .now) (table-order (g .code) (table-of (g .r) (above-in (a .tables .now)))) in
     let W = strategy-of g (a .tables .now) (a .w) in
-    let o = c .before .before .before .before .before .before .before .before .before .lift-one in
     let k = o .ensures .0 .0 in
     let before : Lifted = (lifted-vectors (l .out) (l .i), l .used) in
     let u = c .before .u .given .0 .0 in

@@ -29,11 +29,12 @@ row-requires c κs = omega (
 
 run-requires : tie.Need-run-requires
 run-requires c κs =
-    let P = c .before .before .before .before .before .before .before .before .before .before .pre in
-    let f = frame-component (c .before .before .before .before .before .before .before .before .before .before .args .g)
-    (c .before .before .before .before .before .before .before .before .before .before .args .count)
-    (c .before .before .before .before .before .before .before .before .before .before .args .frame .now)
-    (c .before .before .before .before .before .before .before .before .before .before .args .i) (term-of (c .before .before .before .row .result))
+    let at-8 = c .before .before .before .before .before .before .before .before in
+    let P = at-8 .before .before .pre in
+    let f = frame-component (at-8 .before .before .args .g)
+    (at-8 .before .before .args .count)
+    (at-8 .before .before .args .frame .now)
+    (at-8 .before .before .args .i) (term-of (c .before .before .before .row .result))
     (P .7) (P .8) (c .before .before .before .row .ensures) in
     (P .0, P .1, P .2, P .3, P .4, P .5, P .6, f .0, f .1)
 
@@ -41,10 +42,15 @@ enum-known-v : tie.Need-enum-known-v
 enum-known-v c = search needs
 
 sub-if1 : tie.Need-sub-if1
-sub-if1 c = omega (
-  arith,
-  c .before .before .before .before .before .before .before .before .before .before .before .before .before .before .before .before .before .before .before .pre .11,
-)
+sub-if1 c =
+    let asked =
+    let at-8 = c .before .before .before .before .before .before .before .before in
+    let at-16 = at-8 .before .before .before .before .before .before .before .before in
+    (at-16 .before .before .before) .pre in
+    omega (
+      arith,
+      asked .11,
+    )
 
 same-length : tie.Need-same-length
 same-length c = search needs
@@ -54,22 +60,34 @@ same-length-2 c = search needs
 
 returns : tie.Need-returns
 returns c =
-    let a = c .before .before .before .before .before .before .before .before .before .before .before .before .before .before .before .before .before .before .before .before .args in
+    let a =
+    let at-8 = c .before .before .before .before .before .before .before .before in
+    let at-16 = at-8 .before .before .before .before .before .before .before .before in
+    (at-16 .before .before .before .before) .args in
+    let r =
+    let at-8 = c .before .before .before .before .before .before .before .before in
+    (at-8 .before) .run in
+    let row-there =
+    let at-8 = c .before .before .before .before .before .before .before .before in
+    (at-8 .before .before .before .before .before) .row in
+    let asked =
+    let at-8 = c .before .before .before .before .before .before .before .before in
+    let at-16 = at-8 .before .before .before .before .before .before .before .before in
+    (at-16 .before .before .before .before) .pre in
     let g = a .g in
     let S = stage-of g (a .level .now) (a .tables .now) (table-order (g .code) (table-of (g .r) (above-in (a .tables .now)))) in
     let W = strategy-of g (a .tables .now) (a .w) in
     let l : Lifted = (lifted-vectors (a .out .now) (a .i), a .used) in
-    let r = c .before .before .before .before .before .before .before .before .before .run in
-    let t : term-of (c .before .before .before .before .before .before .before .before .before .before .before .before .before .row .result)
+    let t : term-of (row-there .result)
     ≡ row-at (a .frame .now) (a .i) =
-    c .before .before .before .before .before .before .before .before .before .before .before .before .before .row .ensures in
+    row-there .ensures in
     let came : (k : ℕ) × (outcome-of (r .result) (r .last .0) (r .last .1 .0) ≡ run S W k (row-at (a .frame .now) (a .i) .1)) =
     (r .ensures .0 .0, r .ensures .0 .1 ∙ ap (λ x. run S W (r .ensures .0 .0) (x .1)) t) in
     let v = c .before .before .before .v .given .0 .0 in (
       (
         came .0,
         without-room S l (rows (r .last .0) 0 v) v (length-rows (r .last .0) 0 v)
-            (omega (arith, c .before .before .before .before .before .before .before .before .before .before .before .before .before .before .before .before .before .before .before .before .pre .11))
+            (omega (arith, asked .11))
             ∙ ap (λ x. x >>= λ w. with-vector S l (w, [])) (sym (ap (λ y. outcome-of y (r .last .0) (r .last .1 .0))
             (c .before .before .before .v .given .1)) ∙ came .1),
       ),
@@ -78,14 +96,39 @@ returns c =
 
 append-requires : tie.Need-append-requires
 append-requires c κs =
-    (omega (arith, c .before .before .before .before .before .before .before .before .before .before .before .before .before .before .before .before .before .before .before .before .before .before .pre .7 .few, c .before .before .before .before .before .before .before .before .before .before .before .before .before .before .before .before .before .before .before .before .before .before .pre .8), omega (arith, c .before .before .before .before .before .before .before .before .before .before .before .before .before .before .before .before .before .before .before .before .before .before .pre .10, c .before .before .before .before .before .before .before .before .before .before .before .before .before .before .before .before .before .before .before .before .before .before .pre .11), omega (arith, c .before .before .before .before .before .before .before .before .before .before .before .before .before .before .before .before .before .before .before .before .before .before .pre .9, c .before .before .before .before .before .before .before .before .before .before .before .before .before .before .before .before .before .before .before .before .before .before .pre .11), omega (arith, subst (Ended (c .before .before .before .before .before .before .before .before .before .before .before .before .before .before .before .before .before .before .before .before .before .before .args .g)) (c .before .before .before .before .before .v .given .1) (c .before .before .before .before .before .before .before .before .before .before .before .run .ensures .1), c .before .before .before .before .before .before .before .before .before .before .before .before .before .before .before .before .before .before .before .before .before .before .pre .4 .sorted-fits))
+    let asked =
+    let at-8 = c .before .before .before .before .before .before .before .before in
+    let at-16 = at-8 .before .before .before .before .before .before .before .before in
+    (at-16 .before .before .before .before .before .before) .pre in
+    let args-2 =
+    let at-8 = c .before .before .before .before .before .before .before .before in
+    let at-16 = at-8 .before .before .before .before .before .before .before .before in
+    (at-16 .before .before .before .before .before .before) .args in
+    let run-there =
+    let at-8 = c .before .before .before .before .before .before .before .before in
+    (at-8 .before .before .before) .run in (
+      omega (arith, asked .7 .few, asked .8),
+      omega (arith, asked .10, asked .11),
+      omega (arith, asked .9, asked .11),
+      omega (
+        arith,
+        subst (Ended (args-2 .g)) (c .before .before .before .before .before .v .given .1) (run-there .ensures .1),
+        asked .4 .sorted-fits,
+      ),
+    )
 
 add-t23 : tie.Need-add-t23
-add-t23 c = omega (
-  arith,
-  c .before .before .before .before .before .before .before .before .before .before .before .before .before .before .before .before .before .before .before .before .before .before .before .before .before .pre .10,
-  c .before .before .before .before .before .before .before .before .before .before .before .before .before .before .before .before .before .before .before .before .before .before .before .before .before .pre .11,
-)
+add-t23 c =
+    let asked =
+    let at-8 = c .before .before .before .before .before .before .before .before in
+    let at-16 = at-8 .before .before .before .before .before .before .before .before in
+    let at-24 = at-16 .before .before .before .before .before .before .before .before in
+    (at-24 .before) .pre in
+    omega (
+      arith,
+      asked .10,
+      asked .11,
+    )
 
 enum-known-x : tie.Need-enum-known-x
 enum-known-x c = search needs
@@ -104,17 +147,31 @@ same-length-5 c = search needs
 
 returns-2 : tie.Need-returns-2
 returns-2 c =
-    let a = c .before .before .before .before .before .before .before .before .before .before .before .before .before .before .before .before .before .before .before .before .before .before .before .before .before .args in
+    let a =
+    let at-8 = c .before .before .before .before .before .before .before .before in
+    let at-16 = at-8 .before .before .before .before .before .before .before .before in
+    let at-24 = at-16 .before .before .before .before .before .before .before .before in
+    (at-24 .before) .args in
+    let r =
+    let at-8 = c .before .before .before .before .before .before .before .before in
+    (at-8 .before .before .before .before .before .before) .run in
+    let row-there =
+    let at-8 = c .before .before .before .before .before .before .before .before in
+    let at-16 = at-8 .before .before .before .before .before .before .before .before in
+    (at-16 .before .before) .row in
+    let P =
+    let at-8 = c .before .before .before .before .before .before .before .before in
+    let at-16 = at-8 .before .before .before .before .before .before .before .before in
+    let at-24 = at-16 .before .before .before .before .before .before .before .before in
+    (at-24 .before) .pre in
     let g = a .g in
     let S = stage-of g (a .level .now) (a .tables .now) (table-order (g .code) (table-of (g .r) (above-in (a .tables .now)))) in
     let W = strategy-of g (a .tables .now) (a .w) in
     let l : Lifted = (lifted-vectors (a .out .now) (a .i), a .used) in
-    let r = c .before .before .before .before .before .before .before .before .before .before .before .before .before .before .run in
-    let t : term-of (c .before .before .before .before .before .before .before .before .before .before .before .before .before .before .before .before .before .before .row .result) ≡ row-at (a .frame .now) (a .i) = c .before .before .before .before .before .before .before .before .before .before .before .before .before .before .before .before .before .before .row .ensures in
+    let t : term-of (row-there .result) ≡ row-at (a .frame .now) (a .i) = row-there .ensures in
     let came : (k : ℕ) × (outcome-of (r .result) (r .last .0) (r .last .1 .0) ≡ run S W k (row-at (a .frame .now) (a .i) .1)) =
     (r .ensures .0 .0, r .ensures .0 .1 ∙ ap (λ x. run S W (r .ensures .0 .0) (x .1)) t) in
     let v = c .before .before .before .before .before .before .before .before .v .given .0 .0 in
-    let P = c .before .before .before .before .before .before .before .before .before .before .before .before .before .before .before .before .before .before .before .before .before .before .before .before .before .pre in
     let room : a .used + v ≤ g .room = omega (arith, P .11) in
     let has : v * row-length ≤ length (r .last .0) = omega (
       arith,
@@ -147,14 +204,20 @@ same-length-7 c = search needs
 
 returns-3 : tie.Need-returns-3
 returns-3 c =
-    let a = c .before .before .before .before .before .before .before .before .before .before .before .before .before .before .before .before .before .before .args in
+    let a =
+    let at-8 = c .before .before .before .before .before .before .before .before in
+    let at-16 = at-8 .before .before .before .before .before .before .before .before in
+    (at-16 .before .before) .args in
+    let row-there =
+    let at-8 = c .before .before .before .before .before .before .before .before in
+    (at-8 .before .before .before) .row in
     let g = a .g in
     let S = stage-of g (a .level .now) (a .tables .now) (table-order (g .code) (table-of (g .r) (above-in (a .tables .now)))) in
     let W = strategy-of g (a .tables .now) (a .w) in
     let l : Lifted = (lifted-vectors (a .out .now) (a .i), a .used) in
     let r = c .before .before .before .before .before .before .before .run in
-    let t : term-of (c .before .before .before .before .before .before .before .before .before .before .before .row .result)
-    ≡ row-at (a .frame .now) (a .i) = c .before .before .before .before .before .before .before .before .before .before .before .row .ensures in
+    let t : term-of (row-there .result)
+    ≡ row-at (a .frame .now) (a .i) = row-there .ensures in
     let came : (k : ℕ) × (outcome-of (r .result) (r .last .0) (r .last .1 .0) ≡ run S W k (row-at (a .frame .now) (a .i) .1)) =
     (r .ensures .0 .0, r .ensures .0 .1 ∙ ap (λ x. run S W (r .ensures .0 .0) (x .1)) t) in (
       (
@@ -173,14 +236,20 @@ same-length-9 c = search needs
 
 returns-4 : tie.Need-returns-4
 returns-4 c =
-    let a = c .before .before .before .before .before .before .before .before .before .before .before .before .before .before .before .before .before .before .args in
+    let a =
+    let at-8 = c .before .before .before .before .before .before .before .before in
+    let at-16 = at-8 .before .before .before .before .before .before .before .before in
+    (at-16 .before .before) .args in
+    let row-there =
+    let at-8 = c .before .before .before .before .before .before .before .before in
+    (at-8 .before .before .before) .row in
     let g = a .g in
     let S = stage-of g (a .level .now) (a .tables .now) (table-order (g .code) (table-of (g .r) (above-in (a .tables .now)))) in
     let W = strategy-of g (a .tables .now) (a .w) in
     let l : Lifted = (lifted-vectors (a .out .now) (a .i), a .used) in
     let r = c .before .before .before .before .before .before .before .run in
-    let t : term-of (c .before .before .before .before .before .before .before .before .before .before .before .row .result)
-    ≡ row-at (a .frame .now) (a .i) = c .before .before .before .before .before .before .before .before .before .before .before .row .ensures in
+    let t : term-of (row-there .result)
+    ≡ row-at (a .frame .now) (a .i) = row-there .ensures in
     let came : (k : ℕ) × (outcome-of (r .result) (r .last .0) (r .last .1 .0) ≡ run S W k (row-at (a .frame .now) (a .i) .1)) =
     (r .ensures .0 .0, r .ensures .0 .1 ∙ ap (λ x. run S W (r .ensures .0 .0) (x .1)) t) in (
       (

@@ -34,7 +34,8 @@ same-length c = omega arith
 
 returns : tie.Need-returns Inv-loop μ-loop
 returns c =
-    let a = c .before .before .before .before .before .before .before .before .before .before .before .before .args in
+    let at-8 = c .before .before .before .before .before .before .before .before in
+    let a = at-8 .before .before .before .before .args in
     let l = c .before .before .before .before .before .before .before .before .loop in
     let R = reduction-of (a .g) (a .tables .now) in (
       sym (l .inv .3 ∙ adding-stops R (a .drops) (a .c) (a .q) (a .level .now) (l .i) (a .to) (rows (l .value) 0 (l .k)) (c .before .x2 .given .0 .0)
@@ -52,7 +53,8 @@ loop-less c = omega arith
 
 loop-again : tie.Need-loop-again Inv-loop μ-loop
 loop-again c =
-    let a = c .before .before .before .before .before .before .before .before .before .before .before .before .args in
+    let at-8 = c .before .before .before .before .before .before .before .before in
+    let a = at-8 .before .before .before .before .args in
     let l = c .before .before .before .before .before .before .before .before .loop in
     let R = reduction-of (a .g) (a .tables .now) in
     let k = c .before .x .given .0 .0 in (

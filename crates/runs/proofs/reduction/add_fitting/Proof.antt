@@ -44,19 +44,26 @@ returns c =
     )
 
 store-term-requires : tie.Need-store-term-requires
-store-term-requires c κs = (c .before .before .before .before .before .before .before .before .before .before .pre .0 .prime, omega arith, omega arith)
+store-term-requires c κs =
+    let at-8 = c .before .before .before .before .before .before .before .before in
+    (at-8 .before .before .pre .0 .prime, omega arith, omega arith)
 
 same-length : tie.Need-same-length
 same-length c = search needs
 
 returns-2 : tie.Need-returns-2
 returns-2 c =
-    let a = c .before .before .before .before .before .before .before .before .before .before .before .before .before .args in
+    let a =
+    let at-8 = c .before .before .before .before .before .before .before .before in
+    (at-8 .before .before .before .before .before) .args in
+    let if1-there =
+    let at-8 = c .before .before .before .before .before .before .before .before in
+    (at-8 .before .before) .if1 in
     let R = reduction-of (a .g) (a .tables .now) in
     let m = term-of (a .t) .1 in
     let v = rows (a .value .now) 0 (a .n) in (
       c .before .before .store-term .ensures .0 ∙ sym (ap (λ d. unless-dropped d R (term-of (a .t)) v)
-          (ap (λ b. dropped? R b m) (c .before .before .before .before .before .before .before .before .before .before .if1 .taken)
+          (ap (λ b. dropped? R b m) (if1-there .taken)
           ∙ not-dropped R m (c .before .before .before .before .before .found .given .0 .0)
           (c .before .before .before .before .before .found .given .0 .1 .0)
           (sym (c .before .before .before .before .before .found .given .1)

@@ -23,7 +23,8 @@ same-length c = search needs
 
 returns : tie.Need-returns
 returns c =
-    let a = c .before .before .before .before .before .before .before .before .before .before .args in
+    let at-8 = c .before .before .before .before .before .before .before .before in
+    let a = at-8 .before .before .args in
     let R = reduction-of (a .g) (a .tables .now) in
     let x = c .before .before .before .before .before .before .multiplied .result in
     let t = multiple (a .g .p) (a .c) (a .q) (row-at (a .level .now) (a .i)) in

@@ -50,34 +50,43 @@ enum-told : tie.Need-enum-told
 enum-told c = search needs
 
 without-reducer-requires : tie.Need-without-reducer-requires
-without-reducer-requires c κs = (
-  inside (c .before .before .before .before .before .before .before .before .before .before .before .before .args .value .now)
-      (c .before .before .before .before .before .before .before .before .before .before .before .before .args .n)
-      (order-of (c .before .before .before .before .before .before .before .before .before .before .before .before .args .g)
-      (c .before .before .before .before .before .before .before .before .before .before .before .before .args .tables .now))
-      (c .before .before .before .before .before .before .before .before .before .before .before .before .args .w .pick)
-      (c .before .before .before .before .before .before .pick .result) (c .before .before .before .before .before .before .pick .ensures),
-  omega (
-    arith,
-    c .before .before .before .before .before .before .before .before .before .before .before .before .pre .3 .value-fits,
-    c .before .before .before .before .before .before .before .before .before .before .before .before .pre .5,
-  ),
-)
+without-reducer-requires c κs =
+    let at-8 = c .before .before .before .before .before .before .before .before in (
+      inside (at-8 .before .before .before .before .args .value .now)
+          (at-8 .before .before .before .before .args .n)
+          (order-of (at-8 .before .before .before .before .args .g)
+          (at-8 .before .before .before .before .args .tables .now))
+          (at-8 .before .before .before .before .args .w .pick)
+          (c .before .before .before .before .before .before .pick .result) (c .before .before .before .before .before .before .pick .ensures),
+      omega (
+        arith,
+        at-8 .before .before .before .before .pre .3 .value-fits,
+        at-8 .before .before .before .before .pre .5,
+      ),
+    )
 
 same-length : tie.Need-same-length
 same-length c = search needs
 
 returns : tie.Need-returns
 returns c =
-    let a = c .before .before .before .before .before .before .before .before .before .before .before .before .before .before .before .args in
+    let a =
+    let at-8 = c .before .before .before .before .before .before .before .before in
+    (at-8 .before .before .before .before .before .before .before) .args in
+    let pick-there =
+    let at-8 = c .before .before .before .before .before .before .before .before in
+    (at-8 .before) .pick in
+    let asked =
+    let at-8 = c .before .before .before .before .before .before .before .before in
+    (at-8 .before .before .before .before .before .before .before) .pre in
     let g = a .g in
     let n = a .n in
     let W = strategy-of g (a .tables .now) (a .w) in
     let r = run-of (a .value .now) n (a .vector .now) (a .v) in
-    let i = c .before .before .before .before .before .before .before .before .before .pick .result in
+    let i = pick-there .result in
     let w = c .before .before .without-reducer in
     let l = inside (a .value .now) n (order-of g (a .tables .now)) (a .w .pick) i
-    (c .before .before .before .before .before .before .before .before .before .pick .ensures) in
+    (pick-there .ensures) in
     let told : lower-order ≡ answer (g .p) (rows (a .tables .now) 0 (g .r)) (getD (rows (a .value .now) 0 n) i no-term) =
     sym (ap (λ y. answered y (c .before .before .before .before .before .before .reducer-of .result .quotient))
     (c .before .before .before .before .enum-told .given .1)) ∙ c .before .before .before .before .before .before .reducer-of .ensures
@@ -85,12 +94,12 @@ returns c =
     ∙ sym (at-row (a .value .now) n i l)) in (
       λ above. (λ k. step-of (order-of g (a .tables .now)) (g .p) (w .ensures .0 k) (w .ensures .1 k) (a .vector .now))
           ∙ left-out (stage-of g (a .level .now) (a .tables .now) above) (a .value .now) n (a .vector .now) (a .v) i l
-          (omega (arith, c .before .before .before .before .before .before .before .before .before .before .before .before .before .before .before .pre .3 .value-fits, c .before .before .before .before .before .before .before .before .before .before .before .before .before .before .before .pre .5)) (a .w .stops)
+          (omega (arith, asked .3 .value-fits, asked .5)) (a .w .stops)
           ∙ step-without (stage-of g (a .level .now) (a .tables .now) above) W r i
-          (c .before .before .before .before .before .before .before .before .before .pick .ensures) told,
+          (pick-there .ensures) told,
       subst (Room g) (sym (w .ensures .0)) (without-room g n (a .v) (a .w .stops)
-          (c .before .before .before .before .before .before .before .before .before .before .before .before .before .before .before .pre .5)
-          (c .before .before .before .before .before .before .before .before .before .before .before .before .before .before .before .pre .6)),
+          (asked .5)
+          (asked .6)),
     )
 
 negative-requires : tie.Need-negative-requires
@@ -98,7 +107,12 @@ negative-requires c κs = search needs
 
 reduced-requires : tie.Need-reduced-requires
 reduced-requires c κs =
-    let a = c .before .before .before .before .before .before .before .before .before .before .before .before .before .before .before .before .args in
+    let a =
+    let at-8 = c .before .before .before .before .before .before .before .before in
+    (at-8 .before .before .before .before .before .before .before .before) .args in
+    let asked =
+    let at-8 = c .before .before .before .before .before .before .before .before in
+    (at-8 .before .before .before .before .before .before .before .before) .pre in
     let hs = rows (a .tables .now) 0 (a .g .r) in
     let b = reducer-number (a .g .p) hs (term-of (c .before .before .before .before .before .before .before .before .row .result))
     (c .before .before .before .before .before .answer .given .0 .0) (c .before .before .before .before .before .answer .given .0 .1 .0)
@@ -106,11 +120,11 @@ reduced-requires c κs =
     (sym (ap (λ y. answered y (c .before .before .before .before .before .before .before .reducer-of .result .quotient))
     (c .before .before .before .before .before .answer .given .1))
     ∙ c .before .before .before .before .before .before .before .reducer-of .ensures) in (
-      c .before .before .before .before .before .before .before .before .before .before .before .before .before .before .before .before .pre .0,
-      c .before .before .before .before .before .before .before .before .before .before .before .before .before .before .before .before .pre .1,
-      c .before .before .before .before .before .before .before .before .before .before .before .before .before .before .before .before .pre .3,
-      c .before .before .before .before .before .before .before .before .before .before .before .before .before .before .before .before .pre .5,
-      c .before .before .before .before .before .before .before .before .before .before .before .before .before .before .before .before .pre .6,
+      asked .0,
+      asked .1,
+      asked .3,
+      asked .5,
+      asked .6,
       b .0,
       omega (arith, b .1, length-rows (a .tables .now) 0 (a .g .r)),
     )
@@ -123,30 +137,45 @@ same-length-3 c = search needs
 
 returns-2 : tie.Need-returns-2
 returns-2 c =
-    let a = c .before .before .before .before .before .before .before .before .before .before .before .before .before .before .before .before .before .before .before .before .before .args in
+    let a =
+    let at-8 = c .before .before .before .before .before .before .before .before in
+    let at-16 = at-8 .before .before .before .before .before .before .before .before in
+    (at-16 .before .before .before .before .before) .args in
+    let pick-there =
+    let at-8 = c .before .before .before .before .before .before .before .before in
+    (at-8 .before .before .before .before .before .before .before) .pick in
+    let answer-there =
+    let at-8 = c .before .before .before .before .before .before .before .before in
+    (at-8 .before .before) .answer in
+    let reducer-of-there =
+    let at-8 = c .before .before .before .before .before .before .before .before in
+    (at-8 .before .before .before .before) .reducer-of in
+    let row-there =
+    let at-8 = c .before .before .before .before .before .before .before .before in
+    (at-8 .before .before .before .before .before) .row in
     let g = a .g in
     let n = a .n in
     let W = strategy-of g (a .tables .now) (a .w) in
     let r = run-of (a .value .now) n (a .vector .now) (a .v) in
-    let i = c .before .before .before .before .before .before .before .before .before .before .before .before .before .before .before .pick .result in
+    let i = pick-there .result in
     let d = c .before .before .before .before .reduced in
-    let j = c .before .before .before .before .before .before .before .before .before .before .answer .given .0 .0 in
-    let x = c .before .before .before .before .before .before .before .before .before .before .answer .given .0 .1 .0 in
-    let q = c .before .before .before .before .before .before .before .before .before .before .before .before .reducer-of .result .quotient in
+    let j = answer-there .given .0 .0 in
+    let x = answer-there .given .0 .1 .0 in
+    let q = reducer-of-there .result .quotient in
     let f = family-of g (a .level .now) (ends-in (a .tables .now)) in
     let R = reduction-of g (a .tables .now) in
     let l = inside (a .value .now) n (order-of g (a .tables .now)) (a .w .pick) i
-    (c .before .before .before .before .before .before .before .before .before .before .before .before .before .before .before .pick .ensures) in
+    (pick-there .ensures) in
     let told : reducer j x q ≡ answer (g .p) (rows (a .tables .now) 0 (g .r)) (getD (rows (a .value .now) 0 n) i no-term) =
-    sym (ap (λ y. answered y q) (c .before .before .before .before .before .before .before .before .before .before .answer .given .1))
-    ∙ c .before .before .before .before .before .before .before .before .before .before .before .before .reducer-of .ensures
+    sym (ap (λ y. answered y q) (answer-there .given .1))
+    ∙ reducer-of-there .ensures
     ∙ ap (answer (g .p) (rows (a .tables .now) 0 (g .r)))
-    (c .before .before .before .before .before .before .before .before .before .before .before .before .before .row .ensures
+    (row-there .ensures
     ∙ sym (at-row (a .value .now) n i l)) in (
       λ above. d .ensures .0 (order-of g (a .tables .now))
           ∙ ap (λ y. reduced-by R f (a .w .drops) r j y q) (c .before .before .before .before .before .before .before .negative .ensures)
           ∙ step-reduced (stage-of g (a .level .now) (a .tables .now) above) W r i
-          (c .before .before .before .before .before .before .before .before .before .before .before .before .before .before .before .pick .ensures)
+          (pick-there .ensures)
           j x q told,
       d .ensures .1,
     )

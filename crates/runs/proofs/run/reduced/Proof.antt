@@ -23,14 +23,15 @@ enum-known-k : tie.Need-enum-known-k
 enum-known-k c = search needs
 
 add-multiple-requires : tie.Need-add-multiple-requires
-add-multiple-requires c κs = (
-  c .before .before .before .before .before .before .before .before .before .before .before .before .pre .0,
-  c .before .before .before .before .before .before .before .before .before .before .before .before .pre .1,
-  omega arith,
-  c .before .before .before .before .before .before .before .before .before .before .before .before .pre .2 .value-fits,
-  omega arith,
-  omega arith,
-)
+add-multiple-requires c κs =
+    let at-8 = c .before .before .before .before .before .before .before .before in (
+      at-8 .before .before .before .before .pre .0,
+      at-8 .before .before .before .before .pre .1,
+      omega arith,
+      at-8 .before .before .before .before .pre .2 .value-fits,
+      omega arith,
+      omega arith,
+    )
 
 enum-known-m : tie.Need-enum-known-m
 enum-known-m c = search needs
@@ -49,14 +50,19 @@ same-length-2 c = search needs
 
 returns : tie.Need-returns
 returns c =
-    let a = c .before .before .before .before .before .before .before .before .before .before .before .before .before .before .before .before .before .before .args in
+    let a =
+    let at-8 = c .before .before .before .before .before .before .before .before in
+    let at-16 = at-8 .before .before .before .before .before .before .before .before in
+    (at-16 .before .before) .args in
+    let s =
+    let at-8 = c .before .before .before .before .before .before .before .before in
+    (at-8 .before .before .before .before) .store-term in
     let g = a .g in
     let R = reduction-of g (a .tables .now) in
     let f = family-of g (a .level .now) (ends-in (a .tables .now)) in
     let r = run-of (a .value .now) (a .n) (a .vector .now) (a .v) in
     let k = c .before .before .before .before .before .before .before .before .k .given .0 .0 in
     let m = c .before .m .given .0 .0 in
-    let s = c .before .before .before .before .before .before .before .before .before .before .before .before .store-term in
     let t = c .before .before .before .before .before .add-multiple in (
       λ order. both-added R f (a .drops) r (a .j) (a .c) (a .q) (rows (s .last .0) 0 k) (rows (t .last .0) 0 m)
           (sym (ap (λ y. added-of y (s .last .0)) (c .before .before .before .before .before .before .before .before .k .given .1)) ∙ s .ensures .0)
@@ -75,13 +81,18 @@ same-length-4 c = search needs
 
 returns-2 : tie.Need-returns-2
 returns-2 c =
-    let a = c .before .before .before .before .before .before .before .before .before .before .before .before .before .before .before .before .before .before .args in
+    let a =
+    let at-8 = c .before .before .before .before .before .before .before .before in
+    let at-16 = at-8 .before .before .before .before .before .before .before .before in
+    (at-16 .before .before) .args in
+    let s =
+    let at-8 = c .before .before .before .before .before .before .before .before in
+    (at-8 .before .before .before .before) .store-term in
     let g = a .g in
     let R = reduction-of g (a .tables .now) in
     let f = family-of g (a .level .now) (ends-in (a .tables .now)) in
     let r = run-of (a .value .now) (a .n) (a .vector .now) (a .v) in
     let k = c .before .before .before .before .before .before .before .before .k .given .0 .0 in
-    let s = c .before .before .before .before .before .before .before .before .before .before .before .before .store-term in
     let t = c .before .before .before .before .before .add-multiple in (
       λ order. products-refused R f (a .drops) r (a .j) (a .c) (a .q) (rows (s .last .0) 0 k) (c .before .x .given .0 .0)
           (sym (ap (λ y. added-of y (s .last .0)) (c .before .before .before .before .before .before .before .before .k .given .1)) ∙ s .ensures .0)
@@ -94,7 +105,8 @@ same-length-5 c = search needs
 
 returns-3 : tie.Need-returns-3
 returns-3 c =
-    let a = c .before .before .before .before .before .before .before .before .before .before .before .args in
+    let at-8 = c .before .before .before .before .before .before .before .before in
+    let a = at-8 .before .before .before .args in
     let g = a .g in
     let R = reduction-of g (a .tables .now) in
     let f = family-of g (a .level .now) (ends-in (a .tables .now)) in

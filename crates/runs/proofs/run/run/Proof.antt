@@ -34,7 +34,8 @@ same-length c = search needs
 
 returns : tie.Need-returns
 returns c =
-    let a = c .before .before .before .before .before .before .before .before .before .before .before .args in
+    let at-8 = c .before .before .before .before .before .before .before .before in
+    let a = at-8 .before .before .before .args in
     let g = a .g in
     let above = table-order (g .code) (table-of (g .r) (above-in (a .tables .now))) in
     let W = strategy-of g (a .tables .now) (a .w) in
@@ -45,19 +46,29 @@ returns c =
     )
 
 put-requires : tie.Need-put-requires
-put-requires c κs = omega (
-  arith,
-  c .before .before .before .before .before .before .before .before .before .before .before .before .pre .4 .vector-fits,
-  c .before .before .before .before .before .before .before .before .before .before .before .before .pre .5,
-)
+put-requires c κs =
+    let at-8 = c .before .before .before .before .before .before .before .before in
+    omega (
+      arith,
+      at-8 .before .before .before .before .pre .4 .vector-fits,
+      at-8 .before .before .before .before .pre .5,
+    )
 
 steps-requires : tie.Need-steps-requires
 steps-requires c κs =
-    let a = c .before .before .before .before .before .before .before .before .before .before .before .before .before .before .before .before .before .args in
+    let a =
+    let at-8 = c .before .before .before .before .before .before .before .before in
+    let at-16 = at-8 .before .before .before .before .before .before .before .before in
+    (at-16 .before) .args in
+    let P =
+    let at-8 = c .before .before .before .before .before .before .before .before in
+    let at-16 = at-8 .before .before .before .before .before .before .before .before in
+    (at-16 .before) .pre in
+    let s =
+    let at-8 = c .before .before .before .before .before .before .before .before in
+    (at-8 .before .before .before) .started in
     let g = a .g in
-    let P = c .before .before .before .before .before .before .before .before .before .before .before .before .before .before .before .before .before .pre in
     let W = strategy-of g (a .tables .now) (a .w) in
-    let s = c .before .before .before .before .before .before .before .before .before .before .before .started in
     let n = c .before .before .before .before .before .before .before .n .given .0 .0 in (
       P .0,
       P .1,
@@ -73,8 +84,15 @@ steps-requires c κs =
 
 sorted-requires : tie.Need-sorted-requires
 sorted-requires c κs =
-    let a = c .before .before .before .before .before .before .before .before .before .before .before .before .before .before .before .before .before .before .before .before .before .before .before .before .args in
-    let P = c .before .before .before .before .before .before .before .before .before .before .before .before .before .before .before .before .before .before .before .before .before .before .before .before .pre in (
+    let a =
+    let at-8 = c .before .before .before .before .before .before .before .before in
+    let at-16 = at-8 .before .before .before .before .before .before .before .before in
+    (at-16 .before .before .before .before .before .before .before .before) .args in
+    let asked =
+    let at-8 = c .before .before .before .before .before .before .before .before in
+    let at-16 = at-8 .before .before .before .before .before .before .before .before in
+    (at-16 .before .before .before .before .before .before .before .before) .pre in
+    let P = asked in (
       P .0,
       P .2,
       P .3,
@@ -91,23 +109,44 @@ same-length-3 c = search needs
 
 returns-2 : tie.Need-returns-2
 returns-2 c =
-    let a = c .before .before .before .before .before .before .before .before .before .before .before .before .before .before .before .before .before .before .before .before .before .before .before .before .before .before .before .before .before .args in
+    let a =
+    let at-8 = c .before .before .before .before .before .before .before .before in
+    let at-16 = at-8 .before .before .before .before .before .before .before .before in
+    let at-24 = at-16 .before .before .before .before .before .before .before .before in
+    (at-24 .before .before .before .before .before) .args in
+    let s =
+    let at-8 = c .before .before .before .before .before .before .before .before in
+    let at-16 = at-8 .before .before .before .before .before .before .before .before in
+    (at-16 .before .before .before .before .before .before .before) .started in
+    let n-there =
+    let at-8 = c .before .before .before .before .before .before .before .before in
+    let at-16 = at-8 .before .before .before .before .before .before .before .before in
+    (at-16 .before .before .before) .n in
+    let steps-there =
+    let at-8 = c .before .before .before .before .before .before .before .before in
+    (at-8 .before .before .before) .steps in
+    let p =
+    let at-8 = c .before .before .before .before .before .before .before .before in
+    (at-8 .before .before .before .before .before .before .before .before) .put in
+    let asked =
+    let at-8 = c .before .before .before .before .before .before .before .before in
+    let at-16 = at-8 .before .before .before .before .before .before .before .before in
+    let at-24 = at-16 .before .before .before .before .before .before .before .before in
+    (at-24 .before .before .before .before .before) .pre in
     let g = a .g in
     let above = table-order (g .code) (table-of (g .r) (above-in (a .tables .now))) in
     let W = strategy-of g (a .tables .now) (a .w) in
     let m = monomial-of (a .m) in
-    let s = c .before .before .before .before .before .before .before .before .before .before .before .before .before .before .before .before .before .before .before .before .before .before .before .started in
-    let n = c .before .before .before .before .before .before .before .before .before .before .before .before .before .before .before .before .before .before .before .n .given .0 .0 in
-    let t = c .before .before .before .before .before .before .before .before .before .before .before .steps .ensures .0 above in
-    let p = c .before .before .before .before .before .before .before .before .before .before .before .before .before .before .before .before .put in
+    let n = n-there .given .0 .0 in
+    let t = steps-there .ensures .0 above in
     let one : rows (p .last .0) 0 1 ≡ (1, m) ∷ [] =
     ap (λ z. rows z 0 1) (p .ensures .0) ∙ rows-appended (a .vector .now) 0 (1, m)
-    (omega (arith, c .before .before .before .before .before .before .before .before .before .before .before .before .before .before .before .before .before .before .before .before .before .before .before .before .before .before .before .before .before .pre .4 .vector-fits, c .before .before .before .before .before .before .before .before .before .before .before .before .before .before .before .before .before .before .before .before .before .before .before .before .before .before .before .before .before .pre .5)) (p .ensures .1) ∙ ap (λ v. v ++ (1, m) ∷ []) (rows-none (a .vector .now) 0) in (
+    (omega (arith, asked .4 .vector-fits, asked .5)) (p .ensures .1) ∙ ap (λ v. v ++ (1, m) ∷ []) (rows-none (a .vector .now) 0) in (
       from-start (stage-of g (a .level .now) (a .tables .now) above) W m (rows (s .last .0) 0 n) (rows (p .last .0) 0 1)
           (outcome-of (c .before .before .before .before .sorted .result) (c .before .before .before .before .sorted .last .0)
           (c .before .before .before .before .sorted .last .1 .0))
           (sym (ap (λ y. added-of y (s .last .0))
-          (c .before .before .before .before .before .before .before .before .before .before .before .before .before .before .before .before .before .before .before .n .given .1)) ∙ s .ensures .0) one (t .0, c .before .before .before .before .sorted .ensures .0 ∙ t .1),
+          (n-there .given .1)) ∙ s .ensures .0) one (t .0, c .before .before .before .before .sorted .ensures .0 ∙ t .1),
       c .before .before .before .before .sorted .ensures .1,
     )
 

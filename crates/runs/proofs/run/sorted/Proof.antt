@@ -22,23 +22,24 @@ part-sort-end : tie.Need-part-sort-end
 part-sort-end c = search needs
 
 sort-requires : tie.Need-sort-requires
-sort-requires c κs = (
-  c .before .before .before .before .before .before .before .before .before .pre .0 .prime,
-  omega (
-    arith,
-    c .before .before .before .before .before .before .before .before .before .pre .3 .vector-fits,
-    subst (Ended (c .before .before .before .before .before .before .before .before .before .args .g)) (c .before .before .before .before .x .given .1)
-        (c .before .before .before .before .before .before .before .before .before .pre .4),
-  ),
-  omega (
-    arith,
-    c .before .before .before .before .before .before .before .before .before .pre .3 .sorted-fits,
-    subst (Ended (c .before .before .before .before .before .before .before .before .before .args .g)) (c .before .before .before .before .x .given .1)
-        (c .before .before .before .before .before .before .before .before .before .pre .4),
-  ),
-  c .before .before .before .before .before .before .before .before .before .pre .2 .fits,
-  c .before .before .before .before .before .before .before .before .before .pre .2 .tabled,
-)
+sort-requires c κs =
+    let at-8 = c .before .before .before .before .before .before .before .before in (
+      at-8 .before .pre .0 .prime,
+      omega (
+        arith,
+        at-8 .before .pre .3 .vector-fits,
+        subst (Ended (at-8 .before .args .g)) (c .before .before .before .before .x .given .1)
+            (at-8 .before .pre .4),
+      ),
+      omega (
+        arith,
+        at-8 .before .pre .3 .sorted-fits,
+        subst (Ended (at-8 .before .args .g)) (c .before .before .before .before .x .given .1)
+            (at-8 .before .pre .4),
+      ),
+      at-8 .before .pre .2 .fits,
+      at-8 .before .pre .2 .tabled,
+    )
 
 enum-known-x-2 : tie.Need-enum-known-x-2
 enum-known-x-2 c = search needs
@@ -56,23 +57,24 @@ part-sort-end-2 : tie.Need-part-sort-end-2
 part-sort-end-2 c = search needs
 
 sort-requires-2 : tie.Need-sort-requires-2
-sort-requires-2 c κs = (
-  c .before .before .before .before .before .before .before .before .before .pre .0 .prime,
-  omega (
-    arith,
-    c .before .before .before .before .before .before .before .before .before .pre .3 .value-fits,
-    subst (Ended (c .before .before .before .before .before .before .before .before .before .args .g)) (c .before .before .before .before .x3 .given .1)
-        (c .before .before .before .before .before .before .before .before .before .pre .4),
-  ),
-  omega (
-    arith,
-    c .before .before .before .before .before .before .before .before .before .pre .3 .left-fits,
-    subst (Ended (c .before .before .before .before .before .before .before .before .before .args .g)) (c .before .before .before .before .x3 .given .1)
-        (c .before .before .before .before .before .before .before .before .before .pre .4),
-  ),
-  c .before .before .before .before .before .before .before .before .before .pre .1 .fits,
-  c .before .before .before .before .before .before .before .before .before .pre .1 .tabled,
-)
+sort-requires-2 c κs =
+    let at-8 = c .before .before .before .before .before .before .before .before in (
+      at-8 .before .pre .0 .prime,
+      omega (
+        arith,
+        at-8 .before .pre .3 .value-fits,
+        subst (Ended (at-8 .before .args .g)) (c .before .before .before .before .x3 .given .1)
+            (at-8 .before .pre .4),
+      ),
+      omega (
+        arith,
+        at-8 .before .pre .3 .left-fits,
+        subst (Ended (at-8 .before .args .g)) (c .before .before .before .before .x3 .given .1)
+            (at-8 .before .pre .4),
+      ),
+      at-8 .before .pre .1 .fits,
+      at-8 .before .pre .1 .tabled,
+    )
 
 same-length : tie.Need-same-length
 same-length c = search needs
@@ -82,7 +84,8 @@ same-length-2 c = search needs
 
 returns : tie.Need-returns
 returns c =
-    let a = c .before .before .before .before .before .before .before .before .before .before .before .before .args in
+    let at-8 = c .before .before .before .before .before .before .before .before in
+    let a = at-8 .before .before .before .before .args in
     let g = a .g in
     let order = order-of g (a .tables .now) in
     let above = table-order (g .code) (table-of (g .r) (above-in (a .tables .now))) in
@@ -94,7 +97,7 @@ returns c =
         sorted-rows above (g .p) (s .last .0) (s .result) (a .vector .now)
             (c .before .before .before .before .before .before .before .x .given .0 .0) (s .ensures),
         subst (Ended g) (c .before .before .before .before .before .before .before .x .given .1)
-            (c .before .before .before .before .before .before .before .before .before .before .before .before .pre .4),
+            (at-8 .before .before .before .before .pre .4),
       ),
     )
 
@@ -114,7 +117,8 @@ same-length-4 c = search needs
 
 returns-3 : tie.Need-returns-3
 returns-3 c =
-    let a = c .before .before .before .before .before .before .before .before .before .before .before .before .args in
+    let at-8 = c .before .before .before .before .before .before .before .before in
+    let a = at-8 .before .before .before .before .args in
     let g = a .g in
     let order = order-of g (a .tables .now) in
     let above = table-order (g .code) (table-of (g .r) (above-in (a .tables .now))) in
@@ -126,7 +130,7 @@ returns-3 c =
         sorted-rows order (g .p) (s .last .0) (s .result) (a .value .now)
             (c .before .before .before .before .before .before .before .x3 .given .0 .0) (s .ensures),
         subst (Ended g) (c .before .before .before .before .before .before .before .x3 .given .1)
-            (c .before .before .before .before .before .before .before .before .before .before .before .before .pre .4),
+            (at-8 .before .before .before .before .pre .4),
       ),
     )
 

@@ -27,7 +27,8 @@ same-length c = search needs
 
 returns : tie.Need-returns
 returns c =
-    let a = c .before .before .before .before .before .before .before .before .before .args in
+    let at-8 = c .before .before .before .before .before .before .before .before in
+    let a = at-8 .before .args in
     let m = monomial-of (a .m) in (
       c .before .before .add-multiple .ensures .0 ∙ ap (add-products (reduction-of (a .g) (a .tables .now)) (a .drops) 1 (m .0)
           (definition.vector-of (family-of (a .g) (a .level .now) (ends-in (a .tables .now))) (m .1))) (rows-none (a .value .now) 0),

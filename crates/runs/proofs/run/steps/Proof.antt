@@ -64,9 +64,16 @@ enum-known-x c = omega arith
 
 loop-less : tie.Need-loop-less Inv-loop μ-loop
 loop-less c =
-    let a = c .before .before .before .before .before .before .before .before .before .before .before .before .before .before .before .before .args in
+    let a =
+    let at-8 = c .before .before .before .before .before .before .before .before in
+    (at-8 .before .before .before .before .before .before .before .before) .args in
+    let l =
+    let at-8 = c .before .before .before .before .before .before .before .before in
+    (at-8 .before .before .before) .loop in
+    let asked =
+    let at-8 = c .before .before .before .before .before .before .before .before in
+    (at-8 .before .before .before .before .before .before .before .before) .pre in
     let g = a .g in
-    let l = c .before .before .before .before .before .before .before .before .before .before .before .loop in
     let order = order-of g (a .tables .now) in
     let W = strategy-of g (a .tables .now) (a .w) in
     let r = run-of (l .value) (l .n) (l .vector) (l .v) in
@@ -77,13 +84,20 @@ loop-less c =
     let r′ = run-of (s .last .0) n (s .last .1 .1 .0) v in
     let told : (above : Monomial → Monomial → Comparison) → done (on r′) ≡ step (stage-of g (a .level .now) (a .tables .now) above) W r =
     λ above. sym (ap (λ y. step-of order (g .p) y (s .last .0) (s .last .1 .1 .0)) (c .before .x .given .1)) ∙ s .ensures .0 above in
-    step-falls-as S (c .before .before .before .before .before .before .before .before .before .before .before .before .before .before .before .before .pre .6) W refl refl refl (picks-by-code order (a .w .pick)) r r′ (l .inv .4) (sym (told order))
+    step-falls-as S (asked .6) W refl refl refl (picks-by-code order (a .w .pick)) r r′ (l .inv .4) (sym (told order))
 
 loop-again : tie.Need-loop-again Inv-loop μ-loop
 loop-again c =
-    let a = c .before .before .before .before .before .before .before .before .before .before .before .before .before .before .before .before .args in
+    let a =
+    let at-8 = c .before .before .before .before .before .before .before .before in
+    (at-8 .before .before .before .before .before .before .before .before) .args in
+    let l =
+    let at-8 = c .before .before .before .before .before .before .before .before in
+    (at-8 .before .before .before) .loop in
+    let asked =
+    let at-8 = c .before .before .before .before .before .before .before .before in
+    (at-8 .before .before .before .before .before .before .before .before) .pre in
     let g = a .g in
-    let l = c .before .before .before .before .before .before .before .before .before .before .before .loop in
     let order = order-of g (a .tables .now) in
     let W = strategy-of g (a .tables .now) (a .w) in
     let r = run-of (l .value) (l .n) (l .vector) (l .v) in
@@ -99,7 +113,7 @@ loop-again c =
       room .1,
       omega (arith, l .inv .2),
       omega (arith, l .inv .3),
-      step-keeps S (c .before .before .before .before .before .before .before .before .before .before .before .before .before .before .before .before .pre .6) W (picks-by-code order (a .w .pick)) r r′ (l .inv .4) (sym (told order)),
+      step-keeps S (asked .6) W (picks-by-code order (a .w .pick)) r r′ (l .inv .4) (sym (told order)),
       λ above. reached-on (stage-of g (a .level .now) (a .tables .now) above) W (run-of (a .value .now) (a .start) (a .vector .now) (a .first)) r r′
           (l .inv .5 above) (told above),
     )
@@ -108,16 +122,24 @@ enum-known-x-2 : tie.Need-enum-known-x-2 Inv-loop μ-loop
 enum-known-x-2 c = omega arith
 
 same-length : tie.Need-same-length Inv-loop μ-loop
-same-length c = omega (arith, c .before .before .before .before .before .before .before .before .before .before .before .loop .inv .2)
+same-length c =
+    let at-8 = c .before .before .before .before .before .before .before .before in
+    omega (arith, at-8 .before .before .before .loop .inv .2)
 
 same-length-2 : tie.Need-same-length-2 Inv-loop μ-loop
-same-length-2 c = omega (arith, c .before .before .before .before .before .before .before .before .before .before .before .loop .inv .3)
+same-length-2 c =
+    let at-8 = c .before .before .before .before .before .before .before .before in
+    omega (arith, at-8 .before .before .before .loop .inv .3)
 
 returns : tie.Need-returns Inv-loop μ-loop
 returns c =
-    let a = c .before .before .before .before .before .before .before .before .before .before .before .before .before .before .before .before .args in
+    let a =
+    let at-8 = c .before .before .before .before .before .before .before .before in
+    (at-8 .before .before .before .before .before .before .before .before) .args in
+    let l =
+    let at-8 = c .before .before .before .before .before .before .before .before in
+    (at-8 .before .before .before) .loop in
     let g = a .g in
-    let l = c .before .before .before .before .before .before .before .before .before .before .before .loop in
     let order = order-of g (a .tables .now) in
     let W = strategy-of g (a .tables .now) (a .w) in
     let r = run-of (l .value) (l .n) (l .vector) (l .v) in
@@ -133,16 +155,24 @@ enum-known-x-3 : tie.Need-enum-known-x-3 Inv-loop μ-loop
 enum-known-x-3 c = omega arith
 
 same-length-3 : tie.Need-same-length-3 Inv-loop μ-loop
-same-length-3 c = omega (arith, c .before .before .before .before .before .before .before .before .before .before .before .loop .inv .2)
+same-length-3 c =
+    let at-8 = c .before .before .before .before .before .before .before .before in
+    omega (arith, at-8 .before .before .before .loop .inv .2)
 
 same-length-4 : tie.Need-same-length-4 Inv-loop μ-loop
-same-length-4 c = omega (arith, c .before .before .before .before .before .before .before .before .before .before .before .loop .inv .3)
+same-length-4 c =
+    let at-8 = c .before .before .before .before .before .before .before .before in
+    omega (arith, at-8 .before .before .before .loop .inv .3)
 
 returns-2 : tie.Need-returns-2 Inv-loop μ-loop
 returns-2 c =
-    let a = c .before .before .before .before .before .before .before .before .before .before .before .before .before .before .before .before .args in
+    let a =
+    let at-8 = c .before .before .before .before .before .before .before .before in
+    (at-8 .before .before .before .before .before .before .before .before) .args in
+    let l =
+    let at-8 = c .before .before .before .before .before .before .before .before in
+    (at-8 .before .before .before) .loop in
     let g = a .g in
-    let l = c .before .before .before .before .before .before .before .before .before .before .before .loop in
     let order = order-of g (a .tables .now) in
     let W = strategy-of g (a .tables .now) (a .w) in
     let r = run-of (l .value) (l .n) (l .vector) (l .v) in

@@ -36,14 +36,28 @@ same-length-2 c = search needs
 
 returns-5 : tie.Need-returns-5
 returns-5 c =
-    let a = c .before .before .before .before .before .before .before .before .before .before .before .before .before .before .before .before .args in
+    let a =
+    let at-8 = c .before .before .before .before .before .before .before .before in
+    (at-8 .before .before .before .before .before .before .before .before) .args in
+    let if1-there =
+    let at-8 = c .before .before .before .before .before .before .before .before in
+    (at-8 .before .before .before .before) .if1 in
+    let if2-there =
+    let at-8 = c .before .before .before .before .before .before .before .before in
+    (at-8 .before .before .before) .if2 in
+    let if3-there =
+    let at-8 = c .before .before .before .before .before .before .before .before in
+    (at-8 .before .before) .if3 in
+    let if4-there =
+    let at-8 = c .before .before .before .before .before .before .before .before in
+    (at-8 .before) .if4 in
     let x = c .before .before .before .before .before .before .form in
     tells-frame (x .result) (x .last .0) (c .tell .result) (c .tell .last .1 .0) (c .tell .ensures) ∙ x .ensures .0
     ∙ long-enough (a .d .now) (a .limit) (a .c .now) (a .heads .now) (a .r) (a .code)
-    (c .before .before .before .before .before .before .before .before .before .before .before .before .if1 .left)
-    (c .before .before .before .before .before .before .before .before .before .before .before .if2 .left)
-    (c .before .before .before .before .before .before .before .before .before .before .if3 .left)
-    (c .before .before .before .before .before .before .before .before .before .if4 .left)
+    (if1-there .left)
+    (if2-there .left)
+    (if3-there .left)
+    (if4-there .left)
 
 pub frames-form-spec : {M : Type 1} → statement M
 frames-form-spec =

@@ -48,7 +48,8 @@ loop-less c = omega arith
 
 loop-again : tie.Need-loop-again Inv-loop μ-loop
 loop-again c =
-    let a = c .before .before .before .before .before .before .before .before .before .args in
+    let at-8 = c .before .before .before .before .before .before .before .before in
+    let a = at-8 .before .args in
     let l = c .before .before .before .before .before .loop in (
       omega (arith, c .mark-lower .ensures .1),
       omega arith,

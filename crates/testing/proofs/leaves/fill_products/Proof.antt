@@ -31,7 +31,9 @@ loop-less : tie.Need-loop-less Inv-loop μ-loop
 loop-less c = omega arith
 
 loop-again : tie.Need-loop-again Inv-loop μ-loop
-loop-again c = let a = c .before .before .before .before .before .before .before .before .before .args in let l =
+loop-again c =
+    let at-8 = c .before .before .before .before .before .before .before .before in
+    let a = at-8 .before .args in let l =
     c .before .before .before .before .before .before .loop in (
       omega arith,
       omega (arith, l .inv .1),

@@ -33,7 +33,8 @@ fill-leads-requires c κs =
 
 count-of-requires : tie.Need-count-of-requires
 count-of-requires c κs =
-    let a = c .before .before .before .before .before .before .before .before .before .args in
+    let at-8 = c .before .before .before .before .before .before .before .before in
+    let a = at-8 .before .args in
     let S = a .state .now in
     let e = sym (c .before .before .before .before .before .before .ready .ensures) ∙ c .before .before .before .before .before .if1 .taken in
     let t = ready-said S (a .k) (a .s .now) (a .n) e in
@@ -42,7 +43,8 @@ count-of-requires c κs =
 
 components-of-requires : tie.Need-components-of-requires
 components-of-requires c κs =
-    let a = c .before .before .before .before .before .before .before .before .before .before .args in
+    let at-8 = c .before .before .before .before .before .before .before .before in
+    let a = at-8 .before .before .args in
     let S = a .state .now in
     let e = sym (c .before .before .before .before .before .before .before .ready .ensures)
     ∙ c .before .before .before .before .before .before .if1 .taken in
@@ -52,7 +54,8 @@ components-of-requires c κs =
 
 add-c : tie.Need-add-c
 add-c c =
-    let a = c .before .before .before .before .before .before .before .before .before .before .before .args in
+    let at-8 = c .before .before .before .before .before .before .before .before in
+    let a = at-8 .before .before .before .args in
     let S = a .state .now in
     let e = sym (c .before .before .before .before .before .before .before .before .ready .ensures)
     ∙ c .before .before .before .before .before .before .before .if1 .taken in
@@ -67,10 +70,18 @@ slice-aggregate-count-lower-2 c = search needs
 
 count-lower-requires : tie.Need-count-lower-requires
 count-lower-requires c κs =
-    let a = c .before .before .before .before .before .before .before .before .before .before .before .before .before .args in
+    let a =
+    let at-8 = c .before .before .before .before .before .before .before .before in
+    (at-8 .before .before .before .before .before) .args in
+    let ready-there =
+    let at-8 = c .before .before .before .before .before .before .before .before in
+    (at-8 .before .before) .ready in
+    let if1-there =
+    let at-8 = c .before .before .before .before .before .before .before .before in
+    (at-8 .before) .if1 in
     let S = a .state .now in
-    let e = sym (c .before .before .before .before .before .before .before .before .before .before .ready .ensures)
-    ∙ c .before .before .before .before .before .before .before .before .before .if1 .taken in
+    let e = sym (ready-there .ensures)
+    ∙ if1-there .taken in
     let t = ready-said S (a .k) (a .s .now) (a .n) e in
     let l = led-spans S (a .k) (c .before .before .before .count-of .result) (c .before .before .components-of .result)
     (c .before .before .before .before .before .before .fill-leads .last .0)
@@ -85,10 +96,18 @@ count-lower-requires c κs =
 
 returns : tie.Need-returns
 returns c =
-    let a = c .before .before .before .before .before .before .before .before .before .before .before .before .before .before .args in
+    let a =
+    let at-8 = c .before .before .before .before .before .before .before .before in
+    (at-8 .before .before .before .before .before .before) .args in
+    let ready-there =
+    let at-8 = c .before .before .before .before .before .before .before .before in
+    (at-8 .before .before .before) .ready in
+    let if1-there =
+    let at-8 = c .before .before .before .before .before .before .before .before in
+    (at-8 .before .before) .if1 in
     let S = a .state .now in
-    let e = sym (c .before .before .before .before .before .before .before .before .before .before .before .ready .ensures)
-    ∙ c .before .before .before .before .before .before .before .before .before .before .if1 .taken in
+    let e = sym (ready-there .ensures)
+    ∙ if1-there .taken in
     let t = ready-said S (a .k) (a .s .now) (a .n) e in
     c .count-lower .ensures ∙ ap (λ v. counted (λ i. lower-mark (searched v (row-at (a .s .now) i .1))) (a .n))
     (ap (rows (c .before .before .before .before .before .before .before .fill-leads .last .0) 0)

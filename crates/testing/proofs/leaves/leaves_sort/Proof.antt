@@ -51,7 +51,8 @@ fill-tables-requires c κs =
 
 count-of-requires : tie.Need-count-of-requires
 count-of-requires c κs =
-    let a = c .before .before .before .before .before .before .before .before .before .before .before .args in
+    let at-8 = c .before .before .before .before .before .before .before .before in
+    let a = at-8 .before .before .before .args in
     let S = a .state .now in
     let e = sym (c .before .before .before .before .before .before .ready .ensures) ∙ c .before .before .before .before .before .if2 .taken in
     let t = ready-said S (a .k) (a .s .now) (a .n) e in
@@ -60,7 +61,9 @@ count-of-requires c κs =
 
 shared-slice-read-code : tie.Need-shared-slice-read-code
 shared-slice-read-code c =
-    let a = c .before .before .before .before .before .before .before .before .before .before .before .before .before .args in
+    let a =
+    let at-8 = c .before .before .before .before .before .before .before .before in
+    (at-8 .before .before .before .before .before) .args in
     let S = a .state .now in
     let e = sym (c .before .before .before .before .before .before .before .before .ready .ensures)
     ∙ c .before .before .before .before .before .before .before .if2 .taken in
@@ -69,9 +72,14 @@ shared-slice-read-code c =
 
 shared-slice-read-p : tie.Need-shared-slice-read-p
 shared-slice-read-p c =
-    let a = c .before .before .before .before .before .before .before .before .before .before .before .before .before .before .args in
+    let a =
+    let at-8 = c .before .before .before .before .before .before .before .before in
+    (at-8 .before .before .before .before .before .before) .args in
+    let ready-there =
+    let at-8 = c .before .before .before .before .before .before .before .before in
+    (at-8 .before) .ready in
     let S = a .state .now in
-    let e = sym (c .before .before .before .before .before .before .before .before .before .ready .ensures)
+    let e = sym (ready-there .ensures)
     ∙ c .before .before .before .before .before .before .before .before .if2 .taken in
     let t = ready-said S (a .k) (a .s .now) (a .n) e in
     omega (arith, t .long)
@@ -81,10 +89,21 @@ slice-aggregate-sort c = search needs
 
 sort-requires : tie.Need-sort-requires
 sort-requires c κs =
-    let a = c .before .before .before .before .before .before .before .before .before .before .before .before .before .before .before .before .args in
+    let a =
+    let at-8 = c .before .before .before .before .before .before .before .before in
+    (at-8 .before .before .before .before .before .before .before .before) .args in
+    let ready-there =
+    let at-8 = c .before .before .before .before .before .before .before .before in
+    (at-8 .before .before .before) .ready in
+    let if2-there =
+    let at-8 = c .before .before .before .before .before .before .before .before in
+    (at-8 .before .before) .if2 in
+    let if1-there =
+    let at-8 = c .before .before .before .before .before .before .before .before in
+    (at-8 .before .before .before .before) .if1 in
     let S = a .state .now in
-    let e = sym (c .before .before .before .before .before .before .before .before .before .before .before .ready .ensures)
-    ∙ c .before .before .before .before .before .before .before .before .before .before .if2 .taken in
+    let e = sym (ready-there .ensures)
+    ∙ if2-there .taken in
     let t = ready-said S (a .k) (a .s .now) (a .n) e in
     let h = height S (t .long) (t .sound) in
     let m : a .k < all-levels = omega (arith, t .level, h) in
@@ -93,7 +112,7 @@ sort-requires c κs =
     (c .before .before .before .before .before .before .before .fill-tables .ensures) in (
       omega (arith, prime-above S (t .long) (t .sound)),
       omega (arith, t .enough),
-      omega (arith, c .before .before .before .before .before .before .before .before .before .before .before .before .if1 .left),
+      omega (arith, if1-there .left),
       omega (arith, l .few, c .before .before .before .before .count-of .ensures),
       table-bounded S (a .k) (c .before .before .before .before .count-of .result)
           (c .before .before .before .before .before .before .before .fill-tables .last .1 .0) m
@@ -105,19 +124,34 @@ same-length c = search needs
 
 returns-2 : tie.Need-returns-2
 returns-2 c =
-    let a = c .before .before .before .before .before .before .before .before .before .before .before .before .before .before .before .before .before .before .before .args in
+    let a =
+    let at-8 = c .before .before .before .before .before .before .before .before in
+    let at-16 = at-8 .before .before .before .before .before .before .before .before in
+    (at-16 .before .before .before) .args in
+    let ready-there =
+    let at-8 = c .before .before .before .before .before .before .before .before in
+    (at-8 .before .before .before .before .before .before) .ready in
+    let if2-there =
+    let at-8 = c .before .before .before .before .before .before .before .before in
+    (at-8 .before .before .before .before .before) .if2 in
+    let fill-tables-there =
+    let at-8 = c .before .before .before .before .before .before .before .before in
+    (at-8 .before .before) .fill-tables in
+    let if1-there =
+    let at-8 = c .before .before .before .before .before .before .before .before in
+    (at-8 .before .before .before .before .before .before .before) .if1 in
     let S = a .state .now in
-    let e = sym (c .before .before .before .before .before .before .before .before .before .before .before .before .before .before .ready .ensures)
-    ∙ c .before .before .before .before .before .before .before .before .before .before .before .before .before .if2 .taken in
+    let e = sym (ready-there .ensures)
+    ∙ if2-there .taken in
     let t = ready-said S (a .k) (a .s .now) (a .n) e in
-    let l = table-ready S (a .k) (c .before .before .before .before .before .before .before .before .before .before .fill-tables .last .0)
-    (c .before .before .before .before .before .before .before .before .before .before .fill-tables .last .1 .0)
-    (c .before .before .before .before .before .before .before .before .before .before .fill-tables .ensures) in
+    let l = table-ready S (a .k) (fill-tables-there .last .0)
+    (fill-tables-there .last .1 .0)
+    (fill-tables-there .ensures) in
     c .before .before .sort .ensures ∙ ap (λ x. descending (table-order (getD S 2 0) x) (getD S 0 0) (rows (a .s .now) 0 (a .n)))
-    (ap (λ m. table-of m (c .before .before .before .before .before .before .before .before .before .before .fill-tables .last .1 .0))
+    (ap (λ m. table-of m (fill-tables-there .last .1 .0))
     (c .before .before .before .before .before .before .before .count-of .ensures) ∙ l .made)
     ∙ sym (λ i. choose (le-ltb (length (a .d .now) / row-length) (a .n)
-    (c .before .before .before .before .before .before .before .before .before .before .before .before .before .before .before .if1 .left) i) []
+    (if1-there .left) i) []
     (choose (e i) (descending (table-order (getD S 2 0) (images (levels-at document-01 S (suc (a .k))))) (getD S 0 0) (rows (a .s .now) 0 (a .n)))
     []))
 

@@ -36,9 +36,10 @@ sub-lift-level-2 c = search needs
 
 lift-level-requires-2 : tie.Need-lift-level-requires-2
 lift-level-requires-2 c κs =
-    let a = c .before .before .before .before .before .before .before .before .before .args in
+    let at-8 = c .before .before .before .before .before .before .before .before in
+    let a = at-8 .before .args in
     let s = a .state .now in
-    let P = c .before .before .before .before .before .before .before .before .before .pre in
+    let P = at-8 .before .pre in
     let h : value-length ≤ length (a .work .now) = subst (λ x. work-words document-01 (way-of x) ≤ length (a .work .now))
     (c .before .before .before .way .given .1) (P .4) in
     (P .0, omega (arith, P .3), h, P .5)
@@ -51,9 +52,10 @@ sub-lift-level-3 c = search needs
 
 lift-level-requires-3 : tie.Need-lift-level-requires-3
 lift-level-requires-3 c κs =
-    let a = c .before .before .before .before .before .before .before .before .before .args in
+    let at-8 = c .before .before .before .before .before .before .before .before in
+    let a = at-8 .before .args in
     let s = a .state .now in
-    let P = c .before .before .before .before .before .before .before .before .before .pre in
+    let P = at-8 .before .pre in
     let h : tree-length ≤ length (a .work .now) = subst (λ x. work-words document-01 (way-of x) ≤ length (a .work .now))
     (c .before .before .before .enum-told2 .given .1) (P .4) in
     (P .0, P .3, h, P .5)
@@ -66,9 +68,13 @@ same-length-2 c = search needs
 
 returns : tie.Need-returns
 returns c =
-    let a = c .before .before .before .before .before .before .before .before .before .before .before .before .before .args in
+    let a =
+    let at-8 = c .before .before .before .before .before .before .before .before in
+    (at-8 .before .before .before .before .before) .args in
+    let P =
+    let at-8 = c .before .before .before .before .before .before .before .before in
+    (at-8 .before .before .before .before .before) .pre in
     let s = a .state .now in
-    let P = c .before .before .before .before .before .before .before .before .before .before .before .before .before .pre in
     let L = c .before .before .before .before .lift-level in
     subst (λ x. ((n : ℕ) × (v : Words) × (leveled-of (L .result) (L .last .0) v ≡ lifted-within (a .b) s (a .k) (way-of x) (a .cache .now) n))
     × Stored-as (L .result) (L .last .0)) (sym (c .before .before .before .before .before .before .before .enum-told .given .1))
@@ -82,9 +88,13 @@ same-length-4 c = search needs
 
 returns-2 : tie.Need-returns-2
 returns-2 c =
-    let a = c .before .before .before .before .before .before .before .before .before .before .before .before .before .before .args in
+    let a =
+    let at-8 = c .before .before .before .before .before .before .before .before in
+    (at-8 .before .before .before .before .before .before) .args in
+    let P =
+    let at-8 = c .before .before .before .before .before .before .before .before in
+    (at-8 .before .before .before .before .before .before) .pre in
     let s = a .state .now in
-    let P = c .before .before .before .before .before .before .before .before .before .before .before .before .before .before .pre in
     let L = c .before .before .before .before .lift-level2 in
     subst (λ x. ((n : ℕ) × (v : Words) × (leveled-of (L .result) (L .last .0) v ≡ lifted-within (a .b) s (a .k) (way-of x) (a .cache .now) n))
     × Stored-as (L .result) (L .last .0)) (sym (c .before .before .before .before .before .before .before .before .way .given .1))
@@ -101,13 +111,20 @@ same-length-7 c = search needs
 
 returns-3 : tie.Need-returns-3
 returns-3 c =
-    let a = c .before .before .before .before .before .before .before .before .before .before .before .before .before .before .before .before .args in
+    let a =
+    let at-8 = c .before .before .before .before .before .before .before .before in
+    (at-8 .before .before .before .before .before .before .before .before) .args in
+    let P =
+    let at-8 = c .before .before .before .before .before .before .before .before in
+    (at-8 .before .before .before .before .before .before .before .before) .pre in
+    let enum-told2-there =
+    let at-8 = c .before .before .before .before .before .before .before .before in
+    (at-8 .before .before) .enum-told2 in
     let s = a .state .now in
-    let P = c .before .before .before .before .before .before .before .before .before .before .before .before .before .before .before .before .pre in
     let L = c .before .before .before .before .before .before .lift-level3 in
     subst (λ x. ((n : ℕ) × (v : Words) × (leveled-of (L .result) (L .last .0) v ≡ lifted-within (a .b) s (a .k) (way-of x) (a .cache .now) n))
     × Stored-as (L .result) (L .last .0))
-    (sym (c .before .before .before .before .before .before .before .before .before .before .enum-told2 .given .1))
+    (sym (enum-told2-there .given .1))
     ((0, [], L .ensures .0), L .ensures .1)
 
 pub lift-by-spec : {M : Type 1} → statement M

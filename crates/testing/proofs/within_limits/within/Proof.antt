@@ -34,7 +34,8 @@ returns-4 c =
 
 returns-5 : tie.Need-returns-5
 returns-5 c =
-    let b = c .before .before .before .before .before .before .before .before .before .args .b in
+    let at-8 = c .before .before .before .before .before .before .before .before in
+    let b = at-8 .before .args .b in
     sym (λ i. le-leb (b .working) most-terms (omega arith) i and le-leb (b .vector) most-terms (omega arith) i and le-leb 1 (b .vector) (omega arith) i
     and le-leb (b .tree) most-tree-terms (omega arith) i and leb (b .room) most-rows)
 

@@ -36,8 +36,9 @@ held-requires c κs =
 
 add-rows-requires : tie.Need-add-rows-requires
 add-rows-requires c κs =
-    let a = c .before .before .before .before .before .before .before .before .before .before .args in
-    let P = c .before .before .before .before .before .before .before .before .before .before .pre in
+    let at-8 = c .before .before .before .before .before .before .before .before in
+    let a = at-8 .before .before .args in
+    let P = at-8 .before .before .pre in
     let g = a .g in
     let z = subst (Sized 0 (g .tree) (a .room)) (c .before .before .before .s .given .1) (P .5) in (
       P .0 .prime,
@@ -61,24 +62,27 @@ enum-known-s-2 c = search needs
 
 sub-held : tie.Need-sub-held
 sub-held c =
-    let a = c .before .before .before .before .before .before .before .before .before .args in
-    let P = c .before .before .before .before .before .before .before .before .before .pre in
+    let at-8 = c .before .before .before .before .before .before .before .before in
+    let a = at-8 .before .args in
+    let P = at-8 .before .pre in
     let g = a .g in
     let z = subst (Sized 0 (g .tree) (a .room)) (c .before .before .s2 .given .1) (P .5) in
     omega (arith, z .0)
 
 held-requires-2 : tie.Need-held-requires-2
 held-requires-2 c κs =
-    let a = c .before .before .before .before .before .before .before .before .before .args in
-    let P = c .before .before .before .before .before .before .before .before .before .pre in
+    let at-8 = c .before .before .before .before .before .before .before .before in
+    let a = at-8 .before .args in
+    let P = at-8 .before .pre in
     let g = a .g in
     let z = subst (Sized 0 (g .tree) (a .room)) (c .before .before .s2 .given .1) (P .5) in
     omega (arith, z .0, P .3)
 
 add-rows-requires-2 : tie.Need-add-rows-requires-2
 add-rows-requires-2 c κs =
-    let a = c .before .before .before .before .before .before .before .before .before .before .before .args in
-    let P = c .before .before .before .before .before .before .before .before .before .before .before .pre in
+    let at-8 = c .before .before .before .before .before .before .before .before in
+    let a = at-8 .before .before .before .args in
+    let P = at-8 .before .before .before .pre in
     let g = a .g in
     let z = subst (Sized 0 (g .tree) (a .room)) (c .before .before .before .before .s2 .given .1) (P .5) in (
       P .0 .prime,
@@ -105,8 +109,12 @@ same-length c = search needs
 
 returns : tie.Need-returns
 returns c =
-    let a = c .before .before .before .before .before .before .before .before .before .before .before .before .before .before .args in
-    let P = c .before .before .before .before .before .before .before .before .before .before .before .before .before .before .pre in
+    let a =
+    let at-8 = c .before .before .before .before .before .before .before .before in
+    (at-8 .before .before .before .before .before .before) .args in
+    let P =
+    let at-8 = c .before .before .before .before .before .before .before .before in
+    (at-8 .before .before .before .before .before .before) .pre in
     let g = a .g in
     let z = subst (Sized 0 (g .tree) (a .room)) (c .before .before .before .before .before .before .before .s .given .1) (P .5) in
     let O = table-order (g .code) (table-of (g .r) (above-in (a .tables .now))) in
@@ -126,8 +134,12 @@ same-length-2 c = search needs
 
 returns-2 : tie.Need-returns-2
 returns-2 c =
-    let a = c .before .before .before .before .before .before .before .before .before .before .before .before .before .before .before .args in
-    let P = c .before .before .before .before .before .before .before .before .before .before .before .before .before .before .before .pre in
+    let a =
+    let at-8 = c .before .before .before .before .before .before .before .before in
+    (at-8 .before .before .before .before .before .before .before) .args in
+    let P =
+    let at-8 = c .before .before .before .before .before .before .before .before in
+    (at-8 .before .before .before .before .before .before .before) .pre in
     let g = a .g in
     let z = subst (Sized 0 (g .tree) (a .room)) (c .before .before .before .before .before .before .before .before .s2 .given .1) (P .5) in
     let O = table-order (g .code) (table-of (g .r) (above-in (a .tables .now))) in

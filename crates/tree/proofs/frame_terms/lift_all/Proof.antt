@@ -53,8 +53,9 @@ loop-holds c =
 
 lift-one-requires : tie.Need-lift-one-requires Inv-loop μ-loop
 lift-one-requires c κs =
-    let a = c .before .before .before .before .before .before .before .before .before .before .before .args in
-    let P = c .before .before .before .before .before .before .before .before .before .before .before .pre in
+    let at-8 = c .before .before .before .before .before .before .before .before in
+    let a = at-8 .before .before .before .args in
+    let P = at-8 .before .before .before .pre in
     let g = a .g in
     let S : Stage = stage-of g (a .level .now) (a .tables .now) (table-order (g .code) (table-of (g .r) (above-in (a .tables .now)))) in
     let l = c .before .before .before .before .loop in
@@ -85,39 +86,73 @@ enum-known-x : tie.Need-enum-known-x Inv-loop μ-loop
 enum-known-x c = omega arith
 
 same-length : tie.Need-same-length Inv-loop μ-loop
-same-length c = omega (
-  arith,
-  c .before .before .before .before .before .before .before .before .before .lift-one .kept .0,
-  c .before .before .before .before .before .before .before .before .before .before .before .before .before .before .loop .inv .3,
-)
+same-length c =
+    let lift-one-there =
+    let at-8 = c .before .before .before .before .before .before .before .before in
+    (at-8 .before) .lift-one in
+    let loop-there =
+    let at-8 = c .before .before .before .before .before .before .before .before in
+    (at-8 .before .before .before .before .before .before) .loop in
+    omega (
+      arith,
+      lift-one-there .kept .0,
+      loop-there .inv .3,
+    )
 
 same-length-2 : tie.Need-same-length-2 Inv-loop μ-loop
-same-length-2 c = omega (
-  arith,
-  c .before .before .before .before .before .before .before .before .before .lift-one .kept .1 .1 .1 .0,
-  c .before .before .before .before .before .before .before .before .before .before .before .before .before .before .loop .inv .4,
-)
+same-length-2 c =
+    let lift-one-there =
+    let at-8 = c .before .before .before .before .before .before .before .before in
+    (at-8 .before) .lift-one in
+    let loop-there =
+    let at-8 = c .before .before .before .before .before .before .before .before in
+    (at-8 .before .before .before .before .before .before) .loop in
+    omega (
+      arith,
+      lift-one-there .kept .1 .1 .1 .0,
+      loop-there .inv .4,
+    )
 
 same-length-3 : tie.Need-same-length-3 Inv-loop μ-loop
-same-length-3 c = omega (
-  arith,
-  c .before .before .before .before .before .before .before .before .before .lift-one .kept .1 .1 .1 .1 .1 .1 .0,
-  c .before .before .before .before .before .before .before .before .before .before .before .before .before .before .loop .inv .5,
-)
+same-length-3 c =
+    let lift-one-there =
+    let at-8 = c .before .before .before .before .before .before .before .before in
+    (at-8 .before) .lift-one in
+    let loop-there =
+    let at-8 = c .before .before .before .before .before .before .before .before in
+    (at-8 .before .before .before .before .before .before) .loop in
+    omega (
+      arith,
+      lift-one-there .kept .1 .1 .1 .1 .1 .1 .0,
+      loop-there .inv .5,
+    )
 
 returns : tie.Need-returns Inv-loop μ-loop
 returns c =
-    let a = c .before .before .before .before .before .before .before .before .before .before .before .before .before .before .before .before .before .before .before .before .before .args in
-    let P = c .before .before .before .before .before .before .before .before .before .before .before .before .before .before .before .before .before .before .before .before .before .pre in
+    let a =
+    let at-8 = c .before .before .before .before .before .before .before .before in
+    let at-16 = at-8 .before .before .before .before .before .before .before .before in
+    (at-16 .before .before .before .before .before) .args in
+    let P =
+    let at-8 = c .before .before .before .before .before .before .before .before in
+    let at-16 = at-8 .before .before .before .before .before .before .before .before in
+    (at-16 .before .before .before .before .before) .pre in
+    let l =
+    let at-8 = c .before .before .before .before .before .before .before .before in
+    (at-8 .before .before .before .before .before .before) .loop in
+    let lo =
+    let at-8 = c .before .before .before .before .before .before .before .before in
+    (at-8 .before) .lift-one in
+    let loop-test-there =
+    let at-8 = c .before .before .before .before .before .before .before .before in
+    (at-8 .before .before .before .before .before) .loop-test in
     let g = a .g in
     let S : Stage = stage-of g (a .level .now) (a .tables .now) (table-order (g .code) (table-of (g .r) (above-in (a .tables .now)))) in
-    let l = c .before .before .before .before .before .before .before .before .before .before .before .before .before .before .loop in
     let room = length (a .cache .now) / row-length in
-    let lo = c .before .before .before .before .before .before .before .before .before .lift-one in
     let before : Lifted = (lifted-vectors (l .out) (l .i), l .used) in
     let K = cache-of (l .u) (l .cache) in
     let inside : l .i < a .count =
-    omega (arith, c .before .before .before .before .before .before .before .before .before .before .before .before .before .loop-test .taken) in (
+    omega (arith, loop-test-there .taken) in (
       (sym (l .inv .7 ∙ all-refused S room (a .frame .now) (a .count) (l .i) before K inside (lo .result) (lo .last .0) (lo .last .1 .1 .1 .0)
           (lo .ensures .0) (c .before .x .given .0 .0) (c .before .x .given .1))),
       tt,
@@ -125,31 +160,52 @@ returns c =
     )
 
 add-i : tie.Need-add-i Inv-loop μ-loop
-add-i c = omega (
-  arith,
-  c .before .before .before .before .before .before .before .before .before .before .before .before .before .before .before .before .before .before .before .before .before .pre .3 .few,
-  c .before .before .before .before .before .before .before .before .before .before .before .before .before .loop-test .taken,
-)
+add-i c =
+    let asked =
+    let at-8 = c .before .before .before .before .before .before .before .before in
+    let at-16 = at-8 .before .before .before .before .before .before .before .before in
+    (at-16 .before .before .before .before .before) .pre in
+    let loop-test-there =
+    let at-8 = c .before .before .before .before .before .before .before .before in
+    (at-8 .before .before .before .before .before) .loop-test in
+    omega (
+      arith,
+      asked .3 .few,
+      loop-test-there .taken,
+    )
 
 loop-less : tie.Need-loop-less Inv-loop μ-loop
 loop-less c = omega arith
 
 loop-again : tie.Need-loop-again Inv-loop μ-loop
 loop-again c =
-    let a = c .before .before .before .before .before .before .before .before .before .before .before .before .before .before .before .before .before .before .before .before .before .args in
-    let P = c .before .before .before .before .before .before .before .before .before .before .before .before .before .before .before .before .before .before .before .before .before .pre in
+    let a =
+    let at-8 = c .before .before .before .before .before .before .before .before in
+    let at-16 = at-8 .before .before .before .before .before .before .before .before in
+    (at-16 .before .before .before .before .before) .args in
+    let P =
+    let at-8 = c .before .before .before .before .before .before .before .before in
+    let at-16 = at-8 .before .before .before .before .before .before .before .before in
+    (at-16 .before .before .before .before .before) .pre in
+    let l =
+    let at-8 = c .before .before .before .before .before .before .before .before in
+    (at-8 .before .before .before .before .before .before) .loop in
+    let lo =
+    let at-8 = c .before .before .before .before .before .before .before .before in
+    (at-8 .before) .lift-one in
+    let loop-test-there =
+    let at-8 = c .before .before .before .before .before .before .before .before in
+    (at-8 .before .before .before .before .before) .loop-test in
     let g = a .g in
     let S : Stage = stage-of g (a .level .now) (a .tables .now) (table-order (g .code) (table-of (g .r) (above-in (a .tables .now)))) in
-    let l = c .before .before .before .before .before .before .before .before .before .before .before .before .before .before .loop in
     let room = length (a .cache .now) / row-length in
-    let lo = c .before .before .before .before .before .before .before .before .before .lift-one in
     let before : Lifted = (lifted-vectors (l .out) (l .i), l .used) in
     let K = cache-of (l .u) (l .cache) in
     let inside : l .i < a .count =
-    omega (arith, c .before .before .before .before .before .before .before .before .before .before .before .before .before .loop-test .taken) in
+    omega (arith, loop-test-there .taken) in
     let b = c .before .v .given .1 in
     let now = subst (λ y. After g (l .i) (length (a .cache .now) / row-length) y (lo .last .0)) b (lo .ensures .1) in (
-      omega (arith, c .before .before .before .before .before .before .before .before .before .before .before .before .before .loop-test .taken),
+      omega (arith, loop-test-there .taken),
       now .0,
       now .1,
       omega (arith, lo .kept .0, l .inv .3),

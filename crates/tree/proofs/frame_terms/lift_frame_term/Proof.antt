@@ -27,8 +27,12 @@ rows-of-requires c κs = search needs
 
 lift-vector-requires : tie.Need-lift-vector-requires
 lift-vector-requires c κs =
-    let a = c .before .before .before .before .before .before .before .before .before .before .before .before .before .before .before .args in
-    let P = c .before .before .before .before .before .before .before .before .before .before .before .before .before .before .before .pre in
+    let a =
+    let at-8 = c .before .before .before .before .before .before .before .before in
+    (at-8 .before .before .before .before .before .before .before) .args in
+    let P =
+    let at-8 = c .before .before .before .before .before .before .before .before in
+    (at-8 .before .before .before .before .before .before .before) .pre in
     let g = a .g in
     let pl = c .before .before .before .before .before .place in
     let ro = c .before .before .before .before .rows-of in (
@@ -50,13 +54,25 @@ same-length-3 c = search needs
 
 returns : tie.Need-returns
 returns c =
-    let a = c .before .before .before .before .before .before .before .before .before .before .before .before .before .before .before .before .before .before .before .before .before .before .args in
-    let P = c .before .before .before .before .before .before .before .before .before .before .before .before .before .before .before .before .before .before .before .before .before .before .pre in
+    let a =
+    let at-8 = c .before .before .before .before .before .before .before .before in
+    let at-16 = at-8 .before .before .before .before .before .before .before .before in
+    (at-16 .before .before .before .before .before .before) .args in
+    let P =
+    let at-8 = c .before .before .before .before .before .before .before .before in
+    let at-16 = at-8 .before .before .before .before .before .before .before .before in
+    (at-16 .before .before .before .before .before .before) .pre in
+    let pl =
+    let at-8 = c .before .before .before .before .before .before .before .before in
+    (at-8 .before .before .before .before) .place in
+    let ro =
+    let at-8 = c .before .before .before .before .before .before .before .before in
+    (at-8 .before .before .before) .rows-of in
+    let pt =
+    let at-8 = c .before .before .before .before .before .before .before .before in
+    (at-8 .before .before .before .before .before .before .before) .put in
     let g = a .g in
     let S : Stage = stage-of g (a .level .now) (a .tables .now) (table-order (g .code) (table-of (g .r) (above-in (a .tables .now)))) in
-    let pl = c .before .before .before .before .before .before .before .before .before .before .before .before .place in
-    let ro = c .before .before .before .before .before .before .before .before .before .before .before .rows-of in
-    let pt = c .before .before .before .before .before .before .before .before .before .before .before .before .before .before .before .put in
     let lv = c .before .before .before .before .before .before .lift-vector in
     let m = monomial-of (a .m) in
     let one : Term = (1, m) in

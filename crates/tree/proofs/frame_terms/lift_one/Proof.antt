@@ -58,8 +58,9 @@ part-lift-frame-term-end c = search needs
 
 lift-frame-term-requires : tie.Need-lift-frame-term-requires
 lift-frame-term-requires c κs =
-    let a = c .before .before .before .before .before .before .before .before .before .before .before .before .args in
-    let P = c .before .before .before .before .before .before .before .before .before .before .before .before .pre in
+    let at-8 = c .before .before .before .before .before .before .before .before in
+    let a = at-8 .before .before .before .before .args in
+    let P = at-8 .before .before .before .before .pre in
     let g = a .g in
     let row = c .before .before .before .before .before .row in
     let f = frame-component g (a .count) (a .frame .now) (a .i) (term-of (row .result)) (P .2) (P .3) (row .ensures) in (
@@ -78,10 +79,15 @@ enum-known-s : tie.Need-enum-known-s
 enum-known-s c = search needs
 
 sub-if1 : tie.Need-sub-if1
-sub-if1 c = omega (
-  arith,
-  c .before .before .before .before .before .before .before .before .before .before .before .before .before .before .before .before .before .before .before .before .before .before .before .pre .6,
-)
+sub-if1 c =
+    let asked =
+    let at-8 = c .before .before .before .before .before .before .before .before in
+    let at-16 = at-8 .before .before .before .before .before .before .before .before in
+    (at-16 .before .before .before .before .before .before .before) .pre in
+    omega (
+      arith,
+      asked .6,
+    )
 
 same-length : tie.Need-same-length
 same-length c = search needs
@@ -94,12 +100,23 @@ same-length-3 c = search needs
 
 returns : tie.Need-returns
 returns c =
-    let a = c .before .before .before .before .before .before .before .before .before .before .before .before .before .before .before .before .before .before .before .before .before .before .before .before .args in
-    let P = c .before .before .before .before .before .before .before .before .before .before .before .before .before .before .before .before .before .before .before .before .before .before .before .before .pre in
+    let a =
+    let at-8 = c .before .before .before .before .before .before .before .before in
+    let at-16 = at-8 .before .before .before .before .before .before .before .before in
+    (at-16 .before .before .before .before .before .before .before .before) .args in
+    let P =
+    let at-8 = c .before .before .before .before .before .before .before .before in
+    let at-16 = at-8 .before .before .before .before .before .before .before .before in
+    (at-16 .before .before .before .before .before .before .before .before) .pre in
+    let lf =
+    let at-8 = c .before .before .before .before .before .before .before .before in
+    (at-8 .before .before .before) .lift-frame-term in
+    let row =
+    let at-8 = c .before .before .before .before .before .before .before .before in
+    let at-16 = at-8 .before .before .before .before .before .before .before .before in
+    (at-16 .before) .row in
     let g = a .g in
     let S : Stage = stage-of g (a .level .now) (a .tables .now) (table-order (g .code) (table-of (g .r) (above-in (a .tables .now)))) in
-    let lf = c .before .before .before .before .before .before .before .before .before .before .before .lift-frame-term in
-    let row = c .before .before .before .before .before .before .before .before .before .before .before .before .before .before .before .before .before .row in
     let K = cache-of (a .u) (a .cache .now) in
     let l : Lifted = (lifted-vectors (a .out .now) (a .i), a .used) in
     let m′ = monomial-of (row .result .monomial) in
@@ -111,34 +128,57 @@ returns c =
     )
 
 add-out : tie.Need-add-out
-add-out c = omega (
-  arith,
-  c .before .before .before .before .before .before .before .before .before .before .before .before .before .before .before .before .before .before .before .before .before .before .before .before .pre .5,
-  c .before .before .before .before .before .before .before .before .before .before .before .before .before .before .before .before .before .before .before .before .before .before .before .before .pre .6,
-  c .if1 .left,
-)
+add-out c =
+    let asked =
+    let at-8 = c .before .before .before .before .before .before .before .before in
+    let at-16 = at-8 .before .before .before .before .before .before .before .before in
+    (at-16 .before .before .before .before .before .before .before .before) .pre in
+    omega (
+      arith,
+      asked .5,
+      asked .6,
+      c .if1 .left,
+    )
 
 cast-out : tie.Need-cast-out
-cast-out c = omega (
-  arith,
-  c .before .before .before .before .before .before .before .before .before .before .before .before .before .before .before .before .before .before .before .before .before .before .before .before .pre .5,
-  c .before .before .before .before .before .before .before .before .before .before .before .before .before .before .before .before .before .before .before .before .before .before .before .before .pre .6,
-  c .if1 .left,
-)
+cast-out c =
+    let asked =
+    let at-8 = c .before .before .before .before .before .before .before .before in
+    let at-16 = at-8 .before .before .before .before .before .before .before .before in
+    (at-16 .before .before .before .before .before .before .before .before) .pre in
+    omega (
+      arith,
+      asked .5,
+      asked .6,
+      c .if1 .left,
+    )
 
 mul-out : tie.Need-mul-out
-mul-out c = omega (
-  arith,
-  c .before .before .before .before .before .before .before .before .before .before .before .before .before .before .before .before .before .before .before .before .before .before .before .before .pre .2 .few,
-  c .before .before .before .before .before .before .before .before .before .before .before .before .before .before .before .before .before .before .before .before .before .before .before .before .pre .3,
-)
+mul-out c =
+    let asked =
+    let at-8 = c .before .before .before .before .before .before .before .before in
+    let at-16 = at-8 .before .before .before .before .before .before .before .before in
+    (at-16 .before .before .before .before .before .before .before .before) .pre in
+    omega (
+      arith,
+      asked .2 .few,
+      asked .3,
+    )
 
 slice-write-out : tie.Need-slice-write-out
 slice-write-out c =
-    let a = c .before .before .before .before .before .before .before .before .before .before .before .before .before .before .before .before .before .before .before .before .before .before .before .before .args in
-    let P = c .before .before .before .before .before .before .before .before .before .before .before .before .before .before .before .before .before .before .before .before .before .before .before .before .pre in
+    let a =
+    let at-8 = c .before .before .before .before .before .before .before .before in
+    let at-16 = at-8 .before .before .before .before .before .before .before .before in
+    (at-16 .before .before .before .before .before .before .before .before) .args in
+    let P =
+    let at-8 = c .before .before .before .before .before .before .before .before in
+    let at-16 = at-8 .before .before .before .before .before .before .before .before in
+    (at-16 .before .before .before .before .before .before .before .before) .pre in
+    let lf =
+    let at-8 = c .before .before .before .before .before .before .before .before in
+    (at-8 .before .before .before) .lift-frame-term in
     let g = a .g in
-    let lf = c .before .before .before .before .before .before .before .before .before .before .before .lift-frame-term in
     let order : a .used * row-length + ends-length ≤ a .used * row-length + ends-length + g .vector * row-length = omega arith in
     let room : a .used * row-length + ends-length + g .vector * row-length ≤ length (a .out .now) = omega (arith, P .4, P .6) in
     let long : length (lf .last .0) ≡ a .used * row-length + ends-length + g .vector * row-length - (a .used * row-length + ends-length) = lf .kept .0
@@ -154,12 +194,17 @@ slice-write-out c =
     )
 
 add-t31 : tie.Need-add-t31
-add-t31 c = omega (
-  arith,
-  c .before .before .before .before .before .before .before .before .before .before .before .before .before .before .before .before .before .before .before .before .before .before .before .before .pre .5,
-  c .before .before .before .before .before .before .before .before .before .before .before .before .before .before .before .before .before .before .before .before .before .before .before .before .pre .6,
-  c .if1 .left,
-)
+add-t31 c =
+    let asked =
+    let at-8 = c .before .before .before .before .before .before .before .before in
+    let at-16 = at-8 .before .before .before .before .before .before .before .before in
+    (at-16 .before .before .before .before .before .before .before .before) .pre in
+    omega (
+      arith,
+      asked .5,
+      asked .6,
+      c .if1 .left,
+    )
 
 enum-known-s-2 : tie.Need-enum-known-s-2
 enum-known-s-2 c = search needs
@@ -175,12 +220,23 @@ same-length-6 c = search needs
 
 returns-2 : tie.Need-returns-2
 returns-2 c =
-    let a = c .before .before .before .before .before .before .before .before .before .before .before .before .before .before .before .before .before .before .before .before .before .before .before .before .args in
-    let P = c .before .before .before .before .before .before .before .before .before .before .before .before .before .before .before .before .before .before .before .before .before .before .before .before .pre in
+    let a =
+    let at-8 = c .before .before .before .before .before .before .before .before in
+    let at-16 = at-8 .before .before .before .before .before .before .before .before in
+    (at-16 .before .before .before .before .before .before .before .before) .args in
+    let P =
+    let at-8 = c .before .before .before .before .before .before .before .before in
+    let at-16 = at-8 .before .before .before .before .before .before .before .before in
+    (at-16 .before .before .before .before .before .before .before .before) .pre in
+    let lf =
+    let at-8 = c .before .before .before .before .before .before .before .before in
+    (at-8 .before .before .before) .lift-frame-term in
+    let row =
+    let at-8 = c .before .before .before .before .before .before .before .before in
+    let at-16 = at-8 .before .before .before .before .before .before .before .before in
+    (at-16 .before) .row in
     let g = a .g in
     let S : Stage = stage-of g (a .level .now) (a .tables .now) (table-order (g .code) (table-of (g .r) (above-in (a .tables .now)))) in
-    let lf = c .before .before .before .before .before .before .before .before .before .before .before .lift-frame-term in
-    let row = c .before .before .before .before .before .before .before .before .before .before .before .before .before .before .before .before .before .row in
     let K = cache-of (a .u) (a .cache .now) in
     let l : Lifted = (lifted-vectors (a .out .now) (a .i), a .used) in
     let m′ = monomial-of (row .result .monomial) in
@@ -217,12 +273,22 @@ same-length-9 c = search needs
 
 returns-3 : tie.Need-returns-3
 returns-3 c =
-    let a = c .before .before .before .before .before .before .before .before .before .before .before .before .before .before .before .before .before .before .before .before .before .before .args in
-    let P = c .before .before .before .before .before .before .before .before .before .before .before .before .before .before .before .before .before .before .before .before .before .before .pre in
+    let a =
+    let at-8 = c .before .before .before .before .before .before .before .before in
+    let at-16 = at-8 .before .before .before .before .before .before .before .before in
+    (at-16 .before .before .before .before .before .before) .args in
+    let P =
+    let at-8 = c .before .before .before .before .before .before .before .before in
+    let at-16 = at-8 .before .before .before .before .before .before .before .before in
+    (at-16 .before .before .before .before .before .before) .pre in
+    let lf =
+    let at-8 = c .before .before .before .before .before .before .before .before in
+    (at-8 .before) .lift-frame-term in
+    let row =
+    let at-8 = c .before .before .before .before .before .before .before .before in
+    (at-8 .before .before .before .before .before .before .before) .row in
     let g = a .g in
     let S : Stage = stage-of g (a .level .now) (a .tables .now) (table-order (g .code) (table-of (g .r) (above-in (a .tables .now)))) in
-    let lf = c .before .before .before .before .before .before .before .before .before .lift-frame-term in
-    let row = c .before .before .before .before .before .before .before .before .before .before .before .before .before .before .before .row in
     let K = cache-of (a .u) (a .cache .now) in
     let l : Lifted = (lifted-vectors (a .out .now) (a .i), a .used) in
     let m′ = monomial-of (row .result .monomial) in

@@ -140,10 +140,11 @@ lift-list-lift-term-requires : (t : ℕ) → lift-list-lts.Need-lift-term-requir
   add-subtree-reads.Learnt,
 ) (lift-list-at t) lift-list.Post lift-list-Inv-loop lift-list-μ-loop
 lift-list-lift-term-requires t c κs =
-    let a = c .before .before .before .before .before .before .before .before .before .before .before .before .args in
-    let P = c .before .before .before .before .before .before .before .before .before .before .before .before .pre .1 in
+    let at-8 = c .before .before .before .before .before .before .before .before in
+    let a = at-8 .before .before .before .before .args in
+    let P = at-8 .before .before .before .before .pre .1 in
     let l = c .before .before .before .before .before .before .before .loop in (
-      omega (arith, c .before .before .before .before .before .before .before .before .before .before .before .before .pre .0),
+      omega (arith, at-8 .before .before .before .before .pre .0),
       (
         lent-again (a .g) (a .used) (l .v) (a .room) (a .cache .now) (l .cache) (a .work .now) (l .work) (a .level .now) (a .tables .now) (P .0)
             (l .inv .1) (l .inv .2) (l .inv .3),
@@ -160,8 +161,14 @@ lift-list-add-subtree-requires : (t : ℕ) → lift-list-lts.Need-add-subtree-re
   add-subtree-reads.Learnt,
 ) (lift-list-at t) lift-list.Post lift-list-Inv-loop lift-list-μ-loop
 lift-list-add-subtree-requires t c κs =
-    let P = c .before .before .before .before .before .before .before .before .before .before .before .before .before .before .before .before .before .before .before .pre .1 in
-    let l = c .before .before .before .before .before .before .before .before .before .before .before .before .before .before .loop in
+    let asked =
+    let at-8 = c .before .before .before .before .before .before .before .before in
+    let at-16 = at-8 .before .before .before .before .before .before .before .before in
+    (at-16 .before .before .before) .pre in
+    let l =
+    let at-8 = c .before .before .before .before .before .before .before .before in
+    (at-8 .before .before .before .before .before .before) .loop in
+    let P = asked .1 in
     let lt = c .before .before .before .before .before .before .lift-term in (
       P .0 .tables,
       l .inv .0,
@@ -199,11 +206,19 @@ lift-list-same-length : (t : ℕ) → lift-list-lts.Need-same-length (
   add-subtree-reads.Asked,
   add-subtree-reads.Learnt,
 ) (lift-list-at t) lift-list.Post lift-list-Inv-loop lift-list-μ-loop
-lift-list-same-length t c = omega (
-  arith,
-  c .before .before .before .before .before .before .before .before .before .before .before .lift-term .kept .0,
-  c .before .before .before .before .before .before .before .before .before .before .before .before .before .before .before .before .before .before .before .loop .inv .2,
-)
+lift-list-same-length t c =
+    let lift-term-there =
+    let at-8 = c .before .before .before .before .before .before .before .before in
+    (at-8 .before .before .before) .lift-term in
+    let loop-there =
+    let at-8 = c .before .before .before .before .before .before .before .before in
+    let at-16 = at-8 .before .before .before .before .before .before .before .before in
+    (at-16 .before .before .before) .loop in
+    omega (
+      arith,
+      lift-term-there .kept .0,
+      loop-there .inv .2,
+    )
 
 lift-list-same-length-2 : (t : ℕ) → lift-list-lts.Need-same-length-2 (
   multiplied-reads.Asked,
@@ -214,10 +229,17 @@ lift-list-same-length-2 : (t : ℕ) → lift-list-lts.Need-same-length-2 (
   add-subtree-reads.Learnt,
 ) (lift-list-at t) lift-list.Post lift-list-Inv-loop lift-list-μ-loop
 lift-list-same-length-2 t c =
+    let lift-term-there =
+    let at-8 = c .before .before .before .before .before .before .before .before in
+    (at-8 .before .before .before) .lift-term in
+    let loop-there =
+    let at-8 = c .before .before .before .before .before .before .before .before in
+    let at-16 = at-8 .before .before .before .before .before .before .before .before in
+    (at-16 .before .before .before) .loop in
     omega (
       arith,
-      c .before .before .before .before .before .before .before .before .before .before .before .lift-term .kept .1 .1 .1 .0,
-      c .before .before .before .before .before .before .before .before .before .before .before .before .before .before .before .before .before .before .before .loop .inv .3,
+      lift-term-there .kept .1 .1 .1 .0,
+      loop-there .inv .3,
       c .before .before .before .before .add-subtree .kept .1 .1 .0,
     )
 
@@ -230,23 +252,45 @@ lift-list-returns : (t : ℕ) → lift-list-lts.Need-returns (
   add-subtree-reads.Learnt,
 ) (lift-list-at t) lift-list.Post lift-list-Inv-loop lift-list-μ-loop
 lift-list-returns t c =
-    let a = c .before .before .before .before .before .before .before .before .before .before .before .before .before .before .before .before .before .before .before .before .before .before .before .before .args in
-    let P = c .before .before .before .before .before .before .before .before .before .before .before .before .before .before .before .before .before .before .before .before .before .before .before .before .pre .1 in
+    let a =
+    let at-8 = c .before .before .before .before .before .before .before .before in
+    let at-16 = at-8 .before .before .before .before .before .before .before .before in
+    (at-16 .before .before .before .before .before .before .before .before) .args in
+    let asked =
+    let at-8 = c .before .before .before .before .before .before .before .before in
+    let at-16 = at-8 .before .before .before .before .before .before .before .before in
+    (at-16 .before .before .before .before .before .before .before .before) .pre in
+    let l =
+    let at-8 = c .before .before .before .before .before .before .before .before in
+    let at-16 = at-8 .before .before .before .before .before .before .before .before in
+    (at-16 .before .before .before) .loop in
+    let x =
+    let at-8 = c .before .before .before .before .before .before .before .before in
+    let at-16 = at-8 .before .before .before .before .before .before .before .before in
+    (at-16 .before) .multiplied in
+    let loop-test-there =
+    let at-8 = c .before .before .before .before .before .before .before .before in
+    let at-16 = at-8 .before .before .before .before .before .before .before .before in
+    (at-16 .before .before) .loop-test in
+    let if1-there =
+    let at-8 = c .before .before .before .before .before .before .before .before in
+    (at-8 .before .before .before .before .before .before .before) .if1 in
+    let lt =
+    let at-8 = c .before .before .before .before .before .before .before .before in
+    (at-8 .before .before .before) .lift-term in
+    let P = asked .1 in
     let g = a .g in
     let S : Stage = stage-of g (a .level .now) (a .tables .now) (table-order (g .code) (table-of (g .r) (above-in (a .tables .now)))) in
-    let l = c .before .before .before .before .before .before .before .before .before .before .before .before .before .before .before .before .before .before .before .loop in
     let T : Lift-term = term-definition S (a .room) (a .left) in
-    let x = c .before .before .before .before .before .before .before .before .before .before .before .before .before .before .before .before .before .multiplied in
     let t = term-of (x .result .term) in
     let p = multiple (g .p) (a .c) (a .q) (row-at (a .level .now) (l .i)) in
     let inside : l .i < a .to =
-    omega (arith, c .before .before .before .before .before .before .before .before .before .before .before .before .before .before .before .before .before .before .loop-test .taken) in
+    omega (arith, loop-test-there .taken) in
     let fits : fits? most-exponent (p .1 .0) ≡ true = sym (fits-as (x .result .fits) (fits? most-exponent (p .1 .0)) t p (x .ensures))
-    ∙ c .before .before .before .before .before .before .before .before .before .before .before .before .before .before .before .if1 .taken in
-    let lt = c .before .before .before .before .before .before .before .before .before .before .before .lift-term in
+    ∙ if1-there .taken in
     let ad = c .before .before .before .before .add-subtree in
     let product : t ≡ p = formed-as (x .result .fits) (fits? most-exponent (p .1 .0)) t p (x .ensures)
-    (c .before .before .before .before .before .before .before .before .before .before .before .before .before .before .before .if1 .taken) in (
+    (if1-there .taken) in (
       (sym (l .inv .5 ∙ listing-stops S T (a .a) (a .c) (a .q) (a .level .now) (a .to) (l .i) (l .k) (l .work) (lt .last .1 .1 .1 .0)
           (ad .last .1 .1 .0)
           (lt .last .0) (cache-of (l .v) (l .cache)) t (lt .result) (ad .result) inside fits product (lt .ensures .2) (lt .ensures .0) (ad .ensures .0)
@@ -264,7 +308,16 @@ lift-list-add-i : (t : ℕ) → lift-list-lts.Need-add-i (
   add-subtree-reads.Learnt,
 ) (lift-list-at t) lift-list.Post lift-list-Inv-loop lift-list-μ-loop
 lift-list-add-i t c =
-    omega (arith, c .before .before .before .before .before .before .before .before .before .before .before .before .before .before .before .before .before .before .before .loop-test .taken, c .before .before .before .before .before .before .before .before .before .before .before .before .before .before .before .before .before .before .before .before .before .before .before .before .before .pre .1 .3)
+    let loop-test-there =
+    let at-8 = c .before .before .before .before .before .before .before .before in
+    let at-16 = at-8 .before .before .before .before .before .before .before .before in
+    (at-16 .before .before .before) .loop-test in
+    let asked =
+    let at-8 = c .before .before .before .before .before .before .before .before in
+    let at-16 = at-8 .before .before .before .before .before .before .before .before in
+    let at-24 = at-16 .before .before .before .before .before .before .before .before in
+    (at-24 .before) .pre in
+    omega (arith, loop-test-there .taken, asked .1 .3)
 
 lift-list-loop-less : (t : ℕ) → lift-list-lts.Need-loop-less (
   multiplied-reads.Asked,
@@ -285,23 +338,47 @@ lift-list-loop-again : (t : ℕ) → lift-list-lts.Need-loop-again (
   add-subtree-reads.Learnt,
 ) (lift-list-at t) lift-list.Post lift-list-Inv-loop lift-list-μ-loop
 lift-list-loop-again t c =
-    let a = c .before .before .before .before .before .before .before .before .before .before .before .before .before .before .before .before .before .before .before .before .before .before .before .before .before .args in
-    let P = c .before .before .before .before .before .before .before .before .before .before .before .before .before .before .before .before .before .before .before .before .before .before .before .before .before .pre .1 in
+    let a =
+    let at-8 = c .before .before .before .before .before .before .before .before in
+    let at-16 = at-8 .before .before .before .before .before .before .before .before in
+    let at-24 = at-16 .before .before .before .before .before .before .before .before in
+    (at-24 .before) .args in
+    let asked =
+    let at-8 = c .before .before .before .before .before .before .before .before in
+    let at-16 = at-8 .before .before .before .before .before .before .before .before in
+    let at-24 = at-16 .before .before .before .before .before .before .before .before in
+    (at-24 .before) .pre in
+    let l =
+    let at-8 = c .before .before .before .before .before .before .before .before in
+    let at-16 = at-8 .before .before .before .before .before .before .before .before in
+    (at-16 .before .before .before .before) .loop in
+    let x =
+    let at-8 = c .before .before .before .before .before .before .before .before in
+    let at-16 = at-8 .before .before .before .before .before .before .before .before in
+    (at-16 .before .before) .multiplied in
+    let loop-test-there =
+    let at-8 = c .before .before .before .before .before .before .before .before in
+    let at-16 = at-8 .before .before .before .before .before .before .before .before in
+    (at-16 .before .before .before) .loop-test in
+    let if1-there =
+    let at-8 = c .before .before .before .before .before .before .before .before in
+    (at-8 .before .before .before .before .before .before .before .before) .if1 in
+    let lt =
+    let at-8 = c .before .before .before .before .before .before .before .before in
+    (at-8 .before .before .before .before) .lift-term in
+    let P = asked .1 in
     let g = a .g in
     let S : Stage = stage-of g (a .level .now) (a .tables .now) (table-order (g .code) (table-of (g .r) (above-in (a .tables .now)))) in
-    let l = c .before .before .before .before .before .before .before .before .before .before .before .before .before .before .before .before .before .before .before .before .loop in
     let T : Lift-term = term-definition S (a .room) (a .left) in
-    let x = c .before .before .before .before .before .before .before .before .before .before .before .before .before .before .before .before .before .before .multiplied in
     let t = term-of (x .result .term) in
     let p = multiple (g .p) (a .c) (a .q) (row-at (a .level .now) (l .i)) in
     let inside : l .i < a .to =
-    omega (arith, c .before .before .before .before .before .before .before .before .before .before .before .before .before .before .before .before .before .before .before .loop-test .taken) in
+    omega (arith, loop-test-there .taken) in
     let fits : fits? most-exponent (p .1 .0) ≡ true = sym (fits-as (x .result .fits) (fits? most-exponent (p .1 .0)) t p (x .ensures))
-    ∙ c .before .before .before .before .before .before .before .before .before .before .before .before .before .before .before .before .if1 .taken in
-    let lt = c .before .before .before .before .before .before .before .before .before .before .before .before .lift-term in
+    ∙ if1-there .taken in
     let ad = c .before .before .before .before .before .add-subtree in
     let product : t ≡ p = formed-as (x .result .fits) (fits? most-exponent (p .1 .0)) t p (x .ensures)
-    (c .before .before .before .before .before .before .before .before .before .before .before .before .before .before .before .before .if1 .taken) in
+    (if1-there .taken) in
     let b = c .before .y .given .1 in
     let f = subst (Fits (a .a) (g .tree) (a .room)) b (ad .ensures .1) in (
       f .0,
@@ -343,8 +420,9 @@ lift-list-returns-2 : (t : ℕ) → lift-list-lts.Need-returns-2 (
   add-subtree-reads.Learnt,
 ) (lift-list-at t) lift-list.Post lift-list-Inv-loop lift-list-μ-loop
 lift-list-returns-2 t c =
-    let a = c .before .before .before .before .before .before .before .before .before .args in
-    let P = c .before .before .before .before .before .before .before .before .before .pre .1 in
+    let at-8 = c .before .before .before .before .before .before .before .before in
+    let a = at-8 .before .args in
+    let P = at-8 .before .pre .1 in
     let g = a .g in
     let S : Stage = stage-of g (a .level .now) (a .tables .now) (table-order (g .code) (table-of (g .r) (above-in (a .tables .now)))) in
     let l = c .before .before .before .before .loop in
@@ -463,10 +541,11 @@ lift-term-look-up-requires : (t : ℕ) → lift-term-lts.Need-look-up-requires (
   open-subtree.Post,
 ) (lift-term-at t) lift-term.Post
 lift-term-look-up-requires t c κs =
+    let at-8 = c .before .before .before .before .before .before .before .before in
     omega (
       arith,
-      c .before .before .before .before .before .before .before .before .before .before .pre .1 .0 .used-fits,
-      c .before .before .before .before .before .before .before .before .before .before .pre .1 .0 .room-fits,
+      at-8 .before .before .pre .1 .0 .used-fits,
+      at-8 .before .before .pre .1 .0 .room-fits,
     )
 
 lift-term-enum-known-e : (t : ℕ) → lift-term-lts.Need-enum-known-e (
@@ -498,19 +577,26 @@ lift-term-open-subtree-requires : (t : ℕ) → lift-term-lts.Need-open-subtree-
   open-subtree.Post,
 ) (lift-term-at t) lift-term.Post
 lift-term-open-subtree-requires t c κs =
-    let a = c .before .before .before .before .before .before .before .before .before .before .before .before .before .before .before .args in
-    let P = c .before .before .before .before .before .before .before .before .before .before .before .before .before .before .before .pre .1 in
+    let a =
+    let at-8 = c .before .before .before .before .before .before .before .before in
+    (at-8 .before .before .before .before .before .before .before) .args in
+    let asked =
+    let at-8 = c .before .before .before .before .before .before .before .before in
+    (at-8 .before .before .before .before .before .before .before) .pre in
+    let f =
+    let at-8 = c .before .before .before .before .before .before .before .before in
+    (at-8 .before .before) .reducer-of in
+    let P = asked .1 in
     let g = a .g in
     let S : Stage = stage-of g (a .level .now) (a .tables .now) (table-order (g .code) (table-of (g .r) (above-in (a .tables .now)))) in
     let K = cache-of (a .used) (a .cache .now) in
     let m = monomial-of (a .m) in
-    let f = c .before .before .before .before .before .before .before .before .before .before .reducer-of in
     let j = c .before .before .before .before .before .before .before .answer .given .0 .0 in
     let x = c .before .before .before .before .before .before .before .answer .given .0 .1 .0 in
     let eq = sym (ap (λ y. answered y (f .result .quotient)) (c .before .before .before .before .before .before .before .answer .given .1))
     ∙ f .ensures in
     let n = reducer-number (g .p) (rows (a .tables .now) 0 (g .r)) (1, m) j x (f .result .quotient) eq in (
-      omega (arith, c .before .before .before .before .before .before .before .before .before .before .before .before .before .before .before .pre .0),
+      omega (arith, asked .0),
       (P .0, P .1, n .0, omega (arith, n .1, length-rows (a .tables .now) 0 (g .r))),
     )
 
@@ -543,21 +629,36 @@ lift-term-returns-2 : (t : ℕ) → lift-term-lts.Need-returns-2 (
   open-subtree.Post,
 ) (lift-term-at t) lift-term.Post
 lift-term-returns-2 t c =
-    let a = c .before .before .before .before .before .before .before .before .before .before .before .before .before .before .before .before .before .before .before .before .args in
-    let P = c .before .before .before .before .before .before .before .before .before .before .before .before .before .before .before .before .before .before .before .before .pre .1 in
+    let a =
+    let at-8 = c .before .before .before .before .before .before .before .before in
+    let at-16 = at-8 .before .before .before .before .before .before .before .before in
+    (at-16 .before .before .before .before) .args in
+    let asked =
+    let at-8 = c .before .before .before .before .before .before .before .before in
+    let at-16 = at-8 .before .before .before .before .before .before .before .before in
+    (at-16 .before .before .before .before) .pre in
+    let f =
+    let at-8 = c .before .before .before .before .before .before .before .before in
+    (at-8 .before .before .before .before .before .before .before) .reducer-of in
+    let answer-there =
+    let at-8 = c .before .before .before .before .before .before .before .before in
+    (at-8 .before .before .before .before) .answer in
+    let look-up-there =
+    let at-8 = c .before .before .before .before .before .before .before .before in
+    (at-8 .before) .look-up in
+    let P = asked .1 in
     let g = a .g in
     let S : Stage = stage-of g (a .level .now) (a .tables .now) (table-order (g .code) (table-of (g .r) (above-in (a .tables .now)))) in
     let K = cache-of (a .used) (a .cache .now) in
     let m = monomial-of (a .m) in
-    let f = c .before .before .before .before .before .before .before .before .before .before .before .before .before .before .before .reducer-of in
-    let j = c .before .before .before .before .before .before .before .before .before .before .before .before .answer .given .0 .0 in
-    let x = c .before .before .before .before .before .before .before .before .before .before .before .before .answer .given .0 .1 .0 in
+    let j = answer-there .given .0 .0 in
+    let x = answer-there .given .0 .1 .0 in
     let eq = sym (ap (λ y. answered y (f .result .quotient))
-    (c .before .before .before .before .before .before .before .before .before .before .before .before .answer .given .1)) ∙ f .ensures in
+    (answer-there .given .1)) ∙ f .ensures in
     let op = c .before .before .before .before .open-subtree in (
       (op .ensures .0 ∙ sym (term-opened S (a .room) (a .left) (a .a) K m j x (f .result .quotient) eq
           (sym (ap (entry-of (a .cache .now)) (c .before .before .before .before .before .before .before .enum-told2 .given .1))
-          ∙ c .before .before .before .before .before .before .before .before .before .look-up .ensures .0))),
+          ∙ look-up-there .ensures .0))),
       op .ensures .1,
       op .ensures .2,
     )
@@ -581,13 +682,20 @@ lift-term-returns-3 : (t : ℕ) → lift-term-lts.Need-returns-3 (
   open-subtree.Post,
 ) (lift-term-at t) lift-term.Post
 lift-term-returns-3 t c =
-    let a = c .before .before .before .before .before .before .before .before .before .before .before .before .before .before .args in
-    let P = c .before .before .before .before .before .before .before .before .before .before .before .before .before .before .pre .1 in
+    let a =
+    let at-8 = c .before .before .before .before .before .before .before .before in
+    (at-8 .before .before .before .before .before .before) .args in
+    let asked =
+    let at-8 = c .before .before .before .before .before .before .before .before in
+    (at-8 .before .before .before .before .before .before) .pre in
+    let f =
+    let at-8 = c .before .before .before .before .before .before .before .before in
+    (at-8 .before) .reducer-of in
+    let P = asked .1 in
     let g = a .g in
     let S : Stage = stage-of g (a .level .now) (a .tables .now) (table-order (g .code) (table-of (g .r) (above-in (a .tables .now)))) in
     let K = cache-of (a .used) (a .cache .now) in
     let m = monomial-of (a .m) in
-    let f = c .before .before .before .before .before .before .before .before .before .reducer-of in
     let j = c .before .before .before .before .before .before .answer .given .0 .0 in
     let x = c .before .before .before .before .before .before .answer .given .0 .1 .0 in
     let eq = sym (ap (λ y. answered y (f .result .quotient)) (c .before .before .before .before .before .before .answer .given .1)) ∙ f .ensures in
@@ -697,11 +805,13 @@ open-subtree-put-requires : (t : ℕ) → open-subtree-lts.Need-put-requires (
   keep-reads.Asked,
   keep-reads.Learnt,
 ) (open-subtree-at t) open-subtree.Post
-open-subtree-put-requires t c κs = omega (
-  arith,
-  c .before .before .before .if1 .left,
-  c .before .before .before .before .before .before .before .before .before .pre .1 .0 .tree-fits,
-)
+open-subtree-put-requires t c κs =
+    let at-8 = c .before .before .before .before .before .before .before .before in
+    omega (
+      arith,
+      c .before .before .before .if1 .left,
+      at-8 .before .pre .1 .0 .tree-fits,
+    )
 
 open-subtree-rows-of-requires : (t : ℕ) → open-subtree-lts.Need-rows-of-requires (
   negative-reads.Asked,
@@ -717,8 +827,10 @@ open-subtree-rows-of-requires : (t : ℕ) → open-subtree-lts.Need-rows-of-requ
   keep-reads.Asked,
   keep-reads.Learnt,
 ) (open-subtree-at t) open-subtree.Post
-open-subtree-rows-of-requires t c κs = let P =
-    c .before .before .before .before .before .before .before .before .before .before .before .before .pre .1 in
+open-subtree-rows-of-requires t c κs =
+    let at-8 = c .before .before .before .before .before .before .before .before in
+    let P =
+    at-8 .before .before .before .before .pre .1 in
     (P .2, omega (arith, P .0 .tables .long), omega (arith, P .3, P .0 .family .ends-fit))
 
 open-subtree-add-lift-list : (t : ℕ) → open-subtree-lts.Need-add-lift-list (
@@ -768,14 +880,22 @@ open-subtree-lift-list-requires : (t : ℕ) → open-subtree-lts.Need-lift-list-
   keep-reads.Learnt,
 ) (open-subtree-at t) open-subtree.Post
 open-subtree-lift-list-requires t c κs =
-    let a = c .before .before .before .before .before .before .before .before .before .before .before .before .before .before .before .args in
-    let P = c .before .before .before .before .before .before .before .before .before .before .before .before .before .before .before .pre .1 in
+    let a =
+    let at-8 = c .before .before .before .before .before .before .before .before in
+    (at-8 .before .before .before .before .before .before .before) .args in
+    let asked =
+    let at-8 = c .before .before .before .before .before .before .before .before in
+    (at-8 .before .before .before .before .before .before .before) .pre in
+    let if1-there =
+    let at-8 = c .before .before .before .before .before .before .before .before in
+    (at-8 .before) .if1 in
+    let P = asked .1 in
     let g = a .g in
     let S : Stage = stage-of g (a .level .now) (a .tables .now) (table-order (g .code) (table-of (g .r) (above-in (a .tables .now)))) in
     let ro = c .before .before .rows-of in (
       omega (
         arith,
-        c .before .before .before .before .before .before .before .before .before .before .before .before .before .before .before .pre .0,
+        asked .0,
         c .before .before .before .before .before .before .before .before .if2 .left,
       ),
       (
@@ -783,7 +903,7 @@ open-subtree-lift-list-requires t c κs =
             (c .before .before .before .before .before .put .last .0) (a .level .now) (a .tables .now) (P .0) (P .0 .used-fits) refl
             (c .before .before .before .before .before .put .kept .0),
         omega
-            (arith, c .before .before .before .before .before .before .before .before .before .if1 .left),
+            (arith, if1-there .left),
         omega (arith, ro .ensures .1, P .0 .family .rows-fit (a .j - 1) (omega (arith, P .2, P .3))),
         ro .ensures .3,
       ),
@@ -884,21 +1004,41 @@ open-subtree-returns-3 : (t : ℕ) → open-subtree-lts.Need-returns-3 (
   keep-reads.Learnt,
 ) (open-subtree-at t) open-subtree.Post
 open-subtree-returns-3 t c =
-    let a = c .before .before .before .before .before .before .before .before .before .before .before .before .before .before .before .before .before .before .before .before .before .before .before .args in
-    let P = c .before .before .before .before .before .before .before .before .before .before .before .before .before .before .before .before .before .before .before .before .before .before .before .pre .1 in
+    let a =
+    let at-8 = c .before .before .before .before .before .before .before .before in
+    let at-16 = at-8 .before .before .before .before .before .before .before .before in
+    (at-16 .before .before .before .before .before .before .before) .args in
+    let asked =
+    let at-8 = c .before .before .before .before .before .before .before .before in
+    let at-16 = at-8 .before .before .before .before .before .before .before .before in
+    (at-16 .before .before .before .before .before .before .before) .pre in
+    let ro =
+    let at-8 = c .before .before .before .before .before .before .before .before in
+    (at-8 .before .before) .rows-of in
+    let pt =
+    let at-8 = c .before .before .before .before .before .before .before .before in
+    (at-8 .before .before .before .before .before) .put in
+    let ne =
+    let at-8 = c .before .before .before .before .before .before .before .before in
+    (at-8 .before .before .before .before .before .before .before) .negative in
+    let if1-there =
+    let at-8 = c .before .before .before .before .before .before .before .before in
+    let at-16 = at-8 .before .before .before .before .before .before .before .before in
+    (at-16 .before) .if1 in
+    let if2-there =
+    let at-8 = c .before .before .before .before .before .before .before .before in
+    (at-8 .before .before .before .before .before .before .before .before) .if2 in
+    let P = asked .1 in
     let g = a .g in
     let S : Stage = stage-of g (a .level .now) (a .tables .now) (table-order (g .code) (table-of (g .r) (above-in (a .tables .now)))) in
     let K = cache-of (a .used) (a .cache .now) in
     let m = monomial-of (a .m) in
     let W = a .work .now in
     let ll = c .before .before .before .before .before .before .before .lift-list in
-    let ro = c .before .before .before .before .before .before .before .before .before .before .rows-of in
-    let pt = c .before .before .before .before .before .before .before .before .before .before .before .before .before .put in
-    let ne = c .before .before .before .before .before .before .before .before .before .before .before .before .before .before .before .negative in
     let t : Term = (ne .result, (a .q, a .j)) in
     let fits : a .a * row-length + row-length ≤ length W = omega (
       arith,
-      c .before .before .before .before .before .before .before .before .before .before .before .before .before .before .before .before .before .if1 .left,
+      if1-there .left,
       P .0 .tree-fits,
     ) in
     let stays = stored-keeps W (pt .last .0) (a .a) t (pt .ensures .0) (pt .ensures .1) fits in
@@ -908,7 +1048,9 @@ open-subtree-returns-3 t c =
           (pa .ensures) ∙ ap (λ y. y >>= λ r. done (finish (a .room) m r)) (ll .ensures .0)
           ∙ sym (opened-list S (a .room) (a .left) (a .a) K m (a .j) (minus (g .p) (a .c)) (ne .result) (a .q)
           (rows (a .level .now) (ro .result .from + 1) (ro .result .to - (ro .result .from + 1))) (rows (pt .last .0) (a .a) 1)
-          (omega (arith, c .before .before .before .before .before .before .before .before .before .before .before .before .before .before .before .before .before .if1 .left)) (omega (arith, c .before .before .before .before .before .before .before .before .before .before .before .before .before .before .before .before .if2 .left)) (ne .ensures) (rest-of g (a .level .now) (ends-in (a .tables .now)) (a .j) (ro .result .from) (ro .result .to) (P .0 .family) (P .2) (P .3) (ro .ensures .0) (ro .ensures .1)) (first-stored W (pt .last .0) (a .a) t (pt .ensures .0) (pt .ensures .1) fits))),
+          (omega (arith, if1-there .left)) (omega (arith, if2-there .left)) (ne .ensures)
+          (rest-of g (a .level .now) (ends-in (a .tables .now)) (a .j) (ro .result .from) (ro .result .to) (P .0 .family) (P .2) (P .3)
+          (ro .ensures .0) (ro .ensures .1)) (first-stored W (pt .last .0) (a .a) t (pt .ensures .0) (pt .ensures .1) fits))),
       subst (Sized (a .a) (g .tree) (a .room)) (sym (pa .ensures ∙ ap passed-as b)) tt,
       λ k h. ll .ensures .2 k h ∙ stays k h,
     )
@@ -928,11 +1070,25 @@ open-subtree-keep-requires : (t : ℕ) → open-subtree-lts.Need-keep-requires (
   keep-reads.Learnt,
 ) (open-subtree-at t) open-subtree.Post
 open-subtree-keep-requires t c κs =
-    let a = c .before .before .before .before .before .before .before .before .before .before .before .before .before .before .before .before .before .before .before .before .before .before .before .before .before .args in
-    let P = c .before .before .before .before .before .before .before .before .before .before .before .before .before .before .before .before .before .before .before .before .before .before .before .before .before .pre .1 in
+    let a =
+    let at-8 = c .before .before .before .before .before .before .before .before in
+    let at-16 = at-8 .before .before .before .before .before .before .before .before in
+    let at-24 = at-16 .before .before .before .before .before .before .before .before in
+    (at-24 .before) .args in
+    let asked =
+    let at-8 = c .before .before .before .before .before .before .before .before in
+    let at-16 = at-8 .before .before .before .before .before .before .before .before in
+    let at-24 = at-16 .before .before .before .before .before .before .before .before in
+    (at-24 .before) .pre in
+    let ll =
+    let at-8 = c .before .before .before .before .before .before .before .before in
+    (at-8 .before) .lift-list in
+    let put-there =
+    let at-8 = c .before .before .before .before .before .before .before .before in
+    (at-8 .before .before .before .before .before .before .before) .put in
+    let P = asked .1 in
     let g = a .g in
     let S : Stage = stage-of g (a .level .now) (a .tables .now) (table-order (g .code) (table-of (g .r) (above-in (a .tables .now)))) in
-    let ll = c .before .before .before .before .before .before .before .before .before .lift-list in
     let f = subst (Fits (a .a) (g .tree) (a .room)) (c .before .before .before .s .given .1) (ll .ensures .1) in (
       f .1,
       omega (arith, P .0 .room-fits, ll .kept .0),
@@ -940,7 +1096,7 @@ open-subtree-keep-requires t c κs =
       omega (
         arith,
         P .0 .tree-fits,
-        c .before .before .before .before .before .before .before .before .before .before .before .before .before .before .before .put .kept .0,
+        put-there .kept .0,
         ll .kept .1 .1 .1 .0,
       ),
       P .0 .tree-small,
@@ -993,21 +1149,49 @@ open-subtree-returns-4 : (t : ℕ) → open-subtree-lts.Need-returns-4 (
   keep-reads.Learnt,
 ) (open-subtree-at t) open-subtree.Post
 open-subtree-returns-4 t c =
-    let a = c .before .before .before .before .before .before .before .before .before .before .before .before .before .before .before .before .before .before .before .before .before .before .before .before .before .before .before .before .before .before .args in
-    let P = c .before .before .before .before .before .before .before .before .before .before .before .before .before .before .before .before .before .before .before .before .before .before .before .before .before .before .before .before .before .before .pre .1 in
+    let a =
+    let at-8 = c .before .before .before .before .before .before .before .before in
+    let at-16 = at-8 .before .before .before .before .before .before .before .before in
+    let at-24 = at-16 .before .before .before .before .before .before .before .before in
+    (at-24 .before .before .before .before .before .before) .args in
+    let asked =
+    let at-8 = c .before .before .before .before .before .before .before .before in
+    let at-16 = at-8 .before .before .before .before .before .before .before .before in
+    let at-24 = at-16 .before .before .before .before .before .before .before .before in
+    (at-24 .before .before .before .before .before .before) .pre in
+    let ll =
+    let at-8 = c .before .before .before .before .before .before .before .before in
+    (at-8 .before .before .before .before .before .before) .lift-list in
+    let ro =
+    let at-8 = c .before .before .before .before .before .before .before .before in
+    let at-16 = at-8 .before .before .before .before .before .before .before .before in
+    (at-16 .before) .rows-of in
+    let pt =
+    let at-8 = c .before .before .before .before .before .before .before .before in
+    let at-16 = at-8 .before .before .before .before .before .before .before .before in
+    (at-16 .before .before .before .before) .put in
+    let ne =
+    let at-8 = c .before .before .before .before .before .before .before .before in
+    let at-16 = at-8 .before .before .before .before .before .before .before .before in
+    (at-16 .before .before .before .before .before .before) .negative in
+    let if1-there =
+    let at-8 = c .before .before .before .before .before .before .before .before in
+    let at-16 = at-8 .before .before .before .before .before .before .before .before in
+    (at-16 .before .before .before .before .before .before .before .before) .if1 in
+    let if2-there =
+    let at-8 = c .before .before .before .before .before .before .before .before in
+    let at-16 = at-8 .before .before .before .before .before .before .before .before in
+    (at-16 .before .before .before .before .before .before .before) .if2 in
+    let P = asked .1 in
     let g = a .g in
     let S : Stage = stage-of g (a .level .now) (a .tables .now) (table-order (g .code) (table-of (g .r) (above-in (a .tables .now)))) in
     let K = cache-of (a .used) (a .cache .now) in
     let m = monomial-of (a .m) in
     let W = a .work .now in
-    let ll = c .before .before .before .before .before .before .before .before .before .before .before .before .before .before .lift-list in
-    let ro = c .before .before .before .before .before .before .before .before .before .before .before .before .before .before .before .before .before .rows-of in
-    let pt = c .before .before .before .before .before .before .before .before .before .before .before .before .before .before .before .before .before .before .before .before .put in
-    let ne = c .before .before .before .before .before .before .before .before .before .before .before .before .before .before .before .before .before .before .before .before .before .before .negative in
     let t : Term = (ne .result, (a .q, a .j)) in
     let fits : a .a * row-length + row-length ≤ length W = omega (
       arith,
-      c .before .before .before .before .before .before .before .before .before .before .before .before .before .before .before .before .before .before .before .before .before .before .before .before .if1 .left,
+      if1-there .left,
       P .0 .tree-fits,
     ) in
     let stays = stored-keeps W (pt .last .0) (a .a) t (pt .ensures .0) (pt .ensures .1) fits in
@@ -1017,7 +1201,9 @@ open-subtree-returns-4 t c =
           (sym (ap (λ y. sum-of (a .a) y (ll .last .0) (ll .last .1 .1 .1 .0)) b) ∙ ll .ensures .0)
           ∙ sym (opened-list S (a .room) (a .left) (a .a) K m (a .j) (minus (g .p) (a .c)) (ne .result) (a .q)
           (rows (a .level .now) (ro .result .from + 1) (ro .result .to - (ro .result .from + 1))) (rows (pt .last .0) (a .a) 1)
-          (omega (arith, c .before .before .before .before .before .before .before .before .before .before .before .before .before .before .before .before .before .before .before .before .before .before .before .before .if1 .left)) (omega (arith, c .before .before .before .before .before .before .before .before .before .before .before .before .before .before .before .before .before .before .before .before .before .before .before .if2 .left)) (ne .ensures) (rest-of g (a .level .now) (ends-in (a .tables .now)) (a .j) (ro .result .from) (ro .result .to) (P .0 .family) (P .2) (P .3) (ro .ensures .0) (ro .ensures .1)) (first-stored W (pt .last .0) (a .a) t (pt .ensures .0) (pt .ensures .1) fits))),
+          (omega (arith, if1-there .left)) (omega (arith, if2-there .left)) (ne .ensures)
+          (rest-of g (a .level .now) (ends-in (a .tables .now)) (a .j) (ro .result .from) (ro .result .to) (P .0 .family) (P .2) (P .3)
+          (ro .ensures .0) (ro .ensures .1)) (first-stored W (pt .last .0) (a .a) t (pt .ensures .0) (pt .ensures .1) fits))),
       kp .ensures .1,
       λ k h. kp .ensures .2 k h ∙ ll .ensures .2 k h ∙ stays k h,
     )

@@ -46,8 +46,9 @@ sub-from c =
 
 add-part-requires-2 : tie.Need-add-part-requires-2
 add-part-requires-2 c κs =
-    let a = c .before .before .before .before .before .before .before .before .before .args in
-    let P = c .before .before .before .before .before .before .before .before .before .pre in
+    let at-8 = c .before .before .before .before .before .before .before .before in
+    let a = at-8 .before .args in
+    let P = at-8 .before .pre in
     let g = a .g in
     let z = subst (Sized (a .a + a .n) (g .tree) (a .room)) (c .before .before .before .s2 .given .1) (P .4) in (
       P .0 .prime,
@@ -70,8 +71,9 @@ same-length c = search needs
 
 returns : tie.Need-returns
 returns c =
-    let a = c .before .before .before .before .before .before .before .before .before .before .before .before .args in
-    let P = c .before .before .before .before .before .before .before .before .before .before .before .before .pre in
+    let at-8 = c .before .before .before .before .before .before .before .before in
+    let a = at-8 .before .before .before .before .args in
+    let P = at-8 .before .before .before .before .pre in
     let g = a .g in
     let z = subst (Sized (a .a + a .n) (g .tree) (a .room)) (c .before .before .before .before .before .before .s .given .1) (P .4) in
     let O = table-order (g .code) (table-of (g .r) (above-in (a .tables .now))) in
@@ -91,8 +93,12 @@ same-length-2 c = search needs
 
 returns-2 : tie.Need-returns-2
 returns-2 c =
-    let a = c .before .before .before .before .before .before .before .before .before .before .before .before .before .args in
-    let P = c .before .before .before .before .before .before .before .before .before .before .before .before .before .pre in
+    let a =
+    let at-8 = c .before .before .before .before .before .before .before .before in
+    (at-8 .before .before .before .before .before) .args in
+    let P =
+    let at-8 = c .before .before .before .before .before .before .before .before in
+    (at-8 .before .before .before .before .before) .pre in
     let g = a .g in
     let z = subst (Sized (a .a + a .n) (g .tree) (a .room)) (c .before .before .before .before .before .before .before .s2 .given .1) (P .4) in
     let O = table-order (g .code) (table-of (g .r) (above-in (a .tables .now))) in

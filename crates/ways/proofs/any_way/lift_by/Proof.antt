@@ -81,7 +81,8 @@ same-length-7 c = search needs
 
 returns-3 : tie.Need-returns-3
 returns-3 c =
-    let m = c .before .before .before .before .before .before .before .before .before .before in
+    let at-8 = c .before .before .before .before .before .before .before .before in
+    let m = at-8 .before .before in
     let a = m .before .before .before .before .before .args in
     let L = c .before .before .before .before .before .before .lift-tree in
     subst (λ x. Lifted-by (a .state .now) (a .k) (lifting-by (way-of x) (a .cache .now)) (L .result) (L .last .0)) (sym (m .enum-told2 .given .1))

@@ -33,9 +33,13 @@ slice-aggregate-store c = search needs
 store-requires : tie.Need-store-requires
 store-requires c κs =
     let m = c .before .before .before .before .before .before .before in
-    let a = m .before .before .before .before .before .before .before .before .before .args in
+    let a =
+    let at-8 = m .before .before .before .before .before .before .before .before in
+    (at-8 .before) .args in
     let s = a .state .now in
-    let P = m .before .before .before .before .before .before .before .before .before .pre in
+    let P =
+    let at-8 = m .before .before .before .before .before .before .before .before in
+    (at-8 .before) .pre in
     let b = P .0 .base in
     let L = m .lift-level in
     let room = length (a .cache .now) / row-length in
@@ -55,9 +59,13 @@ returns : tie.Need-returns
 returns c =
     let d = c .before .before .before .before .before in
     let m = d .before .before .before .before .before in
-    let a = m .before .before .before .before .before .before .before .before .before .args in
+    let a =
+    let at-8 = m .before .before .before .before .before .before .before .before in
+    (at-8 .before) .args in
     let s = a .state .now in
-    let P = m .before .before .before .before .before .before .before .before .before .pre in
+    let P =
+    let at-8 = m .before .before .before .before .before .before .before .before in
+    (at-8 .before) .pre in
     let b = P .0 .base in
     let L = m .lift-level in
     let room = length (a .cache .now) / row-length in

@@ -35,9 +35,10 @@ part-lift-all-end c = search needs
 
 lift-all-requires : tie.Need-lift-all-requires
 lift-all-requires c κs =
-    let a = c .before .before .before .before .before .before .before .before .before .before .before .args in
+    let at-8 = c .before .before .before .before .before .before .before .before in
+    let a = at-8 .before .before .before .args in
     let s = a .state .now in
-    let P = c .before .before .before .before .before .before .before .before .before .before .before .pre in
+    let P = at-8 .before .before .before .pre in
     let g = c .before .before .before .before .ground-of in
     let ask = asked s (a .j) (P .0) (a .tables .now) (P .1) (a .b) (g .result) (take (length s - (rows-offset (a .j))) (drop (rows-offset (a .j)) s))
     (g .ensures) (whole-part (rows-offset (a .j)) s) (a .count) (a .frame .now) (P .2) in
@@ -67,10 +68,18 @@ same-length-3 c = search needs
 
 returns : tie.Need-returns
 returns c =
-    let a = c .before .before .before .before .before .before .before .before .before .before .before .before .before .before .before .before .before .before .args in
+    let a =
+    let at-8 = c .before .before .before .before .before .before .before .before in
+    let at-16 = at-8 .before .before .before .before .before .before .before .before in
+    (at-16 .before .before) .args in
+    let P =
+    let at-8 = c .before .before .before .before .before .before .before .before in
+    let at-16 = at-8 .before .before .before .before .before .before .before .before in
+    (at-16 .before .before) .pre in
+    let g =
+    let at-8 = c .before .before .before .before .before .before .before .before in
+    (at-8 .before .before .before) .ground-of in
     let s = a .state .now in
-    let P = c .before .before .before .before .before .before .before .before .before .before .before .before .before .before .before .before .before .before .pre in
-    let g = c .before .before .before .before .before .before .before .before .before .before .before .ground-of in
     let L = c .before .before .before .before .before .before .lift-all in (
       lifted-same s (a .j) (P .0) (a .tables .now) (P .1) (a .b) (g .result) (take (length s - (rows-offset (a .j))) (drop (rows-offset (a .j)) s))
           (g .ensures) (whole-part (rows-offset (a .j)) s) (length (a .cache .now) / row-length) (frame-terms (a .frame .now) (a .count))

@@ -71,17 +71,28 @@ slice-aggregate-lift-frame c = search needs
 
 lift-frame-requires : tie.Need-lift-frame-requires
 lift-frame-requires c κs =
-    let a = c .before .before .before .before .before .before .before .before .before .before .before .before .before .before .before .before .before .before .args in
+    let a =
+    let at-8 = c .before .before .before .before .before .before .before .before in
+    let at-16 = at-8 .before .before .before .before .before .before .before .before in
+    (at-16 .before .before) .args in
+    let P =
+    let at-8 = c .before .before .before .before .before .before .before .before in
+    let at-16 = at-8 .before .before .before .before .before .before .before .before in
+    (at-16 .before .before) .pre in
+    let count-of-there =
+    let at-8 = c .before .before .before .before .before .before .before .before in
+    (at-8 .before .before .before .before) .count-of in
+    let F =
+    let at-8 = c .before .before .before .before .before .before .before .before in
+    (at-8 .before) .form in
     let s = a .state .now in
-    let P = c .before .before .before .before .before .before .before .before .before .before .before .before .before .before .before .before .before .before .pre in
-    let r : c .before .before .before .before .before .before .before .before .before .before .before .before .count-of .result
-    ≡ count-at s (a .j) = c .before .before .before .before .before .before .before .before .before .before .before .before .count-of .ensures in
+    let r : count-of-there .result
+    ≡ count-at s (a .j) = count-of-there .ensures in
     let F0 = monomials-of
     (rows (a .tables .now) 0
-    (c .before .before .before .before .before .before .before .before .before .before .before .before .count-of .result)) in
+    (count-of-there .result)) in
     let lead : F0 ≡ leading-monomials (level-at document-01 s (a .j)) = ap (λ k. monomials-of (rows (a .tables .now) 0 k)) r
     ∙ leading-at s (a .j) (P .0) (a .tables .now) (spans-in (a .tables .now)) (P .1 .led) in
-    let F = c .before .before .before .before .before .before .before .before .before .form in
     let n = c .before .before .before .before .before .n .given .0 .0 in
     let told : done (monomials-of (rows (F .last .0) 0 n)) ≡ if-few (leb (length (frame 1 F0)) most-vectors) (frame 1 F0) =
     sym (ap (λ y. framed-of y (F .last .0)) (c .before .before .before .before .before .n .given .1)) ∙ F .ensures .0 in
@@ -110,9 +121,13 @@ enum-known-x-2 c = search needs
 
 returns : tie.Need-returns
 returns c =
-    let a = c .before .before .before .before .before .before .before .before .before .before .before .before .before .args in
+    let a =
+    let at-8 = c .before .before .before .before .before .before .before .before in
+    (at-8 .before .before .before .before .before) .args in
+    let P =
+    let at-8 = c .before .before .before .before .before .before .before .before in
+    (at-8 .before .before .before .before .before) .pre in
     let s = a .state .now in
-    let P = c .before .before .before .before .before .before .before .before .before .before .before .before .before .pre in
     let r : c .before .before .before .before .before .before .before .count-of .result
     ≡ count-at s (a .j) = c .before .before .before .before .before .before .before .count-of .ensures in
     let F0 = monomials-of (rows (a .tables .now) 0 (c .before .before .before .before .before .before .before .count-of .result)) in
@@ -136,22 +151,43 @@ same-length-3 c = search needs
 
 returns-2 : tie.Need-returns-2
 returns-2 c =
-    let a = c .before .before .before .before .before .before .before .before .before .before .before .before .before .before .before .before .before .before .before .before .before .before .before .before .before .before .before .before .args in
+    let a =
+    let at-8 = c .before .before .before .before .before .before .before .before in
+    let at-16 = at-8 .before .before .before .before .before .before .before .before in
+    let at-24 = at-16 .before .before .before .before .before .before .before .before in
+    (at-24 .before .before .before .before) .args in
+    let P =
+    let at-8 = c .before .before .before .before .before .before .before .before in
+    let at-16 = at-8 .before .before .before .before .before .before .before .before in
+    let at-24 = at-16 .before .before .before .before .before .before .before .before in
+    (at-24 .before .before .before .before) .pre in
+    let count-of-there =
+    let at-8 = c .before .before .before .before .before .before .before .before in
+    let at-16 = at-8 .before .before .before .before .before .before .before .before in
+    (at-16 .before .before .before .before .before .before) .count-of in
+    let F =
+    let at-8 = c .before .before .before .before .before .before .before .before in
+    let at-16 = at-8 .before .before .before .before .before .before .before .before in
+    (at-16 .before .before .before) .form in
+    let n-there =
+    let at-8 = c .before .before .before .before .before .before .before .before in
+    (at-8 .before .before .before .before .before .before .before) .n in
+    let lift-frame-there =
+    let at-8 = c .before .before .before .before .before .before .before .before in
+    (at-8 .before) .lift-frame in
     let s = a .state .now in
-    let P = c .before .before .before .before .before .before .before .before .before .before .before .before .before .before .before .before .before .before .before .before .before .before .before .before .before .before .before .before .pre in
-    let r : c .before .before .before .before .before .before .before .before .before .before .before .before .before .before .before .before .before .before .before .before .before .before .count-of .result ≡ count-at s (a .j) = c .before .before .before .before .before .before .before .before .before .before .before .before .before .before .before .before .before .before .before .before .before .before .count-of .ensures in
+    let r : count-of-there .result ≡ count-at s (a .j) = count-of-there .ensures in
     let F0 = monomials-of
     (rows (a .tables .now) 0
-    (c .before .before .before .before .before .before .before .before .before .before .before .before .before .before .before .before .before .before .before .before .before .before .count-of .result)) in
+    (count-of-there .result)) in
     let lead : F0 ≡ leading-monomials (level-at document-01 s (a .j)) = ap (λ k. monomials-of (rows (a .tables .now) 0 k)) r
     ∙ leading-at s (a .j) (P .0) (a .tables .now) (spans-in (a .tables .now)) (P .1 .led) in
-    let F = c .before .before .before .before .before .before .before .before .before .before .before .before .before .before .before .before .before .before .before .form in
-    let n = c .before .before .before .before .before .before .before .before .before .before .before .before .before .before .before .n .given .0 .0 in
+    let n = n-there .given .0 .0 in
     let told : done (monomials-of (rows (F .last .0) 0 n)) ≡ if-few (leb (length (frame 1 F0)) most-vectors) (frame 1 F0) =
     sym (ap (λ y. framed-of y (F .last .0))
-    (c .before .before .before .before .before .before .before .before .before .before .before .before .before .before .before .n .given .1))
+    (n-there .given .1))
     ∙ F .ensures .0 in
-    let L = c .before .before .before .before .before .before .before .before .before .lift-frame in (
+    let L = lift-frame-there in (
       sym (ap (λ y. lifted-of y n (L .last .0) []) (c .before .used .given .1)) ∙ L .ensures .0
           ∙ few-enough (getD s 2 0) (level-at document-01 s (a .j)) F0 (frame-terms (F .last .0) n)
           (λ ms. lift-all (stage-at (a .b) s (a .j)) (tree (stage-at (a .b) s (a .j)) (length (a .cache .now) / row-length)) ([], 0) [] ms) lead told,
@@ -170,22 +206,43 @@ same-length-6 c = search needs
 
 returns-3 : tie.Need-returns-3
 returns-3 c =
-    let a = c .before .before .before .before .before .before .before .before .before .before .before .before .before .before .before .before .before .before .before .before .before .before .before .before .before .before .before .before .args in
+    let a =
+    let at-8 = c .before .before .before .before .before .before .before .before in
+    let at-16 = at-8 .before .before .before .before .before .before .before .before in
+    let at-24 = at-16 .before .before .before .before .before .before .before .before in
+    (at-24 .before .before .before .before) .args in
+    let P =
+    let at-8 = c .before .before .before .before .before .before .before .before in
+    let at-16 = at-8 .before .before .before .before .before .before .before .before in
+    let at-24 = at-16 .before .before .before .before .before .before .before .before in
+    (at-24 .before .before .before .before) .pre in
+    let count-of-there =
+    let at-8 = c .before .before .before .before .before .before .before .before in
+    let at-16 = at-8 .before .before .before .before .before .before .before .before in
+    (at-16 .before .before .before .before .before .before) .count-of in
+    let F =
+    let at-8 = c .before .before .before .before .before .before .before .before in
+    let at-16 = at-8 .before .before .before .before .before .before .before .before in
+    (at-16 .before .before .before) .form in
+    let n-there =
+    let at-8 = c .before .before .before .before .before .before .before .before in
+    (at-8 .before .before .before .before .before .before .before) .n in
+    let lift-frame-there =
+    let at-8 = c .before .before .before .before .before .before .before .before in
+    (at-8 .before) .lift-frame in
     let s = a .state .now in
-    let P = c .before .before .before .before .before .before .before .before .before .before .before .before .before .before .before .before .before .before .before .before .before .before .before .before .before .before .before .before .pre in
-    let r : c .before .before .before .before .before .before .before .before .before .before .before .before .before .before .before .before .before .before .before .before .before .before .count-of .result ≡ count-at s (a .j) = c .before .before .before .before .before .before .before .before .before .before .before .before .before .before .before .before .before .before .before .before .before .before .count-of .ensures in
+    let r : count-of-there .result ≡ count-at s (a .j) = count-of-there .ensures in
     let F0 = monomials-of
     (rows (a .tables .now) 0
-    (c .before .before .before .before .before .before .before .before .before .before .before .before .before .before .before .before .before .before .before .before .before .before .count-of .result)) in
+    (count-of-there .result)) in
     let lead : F0 ≡ leading-monomials (level-at document-01 s (a .j)) = ap (λ k. monomials-of (rows (a .tables .now) 0 k)) r
     ∙ leading-at s (a .j) (P .0) (a .tables .now) (spans-in (a .tables .now)) (P .1 .led) in
-    let F = c .before .before .before .before .before .before .before .before .before .before .before .before .before .before .before .before .before .before .before .form in
-    let n = c .before .before .before .before .before .before .before .before .before .before .before .before .before .before .before .n .given .0 .0 in
+    let n = n-there .given .0 .0 in
     let told : done (monomials-of (rows (F .last .0) 0 n)) ≡ if-few (leb (length (frame 1 F0)) most-vectors) (frame 1 F0) =
     sym (ap (λ y. framed-of y (F .last .0))
-    (c .before .before .before .before .before .before .before .before .before .before .before .before .before .before .before .n .given .1))
+    (n-there .given .1))
     ∙ F .ensures .0 in
-    let L = c .before .before .before .before .before .before .before .before .before .lift-frame in (
+    let L = lift-frame-there in (
       sym (ap (λ y. lifted-of y n (L .last .0) []) (c .before .x .given .1)) ∙ L .ensures .0
           ∙ few-enough (getD s 2 0) (level-at document-01 s (a .j)) F0 (frame-terms (F .last .0) n)
           (λ ms. lift-all (stage-at (a .b) s (a .j)) (tree (stage-at (a .b) s (a .j)) (length (a .cache .now) / row-length)) ([], 0) [] ms) lead told,
@@ -203,22 +260,43 @@ same-length-9 c = search needs
 
 returns-4 : tie.Need-returns-4
 returns-4 c =
-    let a = c .before .before .before .before .before .before .before .before .before .before .before .before .before .before .before .before .before .before .before .before .before .before .before .before .before .before .before .before .args in
+    let a =
+    let at-8 = c .before .before .before .before .before .before .before .before in
+    let at-16 = at-8 .before .before .before .before .before .before .before .before in
+    let at-24 = at-16 .before .before .before .before .before .before .before .before in
+    (at-24 .before .before .before .before) .args in
+    let P =
+    let at-8 = c .before .before .before .before .before .before .before .before in
+    let at-16 = at-8 .before .before .before .before .before .before .before .before in
+    let at-24 = at-16 .before .before .before .before .before .before .before .before in
+    (at-24 .before .before .before .before) .pre in
+    let count-of-there =
+    let at-8 = c .before .before .before .before .before .before .before .before in
+    let at-16 = at-8 .before .before .before .before .before .before .before .before in
+    (at-16 .before .before .before .before .before .before) .count-of in
+    let F =
+    let at-8 = c .before .before .before .before .before .before .before .before in
+    let at-16 = at-8 .before .before .before .before .before .before .before .before in
+    (at-16 .before .before .before) .form in
+    let n-there =
+    let at-8 = c .before .before .before .before .before .before .before .before in
+    (at-8 .before .before .before .before .before .before .before) .n in
+    let lift-frame-there =
+    let at-8 = c .before .before .before .before .before .before .before .before in
+    (at-8 .before) .lift-frame in
     let s = a .state .now in
-    let P = c .before .before .before .before .before .before .before .before .before .before .before .before .before .before .before .before .before .before .before .before .before .before .before .before .before .before .before .before .pre in
-    let r : c .before .before .before .before .before .before .before .before .before .before .before .before .before .before .before .before .before .before .before .before .before .before .count-of .result ≡ count-at s (a .j) = c .before .before .before .before .before .before .before .before .before .before .before .before .before .before .before .before .before .before .before .before .before .before .count-of .ensures in
+    let r : count-of-there .result ≡ count-at s (a .j) = count-of-there .ensures in
     let F0 = monomials-of
     (rows (a .tables .now) 0
-    (c .before .before .before .before .before .before .before .before .before .before .before .before .before .before .before .before .before .before .before .before .before .before .count-of .result)) in
+    (count-of-there .result)) in
     let lead : F0 ≡ leading-monomials (level-at document-01 s (a .j)) = ap (λ k. monomials-of (rows (a .tables .now) 0 k)) r
     ∙ leading-at s (a .j) (P .0) (a .tables .now) (spans-in (a .tables .now)) (P .1 .led) in
-    let F = c .before .before .before .before .before .before .before .before .before .before .before .before .before .before .before .before .before .before .before .form in
-    let n = c .before .before .before .before .before .before .before .before .before .before .before .before .before .before .before .n .given .0 .0 in
+    let n = n-there .given .0 .0 in
     let told : done (monomials-of (rows (F .last .0) 0 n)) ≡ if-few (leb (length (frame 1 F0)) most-vectors) (frame 1 F0) =
     sym (ap (λ y. framed-of y (F .last .0))
-    (c .before .before .before .before .before .before .before .before .before .before .before .before .before .before .before .n .given .1))
+    (n-there .given .1))
     ∙ F .ensures .0 in
-    let L = c .before .before .before .before .before .before .before .before .before .lift-frame in (
+    let L = lift-frame-there in (
       sym (ap (λ y. lifted-of y n (L .last .0) []) (c .before .x2 .given .1)) ∙ L .ensures .0
           ∙ few-enough (getD s 2 0) (level-at document-01 s (a .j)) F0 (frame-terms (F .last .0) n)
           (λ ms. lift-all (stage-at (a .b) s (a .j)) (tree (stage-at (a .b) s (a .j)) (length (a .cache .now) / row-length)) ([], 0) [] ms) lead told,
