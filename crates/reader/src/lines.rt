@@ -7,10 +7,10 @@ ghost use lib.ListN.{take, drop};
 ghost use Rattle.definitions.specs.Lists.{between};
 ghost use Rattle.definitions.specs.Limits.{document-01};
 ghost use Rattle.definitions.specs.Monomial.{fits?};
-ghost use Rattle.definitions.specs.Problem.{prime-in-range?, in-ranges?, term-in-range?};
+ghost use Rattle.definitions.specs.Problem.{term-in-range?};
 ghost use Rattle.definitions.specs.Places.{most-exponent, most-rows};
+ghost use Rattle.words.specs.parameters.Values.{parameters-of};
 ghost use Rattle.reader.specs.lines.Tests.{
-  parameters-of,
   term-in,
   begins?,
   follows?,
@@ -24,14 +24,8 @@ ghost use Rattle.reader.specs.declared.lines.Step.the-variants.{Refused}
 use crate::fields;
 use crate::fields::End as LineEnd;
 use orders::Comparison;
-
-// The numbers of the R line.
-pub struct Parameters {
-    pub p: u16,
-    pub n: u16,
-    pub code: u16,
-    pub s: u16,
-}
+use words::parameters;
+use words::parameters::Parameters;
 
 // Behind the R line, or its refusal.
 pub enum Start {
@@ -56,27 +50,12 @@ pub struct Taken {
     pub numbers: [u16; 16],
 }
 
-fn parameters_in_range(q: Parameters) -> bool
-    ensures { λ r. ⌜ r ≡ in-ranges? document-01 (parameters-of q) ⌝ }
-{
-    let n = q.n;
-    let code = q.code;
-    let s = q.s;
-    if words::between(1, n, 8) {
-        if words::between(1, code, 3) {
-            return words::between(1, s, 16);
-        }
-        return false;
-    }
-    false
-}
-
 fn parameters_refusal(q: Parameters) -> u16
     ensures { λ r. ⌜ r ≡ r-number (parameters-of q) ⌝ }
 {
     let p = q.p;
     if field::prime_in_range(p) {
-        if parameters_in_range(q) {
+        if parameters::in_ranges(q) {
             return 0;
         }
         return 3;

@@ -8,13 +8,13 @@ ghost use lib.Seq.{paste};
 ghost use Rattle.definitions.specs.Limits.{document-01};
 ghost use Rattle.definitions.specs.Problem.{problem as problem-definition};
 ghost use Rattle.definitions.specs.Places.{most-elements, most-rows, row-length, state-length};
-ghost use Rattle.reader.specs.lines.Tests.{parameters-of};
+ghost use Rattle.words.specs.parameters.Values.{parameters-of};
 ghost use Rattle.reader.specs.problem.Reading.{body-words, problem-words, read-as, stored, begun, outcome-as, answer-as};
 use crate::lines;
-use crate::lines::Parameters;
 use crate::lines::Start;
 use crate::lines::Step;
 use vectors::terms;
+use words::parameters::Parameters;
 
 pub enum Outcome {
     Done,

@@ -9,11 +9,11 @@ ghost use Rattle.definitions.specs.Limits.{document-01};
 ghost use Rattle.definitions.specs.Lists.{_and_, between as between-definition};
 ghost use Rattle.definitions.specs.Monomial.{divides?};
 ghost use Rattle.definitions.specs.Order.{greater?};
-ghost use Rattle.definitions.specs.Problem.{prime-in-range?, in-ranges?};
 ghost use Rattle.definitions.specs.Layout.{holds-state?};
 ghost use Rattle.definitions.specs.Places.{most-vectors, all-levels, row-length, header-length, level-length, state-length, table-length};
 ghost use Rattle.orders.specs.Images.{exponents-raw, key-of, compare-keys, table-of, table-order, Tabled};
-ghost use Rattle.state.specs.soundness.Places.{parameters-of, parameters-at, count-at, count-below, rows-from, ends-from};
+ghost use Rattle.words.specs.parameters.Values.{parameters-of};
+ghost use Rattle.state.specs.soundness.Places.{parameters-at, count-at, count-below, rows-from, ends-from};
 ghost use Rattle.state.specs.soundness.Holding.{
   exponent-limits as limits-definition,
   limit-at,
@@ -33,14 +33,8 @@ use orders::Comparison;
 use orders::Image;
 use reducers::tables;
 use vectors::terms;
-
-// p, n, the order code, s.
-pub struct Parameters {
-    pub p: u16,
-    pub n: u16,
-    pub code: u16,
-    pub s: u16,
-}
+use words::parameters;
+use words::parameters::Parameters;
 
 // What a row's words are held to: the greatest coefficient and component, the greatest of each exponent.
 pub struct Bounds {
@@ -79,15 +73,6 @@ pub fn read_parameters(state: &[u16]) -> Parameters
         code: state[2],
         s: state[3],
     }
-}
-
-fn in_ranges(q: Parameters) -> bool
-    ensures { λ r. ⌜ r ≡ in-ranges? document-01 (parameters-of q) ⌝ }
-{
-    let n = words::between(1, q.n, words::MOST_VARIABLES);
-    let code = words::between(1, q.code, 3);
-    let s = words::between(1, q.s, words::MOST_COMPONENTS);
-    both(n, both(code, s))
 }
 
 // ## Rows
@@ -394,7 +379,7 @@ pub fn sound(state: &[u16]) -> bool
         return false;
     }
     let q = read_parameters(state);
-    let ranges = in_ranges(q);
+    let ranges = parameters::in_ranges(q);
     if fails(both(field::prime_in_range(q.p), ranges)) {
         return false;
     }

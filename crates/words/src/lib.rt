@@ -2,6 +2,7 @@
 // range.
 // Knows: crate definitions' Places, whose names these are, in capitals.
 // `numbers` and `word_numbers` hold each of them to the definitions' one.
+// `parameters` has the four numbers of a problem.
 ghost use mathlib.Core.Path.{_≡_};
 ghost use mathlib.Core.List.{_∷_, []};
 ghost use Prim.Native.Nat.{_≤_, _<_};
@@ -52,6 +53,8 @@ ghost use Rattle.definitions.specs.Places.{
   all-lines-length,
   sheet-length,
 };
+
+pub mod parameters;
 
 // ## Limits
 

@@ -10,6 +10,8 @@ use Rattle.definitions.specs.Result.{Result, done, refused, unless-refused, _>>
 use Rattle.definitions.specs.Problem as definition
 use Rattle.definitions.specs.Problem.{Bytes, letter-R, letter-T, letter-E}
 use Rattle.definitions.specs.Layout.{Words}
+use Rattle.words.specs.declared.parameters.Parameters.{Parameters}
+use Rattle.words.specs.parameters.Values.{parameters-of}
 use Rattle.reader.specs.fields.Scanning.{shaped-first, in-sixteen}
 use Rattle.reader.specs.declared.lines.Start.{Start}
 use Rattle.reader.specs.declared.lines.Start.the-variants.{At, Refused as Start-refused}
@@ -17,8 +19,7 @@ use Rattle.reader.specs.declared.lines.First.{First}
 use Rattle.reader.specs.declared.lines.Step.{Step}
 use Rattle.reader.specs.declared.lines.Step.the-variants.{Term, End, Refused}
 use Rattle.reader.specs.declared.lines.Taken.{Taken}
-use Rattle.reader.specs.declared.lines.Parameters.{Parameters}
-use Rattle.reader.specs.lines.Tests.{parameters-of, t-number, r-number}
+use Rattle.reader.specs.lines.Tests.{t-number, r-number}
 
 -- a value, unless a test failed
 abbrev pub judged : {A : Type 0} → ℕ → ℕ → A → Result A

@@ -12,10 +12,6 @@ use Rattle.definitions.specs.Problem as definition
 use Rattle.definitions.specs.Problem.{prime-in-range?, in-ranges?, term-in-range?}
 use Rattle.definitions.specs.Layout.{Words}
 use Rattle.definitions.specs.Places.{most-elements, most-rows}
-use Rattle.reader.specs.declared.lines.Parameters.{Parameters}
-
-abbrev pub parameters-of : Parameters → definition.Parameters
-parameters-of q = record { p = q .p; n = q .n; code = q .code; s = q .s }
 
 -- the term of a T line: "exponents past n are zero"
 abbrev pub term-in : Words → Term

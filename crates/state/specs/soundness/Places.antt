@@ -4,11 +4,6 @@ use lib.ListN.{getD, drop}
 use Rattle.definitions.specs.Limits.{document-01}
 use Rattle.definitions.specs.Problem as definition
 use Rattle.definitions.specs.Layout.{Words, count-place, rows-place}
-use Rattle.state.specs.declared.soundness.Parameters.{Parameters}
-
--- the code's parameters as the definitions' ones
-abbrev pub parameters-of : Parameters → definition.Parameters
-parameters-of q = record { p = q .p; n = q .n; code = q .code; s = q .s }
 
 abbrev pub parameters-at : Words → definition.Parameters
 parameters-at s = record { p = getD s 0 0; n = getD s 1 0; code = getD s 2 0; s = getD s 3 0 }

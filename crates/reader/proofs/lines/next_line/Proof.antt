@@ -2,7 +2,7 @@ use borrow.Author.Needs.{needs}
 use native.Mathlib.Omega.{arith}
 use mathlib.Core.Path.{_∙_}
 use Prim.Native.Nat.{_+_}
-use Rattle.reader.specs.lines.Tests.{parameters-of}
+use Rattle.words.specs.parameters.Values.{parameters-of}
 use Rattle.reader.proofs.lines.LineAnswers.{refused-as, letter-none, letter-T, letter-E, letter-other}
 use Rattle.reader.proofs.lines.next_line.Statement.{statement}
 use Rattle.reader.proofs.lines.next_line.Tie as tie

@@ -2,7 +2,7 @@ use borrow.Author.Needs.{needs}
 use native.Mathlib.Omega.{arith}
 use mathlib.Core.Path.{sym, ap, _∙_}
 use lib.ListN.{take, drop}
-use Rattle.reader.specs.lines.Tests.{parameters-of}
+use Rattle.words.specs.parameters.Values.{parameters-of}
 use Rattle.definitions.specs.Monomial.{fits?}
 use Rattle.definitions.specs.Lists.{_and_}
 use Rattle.definitions.specs.Places.{most-exponent}

@@ -4,7 +4,8 @@ use mathlib.Core.Path.{_≡_, ap, _∙_}
 use Prim.Native.Nat.{_+_}
 use lib.ListN.{drop}
 use Rattle.reader.specs.lines.Steps.{t-judged}
-use Rattle.reader.specs.lines.Tests.{parameters-of, t-number}
+use Rattle.words.specs.parameters.Values.{parameters-of}
+use Rattle.reader.specs.lines.Tests.{t-number}
 use Rattle.reader.specs.fields.Scanning.{line-as, shaped-first, in-sixteen}
 use mathlib.Core.Option.{some}
 use Rattle.reader.proofs.lines.LineAnswers.{refused-as, no-shape, has-shape, judged-refused, judged-done}

@@ -2,7 +2,8 @@ use borrow.Author.Needs.{needs}
 use native.Mathlib.Omega.{arith}
 use mathlib.Core.Path.{sym, _∙_}
 use lib.ListN.{getD}
-use Rattle.reader.specs.lines.Tests.{unless, parameters-of, term-in, follows?, descends?}
+use Rattle.words.specs.parameters.Values.{parameters-of}
+use Rattle.reader.specs.lines.Tests.{unless, term-in, follows?, descends?}
 use Rattle.definitions.specs.Problem.{term-in-range?}
 use Rattle.definitions.specs.Limits.{document-01}
 use Rattle.definitions.specs.Places.{most-rows}

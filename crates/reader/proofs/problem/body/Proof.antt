@@ -7,7 +7,7 @@ use lib.ListN.{length, drop, getD}
 use Rattle.definitions.specs.Limits.{document-01}
 use Rattle.definitions.specs.Monomial.{Level}
 use Rattle.definitions.specs.Problem.{lines, body}
-use Rattle.reader.specs.lines.Tests.{parameters-of}
+use Rattle.words.specs.parameters.Values.{parameters-of}
 use Rattle.reader.proofs.problem.WordsSoFar.{So-far}
 use Rattle.reader.proofs.problem.WordsSoFar.{none-so-far, one-more, goes-on-term, goes-on-end, goes-on-refused}
 use Rattle.reader.proofs.problem.LineByLine.{Passed, line-passed}

@@ -7,7 +7,7 @@ use Rattle.reader.proofs.problem.LineByLine.{few-variables}
 use Rattle.reader.specs.problem.Reading.{body-words}
 use Rattle.reader.specs.declared.lines.Start.{Start}
 use Rattle.reader.specs.lines.Steps.{r-first, start-as}
-use Rattle.reader.specs.lines.Tests.{parameters-of}
+use Rattle.words.specs.parameters.Values.{parameters-of}
 use Rattle.definitions.proofs.Results.{if-done-says}
 use Rattle.definitions.specs.Problem.{Bytes, Parameters}
 use Rattle.definitions.specs.Result.{done}

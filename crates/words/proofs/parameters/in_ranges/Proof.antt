@@ -2,8 +2,8 @@ use borrow.Author.Needs.{needs}
 use mathlib.Core.Path.{sym, _∙_}
 use Rattle.definitions.specs.Lists.{_and_, between}
 use Rattle.definitions.specs.Places.{most-components}
-use Rattle.reader.proofs.lines.parameters_in_range.Statement.{statement}
-use Rattle.reader.proofs.lines.parameters_in_range.Tie as tie
+use Rattle.words.proofs.parameters.in_ranges.Statement.{statement}
+use Rattle.words.proofs.parameters.in_ranges.Tie as tie
 
 between-requires : tie.Need-between-requires
 between-requires c κs = search needs
@@ -31,8 +31,8 @@ returns-3 c =
     let q = c .before .before .args .q in
     sym (λ i. (sym (c .before .between .ensures) ∙ c .if1 .left) i and between 1 (q .code) 3 and between 1 (q .s) most-components)
 
-pub parameters-in-range-spec : {M : Type 1} → statement M
-parameters-in-range-spec =
+pub in-ranges-spec : {M : Type 1} → statement M
+in-ranges-spec =
     tie.close
     (tie.spec
     between-requires
