@@ -1,6 +1,5 @@
 -- The numbers of the layout with document 01's limits: each has its one name here. `proofs/Places` says that they are what Layout's functions give at
--- `document-01`,
--- and that levels and rows stand beside each other and fit. The code's names for them are crate `words`.
+-- `document-01`, and that levels and rows stand beside each other and fit. The code's names for them are crate `words`.
 use Prim.Native.Nat.{ℕ, _+_, _*_}
 
 -- ## Limits
