@@ -93,7 +93,7 @@ fn settle(state: &mut [u16], h: usize)
 {
     tidy(state, h);
     let a = words::HEADER_LENGTH + h * words::COUNTS_LENGTH;
-    terms::clear(&mut state[a..1295], 0);
+    terms::clear(&mut state[a..words::ROWS_START], 0);
     terms::clear(state, words::ROWS_START + h * words::LEVEL_LENGTH);
 }
 

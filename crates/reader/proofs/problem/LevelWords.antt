@@ -161,7 +161,7 @@ words-laid q f size h le lr =
         ≡ most-vectors = ap length (append-nil (ends ++ replicate (most-vectors - length ends) 0)) ∙ length-padded most-vectors ends le in
         omega arith
 
-    all-length : length (padded rows-start header ++ all-rows document-01 (f ∷ [])) ≡ 21775
+    all-length : length (padded rows-start header ++ all-rows document-01 (f ∷ [])) ≡ rows-start + level-length
     all-length =
         let n : length ((rows ++ replicate (level-length - length rows) 0) ++ [])
         ≡ level-length = ap length (append-nil (rows ++ replicate (level-length - length rows) 0)) ∙ length-padded level-length rows lr in
