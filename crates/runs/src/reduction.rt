@@ -31,6 +31,7 @@ use reducers::search;
 use reducers::search::Answer;
 use reducers::search::Found;
 use reducers::search::Span;
+use reducers::tables;
 use vectors::sums;
 use vectors::sums::Running;
 use vectors::sums::Stored;
@@ -193,21 +194,12 @@ pub fn add_multiple(
     add_all(value, n, level, from, to, c, q, tables, g, drops)
 }
 
-fn image_at(value: &[u16], i: usize, below: &[u16], images: usize) -> Image
-    requires { ⌜ (i * row-length + row-length ≤ length (now value)) × (images * row-length ≤ length (now below)) × Tabled images (now below) ⌝ }
-    ensures { λ k. ⌜ key-of k ≡ key (table-of images (now (below .entry))) (row-at (now (value .entry)) i .1) ⌝ }
-{
-    let t = terms::row(value, i);
-    let m = t.monomial;
-    orders::image_of(below, images, m)
-}
-
 // The place of the greatest of n terms: from each best so far, its image beside it, a walk to the next.
 pub fn greatest(value: &[u16], n: usize, code: u16, below: &[u16], images: usize) -> usize
     requires { ⌜ (0 < n) × (n * row-length ≤ length (now value)) × (images * row-length ≤ length (now below)) × Tabled images (now below) ⌝ }
     ensures { λ r. ⌜ some r ≡ greatest-definition (table-order code (table-of images (now (below .entry)))) (rows (now (value .entry)) 0 n) ⌝ }
 {
-    let image = image_at(value, 0, below, images);
+    let image = tables::image_at(value, 0, below, images);
     let mut best = Running { row: 0, image };
     let mut i: usize = 1;
     while i < n {
