@@ -7,6 +7,7 @@ pub mod Tests
 pub mod Members
 pub mod Modular
 pub mod Coefficients
+pub mod Packing
 pub mod Rows
 pub mod Sound
 pub mod RoundTrip

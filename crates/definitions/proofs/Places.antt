@@ -3,11 +3,12 @@ use mathlib.Core.Path.{_≡_, refl}
 use Prim.Native.Nat.{ℕ, suc, _+_, _*_, _<_, _≤_}
 use native.Mathlib.Omega.{arith}
 use Rattle.definitions.specs.Limits.{document-01}
-use Rattle.definitions.specs.Layout.{level-vectors, level-rows, count-place, rows-place, state-words, work-words, out-words, division, tree}
+use lib.ListN.{length}
+use Rattle.definitions.specs.Layout.{words-of, level-vectors, level-rows, count-place, rows-place, state-words, work-words, out-words, division, tree}
 use Rattle.definitions.specs.Places.{exponents-length, most-exponent, most-variables, most-components, most-elements, most-vectors, most-rows, most-terms}
-use Rattle.definitions.specs.Places.{most-tree-terms, most-levels, all-levels, row-length, component-offset, exponents-offset, rank-offset, counts-length}
+use Rattle.definitions.specs.Places.{most-tree-terms, most-levels, all-levels, packed-length, row-length, image-length, component-offset, exponents-offset, rank-offset, counts-length}
 use Rattle.definitions.specs.Places.{rows-start, level-length, state-length, count-offset, ends-offset, rows-offset, value-length, tree-length}
-use Rattle.definitions.specs.Places.{vector-length, table-length, spans-length, tables-spans, tables-ends, tables-below, tables-above, tables-length}
+use Rattle.definitions.specs.Places.{vector-length, heads-length, images-length, spans-length, tables-spans, tables-ends, tables-below, tables-above, tables-length}
 use Rattle.definitions.specs.Places.{ends-length, lifted-length, grown-length, file-length, read-length, s-line-length, pair-line-length, s-lines-length}
 use Rattle.definitions.specs.Places.{level-lines-length, all-lines-length, sheet-length}
 
@@ -24,8 +25,9 @@ limits-are : (exponents-length ≡ document-01 .variables) × (most-exponent ≡
 limits-are = (refl, refl, refl, refl, refl, refl, refl, refl, refl, refl, refl, refl, refl, refl, refl, refl)
 
 -- of rows
-row-is : (row-length ≡ exponents-offset + exponents-length) × (exponents-offset ≡ suc component-offset) × (rank-offset ≡ component-offset)
-row-is = (refl, refl, refl)
+row-is : (row-length ≡ exponents-offset + packed-length) × (image-length ≡ exponents-offset + exponents-length) × (exponents-offset ≡ suc component-offset)
+    × (rank-offset ≡ component-offset) × (packed-length ≡ length (words-of 0))
+row-is = (refl, refl, refl, refl, refl)
 
 -- of the state: each is a path in the level's number
 counts-are : (k : ℕ) → count-offset k ≡ count-place document-01 k
@@ -43,12 +45,12 @@ state-is = (refl, refl, refl, refl)
 
 -- of the other buffers
 buffers-are : (value-length ≡ work-words document-01 division) × (tree-length ≡ work-words document-01 tree) × (vector-length ≡ out-words document-01)
-    × (table-length ≡ most-vectors * row-length) × (spans-length ≡ suc most-vectors * 2) × (ends-length ≡ most-vectors)
+    × (heads-length ≡ most-vectors * row-length) × (images-length ≡ most-vectors * image-length) × (spans-length ≡ suc most-vectors * 2) × (ends-length ≡ most-vectors)
     × (lifted-length ≡ ends-length + level-length)
-    × (grown-length ≡ lifted-length + vector-length) × (tables-spans ≡ table-length) × (tables-ends ≡ tables-spans + spans-length)
+    × (grown-length ≡ lifted-length + vector-length) × (tables-spans ≡ heads-length) × (tables-ends ≡ tables-spans + spans-length)
     × (tables-below ≡ tables-ends + ends-length)
-    × (tables-above ≡ tables-below + table-length) × (tables-length ≡ tables-above + table-length)
-buffers-are = (refl, refl, refl, refl, refl, refl, refl, refl, refl, refl, refl, refl, refl)
+    × (tables-above ≡ tables-below + images-length) × (tables-length ≡ tables-above + images-length)
+buffers-are = (refl, refl, refl, refl, refl, refl, refl, refl, refl, refl, refl, refl, refl, refl)
 
 -- of the sheet's lines
 lines-are : (s-lines-length ≡ most-rows * s-line-length) × (level-lines-length ≡ s-lines-length + pair-line-length)

@@ -14,7 +14,8 @@ use Rattle.definitions.specs.Lifting.{by-division, by-hybrid, by-tree}
 use Rattle.definitions.specs.State.{State, empty, sound?}
 use Rattle.definitions.specs.Calls.{reading, lifting, fetching}
 use Rattle.definitions.specs.Sheet.{sheet}
-use Rattle.definitions.specs.Layout.{division, tree, state-words, work-words, out-words, count-place, rows-place}
+use Rattle.definitions.specs.Packed.{low-bytes}
+use Rattle.definitions.specs.Layout.{row-of, row-at, division, tree, state-words, work-words, out-words, count-place, rows-place}
 use Rattle.definitions.proofs.Text.{text, bytes}
 use Rattle.definitions.proofs.Instances.{xyz, xy, f₁, g₁}
 use Rattle.definitions.proofs.Views.{seen, held}
@@ -228,9 +229,17 @@ numbered-in-code-3 = refl
 
 -- ## The lengths and places of docs/BUFFERS.md
 
-lengths-of-buffers : (state-words document-01 ≡ 206_095) × (work-words document-01 division ≡ 5_120) × (work-words document-01 tree ≡ 40_960)
-    × (out-words document-01 ≡ 5_120)
+lengths-of-buffers : (state-words document-01 ≡ 124_175) × (work-words document-01 division ≡ 3_072) × (work-words document-01 tree ≡ 24_576)
+    × (out-words document-01 ≡ 3_072)
 lengths-of-buffers = (refl, refl, refl, refl)
 
-places-of-level-9 : (count-place document-01 9 ≡ 5 + 129 * 9) × (rows-place document-01 9 ≡ 1_295 + 20_480 * 9)
+places-of-level-9 : (count-place document-01 9 ≡ 5 + 129 * 9) × (rows-place document-01 9 ≡ 1_295 + 12_288 * 9)
 places-of-level-9 = (refl, refl)
+
+-- "in one unsigned 64-bit number, x1 in the top byte" (A8); its four words stand lowest first
+words-of-a-row : row-of (5, (1 ∷ 2 ∷ 3 ∷ 4 ∷ 5 ∷ 6 ∷ 7 ∷ 8 ∷ [], 9)) ≡ 5 ∷ 9 ∷ (7 * 256 + 8) ∷ (5 * 256 + 6) ∷ (3 * 256 + 4) ∷ (1 * 256 + 2) ∷ []
+words-of-a-row = refl
+
+row-of-words : row-at (5 ∷ 9 ∷ (7 * 256 + 8) ∷ (5 * 256 + 6) ∷ (3 * 256 + 4) ∷ (1 * 256 + 2) ∷ []) 0 ≡ (5, (1 ∷ 2 ∷ 3 ∷ 4 ∷ 5 ∷ 6 ∷ 7 ∷ 8 ∷ [], 9))
+unfolding row-at low-bytes
+row-of-words = refl

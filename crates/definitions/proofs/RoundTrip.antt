@@ -10,7 +10,7 @@ use lib.Dec.{T, leb, ltb, leb→le, le→leb, lt→ltb}
 use lib.ListN.{length, take, drop, getD, replicate, length-append, length-drop, length-replicate}
 use lib.Seq.{take-at, drop-drop, getD-drop, drop-append-seam}
 use Rattle.definitions.specs.Limits.{Limits}
-use Rattle.definitions.specs.Lists.{_and_, every, last}
+use Rattle.definitions.specs.Lists.{_and_, every}
 use Rattle.definitions.specs.Monomial.{Exponents, Vector, Level, fits?}
 use Rattle.definitions.specs.Problem.{Parameters}
 use Rattle.definitions.specs.State.{State, empty, sound?, levels-sound?, vector-sound?, term-sound?, terms-of}
@@ -18,7 +18,6 @@ use Rattle.definitions.specs.Layout
 use Rattle.definitions.specs.Layout.{
   Words,
   rows,
-  row-of,
   rows-of,
   padded,
   level-vectors,
@@ -39,17 +38,15 @@ use Rattle.definitions.specs.Layout.{
   levels-at,
   decode,
   ascending?,
-  last-end,
-  exponents-fit?,
   words-sound?,
   all-words-sound?,
   holds-state?,
   meant,
 }
 use Rattle.definitions.proofs.Tests.{and-left, and-right, and-both}
-use Rattle.definitions.proofs.Rows.{Eights, no-terms, one-more, length-row, length-rows-of, rows-of-append, drop-behind, rows-spelled}
+use Rattle.definitions.proofs.Rows.{Eights, no-terms, one-more, length-rows-of, rows-of-append, drop-behind, rows-spelled}
 use Rattle.definitions.proofs.Sound.{term-says, vector-says, basis-says, level-says, sound-says}
-use Rattle.definitions.specs.Places.{most-exponent, row-length, exponents-offset, header-length}
+use Rattle.definitions.specs.Places.{most-exponent, row-length, header-length}
 
 -- ## What soundness says of a level's size and exponents
 
@@ -116,19 +113,11 @@ length-joined (v ∷ f) = length-append v (joined f) ∙ ap (λ n. length v + n)
 length-counts : (lim : Limits) (f : Level) → length f ≤ level-vectors lim → length (counts-of lim f) ≡ suc (level-vectors lim)
 length-counts lim f h = ap suc (length-padded (level-vectors lim) (ends-from 0 f) (omega (arith, length-ends 0 f)))
 
-eights-append : {v w : Vector} → Eights v → Eights w → Eights (v ++ w)
-eights-append no-terms w = w
-eights-append (one-more h v) w = one-more h (eights-append v w)
-
-eights-joined : {f : Level} → Filled f → Eights (joined f)
-eights-joined no-vectors = no-terms
-eights-joined (one-vector l v f) = eights-append v (eights-joined f)
-
 length-level-rows : (lim : Limits) (f : Level) → Housed lim f → length (padded (level-rows lim * row-length) (rows-of (joined f)))
     ≡ level-rows lim * row-length
 length-level-rows lim f h =
     length-padded (level-rows lim * row-length) (rows-of (joined f)) (omega
-    (arith, length-rows-of (joined f) (eights-joined (h .filled)), length-joined f, h .short))
+    (arith, length-rows-of (joined f), length-joined f, h .short))
 
 -- ## A level among others
 
@@ -173,7 +162,7 @@ vectors-spelled s a f z (one-vector {v} {f = g} l h hs) d =
 
     behind : drop ((a + length v) * row-length) s ≡ rows-of (joined g) ++ z
     behind = drop-behind s (rows-of v) (rows-of (joined g) ++ z) (a * row-length) (length v * row-length) ((a + length v) * row-length) here
-        (length-rows-of v h) (omega arith)
+        (length-rows-of v) (omega arith)
 
 ends-ascend : (limit a : ℕ) (f : Level) → Filled f → a + terms-of f ≤ limit → T (ascending? limit a (ends-from a f))
 ends-ascend limit a f no-vectors h = tt
@@ -182,45 +171,6 @@ ends-ascend limit a f (one-vector {v} {f = g} l e hs) h =
     (lt→ltb a (a + length v) (omega arith))
     (and-both (leb (a + length v) limit) (ascending? limit (a + length v) (ends-from (a + length v) g)) (le→leb (a + length v) limit (omega arith))
     (ends-ascend limit (a + length v) g hs (omega arith)))
-
-last-end-is : (a : ℕ) (f : Level) → last-end (last (ends-from a f)) ≤ a + terms-of f
-last-end-is a [] = omega arith
-last-end-is a (v ∷ f) = go (last (ends-from (a + length v) f)) (last-end-is (a + length v) f)
-  where
-    go : (l : Option ℕ) → last-end l ≤ a + length v + terms-of f → last-end (elim l [ none ↦ some (a + length v) | some b ↦ some b ]) ≤ a +
-        (length v + terms-of f)
-    go none h = omega arith
-    go (some b) h = omega arith
-
--- the rows from row n on
-rows-behind : (v : Vector) (n : ℕ) (z : Words) → Eights v → n ≤ length v → drop (n * row-length) (rows-of v ++ z) ≡ rows-of (drop n v) ++ z
-rows-behind v zero z h l = refl
-rows-behind v (suc n) z no-terms l = absurd (omega arith)
-rows-behind v (suc n) z (one-more {t} {v = w} h hs) l =
-    let e : suc n * row-length ≡ row-length + n * row-length = omega arith in
-    ap (λ j. drop j ((row-of t ++ rows-of w) ++ z)) e ∙ sym (drop-drop (n * row-length) row-length ((row-of t ++ rows-of w) ++ z))
-    ∙ ap (λ x. drop (n * row-length) (drop row-length x)) (append-assoc (row-of t) (rows-of w) z)
-    ∙ ap (drop (n * row-length)) (ap (λ j. drop j (row-of t ++ (rows-of w ++ z))) (sym (length-row t h)) ∙ drop-append-seam (row-of t) (rows-of w ++ z))
-    ∙ rows-behind w n z hs (omega arith)
-
-eights-drop : (v : Vector) (n : ℕ) → Eights v → Eights (drop n v)
-eights-drop v zero h = h
-eights-drop v (suc n) no-terms = no-terms
-eights-drop v (suc n) (one-more {t} {v = w} h hs) = eights-drop w n hs
-
-exponents-fit : (s : Words) (v : Vector) (z : Words) (n : ℕ) → Eights v → s ≡ rows-of v ++ z → n ≤ length v → T (exponents-fit? s n)
-exponents-fit s v z zero h e l = tt
-exponents-fit s v z (suc n) h e l =
-    and-both (exponents-fit? s n) (fits? most-exponent (take 8 (drop (n * row-length + exponents-offset) s))) (exponents-fit s v z n h e (omega arith))
-    (go (drop n v) (eights-drop v n h) (ap (drop (n * row-length)) e ∙ rows-behind v n z h (omega arith)) (omega (arith, length-drop n v)))
-  where
-    go : (w : Vector) → Eights w → drop (n * row-length) s ≡ rows-of w ++ z → 0 < length w
-        → T (fits? most-exponent (take 8 (drop (n * row-length + exponents-offset) s)))
-    go w no-terms d l = absurd (omega arith)
-    go w (one-more {t} {v = u} k ks) d l =
-        let b : drop (n * row-length + exponents-offset) s ≡ t .1 .0 ++ (rows-of u ++ z) = sym (drop-drop 2 (n * row-length) s)
-        ∙ ap (drop 2) (d ∙ append-assoc (row-of t) (rows-of u) z) in
-        subst (λ x. T (fits? most-exponent x)) (sym (ap (take 8) b ∙ take-at (t .1 .0) (rows-of u ++ z) 8 (k .eight))) (k .small)
 
 -- level k's words
 record Written (lim : Limits) (s : Words) (k : ℕ) (f : Level) : Type 0 where
@@ -258,15 +208,9 @@ module _ (lim : Limits) (s : Words) (k : ℕ) (f : Level) (w : Written lim s k f
 
   words-read : T (words-sound? lim s k)
   words-read =
-      and-both (leb (getD s (count-place lim k) 0) (level-vectors lim))
-      (ascending? (level-rows lim) 0 (ends-at lim s k) and exponents-fit? (drop (rows-place lim k) s) (last-end (last (ends-at lim s k))))
+      and-both (leb (getD s (count-place lim k) 0) (level-vectors lim)) (ascending? (level-rows lim) 0 (ends-at lim s k))
       (le→leb (getD s (count-place lim k) 0) (level-vectors lim) (omega (arith, count-read, h .few)))
-      (and-both (ascending? (level-rows lim) 0 (ends-at lim s k)) (exponents-fit? (drop (rows-place lim k) s) (last-end (last (ends-at lim s k))))
       (subst (λ e. T (ascending? (level-rows lim) 0 e)) (sym ends-read) (ends-ascend (level-rows lim) 0 f (h .filled) (omega (arith, h .short))))
-      (subst (λ e. T (exponents-fit? (drop (rows-place lim k) s) (last-end (last e)))) (sym ends-read)
-      (exponents-fit (drop (rows-place lim k) s) (joined f) (replicate (level-rows lim * row-length - length (rows-of (joined f))) 0 ++ w .rows-behind)
-      (last-end (last (ends-from 0 f))) (eights-joined (h .filled)) terms-read
-      (omega (arith, last-end-is 0 f, length-joined f)))))
 
 -- ## All levels
 

@@ -2,17 +2,18 @@
 use mathlib.Core.Bool.{Bool, true, false}
 use mathlib.Core.Option.{Option, none, some}
 use mathlib.Core.List.{List, [], _∷_, _++_, reverse}
-use Prim.Native.Nat.{ℕ, zero, suc, _+_, _-_, _*_, _/_, max}
+use Prim.Native.Nat.{ℕ, zero, suc, _+_, _-_, _*_, _/_, _%_, max}
 use lib.Dec.{leb, ltb}
 use lib.ListN.{length, getD, take, drop, replicate}
 use Rattle.definitions.specs.Limits.{Limits}
-use Rattle.definitions.specs.Lists.{_and_, _then_, every, last}
-use Rattle.definitions.specs.Monomial.{Exponents, Term, Vector, Level, fits?}
+use Rattle.definitions.specs.Lists.{_and_, _then_}
+use Rattle.definitions.specs.Monomial.{Term, Vector, Level}
+use Rattle.definitions.specs.Packed.{four, unpack, pack}
 use Rattle.definitions.specs.Lifting.{Lifting, by-division, by-hybrid, by-tree}
 use Rattle.definitions.specs.Problem.{Bytes}
 use Rattle.definitions.specs.State.{State, empty, sound?}
 use Rattle.definitions.specs.Calls.{Reply, read-reply, lift-reply, fetch-reply}
-use Rattle.definitions.specs.Places.{exponents-length, most-exponent, row-length, component-offset, exponents-offset, header-length}
+use Rattle.definitions.specs.Places.{row-length, component-offset, exponents-offset, header-length}
 
 -- the contents of a lent buffer: numbers of 16 bits
 abbrev pub Words : Type 0
@@ -20,27 +21,25 @@ Words = List ℕ
 
 -- ## Rows
 
--- a term: coefficient, component, eight exponents
+-- a number of 64 bits in four words, the lowest first
+abbrev pub words-of : ℕ → Words
+words-of x = x % 65536 ∷ x / 65536 % 65536 ∷ x / 4294967296 % 65536 ∷ x / 281474976710656 ∷ []
+
+-- .. as it stands from word a on
+abbrev pub long-at : Words → ℕ → ℕ
+long-at s a = four (getD s (a + 3) 0) (getD s (a + 2) 0) (getD s (a + 1) 0) (getD s a 0)
+
+-- a term: coefficient, component, the exponents packed into one number
 abbrev pub row-of : Term → Words
-row-of t = t .0 ∷ t .1 .1 ∷ t .1 .0
+row-of t = t .0 ∷ t .1 .1 ∷ words-of (pack (t .1 .0))
 
 abbrev pub rows-of : Vector → Words
 rows-of [] = []
 rows-of (t ∷ v) = row-of t ++ rows-of v
 
--- an exponent's word, read: 255 stands for whatever is above it, so that every row is a term with exponents of 8 bits
-unfoldable pub byte : ℕ → ℕ
-byte x = elim (ltb x 256) [ true ↦ x | false ↦ 255 ]
-
--- the eight exponents from word a on
-abbrev pub exponents-at : Words → ℕ → Exponents
-exponents-at s a =
-    byte (getD s a 0) ∷ byte (getD s (a + 1) 0) ∷ byte (getD s (a + 2) 0) ∷ byte (getD s (a + 3) 0) ∷
-    byte (getD s (a + 4) 0) ∷ byte (getD s (a + 5) 0) ∷ byte (getD s (a + 6) 0) ∷ byte (getD s (a + 7) 0) ∷ []
-
--- row i, counted from 0
+-- row i, counted from 0: every row is a term with exponents of 8 bits
 unfoldable pub row-at : Words → ℕ → Term
-row-at s i = (getD s (i * row-length) 0, (exponents-at s (i * row-length + exponents-offset), getD s (i * row-length + component-offset) 0))
+row-at s i = (getD s (i * row-length) 0, (unpack (long-at s (i * row-length + exponents-offset)), getD s (i * row-length + component-offset) 0))
 
 -- n rows from row a on
 unfoldable pub rows : Words → ℕ → ℕ → Vector
@@ -135,21 +134,9 @@ abbrev pub ascending? : ℕ → ℕ → Words → Bool
 ascending? limit a [] = true
 ascending? limit a (e ∷ ends) = ltb a e and leb e limit and ascending? limit e ends
 
-abbrev pub last-end : Option ℕ → ℕ
-last-end none = 0
-last-end (some e) = e
-
--- the exponents' words of the first n rows are in range, which `byte` would hide
-abbrev pub exponents-fit? : Words → ℕ → Bool
-exponents-fit? s zero = true
-exponents-fit? s (suc n) = exponents-fit? s n and fits? most-exponent (take exponents-length (drop (n * row-length + exponents-offset) s))
-
 -- what must hold of level k's words before its vectors can be cut out
 abbrev pub words-sound? : Limits → Words → ℕ → Bool
-words-sound? lim s k =
-    leb (getD s (count-place lim k) 0) (level-vectors lim) and
-    ascending? (level-rows lim) 0 (ends-at lim s k) and
-    exponents-fit? (drop (rows-place lim k) s) (last-end (last (ends-at lim s k)))
+words-sound? lim s k = leb (getD s (count-place lim k) 0) (level-vectors lim) and ascending? (level-rows lim) 0 (ends-at lim s k)
 
 -- levels 0 to k − 1
 abbrev pub all-words-sound? : Limits → Words → ℕ → Bool

@@ -2,6 +2,7 @@ pub mod Lists
 pub mod Limits
 pub mod Field
 pub mod Monomial
+pub mod Packed
 pub mod Order
 pub mod Reducer
 pub mod Frame

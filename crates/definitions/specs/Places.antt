@@ -47,11 +47,19 @@ all-levels = 10
 
 -- ## Rows
 
--- the words of a row: coefficient, component, exponents
-abbrev pub row-length : ℕ
-row-length = 10
+-- the words of a number that holds eight exponents
+abbrev pub packed-length : ℕ
+packed-length = 4
 
--- where a row's component stands, and the first of its exponents
+-- the words of a row: coefficient, component, packed exponents
+abbrev pub row-length : ℕ
+row-length = 6
+
+-- the words of a row in a table of images, whose exponents may pass 255 and are not packed: an unused one, the rank, the exponents
+abbrev pub image-length : ℕ
+image-length = 10
+
+-- where a row's component stands, and the first word of its exponents
 abbrev pub component-offset : ℕ
 component-offset = 1
 
@@ -82,11 +90,11 @@ rows-start = 1_295
 
 -- a level's rows
 abbrev pub level-length : ℕ
-level-length = 20_480
+level-length = 12_288
 
 -- the state
 abbrev pub state-length : ℕ
-state-length = 206_095
+state-length = 124_175
 
 -- where level k's count stands
 abbrev pub count-offset : ℕ → ℕ
@@ -104,18 +112,22 @@ rows-offset k = rows-start + k * level-length
 
 -- the work area of division and hybrid, and the tree's
 abbrev pub value-length : ℕ
-value-length = 5_120
+value-length = 3_072
 
 abbrev pub tree-length : ℕ
-tree-length = 40_960
+tree-length = 24_576
 
 -- a vector's rows: a fetched vector's buffer
 abbrev pub vector-length : ℕ
-vector-length = 5_120
+vector-length = 3_072
 
--- a row for each vector of a level: leading rows, images, frame terms
-abbrev pub table-length : ℕ
-table-length = 1_280
+-- a row for each vector of a level: leading rows, frame terms
+abbrev pub heads-length : ℕ
+heads-length = 768
+
+-- an image for each vector of a level
+abbrev pub images-length : ℕ
+images-length = 1_280
 
 -- the first and the last row of each component, and of none
 abbrev pub spans-length : ℕ
@@ -123,29 +135,29 @@ spans-length = 258
 
 -- the tables of a lifting in one slice: leading rows, spans, the ends of the level below, images below it, images above it
 abbrev pub tables-spans : ℕ
-tables-spans = 1_280
+tables-spans = 768
 
 abbrev pub tables-ends : ℕ
-tables-ends = 1_538
+tables-ends = 1_026
 
 abbrev pub tables-below : ℕ
-tables-below = 1_666
+tables-below = 1_154
 
 abbrev pub tables-above : ℕ
-tables-above = 2_946
+tables-above = 2_434
 
 abbrev pub tables-length : ℕ
-tables-length = 4_226
+tables-length = 3_714
 
 -- a lifted level before it is stored: an end for each vector, then their rows; the tree needs room for one vector more
 abbrev pub ends-length : ℕ
 ends-length = 128
 
 abbrev pub lifted-length : ℕ
-lifted-length = 20_608
+lifted-length = 12_416
 
 abbrev pub grown-length : ℕ
-grown-length = 25_728
+grown-length = 15_488
 
 -- ## Bytes
 

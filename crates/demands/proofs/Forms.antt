@@ -22,7 +22,6 @@ use Rattle.definitions.proofs.Tests.{and-left, and-right, between-low, between-
 use Rattle.definitions.proofs.Sound.{Sound-vector, vector-says, level-says}
 use Rattle.definitions.proofs.Refusals.{encode-empty}
 use Rattle.definitions.proofs.Rows.{length-rows-of}
-use Rattle.definitions.proofs.RoundTrip.{eights}
 use Rattle.definitions.specs.Places.{row-length}
 use Rattle.demands.specs.Demands
 use Rattle.demands.specs.Demands.{sensible?, out-long-enough?, no-basis, limit-met, Refused-reading, ill-formed, not-accepted}
@@ -40,10 +39,8 @@ all-zeros words = let e : length words - 0 ≡ length words = omega arith in ap 
 module _ (lim : Limits) (o : T (sensible? lim)) where
   -- ## Rows have room
 
-  rows-room : (q : Parameters) (count most : ℕ) (v : Vector) → T (every (term-sound? lim q count) v) → length v ≤ most → (words : Words)
-      → most * row-length ≤ length words
-      → length (rows-of v) ≤ length words
-  rows-room q count most v s l words r = omega (arith, length-rows-of v (eights lim q (small-exponents lim o) count v s))
+  rows-room : (most : ℕ) (v : Vector) → length v ≤ most → (words : Words) → most * row-length ≤ length words → length (rows-of v) ≤ length words
+  rows-room most v l words r = omega (arith, length-rows-of v)
 
   -- ## Reading
 
@@ -62,7 +59,7 @@ module _ (lim : Limits) (o : T (sensible? lim)) where
   value-room file state work t (not-accepted (limit-met b w d l)) = omega arith
   value-room file state work t (not-accepted {q} (no-basis {value = value} b w d i s)) =
       let r : lim .working * row-length ≤ length work = long-work division state work t in
-      rows-room q (q .s) (lim .working) value (s .sound) (s .short) work (omega arith)
+      rows-room (lim .working) value (s .short) work (omega arith)
 
   pub read-form : (n : ℕ) (file : Bytes) (state work : Words) → Holds (Read-form lim file state work) (read-call lim n file state work)
   read-form n file state work = go (long-enough? lim division state work) (λ t. t) (λ t. t)
@@ -156,7 +153,7 @@ module _ (lim : Limits) (o : T (sensible? lim)) where
       let h : Sound-vector lim q (length g) (lim .vector) (g ∷ below) (getD f i []) =
       vector-says lim q (length g) (lim .vector) (g ∷ below) (getD f i [])
       (every-at (vector-sound? lim q (length g) (lim .vector) (g ∷ below)) f i [] (level-says lim q f g below s .vectors) k) in
-      rows-room q (length g) (lim .vector) (getD f i []) (h .terms) (h .short) out m
+      rows-room (lim .vector) (getD f i []) (h .short) out m
 
   pub fetch-form : (k v : ℕ) (state out : Words) → Fetch-form lim k v state out (fetch-call lim k v state out)
   fetch-form k v state out = go (out-long-enough? lim state out) (λ t. t) (λ t. t)

@@ -16,7 +16,8 @@ use Rattle.definitions.specs.State.{State}
 use Rattle.definitions.specs.Calls
 use Rattle.definitions.specs.Calls.{read}
 use Rattle.definitions.specs.Reckoning.{Reckoning}
-use Rattle.definitions.specs.Layout.{byte, row-at, rows, Words, state-words, encode, division, hybrid, long-enough?, Read, Lift, Fetch, fetch-with, Left}
+use Rattle.definitions.specs.Packed.{low-bytes}
+use Rattle.definitions.specs.Layout.{row-at, rows, Words, state-words, encode, division, hybrid, long-enough?, Read, Lift, Fetch, fetch-with, Left}
 use Rattle.definitions.proofs.Text.{text}
 use Rattle.definitions.proofs.Instances.{xy, f₁, g₁}
 use Rattle.definitions.proofs.Steady.{steady-once}
@@ -76,7 +77,7 @@ done-not-refused {A} e = subst accepts e tt
 
 -- vector 1 of level 5, which is not there
 pub early-fetch : (r : Fetch) → Fetch-form tiny 5 1 two-levels area r → r ≡ (11, 0, area)
-unfolding byte row-at rows
+unfolding low-bytes row-at rows
 early-fetch r (fetched-as t u s f e l) = absurd u
 early-fetch r (Demands.Fetch-form.no-level t u) = refl
 early-fetch r (Demands.Fetch-form.no-number t u f) = absurd u
@@ -91,7 +92,7 @@ early-fetched a r e =
 
 -- level 5 over level 1
 pub early-lift : (r : Lift) → Lift-form tiny 5 division two-levels area [] r → r ≡ (11, 0, two-levels, area, [])
-unfolding byte row-at rows
+unfolding low-bytes row-at rows
 early-lift r (lifted-as X g bound t e u l d s) = absurd (subst (λ Y. T (not (Calls.eleven? tiny Y 5 4))) (sym e) u)
 early-lift r (Demands.Lift-form.refused-as bound t u l e n) = absurd u
 early-lift r (Demands.Lift-form.no-level t u) = refl
@@ -102,7 +103,7 @@ early-lift r (Demands.Lift-form.too-short t) = absurd t
 
 -- level 2 with pick code 9
 pub wrong-pick : (r : Lift) → Lift-form tiny 2 (hybrid 9) two-levels area [] r → r ≡ (12, 0, two-levels, area, [])
-unfolding byte row-at rows
+unfolding low-bytes row-at rows
 wrong-pick r (lifted-as X g bound t e u l d s) = absurd l
 wrong-pick r (Demands.Lift-form.refused-as bound t u l e n) = absurd l
 wrong-pick r (Demands.Lift-form.no-level t u) = absurd u
@@ -113,7 +114,7 @@ wrong-pick r (Demands.Lift-form.too-short t) = absurd t
 
 -- level 2, whose frame is empty
 pub no-limit-met : (r : Lift) → Lift-form tiny 2 division two-levels area [] r → r .0 ≡ 0
-unfolding byte row-at rows
+unfolding low-bytes row-at rows
 no-limit-met r (lifted-as X g bound t e u l d s) = refl
 no-limit-met r (Demands.Lift-form.refused-as bound t u l e n) = absurd (done-not-refused e)
 no-limit-met r (Demands.Lift-form.no-level t u) = absurd u

@@ -15,7 +15,8 @@ use Rattle.definitions.specs.Problem.{Parameters, t-line, problem}
 use Rattle.definitions.specs.State.{State}
 use Rattle.definitions.specs.Calls.{lifting}
 use Rattle.definitions.specs.Sheet.{sheet}
-use Rattle.definitions.specs.Layout.{byte, row-at, rows, Words, state-words, rows-place, encode, holds-state?, tree, lifting-by}
+use Rattle.definitions.specs.Packed.{low-bytes}
+use Rattle.definitions.specs.Layout.{row-at, rows, Words, state-words, rows-place, encode, holds-state?, tree, lifting-by}
 use Rattle.definitions.proofs.Text.{text}
 use Rattle.definitions.proofs.Instances.{xyz, xy, f₁}
 use Rattle.definitions.proofs.Views.{limited, seen}
@@ -118,7 +119,7 @@ greatest-first : seen (limited 255 128 2048 512 512 8) 99 (over 7 (
     (lifting true 1 (by-tree 9) ∷ []) ≡ some (text ("A,14,1" ∷ []))
 greatest-first = refl
 
--- "A state with a number out of its range": an exponent's word of 300, which reads as 255
+-- "A state with a number out of its range": an exponent past n that is not zero
 abbrev tiny : Limits
 tiny = record {
   prime-bound = 32_767;
@@ -142,13 +143,18 @@ abbrev words : Words
 words = encode tiny (state-words tiny) (record { parameters = record { p = 7; n = 2; code = 1; s = 1 }; levels = f₁ ∷ [] })
 
 holds : holds-state? tiny words ≡ true
-unfolding byte row-at rows
+unfolding low-bytes row-at rows
 holds = refl
 
-word-300 : holds-state? tiny (set words (rows-place tiny 0 + 2) 300) ≡ false
-unfolding byte row-at rows
-word-300 = refl
+-- x8 is the lowest byte of a row's exponents, x2 is in their highest word
+x8-in-use : holds-state? tiny (set words (rows-place tiny 0 + 2) 1) ≡ false
+unfolding low-bytes row-at rows
+x8-in-use = refl
 
--- the cache's length in terms: ten words a row
-ten-words : lifting-by tree (replicate 119 0) ≡ by-tree 11
-ten-words = refl
+x2-in-use : holds-state? tiny (set words (rows-place tiny 0 + 5) 257) ≡ true
+unfolding low-bytes row-at rows
+x2-in-use = refl
+
+-- the cache's length in terms: six words a row
+six-words : lifting-by tree (replicate 119 0) ≡ by-tree 19
+six-words = refl

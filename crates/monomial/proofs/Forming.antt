@@ -1,40 +1,216 @@
--- A product formed place by place, modulo 256, with a mark where a place passed 255.
-use mathlib.Core.Path.{_≡_, refl, sym, _∙_}
+-- Products, and 13's test by the marks of four lanes at a time; quotients.
+use mathlib.Core.Path.{_≡_, refl, sym, ap, ap₂, _∙_}
+use mathlib.Core.Bool.{Bool, true, false}
 use mathlib.Core.Option.{Option, none, some}
-use Prim.Native.Nat.{ℕ, zero, suc, _%_, _<_}
-use native.Mathlib.Nat.{mod-eq-of-lt}
+use Prim.Native.Nat.{ℕ, _+_, _-_, _*_, _/_, _%_, _<_, _≤_}
 use native.Mathlib.Omega.{arith}
-use lib.Dec.{ltb, eqb, eqb·suc-zero}
-use lib.ListN.{length, getD}
-use borrow.Author.Tests.{ltb-false}
-use Rattle.definitions.specs.Lists.{choose}
+use native.Mathlib.Nat.{mod-eq-of-lt}
+use lib.Dec.{leb, eqb}
+use lib.Bits.{bitAnd, and-high}
+use borrow.Author.Tests.{leb-true, leb-false, eq-eqb, ne-eqb, eqb-true, eqb-false}
+use Rattle.definitions.specs.Lists.{_and_, choose}
 use Rattle.definitions.specs.Monomial as definition
-use Rattle.definitions.specs.Monomial.{Exponents, product, fits?}
-use Rattle.definitions.specs.Places.{most-exponent}
-use Rattle.lists.specs.Filling.{Filled, filled-list}
-use Rattle.lists.specs.Marking.{Marked, unmarked}
+use Rattle.definitions.specs.Monomial.{Exponents, divides?, product, quotient, fits?}
+use Rattle.definitions.specs.Packed.{four, unpack}
 use Rattle.monomial.specs.Values.{formed}
-use Rattle.monomial.proofs.Places.{length-product}
-use Rattle.monomial.proofs.Scans.{fits-marked}
+use Rattle.definitions.proofs.Packing.{Bytes, unpack-is}
+use Rattle.monomial.proofs.Lanes.{and4, lows, highs, sums}
+use Rattle.monomial.proofs.Dividing.{regrouped, ended}
 
-pub product-formed : (q e d : Exponents) (component mark : ℕ) → length q ≡ 8 → length e ≡ 8 → length d ≡ 8
-    → Marked (λ k. ltb most-exponent (getD (product q e) k 0)) 8 mark → Filled (λ k. getD (product q e) k 0 % 256) 8 d
-    → _≡_ {A = Option definition.Monomial} (choose (eqb mark 0) (some (d, component)) none) (formed q (e, component))
-product-formed q e d component mark lq le ld m f = go mark m (fits-marked most-exponent (product q e) mark size m)
+-- the mark of a lane that passed 255
+abbrev over : Bool → ℕ
+over true = 0
+over false = 256
+
+sum-mark : (x y : ℕ) → x < 256 → y < 256 → bitAnd (x + y) 256 ≡ over (leb (x + y) 255)
+sum-mark x y hx hy = and-high (x + y) 1 8 ∙ go (leb (x + y) 255) refl
   where
-    size : length (product q e) ≡ 8
-    size = length-product q e (le ∙ sym lq) ∙ lq
+    go : (b : Bool) → leb (x + y) 255 ≡ b → (x + y) / 256 % 2 * 256 ≡ over b
+    go true e = let l : x + y ≤ 255 = leb-true (x + y) 255 e in omega arith
+    go false e = let l : 255 < x + y = leb-false (x + y) 255 e in omega arith
 
-    -- unmarked, no place was reduced
-    same : Marked (λ k. ltb most-exponent (getD (product q e) k 0)) 8 0 → d ≡ product q e
-    same m = filled-list (product q e) d (ld ∙ sym size) (λ k h. let l : k < 8 = omega (arith, size) in f k l ∙ mod-eq-of-lt (small k l))
-      where
-        small : (k : ℕ) → k < 8 → getD (product q e) k 0 < 256
-        small k h = let l = ltb-false most-exponent (getD (product q e) k 0)
-            (unmarked (λ k. ltb most-exponent (getD (product q e) k 0)) 8 0 m refl k h) in omega arith
+sum-marks : (a b c d p q r s : ℕ) → a < 256 → b < 256 → c < 256 → d < 256 → p < 256 → q < 256 → r < 256 → s < 256
+    → bitAnd (four a b c d + four p q r s) 72058693566333184 ≡ four (over (leb (a + p) 255)) (over (leb (b + q) 255)) (over (leb (c + r) 255)) (over (leb (d + s) 255))
+sum-marks a b c d p q r s ha hb hc hd hp hq hr hs =
+    ap (λ n. bitAnd n 72058693566333184) (sums a b c d p q r s)
+    ∙ and4 (a + p) (b + q) (c + r) (d + s) 256 256 256 256 (omega arith) (omega arith) (omega arith) (omega arith) (omega arith) (omega arith)
+    ∙ (λ i. four (sum-mark a p ha hp i) (sum-mark b q hb hq i) (sum-mark c r hc hr i) (sum-mark d s hd hs i))
 
-    go : (mark : ℕ) → Marked (λ k. ltb most-exponent (getD (product q e) k 0)) 8 mark → eqb mark 0 ≡ fits? most-exponent (product q e)
-        → _≡_ {A = Option definition.Monomial} (choose (eqb mark 0) (some (d, component)) none) (formed q (e, component))
-    go zero m t = λ i. choose (t i) (some (same m i, component)) none
-    go (suc n) m t = (λ i. choose (eqb·suc-zero n i) (some (d, component)) none)
-        ∙ sym (λ i. choose ((sym t ∙ eqb·suc-zero n) i) (some (product q e, component)) none)
+zero-two : (h l : ℕ) → eqb (h * 65536 + l) 0 ≡ (eqb h 0 and eqb l 0)
+zero-two h l = go (eqb h 0) (eqb l 0) refl refl
+  where
+    go : (b c : Bool) → eqb h 0 ≡ b → eqb l 0 ≡ c → eqb (h * 65536 + l) 0 ≡ (b and c)
+    go true true e f = eq-eqb (h * 65536 + l) 0 (omega (arith, eqb-true h 0 e, eqb-true l 0 f))
+    go true false e f = ne-eqb (h * 65536 + l) 0 (λ z. eqb-false l 0 f (omega arith))
+    go false c e f = ne-eqb (h * 65536 + l) 0 (λ z. eqb-false h 0 e (omega arith))
+
+neither : (p q : Bool) → eqb (over p + over q) 0 ≡ (p and q)
+neither true true = refl
+neither true false = refl
+neither false true = refl
+neither false false = refl
+
+unmarked : (p q r s t u v w : Bool)
+    → eqb (four (over p) (over r) (over t) (over v) + four (over q) (over s) (over u) (over w)) 0 ≡ (p and (q and (r and (s and (t and (u and (v and (w and true))))))))
+unmarked p q r s t u v w =
+    ap (λ n. eqb n 0) (sums (over p) (over r) (over t) (over v) (over q) (over s) (over u) (over w))
+    ∙ zero-two (((over p + over q) * 65536 + (over r + over s)) * 65536 + (over t + over u)) (over v + over w)
+    ∙ (λ i. zero-two ((over p + over q) * 65536 + (over r + over s)) (over t + over u) i and neither v w i)
+    ∙ (λ i. (zero-two (over p + over q) (over r + over s) i and neither t u i) and (v and ended w i))
+    ∙ (λ i. ((neither p q i and neither r s i) and (t and u)) and (v and (w and true)))
+    ∙ regrouped ((p and q) and (r and s)) (t and u) (v and (w and true))
+    ∙ regrouped (p and q) (r and s) ((t and u) and (v and (w and true)))
+    ∙ regrouped p q ((r and s) and ((t and u) and (v and (w and true))))
+    ∙ (λ i. p and (q and regrouped r s ((t and u) and (v and (w and true))) i))
+    ∙ (λ i. p and (q and (r and (s and regrouped t u (v and (w and true)) i))))
+
+pub fits-lanes : (x y : ℕ) → Bytes x → Bytes y
+    → eqb (bitAnd (bitAnd (x / 256) 71777214294589695 + bitAnd (y / 256) 71777214294589695) 72058693566333184
+    + bitAnd (bitAnd x 71777214294589695 + bitAnd y 71777214294589695) 72058693566333184) 0
+    ≡ fits? 255 (product (unpack x) (unpack y))
+fits-lanes x y a b =
+    ap₂ (λ m n. eqb (m + n) 0)
+    ((λ i. bitAnd (highs x a i + highs y b i) 72058693566333184)
+    ∙ sum-marks (a .d1) (a .d3) (a .d5) (a .d7) (b .d1) (b .d3) (b .d5) (b .d7) (a .s1) (a .s3) (a .s5) (a .s7) (b .s1) (b .s3) (b .s5) (b .s7))
+    ((λ i. bitAnd (lows x a i + lows y b i) 72058693566333184)
+    ∙ sum-marks (a .d2) (a .d4) (a .d6) (a .d8) (b .d2) (b .d4) (b .d6) (b .d8) (a .s2) (a .s4) (a .s6) (a .s8) (b .s2) (b .s4) (b .s6) (b .s8))
+    ∙ unmarked (leb (a .d1 + b .d1) 255) (leb (a .d2 + b .d2) 255) (leb (a .d3 + b .d3) 255) (leb (a .d4 + b .d4) 255)
+    (leb (a .d5 + b .d5) 255) (leb (a .d6 + b .d6) 255) (leb (a .d7 + b .d7) 255) (leb (a .d8 + b .d8) 255)
+    ∙ sym (λ i. fits? 255 (product (a .spelled i) (b .spelled i)))
+
+-- ## What a conjunction of eight says
+
+first : (p q : Bool) → (p and q) ≡ true → p ≡ true
+first true q e = refl
+first false q e = e
+
+later : (p q : Bool) → (p and q) ≡ true → q ≡ true
+later true q e = e
+later false q e = absurd (let z : _≡_ {A = ℕ} 0 1 = cc in omega arith)
+
+pub record Each (p q r s t u v w : Bool) : Type 0 where
+  pub e1 : p ≡ true
+  pub e2 : q ≡ true
+  pub e3 : r ≡ true
+  pub e4 : s ≡ true
+  pub e5 : t ≡ true
+  pub e6 : u ≡ true
+  pub e7 : v ≡ true
+  pub e8 : w ≡ true
+
+pub each : (p q r s t u v w : Bool) → (p and (q and (r and (s and (t and (u and (v and (w and true)))))))) ≡ true → Each p q r s t u v w
+each p q r s t u v w e =
+    let f2 = later p (q and (r and (s and (t and (u and (v and (w and true))))))) e in
+    let f3 = later q (r and (s and (t and (u and (v and (w and true)))))) f2 in
+    let f4 = later r (s and (t and (u and (v and (w and true))))) f3 in
+    let f5 = later s (t and (u and (v and (w and true)))) f4 in
+    let f6 = later t (u and (v and (w and true))) f5 in
+    let f7 = later u (v and (w and true)) f6 in
+    let f8 = later v (w and true) f7 in
+    record {
+      e1 = first p (q and (r and (s and (t and (u and (v and (w and true))))))) e;
+      e2 = first q (r and (s and (t and (u and (v and (w and true)))))) f2;
+      e3 = first r (s and (t and (u and (v and (w and true))))) f3;
+      e4 = first s (t and (u and (v and (w and true)))) f4;
+      e5 = first t (u and (v and (w and true))) f5;
+      e6 = first u (v and (w and true)) f6;
+      e7 = first v (w and true) f7;
+      e8 = first w true f8;
+    }
+
+-- ## Products that fit
+
+pub product-fits : (x y : ℕ) → Bytes x → Bytes y → fits? 255 (product (unpack x) (unpack y)) ≡ true → unpack ((x + y) % 18446744073709551616) ≡ product (unpack x) (unpack y)
+product-fits x y a b f =
+    unpack-is ((x + y) % 18446744073709551616) (a .d1 + b .d1) (a .d2 + b .d2) (a .d3 + b .d3) (a .d4 + b .d4) (a .d5 + b .d5) (a .d6 + b .d6) (a .d7 + b .d7) (a .d8 + b .d8)
+    (mod-eq-of-lt bound ∙ total) (omega (arith, l1)) (omega (arith, l2)) (omega (arith, l3)) (omega (arith, l4)) (omega (arith, l5)) (omega (arith, l6)) (omega (arith, l7)) (omega (arith, l8))
+    ∙ sym (λ i. product (a .spelled i) (b .spelled i))
+  where
+    all : Each (leb (a .d1 + b .d1) 255) (leb (a .d2 + b .d2) 255) (leb (a .d3 + b .d3) 255) (leb (a .d4 + b .d4) 255)
+        (leb (a .d5 + b .d5) 255) (leb (a .d6 + b .d6) 255) (leb (a .d7 + b .d7) 255) (leb (a .d8 + b .d8) 255)
+    all = each _ _ _ _ _ _ _ _ (sym (λ i. fits? 255 (product (a .spelled i) (b .spelled i))) ∙ f)
+
+    l1 : a .d1 + b .d1 ≤ 255
+    l1 = leb-true (a .d1 + b .d1) 255 (all .e1)
+
+    l2 : a .d2 + b .d2 ≤ 255
+    l2 = leb-true (a .d2 + b .d2) 255 (all .e2)
+
+    l3 : a .d3 + b .d3 ≤ 255
+    l3 = leb-true (a .d3 + b .d3) 255 (all .e3)
+
+    l4 : a .d4 + b .d4 ≤ 255
+    l4 = leb-true (a .d4 + b .d4) 255 (all .e4)
+
+    l5 : a .d5 + b .d5 ≤ 255
+    l5 = leb-true (a .d5 + b .d5) 255 (all .e5)
+
+    l6 : a .d6 + b .d6 ≤ 255
+    l6 = leb-true (a .d6 + b .d6) 255 (all .e6)
+
+    l7 : a .d7 + b .d7 ≤ 255
+    l7 = leb-true (a .d7 + b .d7) 255 (all .e7)
+
+    l8 : a .d8 + b .d8 ≤ 255
+    l8 = leb-true (a .d8 + b .d8) 255 (all .e8)
+
+    total : x + y ≡ four ((a .d1 + b .d1) * 256 + (a .d2 + b .d2)) ((a .d3 + b .d3) * 256 + (a .d4 + b .d4)) ((a .d5 + b .d5) * 256 + (a .d6 + b .d6)) ((a .d7 + b .d7) * 256 + (a .d8 + b .d8))
+    total = omega arith
+
+    bound : x + y < 18446744073709551616
+    bound = omega (arith, total, l1, l2, l3, l4, l5, l6, l7, l8)
+
+pub product-lanes : (x y z component : ℕ) (t : Bool) → Bytes x → Bytes y → t ≡ fits? 255 (product (unpack x) (unpack y))
+    → z ≡ (x + y) % 18446744073709551616
+    → _≡_ {A = Option definition.Monomial} (choose t (some (unpack z, component)) none) (formed (unpack x) (unpack y, component))
+product-lanes x y z component t a b f e =
+    (λ i. choose (f i) (some (unpack (e i), component)) none) ∙ go (fits? 255 (product (unpack x) (unpack y))) refl
+  where
+    go : (t : Bool) → fits? 255 (product (unpack x) (unpack y)) ≡ t
+        → _≡_ {A = Option definition.Monomial} (choose t (some (unpack ((x + y) % 18446744073709551616), component)) none)
+        (choose t (some (product (unpack x) (unpack y), component)) none)
+    go true h = λ i. some (product-fits x y a b h i, component)
+    go false h = refl
+
+-- ## Quotients, where it divides
+
+differences : (x y : ℕ) (a : Bytes x) (b : Bytes y) (g1 g2 g3 g4 g5 g6 g7 g8 : ℕ) → a .d1 + g1 ≡ b .d1 → a .d2 + g2 ≡ b .d2 → a .d3 + g3 ≡ b .d3 → a .d4 + g4 ≡ b .d4 → a .d5 + g5 ≡ b .d5 → a .d6 + g6 ≡ b .d6 → a .d7 + g7 ≡ b .d7 → a .d8 + g8 ≡ b .d8 → y - x ≡ four (g1 * 256 + g2) (g3 * 256 + g4) (g5 * 256 + g6) (g7 * 256 + g8)
+differences x y a b g1 g2 g3 g4 g5 g6 g7 g8 h1 h2 h3 h4 h5 h6 h7 h8 = omega arith
+
+module _ (x y : ℕ) (a : Bytes x) (b : Bytes y) (f : divides? (unpack x) (unpack y) ≡ true) where
+  below : Each (leb (a .d1) (b .d1)) (leb (a .d2) (b .d2)) (leb (a .d3) (b .d3)) (leb (a .d4) (b .d4)) (leb (a .d5) (b .d5)) (leb (a .d6) (b .d6)) (leb (a .d7) (b .d7)) (leb (a .d8) (b .d8))
+  below = each _ _ _ _ _ _ _ _ (sym (λ i. divides? (a .spelled i) (b .spelled i)) ∙ f)
+
+  m1 : a .d1 ≤ b .d1
+  m1 = leb-true (a .d1) (b .d1) (below .e1)
+
+  m2 : a .d2 ≤ b .d2
+  m2 = leb-true (a .d2) (b .d2) (below .e2)
+
+  m3 : a .d3 ≤ b .d3
+  m3 = leb-true (a .d3) (b .d3) (below .e3)
+
+  m4 : a .d4 ≤ b .d4
+  m4 = leb-true (a .d4) (b .d4) (below .e4)
+
+  m5 : a .d5 ≤ b .d5
+  m5 = leb-true (a .d5) (b .d5) (below .e5)
+
+  m6 : a .d6 ≤ b .d6
+  m6 = leb-true (a .d6) (b .d6) (below .e6)
+
+  m7 : a .d7 ≤ b .d7
+  m7 = leb-true (a .d7) (b .d7) (below .e7)
+
+  m8 : a .d8 ≤ b .d8
+  m8 = leb-true (a .d8) (b .d8) (below .e8)
+
+  pub quotient-below : x ≤ y
+  quotient-below = omega (arith, m1, m2, m3, m4, m5, m6, m7, m8)
+
+  pub quotient-word : unpack (y - x) ≡ quotient (unpack y) (unpack x)
+  quotient-word =
+      unpack-is (y - x) (b .d1 - a .d1) (b .d2 - a .d2) (b .d3 - a .d3) (b .d4 - a .d4) (b .d5 - a .d5) (b .d6 - a .d6) (b .d7 - a .d7) (b .d8 - a .d8)
+      (differences x y a b (b .d1 - a .d1) (b .d2 - a .d2) (b .d3 - a .d3) (b .d4 - a .d4) (b .d5 - a .d5) (b .d6 - a .d6) (b .d7 - a .d7) (b .d8 - a .d8) (omega (arith, m1)) (omega (arith, m2)) (omega (arith, m3)) (omega (arith, m4)) (omega (arith, m5)) (omega (arith, m6)) (omega (arith, m7)) (omega (arith, m8)))
+      (omega arith) (omega arith) (omega arith) (omega arith) (omega arith) (omega arith) (omega arith) (omega arith)
+      ∙ sym (λ i. quotient (b .spelled i) (a .spelled i))

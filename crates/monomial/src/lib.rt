@@ -1,11 +1,10 @@
-// Monomials: eight exponents by value and a component; product with 13's test, quotient, lcm, division, degree.
+// Monomials: eight exponents in one number, x1's in its top byte, and a component; product with 13's test, quotient, lcm, division, degree.
 // Exists for: `Monomial` with `UNIT`, `product`, `quotient`, `lcm`.
-// Knows: crate definitions' Monomial.
-// Exponents travel by value as [u8; 8]; what a slice holds is vectors::terms.
+// Knows: crate definitions' Monomial and Packed.
+// Sums and differences are formed in lanes of sixteen bits: the bytes of x2, x4, x6, x8, and, shifted down, those of x1, x3, x5, x7.
 ghost use mathlib.Core.Path.{_≡_};
-ghost use Prim.Native.Nat.{_-_, _<_, max};
-ghost use lib.Dec.{ltb};
-ghost use Rattle.lists.specs.Marking.{mark-by};
+ghost use mathlib.Core.Bool.{true};
+ghost use Prim.Native.Nat.{_≤_, _<_};
 ghost use Rattle.definitions.specs.Monomial.{
   divides?,
   divides-monomial?,
@@ -15,10 +14,11 @@ ghost use Rattle.definitions.specs.Monomial.{
   lcm as lcm-definition,
   degree as degree-definition,
 };
-ghost use Rattle.monomial.specs.Values.{monomial-of, unit, product-of, formed};
+ghost use Rattle.definitions.specs.Packed.{unpack};
+ghost use Rattle.monomial.specs.Values.{monomial-of, unit, product-of, formed, even-lanes, lane-bytes};
 
 pub struct Monomial {
-    pub exponents: [u8; words::EXPONENTS_LENGTH],
+    pub exponents: u64,
     pub component: u16,
 }
 
@@ -28,130 +28,130 @@ pub struct Product {
     pub monomial: Monomial,
 }
 
-// 1 where x is above y, else the mark.
-pub fn mark_above(mark: u16, x: u16, y: u16) -> u16
-    ensures { λ r. ⌜ r ≡ mark-by (ltb y x) mark ⌝ }
+// The lower byte of each lane, and the bit above it.
+const LOW: u64 = 0x00ff_00ff_00ff_00ff;
+
+const MARK: u64 = 0x0100_0100_0100_0100;
+
+// ## Exponents alone
+
+// A mark is put above each exponent of y; taking x's off leaves it where it can.
+pub fn divides_exponents(x: u64, y: u64) -> bool
+    ensures { λ r. ⌜ r ≡ divides? (unpack x) (unpack y) ⌝ }
 {
-    if y < x {
-        return 1;
-    }
-    mark
+    let o = ((y >> 8) & LOW) + MARK - ((x >> 8) & LOW);
+    let e = (y & LOW) + MARK - (x & LOW);
+    ((o & MARK) & (e & MARK)) == MARK
 }
 
-fn divides_exponents(x: [u8; words::EXPONENTS_LENGTH], y: [u8; words::EXPONENTS_LENGTH]) -> bool
-    ensures { λ r. ⌜ r ≡ divides? x y ⌝ }
+pub fn same_exponents(x: u64, y: u64) -> bool
+    ensures { λ r. ⌜ r ≡ same-exponents? (unpack x) (unpack y) ⌝ }
 {
-    let mut mark: u16 = 0;
-    let mut j = 0;
-    while j < words::EXPONENTS_LENGTH {
-        mark = mark_above(mark, words::wide(x[j]), words::wide(y[j]));
-        j += 1;
-    }
-    mark == 0
+    x == y
 }
 
-fn same_exponents(x: [u8; words::EXPONENTS_LENGTH], y: [u8; words::EXPONENTS_LENGTH]) -> bool
-    ensures { λ r. ⌜ r ≡ same-exponents? x y ⌝ }
+// y / x, where x divides y: then no exponent borrows from the next.
+fn quotient_exponents(y: u64, x: u64) -> u64
+    requires { ⌜ divides? (unpack x) (unpack y) ≡ true ⌝ }
+    ensures { λ r. ⌜ unpack r ≡ quotient-definition (unpack y) (unpack x) ⌝ }
 {
-    let mut j = 0;
-    while j < words::EXPONENTS_LENGTH {
-        if x[j] != y[j] {
-            return false;
-        }
-        j += 1;
-    }
-    true
+    y - x
 }
 
-fn less(y: u8, x: u8) -> u8
-    ensures { λ r. ⌜ r ≡ y - x ⌝ }
+// The larger of each two exponents of x2, x4, x6, x8, in lanes.
+fn larger(x: u64, y: u64) -> u64
+    ensures { λ r. ⌜ (r ≡ even-lanes (lcm-definition (unpack x) (unpack y))) × (r ≤ lane-bytes) ⌝ }
 {
-    if x < y {
-        return y - x;
-    }
-    0
+    let a = x & LOW;
+    let m = (y & LOW) + MARK - a;
+    let t = m & MARK;
+    a + (m & (t - (t >> 8)))
 }
 
-fn larger(x: u8, y: u8) -> u8
-    ensures { λ r. ⌜ r ≡ max x y ⌝ }
+fn lcm_exponents(x: u64, y: u64) -> u64
+    ensures { λ r. ⌜ unpack r ≡ lcm-definition (unpack x) (unpack y) ⌝ }
 {
-    if x < y {
-        return y;
-    }
-    x
+    larger(x >> 8, y >> 8) * 256 + larger(x, y)
 }
 
-fn quotient_exponents(
-    y: [u8; words::EXPONENTS_LENGTH],
-    x: [u8; words::EXPONENTS_LENGTH],
-) -> [u8; words::EXPONENTS_LENGTH]
-    ensures { λ r. ⌜ r ≡ quotient-definition y x ⌝ }
+// The lanes are added up by halves.
+pub fn degree_exponents(x: u64) -> u64
+    ensures { λ r. ⌜ r ≡ degree-definition (unpack x) ⌝ }
 {
-    let mut e = [0u8; words::EXPONENTS_LENGTH];
-    let mut j = 0;
-    while j < words::EXPONENTS_LENGTH {
-        e[j] = less(y[j], x[j]);
-        j += 1;
-    }
-    e
+    let s = ((x >> 8) & LOW) + (x & LOW);
+    let t = s / 0x0001_0000_0000 + s % 0x0001_0000_0000;
+    t / 65536 + t % 65536
 }
 
-fn lcm_exponents(
-    x: [u8; words::EXPONENTS_LENGTH],
-    y: [u8; words::EXPONENTS_LENGTH],
-) -> [u8; words::EXPONENTS_LENGTH]
-    ensures { λ r. ⌜ r ≡ lcm-definition x y ⌝ }
+// The product's exponents; where one is above 255 it marks its lane, and the product does not fit.
+fn product_exponents(q: u64, e: u64, component: u16) -> Product
+    ensures { λ r. ⌜ product-of r ≡ formed (unpack q) (unpack e, component) ⌝ }
 {
-    let mut e = [0u8; words::EXPONENTS_LENGTH];
-    let mut j = 0;
-    while j < words::EXPONENTS_LENGTH {
-        e[j] = larger(x[j], y[j]);
-        j += 1;
-    }
-    e
-}
-
-fn degree_exponents(x: [u8; words::EXPONENTS_LENGTH]) -> u16
-    ensures { λ r. ⌜ r ≡ degree-definition x ⌝ }
-{
-    let mut d: u16 = 0;
-    let mut j = 0;
-    while j < words::EXPONENTS_LENGTH {
-        d += words::wide(x[j]);
-        j += 1;
-    }
-    d
-}
-
-// The product's exponents; where one is above 255 it does not fit.
-fn product_exponents(
-    q: [u8; words::EXPONENTS_LENGTH],
-    e: [u8; words::EXPONENTS_LENGTH],
-    component: u16,
-) -> Product
-    ensures { λ r. ⌜ product-of r ≡ formed q (e, component) ⌝ }
-{
-    let mut d = [0u8; words::EXPONENTS_LENGTH];
-    let mut mark: u16 = 0;
-    let mut j = 0;
-    while j < words::EXPONENTS_LENGTH {
-        let x = words::wide(q[j]) + words::wide(e[j]);
-        mark = mark_above(mark, x, words::MOST_EXPONENT);
-        d[j] = (x % 256) as u8;
-        j += 1;
-    }
+    let o = ((q >> 8) & LOW) + ((e >> 8) & LOW);
+    let l = (q & LOW) + (e & LOW);
+    let m = (o & MARK) + (l & MARK);
+    let s = std::num::wrapping_add_u64(q, e);
     Product {
-        fits: mark == 0,
+        fits: m == 0,
         monomial: Monomial {
-            exponents: d,
+            exponents: s,
             component,
         },
     }
 }
 
+// ## Made and taken apart
+
+fn wide(x: u8) -> u64
+    ensures { λ r. ⌜ (r ≡ x) × (r < 256) ⌝ }
+{
+    x as u64
+}
+
+// Eight exponents as they are read, x1's first.
+pub fn packed(e: [u8; words::EXPONENTS_LENGTH]) -> u64
+    ensures { λ r. ⌜ unpack r ≡ e ⌝ }
+{
+    let h = (wide(e[0]) * 256 + wide(e[1])) * 65536 + (wide(e[2]) * 256 + wide(e[3]));
+    let l = (wide(e[4]) * 256 + wide(e[5])) * 65536 + (wide(e[6]) * 256 + wide(e[7]));
+    h * 0x0001_0000_0000 + l
+}
+
+// The exponents as they are printed.
+pub fn apart(x: u64) -> [u8; words::EXPONENTS_LENGTH]
+    ensures { λ r. ⌜ r ≡ unpack x ⌝ }
+{
+    [
+        (x / 0x0100_0000_0000_0000) as u8,
+        (x / 0x0001_0000_0000_0000 % 256) as u8,
+        (x / 0x0100_0000_0000 % 256) as u8,
+        (x / 0x0001_0000_0000 % 256) as u8,
+        (x / 0x0100_0000 % 256) as u8,
+        (x / 0x0001_0000 % 256) as u8,
+        (x / 0x0100 % 256) as u8,
+        (x % 256) as u8,
+    ]
+}
+
+// .. in sixteen bits each, as images are formed of them.
+pub fn widened(x: u64) -> [u16; words::EXPONENTS_LENGTH]
+    ensures { λ r. ⌜ r ≡ unpack x ⌝ }
+{
+    [
+        (x / 0x0100_0000_0000_0000) as u16,
+        (x / 0x0001_0000_0000_0000 % 256) as u16,
+        (x / 0x0100_0000_0000 % 256) as u16,
+        (x / 0x0001_0000_0000 % 256) as u16,
+        (x / 0x0100_0000 % 256) as u16,
+        (x / 0x0001_0000 % 256) as u16,
+        (x / 0x0100 % 256) as u16,
+        (x % 256) as u16,
+    ]
+}
+
 impl Monomial {
     pub const UNIT: Monomial = Monomial {
-        exponents: [0; words::EXPONENTS_LENGTH],
+        exponents: 0,
         component: 0,
     };
 
@@ -169,9 +169,7 @@ impl Monomial {
         if a != b {
             return false;
         }
-        let x = self.exponents;
-        let y = other.exponents;
-        divides_exponents(x, y)
+        divides_exponents(self.exponents, other.exponents)
     }
 
     pub fn same(self, other: Monomial) -> bool
@@ -182,26 +180,21 @@ impl Monomial {
         if a != b {
             return false;
         }
-        let x = self.exponents;
-        let y = other.exponents;
-        same_exponents(x, y)
+        same_exponents(self.exponents, other.exponents)
     }
 
     // self / other, where other divides self.
-    pub fn quotient(self, other: Monomial) -> [u8; words::EXPONENTS_LENGTH]
-        ensures { λ r. ⌜ r ≡ quotient-definition (monomial-of self .0) (monomial-of other .0) ⌝ }
+    pub fn quotient(self, other: Monomial) -> u64
+        requires { ⌜ divides? (monomial-of other .0) (monomial-of self .0) ≡ true ⌝ }
+        ensures { λ r. ⌜ unpack r ≡ quotient-definition (monomial-of self .0) (monomial-of other .0) ⌝ }
     {
-        let y = self.exponents;
-        let x = other.exponents;
-        quotient_exponents(y, x)
+        quotient_exponents(self.exponents, other.exponents)
     }
 
     pub fn lcm(self, other: Monomial) -> Monomial
         ensures { λ r. ⌜ monomial-of r ≡ (lcm-definition (monomial-of self .0) (monomial-of other .0), self .component) ⌝ }
     {
-        let x = self.exponents;
-        let y = other.exponents;
-        let e = lcm_exponents(x, y);
+        let e = lcm_exponents(self.exponents, other.exponents);
         let component = self.component;
         Monomial {
             exponents: e,
@@ -209,18 +202,15 @@ impl Monomial {
         }
     }
 
-    pub fn degree(self) -> u16
+    pub fn degree(self) -> u64
         ensures { λ r. ⌜ r ≡ degree-definition (monomial-of self .0) ⌝ }
     {
-        let x = self.exponents;
-        degree_exponents(x)
+        degree_exponents(self.exponents)
     }
 
-    pub fn product(self, q: [u8; words::EXPONENTS_LENGTH]) -> Product
-        ensures { λ r. ⌜ product-of r ≡ formed q (monomial-of self) ⌝ }
+    pub fn product(self, q: u64) -> Product
+        ensures { λ r. ⌜ product-of r ≡ formed (unpack q) (monomial-of self) ⌝ }
     {
-        let e = self.exponents;
-        let component = self.component;
-        product_exponents(q, e, component)
+        product_exponents(q, self.exponents, self.component)
     }
 }

@@ -1,12 +1,13 @@
-// The numbers of the layout as the code names them, and what every crate does with a word: it is a place, a wider number, an exponent; it is in a
-// range.
+// The numbers of the layout as the code names them, and what every crate does with a word: it is a place, a wider number, a part of a longer one; it
+// is in a range.
 // Knows: crate definitions' Places, whose names these are, in capitals.
 // `numbers` and `word_numbers` hold each of them to the definitions' one.
 // `parameters` has the four numbers of a problem.
 ghost use mathlib.Core.Path.{_≡_};
 ghost use mathlib.Core.List.{_∷_, []};
-ghost use Prim.Native.Nat.{_≤_, _<_};
-ghost use Rattle.definitions.specs.Layout.{byte};
+ghost use Prim.Native.Nat.{_+_, _≤_, _<_};
+ghost use lib.ListN.{length};
+ghost use Rattle.definitions.specs.Layout.{long-at};
 ghost use Rattle.definitions.specs.Lists.{between as between-definition};
 ghost use Rattle.definitions.specs.Places.{
   exponents-length,
@@ -20,7 +21,9 @@ ghost use Rattle.definitions.specs.Places.{
   most-tree-terms,
   most-levels,
   all-levels,
+  packed-length,
   row-length,
+  image-length,
   component-offset,
   exponents-offset,
   rank-offset,
@@ -33,7 +36,8 @@ ghost use Rattle.definitions.specs.Places.{
   value-length,
   tree-length,
   vector-length,
-  table-length,
+  heads-length,
+  images-length,
   spans-length,
   tables-spans,
   tables-ends,
@@ -53,6 +57,8 @@ ghost use Rattle.definitions.specs.Places.{
   all-lines-length,
   sheet-length,
 };
+
+ghost use Rattle.words.specs.Slices.{Sixteen-bits};
 
 pub mod parameters;
 
@@ -90,7 +96,11 @@ pub const EXPONENTS_OFFSET: usize = COMPONENT_OFFSET + 1;
 
 pub const RANK_OFFSET: usize = COMPONENT_OFFSET;
 
-pub const ROW_LENGTH: usize = EXPONENTS_OFFSET + EXPONENTS_LENGTH;
+pub const PACKED_LENGTH: usize = 4;
+
+pub const ROW_LENGTH: usize = EXPONENTS_OFFSET + PACKED_LENGTH;
+
+pub const IMAGE_LENGTH: usize = EXPONENTS_OFFSET + EXPONENTS_LENGTH;
 
 // ## The state
 
@@ -114,21 +124,23 @@ pub const TREE_LENGTH: usize = MOST_TREE_TERMS * ROW_LENGTH;
 
 pub const VECTOR_LENGTH: usize = MOST_TERMS * ROW_LENGTH;
 
-pub const TABLE_LENGTH: usize = MOST_VECTORS * ROW_LENGTH;
+pub const HEADS_LENGTH: usize = MOST_VECTORS * ROW_LENGTH;
+
+pub const IMAGES_LENGTH: usize = MOST_VECTORS * IMAGE_LENGTH;
 
 pub const SPANS_LENGTH: usize = COUNTS_LENGTH * 2;
 
 pub const ENDS_LENGTH: usize = MOST_VECTORS;
 
-pub const TABLES_SPANS: usize = TABLE_LENGTH;
+pub const TABLES_SPANS: usize = HEADS_LENGTH;
 
 pub const TABLES_ENDS: usize = TABLES_SPANS + SPANS_LENGTH;
 
 pub const TABLES_BELOW: usize = TABLES_ENDS + ENDS_LENGTH;
 
-pub const TABLES_ABOVE: usize = TABLES_BELOW + TABLE_LENGTH;
+pub const TABLES_ABOVE: usize = TABLES_BELOW + IMAGES_LENGTH;
 
-pub const TABLES_LENGTH: usize = TABLES_ABOVE + TABLE_LENGTH;
+pub const TABLES_LENGTH: usize = TABLES_ABOVE + IMAGES_LENGTH;
 
 pub const LIFTED_LENGTH: usize = ENDS_LENGTH + LEVEL_LENGTH;
 
@@ -156,10 +168,10 @@ pub const SHEET_LENGTH: usize = 1400000;
 
 // ## Held to the definitions
 
-pub fn numbers() -> [usize; 39]
+pub fn numbers() -> [usize; 42]
     ensures { λ r. ⌜ r ≡ exponents-length ∷ most-vectors ∷ most-rows ∷ most-terms ∷ most-tree-terms ∷ most-levels ∷ all-levels ∷ component-offset
-        ∷ exponents-offset ∷ rank-offset ∷ row-length ∷ header-length ∷ counts-length ∷ ends-start ∷ rows-start ∷ level-length ∷ state-length
-        ∷ value-length ∷ tree-length ∷ vector-length ∷ table-length ∷ spans-length ∷ ends-length ∷ tables-spans ∷ tables-ends ∷ tables-below
+        ∷ exponents-offset ∷ rank-offset ∷ packed-length ∷ row-length ∷ image-length ∷ header-length ∷ counts-length ∷ ends-start ∷ rows-start ∷ level-length ∷ state-length
+        ∷ value-length ∷ tree-length ∷ vector-length ∷ heads-length ∷ images-length ∷ spans-length ∷ ends-length ∷ tables-spans ∷ tables-ends ∷ tables-below
         ∷ tables-above ∷ tables-length ∷ lifted-length ∷ grown-length ∷ file-length ∷ read-length ∷ s-line-length ∷ w-line-length ∷ pair-line-length
         ∷ s-lines-length ∷ level-lines-length ∷ all-lines-length ∷ sheet-length ∷ [] ⌝ }
 {
@@ -174,7 +186,9 @@ pub fn numbers() -> [usize; 39]
         COMPONENT_OFFSET,
         EXPONENTS_OFFSET,
         RANK_OFFSET,
+        PACKED_LENGTH,
         ROW_LENGTH,
+        IMAGE_LENGTH,
         HEADER_LENGTH,
         COUNTS_LENGTH,
         ENDS_START,
@@ -184,7 +198,8 @@ pub fn numbers() -> [usize; 39]
         VALUE_LENGTH,
         TREE_LENGTH,
         VECTOR_LENGTH,
-        TABLE_LENGTH,
+        HEADS_LENGTH,
+        IMAGES_LENGTH,
         SPANS_LENGTH,
         ENDS_LENGTH,
         TABLES_SPANS,
@@ -241,24 +256,30 @@ pub fn wide(x: u8) -> u16
     x as u16
 }
 
-// A word read as an exponent.
-pub fn narrow(x: u16) -> u8
-    ensures { λ r. ⌜ r ≡ byte x ⌝ }
+// A word as a part of a number of 64 bits.
+fn part(x: u16) -> u64
+    ensures { λ r. ⌜ (r ≡ x) × (r < 65536) ⌝ }
 {
-    if x < 256 {
-        return x as u8;
-    }
-    255
+    x as u64
 }
 
-// The same as a word.
-pub fn clamped(x: u16) -> u16
-    ensures { λ r. ⌜ (r ≡ byte x) × (r ≤ 255) ⌝ }
+// The number that stands in four words from word at on, the lowest first. The compiler makes one load of it.
+pub fn long(s: &[u16], at: usize) -> u64
+    requires { ⌜ at + 4 ≤ length (now s) ⌝ }
+    ensures { λ r. ⌜ r ≡ long-at (now (s .entry)) at ⌝ }
 {
-    if x < 256 {
-        return x;
+    ((part(s[at + 3]) * 65536 + part(s[at + 2])) * 65536 + part(s[at + 1])) * 65536 + part(s[at])
+}
+
+// That every word is below 65,536, which its type says, as a fact: a loop that the compiler leaves out, since nothing comes of it.
+pub fn know(s: &[u16])
+    ensures { λ _. ⌜ Sixteen-bits (now (s .entry)) ⌝ }
+{
+    let mut i: usize = 0;
+    while i < s.len() {
+        part(s[i]);
+        i += 1;
     }
-    255
 }
 
 // A word in a range, both ends included.

@@ -1,62 +1,22 @@
+use Prim.Native.Nat.{_/_, _+_}
 use native.Mathlib.Omega.{arith}
-use mathlib.Core.Path.{_≡_, sym, ap, _∙_}
-use Prim.Native.Nat.{_+_, _-_, _*_, _≤_}
-use lib.ListN.{length, drop}
-use Rattle.definitions.specs.Monomial.{degree}
-use Rattle.definitions.specs.Places.{most-exponent}
-use Rattle.monomial.proofs.Scans.{degree-on, degree-end}
+use lib.Bits.{bitAnd, and-le-r}
+use Rattle.definitions.proofs.Packing.{bytes-of}
+use Rattle.monomial.proofs.Bytewise.{degree-packed, halved-fits, added-fits}
 use Rattle.monomial.proofs.degree_exponents.Statement.{statement}
 use Rattle.monomial.proofs.degree_exponents.Tie as tie
 
-abbrev Inv-loop : tie.InvT-loop
-Inv-loop x d₀ j₀ d j = (j ≤ 8) × (length x ≡ 8) × (d ≤ most-exponent * j) × (d + degree (drop j x) ≡ degree x)
+add-s : tie.Need-add-s
+add-s c = omega (arith, and-le-r (c .args .x / 256) 71777214294589695, and-le-r (c .args .x) 71777214294589695)
 
-abbrev μ-loop : tie.MeasureT-loop
-μ-loop x d₀ j₀ d j = 8 - j
+add-t : tie.Need-add-t
+add-t c = halved-fits (bitAnd (c .args .x / 256) 71777214294589695 + bitAnd (c .args .x) 71777214294589695) (omega (arith, and-le-r (c .args .x / 256) 71777214294589695, and-le-r (c .args .x) 71777214294589695))
 
-loop-holds : tie.Need-loop-holds Inv-loop μ-loop
-loop-holds c = (omega arith, omega arith, omega arith, omega arith)
+add-result : tie.Need-add-result
+add-result c = added-fits (bitAnd (c .args .x / 256) 71777214294589695 + bitAnd (c .args .x) 71777214294589695) (omega (arith, and-le-r (c .args .x / 256) 71777214294589695, and-le-r (c .args .x) 71777214294589695))
 
-array-read-wide : tie.Need-array-read-wide Inv-loop μ-loop
-array-read-wide c = omega arith
-
-wide-requires : tie.Need-wide-requires Inv-loop μ-loop
-wide-requires c κs = omega arith
-
-add-d : tie.Need-add-d Inv-loop μ-loop
-add-d c = omega arith
-
-add-j : tie.Need-add-j Inv-loop μ-loop
-add-j c = omega arith
-
-loop-less : tie.Need-loop-less Inv-loop μ-loop
-loop-less c = omega arith
-
-loop-again : tie.Need-loop-again Inv-loop μ-loop
-loop-again c =
-    let l = c .before .before .loop in
-    let x = c .before .before .before .args .t1 in
-    let w = c .wide .ensures in (
-      omega arith,
-      l .inv .1,
-      omega arith,
-      ap (λ n. l .d + n + degree (drop (l .j + 1) x)) (w .0) ∙ sym (degree-on x (l .j) (l .d) (omega arith)) ∙ l .inv .3,
-    )
-
-returns : tie.Need-returns Inv-loop μ-loop
-returns c = let l = c .before .loop in sym (degree-end (c .before .before .args .t1) (l .j) (l .d) (omega arith)) ∙ l .inv .3
+returns : tie.Need-returns
+returns c = degree-packed (c .args .x) (bytes-of (c .args .x) (omega arith))
 
 pub degree-exponents-spec : {M : Type 1} → statement M
-degree-exponents-spec =
-    tie.close
-    (tie.spec
-    Inv-loop
-    μ-loop
-    loop-holds
-    array-read-wide
-    wide-requires
-    add-d
-    add-j
-    loop-less
-    loop-again
-    returns)
+degree-exponents-spec = tie.close (tie.spec add-s add-t add-result returns)

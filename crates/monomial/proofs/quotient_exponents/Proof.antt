@@ -1,74 +1,14 @@
 use native.Mathlib.Omega.{arith}
-use native.Mathlib.Nat.{not-suc-le-zero}
-use mathlib.Core.Path.{_≡_, refl, sym, _∙_}
-use Prim.Native.Nat.{_-_, _≤_}
-use lib.ListN.{length, getD, length-set}
-use Rattle.definitions.specs.Monomial.{quotient}
-use Rattle.lists.specs.Filling.{Filled, filled-more, filled-list}
-use Rattle.monomial.proofs.Places.{getD-quotient, length-quotient}
+use Rattle.definitions.proofs.Packing.{bytes-of}
+use Rattle.monomial.proofs.Forming.{quotient-below, quotient-word}
 use Rattle.monomial.proofs.quotient_exponents.Statement.{statement}
 use Rattle.monomial.proofs.quotient_exponents.Tie as tie
 
-abbrev Inv-loop : tie.InvT-loop
-Inv-loop y x e₀ j₀ e j = (j ≤ 8) × (length x ≡ 8) × (length y ≡ 8) × (length e ≡ 8) × Filled (λ k. getD (quotient y x) k 0) j e
+sub-result : tie.Need-sub-result
+sub-result c = quotient-below (c .args .x) (c .args .y) (bytes-of (c .args .x) (omega arith)) (bytes-of (c .args .y) (omega arith)) (c .pre)
 
-abbrev μ-loop : tie.MeasureT-loop
-μ-loop y x e₀ j₀ e j = 8 - j
-
-loop-holds : tie.Need-loop-holds Inv-loop μ-loop
-loop-holds c = (omega arith, omega arith, omega arith, refl, λ k h. absurd (not-suc-le-zero h))
-
-array-read-less : tie.Need-array-read-less Inv-loop μ-loop
-array-read-less c = omega arith
-
-array-read-less-2 : tie.Need-array-read-less-2 Inv-loop μ-loop
-array-read-less-2 c = omega arith
-
-less-requires : tie.Need-less-requires Inv-loop μ-loop
-less-requires c κs = omega arith
-
-array-write-e : tie.Need-array-write-e Inv-loop μ-loop
-array-write-e c = omega arith
-
-add-j : tie.Need-add-j Inv-loop μ-loop
-add-j c = omega arith
-
-loop-less : tie.Need-loop-less Inv-loop μ-loop
-loop-less c = omega arith
-
-loop-again : tie.Need-loop-again Inv-loop μ-loop
-loop-again c =
-    let l = c .before .before .loop in
-    let x = c .before .before .before .args .t1 in
-    let y = c .before .before .before .args .t2 in (
-      omega arith,
-      l .inv .1,
-      l .inv .2,
-      simp length-set (l .inv .3),
-      filled-more (λ k. getD (quotient x y) k 0) (l .j) (c .less .result) (l .e) (omega arith)
-          (c .less .ensures ∙ sym (getD-quotient x y (l .j) (omega arith) (omega arith))) (l .inv .4),
-    )
-
-returns : tie.Need-returns Inv-loop μ-loop
-returns c =
-    let l = c .before .loop in
-    let x = c .before .before .args .t1 in
-    let y = c .before .before .args .t2 in
-    let s : length (quotient x y) ≡ 8 = length-quotient x y (omega arith) ∙ omega arith in
-    filled-list (quotient x y) (l .e) (l .inv .3 ∙ sym s) (λ k h. l .inv .4 k (omega arith))
+returns : tie.Need-returns
+returns c = quotient-word (c .args .x) (c .args .y) (bytes-of (c .args .x) (omega arith)) (bytes-of (c .args .y) (omega arith)) (c .pre)
 
 pub quotient-exponents-spec : {M : Type 1} → statement M
-quotient-exponents-spec =
-    tie.close
-    (tie.spec
-    Inv-loop
-    μ-loop
-    loop-holds
-    array-read-less
-    array-read-less-2
-    less-requires
-    array-write-e
-    add-j
-    loop-less
-    loop-again
-    returns)
+quotient-exponents-spec = tie.close (tie.spec sub-result returns)
