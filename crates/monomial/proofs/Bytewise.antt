@@ -12,8 +12,8 @@ use lib.ListN.{length, getD}
 use lib.Seq.{ext-getD}
 use borrow.Author.Tests.{eq-eqb, ne-eqb, eqb-true, eqb-false}
 use Rattle.definitions.specs.Lists.{_and_}
-use Rattle.definitions.specs.Monomial.{Exponents, same-exponents?, degree}
-use Rattle.definitions.specs.Packed.{four, unpack, pack, pack-from}
+use Rattle.definitions.specs.Monomial.{Exponents, unit, same-exponents?, degree}
+use Rattle.definitions.specs.Packed.{low-bytes, four, unpack, pack, pack-from}
 use Rattle.definitions.proofs.Packing.{Bytes, unpack-is, Small, none, more}
 use Rattle.monomial.proofs.Lanes.{lows, highs, sums}
 use Rattle.monomial.proofs.Dividing.{regrouped, ended}
@@ -24,6 +24,11 @@ module _ (x : ℕ) (a : Bytes x) where
 
   pub bytes-packed : x ≡ pack (a .d1 ∷ a .d2 ∷ a .d3 ∷ a .d4 ∷ a .d5 ∷ a .d6 ∷ a .d7 ∷ a .d8 ∷ [])
   bytes-packed = omega arith
+
+-- the unit monomial's
+pub unpack-zero : unpack 0 ≡ unit
+unfolding low-bytes
+unpack-zero = refl
 
 -- ## Equality
 
