@@ -4,7 +4,7 @@ use mathlib.Core.List.{[], _∷_, _++_, append-nil}
 use Prim.Native.Nat.{ℕ, zero, suc, _+_, _*_, _/_, _%_, _<_, _≤_}
 use native.Mathlib.Omega.{arith}
 use lib.Dec.{T, leb, leb→le, le→leb}
-use lib.ListN.{length}
+use lib.ListN.{length, getD}
 use lib.Arith.{digits-div, digits-mod}
 use Rattle.definitions.specs.Monomial.{Exponents, fits?}
 use Rattle.definitions.specs.Packed.{low-bytes, unpack, pack, pack-from, four}
@@ -163,6 +163,15 @@ unpack-small x =
 pub unpack-long : (x : ℕ) → length (unpack x) ≡ 8
 unfolding low-bytes
 unpack-long x = refl
+
+small-at : (e : Exponents) (k : ℕ) → Small e → getD e k 0 < 256
+small-at [] zero none = omega arith
+small-at [] (suc k) none = omega arith
+small-at (x ∷ e) zero (more h s) = h
+small-at (x ∷ e) (suc k) (more h s) = small-at e k s
+
+pub unpack-at : (x k : ℕ) → getD (unpack x) k 0 < 256
+unpack-at x k = small-at (unpack x) k (unpack-small x)
 
 pub unpack-eight : (x : ℕ) → Eight (unpack x)
 unpack-eight x = record { eight = unpack-long x; small = small-eight (unpack x) (unpack-small x) }

@@ -17,6 +17,7 @@ use Rattle.definitions.specs.State.{State, sound?, up-to}
 use Rattle.definitions.proofs.Comparisons.{turned, tie-turns, numbers-turn}
 use Rattle.definitions.proofs.Sound.{sound-says}
 use Rattle.comparing.specs.Above.{Exponents-above, Above}
+use Rattle.definitions.proofs.Packing.{unpack-long}
 use Rattle.comparing.specs.Comparing.{Eight}
 use Rattle.comparing.proofs.Exactly.{Exactly}
 use Rattle.comparing.proofs.Exponents.{exponents-exactly}
@@ -62,12 +63,11 @@ module _ {A B C : Type 0} where
 
 -- ## compare, on level 0
 
-pub compare-tells : (code : ℕ) → T (between 1 code 3) → (a b : Monomial) → length (a .exponents) ≡ 8 → length (b .exponents) ≡ 8
-    → (r : Comparison) → comparison-of r ≡ compare-over code [] (monomial-of a) (monomial-of b)
+pub compare-tells : (code : ℕ) → T (between 1 code 3) → (a b : Monomial) → (r : Comparison) → comparison-of r ≡ compare-over code [] (monomial-of a) (monomial-of b)
     → Tells (Above code [] (monomial-of a) (monomial-of b)) (monomial-of a ≡ monomial-of b) (Above code [] (monomial-of b) (monomial-of a)) r
-compare-tells code t a b h k r e =
+compare-tells code t a b r e =
     tells r (compare-over code [] (monomial-of a) (monomial-of b)) e
-    (compare-exactly code t [] tt (monomial-of a) (monomial-of b) h k)
+    (compare-exactly code t [] tt (monomial-of a) (monomial-of b) (unpack-long (a .exponents)) (unpack-long (b .exponents)))
 
 -- ## by_code and compare_exponents
 

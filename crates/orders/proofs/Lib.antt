@@ -2,5 +2,6 @@ pub mod Comparing
 pub mod Tables
 pub mod Ranks
 pub mod Induced
-pub mod RowImages
+pub mod CodeParts
+pub mod PackedOrder
 pub mod Answers

@@ -9,7 +9,7 @@ use native.Mathlib.Decide.{ℕ-discrete}
 use lib.ListN.{length, getD, getElem?, length-append}
 use Rattle.definitions.specs.Layout.{Words}
 use Rattle.definitions.specs.Monomial.{Exponents, Monomial, product}
-use Rattle.definitions.specs.Places.{row-length}
+use Rattle.definitions.specs.Places.{image-length}
 use Rattle.orders.specs.Images.{Key, exponents-raw, entry-at, table-of, looked-up, key-by, key}
 
 module _ {A : Type 0} where
@@ -55,14 +55,14 @@ key-beyond r s m e h f = (λ i. (f i, (0, m .1))) ∙ sym (ap (λ o. key-by o m)
     go (suc c) h = element-beyond (table-of r s) c (omega (arith, length-table r s))
 
 pub key-inside : (r : ℕ) (s : Words) (m : Monomial) (e : Exponents) → (m .1 ≡ 0 → ⊥) → m .1 ≤ r → e
-    ≡ product (m .0) (exponents-raw s (m .1 * row-length - row-length + 2))
-    → _≡_ {A = Key} (e, (getD s (m .1 * row-length - row-length + 1) 0, m .1)) (key (table-of r s) m)
+    ≡ product (m .0) (exponents-raw s (m .1 * image-length - image-length + 2))
+    → _≡_ {A = Key} (e, (getD s (m .1 * image-length - image-length + 1) 0, m .1)) (key (table-of r s) m)
 key-inside r s m e n h f = go (m .1) n h f
   where
-    go : (c : ℕ) → (c ≡ 0 → ⊥) → c ≤ r → e ≡ product (m .0) (exponents-raw s (c * row-length - row-length + 2))
-        → _≡_ {A = Key} (e, (getD s (c * row-length - row-length + 1) 0, m .1)) (key-by (looked-up (table-of r s) c) m)
+    go : (c : ℕ) → (c ≡ 0 → ⊥) → c ≤ r → e ≡ product (m .0) (exponents-raw s (c * image-length - image-length + 2))
+        → _≡_ {A = Key} (e, (getD s (c * image-length - image-length + 1) 0, m .1)) (key-by (looked-up (table-of r s) c) m)
     go zero n h f = absurd (n refl)
     go (suc c) n h f =
-        let a : suc c * row-length - row-length ≡ c * row-length = omega arith in
+        let a : suc c * image-length - image-length ≡ c * image-length = omega arith in
         (λ i. ((f ∙ ap (λ j. product (m .0) (exponents-raw s (j + 2))) a) i, (getD s (a i + 1) 0, m .1)))
         ∙ sym (ap (λ o. key-by o m) (table-at r s c (omega arith)))

@@ -9,8 +9,8 @@ use Rattle.definitions.specs.Lists.{choose}
 use Rattle.definitions.specs.Monomial.{Exponents, Monomial, product}
 use Rattle.definitions.specs.Order as definition
 use Rattle.definitions.specs.Order.{greater, equal, smaller, or-at-tie, numbers, lexicographic, last-differing, exponents-by}
-use Rattle.definitions.specs.Layout.{Words, exponents-at}
-use Rattle.definitions.specs.Places.{row-length, component-offset, exponents-offset}
+use Rattle.definitions.specs.Layout.{Words}
+use Rattle.definitions.specs.Places.{image-length, rank-offset, exponents-offset}
 use Rattle.orders.specs.declared.Comparison.{Comparison}
 use Rattle.orders.specs.declared.Comparison.the-variants.{Greater, Equal, Smaller}
 use Rattle.orders.specs.declared.Image.{Image}
@@ -65,7 +65,7 @@ exponents-raw s a =
     getD s a 0 ∷ getD s (a + 1) 0 ∷ getD s (a + 2) 0 ∷ getD s (a + 3) 0 ∷ getD s (a + 4) 0 ∷ getD s (a + 5) 0 ∷ getD s (a + 6) 0 ∷ getD s (a + 7) 0 ∷ []
 
 abbrev pub entry-at : Words → ℕ → Exponents × ℕ
-entry-at s i = (exponents-raw s (i * row-length + exponents-offset), getD s (i * row-length + component-offset) 0)
+entry-at s i = (exponents-raw s (i * image-length + exponents-offset), getD s (i * image-length + rank-offset) 0)
 
 unfoldable pub table-of : ℕ → Words → Table
 table-of zero s = []
@@ -76,13 +76,9 @@ abbrev pub Bounded : Words → ℕ → Type 0
 Bounded s a = (j : ℕ) → j < 8 → getD s (a + j) 0 ≤ 65280
 
 abbrev pub Tabled : ℕ → Words → Type 0
-Tabled r s = (i : ℕ) → i < r → Bounded s (i * row-length + exponents-offset)
+Tabled r s = (i : ℕ) → i < r → Bounded s (i * image-length + exponents-offset)
 
--- ## The image of a row
-
--- a row's exponents, from word a on, times those from word b on of the table
-abbrev pub row-image : Words → ℕ → Words → ℕ → Exponents
-row-image s a t b = product (exponents-at s a) (exponents-raw t b)
+-- ## What decides, one after the other
 
 -- what two degrees decide: code 1 does not look at them
 abbrev pub degrees-by : ℕ → ℕ → ℕ → definition.Comparison

@@ -1,11 +1,11 @@
 // Comparing: the three orders, images on level 0, and through them the order of every level.
 // Exists for: `compare`, `compare_images`, `against_row`.
-// Knows: crate definitions' Order.
+// Knows: crate definitions' Order and Packed.
 // An image is a monomial of level 0 whose exponents may pass 255: level k's are at most 255 · (k + 1), so 16 bits hold them.
 ghost use mathlib.Core.Path.{_≡_};
-ghost use mathlib.Core.List.{[]};
+ghost use mathlib.Core.List.{[], reverse};
 ghost use Prim.Native.Nat.{_+_, _*_, _≤_};
-ghost use lib.ListN.{length, getD};
+ghost use lib.ListN.{length};
 ghost use Rattle.definitions.specs.Monomial.{degree, product};
 ghost use Rattle.definitions.specs.Order.{
   numbers as numbers-definition,
@@ -14,8 +14,9 @@ ghost use Rattle.definitions.specs.Order.{
   exponents-by,
   compare-over,
 };
-ghost use Rattle.definitions.specs.Layout.{byte, exponents-at, row-at};
-ghost use Rattle.definitions.specs.Places.{row-length, component-offset, exponents-offset, rank-offset};
+ghost use Rattle.definitions.specs.Packed.{unpack};
+ghost use Rattle.definitions.specs.Layout.{row-at};
+ghost use Rattle.definitions.specs.Places.{row-length, image-length};
 ghost use Rattle.monomial.specs.Values.{monomial-of};
 ghost use Rattle.orders.specs.Images.{
   comparison-of,
@@ -27,7 +28,6 @@ ghost use Rattle.orders.specs.Images.{
   key,
   key-of,
   compare-keys,
-  row-image,
   degrees-by,
   places-by,
 };
@@ -144,55 +144,96 @@ pub fn by_code(
     }
 }
 
-pub fn widened(e: [u8; words::EXPONENTS_LENGTH]) -> [u16; words::EXPONENTS_LENGTH]
-    ensures { λ r. ⌜ r ≡ e ⌝ }
+// ## Exponents in one number
+
+fn long_numbers(x: u64, y: u64) -> Comparison
+    ensures { λ r. ⌜ comparison-of r ≡ numbers-definition x y ⌝ }
 {
-    let mut w = [0u16; words::EXPONENTS_LENGTH];
-    let mut j = 0;
-    while j < words::EXPONENTS_LENGTH {
-        w[j] = words::wide(e[j]);
-        j += 1;
+    if y < x {
+        return Comparison::Greater;
     }
-    w
+    if x < y {
+        return Comparison::Smaller;
+    }
+    Comparison::Equal
+}
+
+// The larger number is the larger one lexicographically: x1 is its top byte.
+fn packed_lexicographic(x: u64, y: u64) -> Comparison
+    ensures { λ r. ⌜ comparison-of r ≡ lexicographic-definition (unpack x) (unpack y) ⌝ }
+{
+    long_numbers(x, y)
+}
+
+// The bytes in the other direction: x8 is the top byte then.
+fn swapped(x: u64) -> u64
+    ensures { λ r. ⌜ unpack r ≡ reverse (unpack x) ⌝ }
+{
+    let a = x % 256 * 0x0100_0000_0000_0000 + x / 0x100 % 256 * 0x0001_0000_0000_0000;
+    let b = x / 0x1_0000 % 256 * 0x0100_0000_0000 + x / 0x0100_0000 % 256 * 0x0001_0000_0000;
+    let c = x / 0x0001_0000_0000 % 256 * 0x0100_0000 + x / 0x0100_0000_0000 % 256 * 0x0001_0000;
+    let d = x / 0x0001_0000_0000_0000 % 256 * 0x0100 + x / 0x0100_0000_0000_0000;
+    (a + b) + (c + d)
+}
+
+fn packed_last_differing(x: u64, y: u64) -> Comparison
+    ensures { λ r. ⌜ comparison-of r ≡ last-differing-definition (unpack x) (unpack y) ⌝ }
+{
+    long_numbers(swapped(y), swapped(x))
+}
+
+// The order code decides.
+pub fn compare_exponents(code: u16, x: u64, y: u64) -> Comparison
+    ensures { λ r. ⌜ comparison-of r ≡ exponents-by code (unpack x) (unpack y) ⌝ }
+{
+    match code {
+        1 => packed_lexicographic(x, y),
+        2 => {
+            let d = long_numbers(
+                monomial::degree_exponents(x),
+                monomial::degree_exponents(y),
+            );
+            if decided(d) {
+                return d;
+            }
+            packed_lexicographic(x, y)
+        }
+        _ => {
+            let d = long_numbers(
+                monomial::degree_exponents(x),
+                monomial::degree_exponents(y),
+            );
+            if decided(d) {
+                return d;
+            }
+            packed_last_differing(x, y)
+        }
+    }
 }
 
 // On level 0: exponents first, then the larger component.
 pub fn compare(code: u16, a: Monomial, b: Monomial) -> Comparison
     ensures { λ r. ⌜ comparison-of r ≡ compare-over code [] (monomial-of a) (monomial-of b) ⌝ }
 {
-    let x = a.exponents;
-    let y = b.exponents;
-    let d = by_code(code, widened(x), widened(y));
+    let d = compare_exponents(code, a.exponents, b.exponents);
     if decided(d) {
         return d;
     }
     numbers(words::wider(a.component), words::wider(b.component))
 }
 
-// Exponents alone.
-pub fn compare_exponents(
-    code: u16,
-    x: [u8; words::EXPONENTS_LENGTH],
-    y: [u8; words::EXPONENTS_LENGTH],
-) -> Comparison
-    ensures { λ r. ⌜ comparison-of r ≡ exponents-by code x y ⌝ }
-{
-    by_code(code, widened(x), widened(y))
-}
+// ## Images
 
 // Eight exponents times those from word at on.
-fn shifted(
-    e: [u8; words::EXPONENTS_LENGTH],
-    table: &[u16],
-    at: usize,
-) -> [u16; words::EXPONENTS_LENGTH]
+fn shifted(e: u64, table: &[u16], at: usize) -> [u16; words::EXPONENTS_LENGTH]
     requires { ⌜ (at + 8 ≤ length (now table)) × Bounded (now table) at ⌝ }
-    ensures { λ r. ⌜ r ≡ product e (exponents-raw (now (table .entry)) at) ⌝ }
+    ensures { λ r. ⌜ r ≡ product (unpack e) (exponents-raw (now (table .entry)) at) ⌝ }
 {
+    let x = monomial::widened(e);
     let mut w = [0u16; words::EXPONENTS_LENGTH];
     let mut j = 0;
     while j < words::EXPONENTS_LENGTH {
-        w[j] = words::wide(e[j]) + table[at + j];
+        w[j] = x[j] + table[at + j];
         j += 1;
     }
     w
@@ -200,7 +241,7 @@ fn shifted(
 
 // The image of a monomial through a table with a row for each component: its image's rank and exponents.
 pub fn image_of(table: &[u16], r: usize, m: Monomial) -> Image
-    requires { ⌜ (r * row-length ≤ length (now table)) × Tabled r (now table) ⌝ }
+    requires { ⌜ (r * image-length ≤ length (now table)) × Tabled r (now table) ⌝ }
     ensures { λ k. ⌜ key-of k ≡ key (table-of r (now (table .entry))) (monomial-of m) ⌝ }
 {
     let component = m.component;
@@ -208,19 +249,19 @@ pub fn image_of(table: &[u16], r: usize, m: Monomial) -> Image
     let e = m.exponents;
     if i == 0 {
         return Image {
-            exponents: widened(e),
+            exponents: monomial::widened(e),
             rank: 0,
             component,
         };
     }
     if r < i {
         return Image {
-            exponents: widened(e),
+            exponents: monomial::widened(e),
             rank: 0,
             component,
         };
     }
-    let at = i * words::ROW_LENGTH - words::ROW_LENGTH;
+    let at = i * words::IMAGE_LENGTH - words::IMAGE_LENGTH;
     let w = shifted(e, table, at + words::EXPONENTS_OFFSET);
     Image {
         exponents: w,
@@ -245,241 +286,7 @@ pub fn compare_images(code: u16, a: Image, b: Image) -> Comparison
     numbers(words::wider(a.component), words::wider(b.component))
 }
 
-// ## An image against that of a row, which is formed word by word and only as far as it decides: no term by value
-
-// An exponent's word times the table's.
-fn word_of(x: u16, y: u16) -> u16
-    requires { ⌜ y ≤ 65280 ⌝ }
-    ensures { λ r. ⌜ (r ≡ byte x + y) × (r ≤ 65535) ⌝ }
-{
-    words::clamped(x) + y
-}
-
-fn row_lexicographic(
-    x: [u16; words::EXPONENTS_LENGTH],
-    s: &[u16],
-    at: usize,
-    table: &[u16],
-    to: usize,
-) -> Comparison
-    requires { ⌜ (at + 8 ≤ length (now s)) × (to + 8 ≤ length (now table)) × Bounded (now table) to ⌝ }
-    ensures { λ r. ⌜ comparison-of r ≡ lexicographic-definition x (row-image (now (s .entry)) at (now (table .entry)) to) ⌝ }
-{
-    let mut j = 0;
-    while j < words::EXPONENTS_LENGTH {
-        let y = word_of(s[at + j], table[to + j]);
-        if y < x[j] {
-            return Comparison::Greater;
-        }
-        if x[j] < y {
-            return Comparison::Smaller;
-        }
-        j += 1;
-    }
-    Comparison::Equal
-}
-
-fn row_last_differing(
-    x: [u16; words::EXPONENTS_LENGTH],
-    s: &[u16],
-    at: usize,
-    table: &[u16],
-    to: usize,
-) -> Comparison
-    requires { ⌜ (at + 8 ≤ length (now s)) × (to + 8 ≤ length (now table)) × Bounded (now table) to ⌝ }
-    ensures { λ r. ⌜ comparison-of r ≡ last-differing-definition x (row-image (now (s .entry)) at (now (table .entry)) to) ⌝ }
-{
-    let mut j = words::EXPONENTS_LENGTH;
-    while 0 < j {
-        j -= 1;
-        let z = word_of(s[at + j], table[to + j]);
-        if x[j] < z {
-            return Comparison::Greater;
-        }
-        if z < x[j] {
-            return Comparison::Smaller;
-        }
-    }
-    Comparison::Equal
-}
-
-// From the last down: begun like the lexicographic walk, its first word would be formed apart from the other seven.
-fn row_total(s: &[u16], at: usize, table: &[u16], to: usize) -> u32
-    requires { ⌜ (at + 8 ≤ length (now s)) × (to + 8 ≤ length (now table)) × Bounded (now table) to ⌝ }
-    ensures { λ r. ⌜ r ≡ degree (row-image (now (s .entry)) at (now (table .entry)) to) ⌝ }
-{
-    let mut d: u32 = 0;
-    let mut j = words::EXPONENTS_LENGTH;
-    while 0 < j {
-        j -= 1;
-        d += words::wider(word_of(s[at + j], table[to + j]));
-    }
-    d
-}
-
-// What the degrees decide, where the order code looks at them.
-fn row_degrees(code: u16, total: u32, s: &[u16], at: usize, table: &[u16], to: usize) -> Comparison
-    requires { ⌜ (at + 8 ≤ length (now s)) × (to + 8 ≤ length (now table)) × Bounded (now table) to ⌝ }
-    ensures { λ r. ⌜ comparison-of r ≡ degrees-by code total (degree (row-image (now (s .entry)) at (now (table .entry)) to)) ⌝ }
-{
-    match code {
-        1 => Comparison::Equal,
-        _ => numbers(total, row_total(s, at, table, to)),
-    }
-}
-
-// What the places decide: each of the two walks is called at one place only, so that it becomes part of the loop around it.
-fn row_places(
-    code: u16,
-    x: [u16; words::EXPONENTS_LENGTH],
-    s: &[u16],
-    at: usize,
-    table: &[u16],
-    to: usize,
-) -> Comparison
-    requires { ⌜ (at + 8 ≤ length (now s)) × (to + 8 ≤ length (now table)) × Bounded (now table) to ⌝ }
-    ensures { λ r. ⌜ comparison-of r ≡ places-by code x (row-image (now (s .entry)) at (now (table .entry)) to) ⌝ }
-{
-    match code {
-        1 | 2 => row_lexicographic(x, s, at, table, to),
-        _ => row_last_differing(x, s, at, table, to),
-    }
-}
-
-fn row_by_code(
-    code: u16,
-    x: [u16; words::EXPONENTS_LENGTH],
-    total: u32,
-    s: &[u16],
-    at: usize,
-    table: &[u16],
-    to: usize,
-) -> Comparison
-    requires { ⌜ (at + 8 ≤ length (now s)) × (to + 8 ≤ length (now table)) × Bounded (now table) to × (total ≡ degree x) ⌝ }
-    ensures { λ r. ⌜ comparison-of r ≡ exponents-by code x (row-image (now (s .entry)) at (now (table .entry)) to) ⌝ }
-{
-    let d = row_degrees(code, total, s, at, table, to);
-    if decided(d) {
-        return d;
-    }
-    row_places(code, x, s, at, table, to)
-}
-
-fn row_exponents(s: &[u16], at: usize) -> [u16; words::EXPONENTS_LENGTH]
-    requires { ⌜ at + 8 ≤ length (now s) ⌝ }
-    ensures { λ r. ⌜ r ≡ exponents-at (now (s .entry)) at ⌝ }
-{
-    let mut w = [0u16; words::EXPONENTS_LENGTH];
-    let mut j = 0;
-    while j < words::EXPONENTS_LENGTH {
-        w[j] = words::clamped(s[at + j]);
-        j += 1;
-    }
-    w
-}
-
-// The image of a row, from word at on, whose component the table lacks.
-fn own_image(s: &[u16], at: usize) -> Image
-    requires { ⌜ at + row-length ≤ length (now s) ⌝ }
-    ensures { λ k. ⌜ key-of k ≡ (exponents-at (now (s .entry)) (at + exponents-offset), (0, getD (now (s .entry)) (at + component-offset) 0)) ⌝ }
-{
-    let w = row_exponents(s, at + words::EXPONENTS_OFFSET);
-    Image {
-        exponents: w,
-        rank: 0,
-        component: s[at + words::COMPONENT_OFFSET],
-    }
-}
-
-fn against_own(code: u16, a: Image, s: &[u16], at: usize) -> Comparison
-    requires { ⌜ at + row-length ≤ length (now s) ⌝ }
-    ensures { λ c. ⌜ comparison-of c ≡ compare-keys code (key-of a) (
-      exponents-at (now (s .entry)) (at + exponents-offset),
-      (0, getD (now (s .entry)) (at + component-offset) 0),
-    ) ⌝ }
-{
-    let b = own_image(s, at);
-    compare_images(code, a, b)
-}
-
-// A row, from word at on, whose component's row in the table begins at word to.
-fn against_tabled(
-    code: u16,
-    a: Image,
-    total: u32,
-    s: &[u16],
-    at: usize,
-    table: &[u16],
-    to: usize,
-) -> Comparison
-    requires { ⌜ (at + row-length ≤ length (now s)) × (to + row-length ≤ length (now table)) × Bounded (now table) (to + exponents-offset)
-        × (total ≡ degree (a .exponents)) ⌝ }
-    ensures { λ c. ⌜ comparison-of c ≡ compare-keys code (key-of a) (
-      row-image (now (s .entry)) (at + exponents-offset) (now (table .entry))
-          (to + exponents-offset),
-      (getD (now (table .entry)) (to + rank-offset) 0, getD (now (s .entry)) (at + component-offset) 0),
-    ) ⌝ }
-{
-    let x = a.exponents;
-    let d = row_by_code(
-        code,
-        x,
-        total,
-        s,
-        at + words::EXPONENTS_OFFSET,
-        table,
-        to + words::EXPONENTS_OFFSET,
-    );
-    if decided(d) {
-        return d;
-    }
-    let e = numbers(
-        words::wider(a.rank),
-        words::wider(table[to + words::RANK_OFFSET]),
-    );
-    if decided(e) {
-        return e;
-    }
-    numbers(
-        words::wider(a.component),
-        words::wider(s[at + words::COMPONENT_OFFSET]),
-    )
-}
-
-// An image with its total degree against the image of row i.
-pub fn against_row(
-    code: u16,
-    a: Image,
-    total: u32,
-    s: &[u16],
-    i: usize,
-    table: &[u16],
-    r: usize,
-) -> Comparison
-    requires { ⌜ (i * row-length + row-length ≤ length (now s)) × (r * row-length ≤ length (now table)) × Tabled r (now table)
-        × (total ≡ degree (a .exponents)) ⌝ }
-    ensures { λ c. ⌜ comparison-of c ≡ compare-keys code (key-of a) (key (table-of r (now (table .entry))) (row-at (now (s .entry)) i .1)) ⌝ }
-{
-    let at = i * words::ROW_LENGTH;
-    let c = words::place(s[at + words::COMPONENT_OFFSET]);
-    if c == 0 {
-        return against_own(code, a, s, at);
-    }
-    if r < c {
-        return against_own(code, a, s, at);
-    }
-    against_tabled(
-        code,
-        a,
-        total,
-        s,
-        at,
-        table,
-        c * words::ROW_LENGTH - words::ROW_LENGTH,
-    )
-}
-
-// ## An image against another, when the first's total degree is known; the image of a row by value, to be kept
+// ## An image against another, when the first's total degree is known
 
 fn formed_degrees(code: u16, d: u32, y: [u16; words::EXPONENTS_LENGTH]) -> Comparison
     ensures { λ r. ⌜ comparison-of r ≡ degrees-by code d (degree y) ⌝ }
@@ -537,52 +344,35 @@ pub fn against_image(code: u16, a: Image, d: u32, b: Image) -> Comparison
     numbers(words::wider(a.component), words::wider(b.component))
 }
 
-fn row_words(s: &[u16], at: usize, table: &[u16], to: usize) -> [u16; words::EXPONENTS_LENGTH]
-    requires { ⌜ (at + 8 ≤ length (now s)) × (to + 8 ≤ length (now table)) × Bounded (now table) to ⌝ }
-    ensures { λ r. ⌜ r ≡ row-image (now (s .entry)) at (now (table .entry)) to ⌝ }
-{
-    let mut w = [0u16; words::EXPONENTS_LENGTH];
-    let mut j = 0;
-    while j < words::EXPONENTS_LENGTH {
-        w[j] = word_of(s[at + j], table[to + j]);
-        j += 1;
-    }
-    w
-}
-
-// The image of a row, from word at on, whose component's row in the table begins at word to.
-fn tabled_image(s: &[u16], at: usize, table: &[u16], to: usize) -> Image
-    requires { ⌜ (at + row-length ≤ length (now s)) × (to + row-length ≤ length (now table)) × Bounded (now table) (to + exponents-offset) ⌝ }
-    ensures { λ k. ⌜ key-of k ≡ (
-      row-image (now (s .entry)) (at + exponents-offset) (now (table .entry)) (to + exponents-offset),
-      (getD (now (table .entry)) (to + rank-offset) 0, getD (now (s .entry)) (at + component-offset) 0),
-    ) ⌝ }
-{
-    let w = row_words(
-        s,
-        at + words::EXPONENTS_OFFSET,
-        table,
-        to + words::EXPONENTS_OFFSET,
-    );
-    Image {
-        exponents: w,
-        rank: table[to + words::RANK_OFFSET],
-        component: s[at + words::COMPONENT_OFFSET],
-    }
-}
+// ## The image of a row
 
 // The image of row i.
 pub fn image_of_row(s: &[u16], i: usize, table: &[u16], r: usize) -> Image
-    requires { ⌜ (i * row-length + row-length ≤ length (now s)) × (r * row-length ≤ length (now table)) × Tabled r (now table) ⌝ }
+    requires { ⌜ (i * row-length + row-length ≤ length (now s)) × (r * image-length ≤ length (now table)) × Tabled r (now table) ⌝ }
     ensures { λ k. ⌜ key-of k ≡ key (table-of r (now (table .entry))) (row-at (now (s .entry)) i .1) ⌝ }
 {
     let at = i * words::ROW_LENGTH;
-    let c = words::place(s[at + words::COMPONENT_OFFSET]);
-    if c == 0 {
-        return own_image(s, at);
-    }
-    if r < c {
-        return own_image(s, at);
-    }
-    tabled_image(s, at, table, c * words::ROW_LENGTH - words::ROW_LENGTH)
+    let m = Monomial {
+        exponents: words::long(s, at + words::EXPONENTS_OFFSET),
+        component: s[at + words::COMPONENT_OFFSET],
+    };
+    image_of(table, r, m)
+}
+
+// An image with its total degree against the image of row i.
+pub fn against_row(
+    code: u16,
+    a: Image,
+    total: u32,
+    s: &[u16],
+    i: usize,
+    table: &[u16],
+    r: usize,
+) -> Comparison
+    requires { ⌜ (i * row-length + row-length ≤ length (now s)) × (r * image-length ≤ length (now table)) × Tabled r (now table)
+        × (total ≡ degree (a .exponents)) ⌝ }
+    ensures { λ c. ⌜ comparison-of c ≡ compare-keys code (key-of a) (key (table-of r (now (table .entry))) (row-at (now (s .entry)) i .1)) ⌝ }
+{
+    let b = image_of_row(s, i, table, r);
+    against_image(code, a, total, b)
 }

@@ -2,7 +2,7 @@ use borrow.Author.Needs.{needs}
 use mathlib.Core.Path.{sym, _∙_}
 use Rattle.orders.specs.Images.{places-by}
 use Rattle.orders.proofs.Comparing.{first-decides, second-decides}
-use Rattle.orders.proofs.RowImages.{code-parts}
+use Rattle.orders.proofs.CodeParts.{code-parts}
 use Rattle.orders.proofs.formed_by_code.Statement.{statement}
 use Rattle.orders.proofs.formed_by_code.Tie as tie
 

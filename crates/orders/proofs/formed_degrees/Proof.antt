@@ -2,7 +2,7 @@ use borrow.Author.Needs.{needs}
 use mathlib.Core.Path.{sym, ap, _∙_}
 use Rattle.definitions.specs.Order.{numbers}
 use Rattle.definitions.specs.Monomial.{degree}
-use Rattle.orders.proofs.RowImages.{degrees-1, degrees-rest}
+use Rattle.orders.proofs.CodeParts.{degrees-1, degrees-rest}
 use Rattle.orders.proofs.formed_degrees.Statement.{statement}
 use Rattle.orders.proofs.formed_degrees.Tie as tie
 

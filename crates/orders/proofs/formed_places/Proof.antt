@@ -3,7 +3,7 @@ use native.Mathlib.Omega.{arith}
 use mathlib.Core.Path.{_≡_, sym, _∙_}
 use Prim.Native.Nat.{ℕ, _<_, _≤_}
 use mathlib.Core.Logic.{⊎-elim}
-use Rattle.orders.proofs.RowImages.{places-first, places-last}
+use Rattle.orders.proofs.CodeParts.{places-first, places-last}
 use Rattle.orders.proofs.formed_places.Statement.{statement}
 use Rattle.orders.proofs.formed_places.Tie as tie
 

@@ -2,11 +2,12 @@ use borrow.Author.Needs.{needs}
 use native.Mathlib.Omega.{arith}
 use mathlib.Core.Path.{_≡_, sym, subst}
 use Prim.Native.Nat.{_+_, _-_, _*_}
+use Rattle.definitions.specs.Packed.{unpack}
 use Rattle.orders.specs.Images.{Bounded}
 use Rattle.orders.proofs.Tables.{key-at-0, key-beyond, key-inside}
 use Rattle.orders.proofs.image_of.Statement.{statement}
 use Rattle.orders.proofs.image_of.Tie as tie
-use Rattle.definitions.specs.Places.{row-length}
+use Rattle.definitions.specs.Places.{image-length}
 
 cast-i : tie.Need-cast-i
 cast-i c = search needs
@@ -15,15 +16,15 @@ widened-requires : tie.Need-widened-requires
 widened-requires c κs = search needs
 
 returns : tie.Need-returns
-returns c = let a = c .before .before .before .before .args in key-at-0 (a .r) (a .table .now) (a .m .exponents, a .m .component) (c .widened .result)
+returns c = let a = c .before .before .before .args in key-at-0 (a .r) (a .table .now) (unpack (a .m .exponents), a .m .component) (c .widened .result)
     (c .before .if1 .taken) (c .widened .ensures)
 
 widened-requires-2 : tie.Need-widened-requires-2
 widened-requires-2 c κs = search needs
 
 returns-2 : tie.Need-returns-2
-returns-2 c = let a = c .before .before .before .before .before .args in
-    key-beyond (a .r) (a .table .now) (a .m .exponents, a .m .component) (c .widened2 .result) (c .before .if2 .taken) (c .widened2 .ensures)
+returns-2 c = let a = c .before .before .before .before .args in
+    key-beyond (a .r) (a .table .now) (unpack (a .m .exponents), a .m .component) (c .widened2 .result) (c .before .if2 .taken) (c .widened2 .ensures)
 
 mul-at : tie.Need-mul-at
 mul-at c = search needs
@@ -36,11 +37,11 @@ add-shifted c = search needs
 
 shifted-requires : tie.Need-shifted-requires
 shifted-requires c κs =
-    let a = c .before .before .before .before .args in
-    let b : a .m .component * row-length - row-length ≡ (a .m .component - 1) * row-length = omega arith in (
-      omega (arith, c .before .before .before .before .pre .0),
+    let a = c .before .before .before .args in
+    let b : a .m .component * image-length - image-length ≡ (a .m .component - 1) * image-length = omega arith in (
+      omega (arith, c .before .before .before .pre .0),
       subst (λ n. Bounded (a .table .now) (n + 2)) (sym b)
-          (c .before .before .before .before .pre .1 (a .m .component - 1) (omega arith)),
+          (c .before .before .before .pre .1 (a .m .component - 1) (omega arith)),
     )
 
 add-t12 : tie.Need-add-t12
@@ -53,8 +54,8 @@ shared-slice-read-t15 : tie.Need-shared-slice-read-t15
 shared-slice-read-t15 c = search needs
 
 returns-3 : tie.Need-returns-3
-returns-3 c = let a = c .before .before .before .before .before .before .args in
-    key-inside (a .r) (a .table .now) (a .m .exponents, a .m .component) (c .before .shifted .result) (c .before .before .before .if1 .left)
+returns-3 c = let a = c .before .before .before .before .before .args in
+    key-inside (a .r) (a .table .now) (unpack (a .m .exponents), a .m .component) (c .before .shifted .result) (c .before .before .before .if1 .left)
     (c .before .before .if2 .left) (c .before .shifted .ensures)
 
 pub image-of-spec : {M : Type 1} → statement M
