@@ -16,7 +16,8 @@ use Rattle.definitions.proofs.Rows.{Eight, length-rows, rows-same}
 use Rattle.definitions.proofs.Products.{same-monomial-says, same-monomial-shows}
 use Rattle.definitions.specs.Places.{row-length}
 use Rattle.vectors.specs.terms.Rows.{written}
-use Rattle.vectors.proofs.terms.Stored.{row-is, written-here, written-other}
+use Rattle.definitions.proofs.Rows.{row-is}
+use Rattle.vectors.proofs.terms.Stored.{written-here, written-other}
 use Rattle.cache.specs.Area.{Keeps, Copied}
 use Rattle.cache.specs.Entries.{cache-skip, cache-of}
 use Rattle.cache.proofs.Parts.{part-row, length-part, pasted-inside, pasted-below}

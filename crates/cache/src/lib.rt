@@ -9,7 +9,7 @@ ghost use Rattle.definitions.specs.Lists.{choose};
 ghost use Rattle.definitions.specs.Layout.{rows};
 ghost use Rattle.definitions.specs.Tree.{cached, finish, grow, add-result};
 ghost use Rattle.definitions.specs.Result.{done};
-ghost use Rattle.definitions.specs.Places.{row-length};
+ghost use Rattle.definitions.specs.Places.{row-length, image-length};
 ghost use Rattle.monomial.specs.Values.{monomial-of};
 ghost use Rattle.orders.specs.Images.{table-of, table-order, Tabled};
 ghost use Rattle.vectors.specs.terms.Rows.{term-of};
@@ -146,7 +146,7 @@ fn insert_row(
     p: u16,
     t: Term,
 ) -> Stored
-    requires { ⌜ (0 < p) × (a + n ≤ top) × (top * row-length ≤ length (now work)) × (r * row-length ≤ length (now table)) × Tabled r (now table) ⌝ }
+    requires { ⌜ (0 < p) × (a + n ≤ top) × (top * row-length ≤ length (now work)) × (r * image-length ≤ length (now table)) × Tabled r (now table) ⌝ }
     ensures { λ x. ⌜ (grown-of a x (now (work .exit)) ≡ grow (table-order code (table-of r (now (table .entry)))) p top a (term-of t)
         (rows (now (work .entry)) a n)) × Room a top x × Keeps a (now (work .entry)) (now (work .exit))
         × Leaves top (now (work .entry)) (now (work .exit)) ⌝ }
@@ -179,7 +179,7 @@ pub fn add_part(
     r: usize,
     p: u16,
 ) -> Stored
-    requires { ⌜ (0 < p) × (a + n ≤ top) × (top * row-length ≤ length (now work)) × (r * row-length ≤ length (now table)) × Tabled r (now table)
+    requires { ⌜ (0 < p) × (a + n ≤ top) × (top * row-length ≤ length (now work)) × (r * image-length ≤ length (now table)) × Tabled r (now table)
         × ((from + len) * row-length ≤ length (choose in_cache (now cache) (now work))) × Apart in_cache top from ⌝ }
     ensures { λ x. ⌜ (grown-of a x (now (work .exit)) ≡ add-result (table-order code (table-of r (now (table .entry)))) p top a c
         (rows (choose in_cache (now (cache .entry)) (now (work .entry))) from len) (rows (now (work .entry)) a n)) × Room a top x
@@ -228,7 +228,7 @@ pub fn add_rows(
     r: usize,
     p: u16,
 ) -> Stored
-    requires { ⌜ (0 < p) × (n ≤ limit) × (limit * row-length ≤ length (now s)) × (r * row-length ≤ length (now table)) × Tabled r (now table)
+    requires { ⌜ (0 < p) × (n ≤ limit) × (limit * row-length ≤ length (now s)) × (r * image-length ≤ length (now table)) × Tabled r (now table)
         × (len * row-length ≤ length (now part)) ⌝ }
     ensures { λ x. ⌜ (grown-of 0 x (now (s .exit)) ≡ add-result (table-order code (table-of r (now (table .entry)))) p limit 0 c
         (rows (now (part .entry)) 0 len) (rows (now (s .entry)) 0 n)) × Room 0 limit x ⌝ }

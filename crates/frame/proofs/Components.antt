@@ -10,7 +10,7 @@ use Rattle.definitions.specs.Frame.{generators, minimal, with-component, frame-
 use Rattle.definitions.specs.Layout.{Words, rows}
 use Rattle.definitions.proofs.Rows.{length-rows}
 use Rattle.definitions.specs.Places.{row-length, component-offset}
-use Rattle.vectors.proofs.terms.Stored.{row-is}
+use Rattle.definitions.proofs.Rows.{row-is}
 use Rattle.vectors.proofs.sums.Rowwise.{at-row}
 use Rattle.frame.specs.Generators.{monomials-of}
 

@@ -10,7 +10,7 @@ ghost use Rattle.definitions.specs.Lists.{_and_, between as between-definition}
 ghost use Rattle.definitions.specs.Monomial.{divides?};
 ghost use Rattle.definitions.specs.Order.{greater?};
 ghost use Rattle.definitions.specs.Layout.{holds-state?};
-ghost use Rattle.definitions.specs.Places.{most-vectors, all-levels, row-length, header-length, level-length, state-length, table-length};
+ghost use Rattle.definitions.specs.Places.{most-vectors, all-levels, row-length, header-length, level-length, state-length, table-length, image-length};
 ghost use Rattle.orders.specs.Images.{exponents-raw, key-of, compare-keys, table-of, table-order, Tabled};
 ghost use Rattle.words.specs.parameters.Values.{parameters-of};
 ghost use Rattle.state.specs.soundness.Places.{parameters-at, count-at, count-below, rows-from, ends-from};
@@ -171,7 +171,7 @@ fn rest_holds(
     table: &[u16],
     n: usize,
 ) -> bool
-    requires { ⌜ (from < to) × (to * row-length ≤ length (now level)) × (n * row-length ≤ length (now table)) × Tabled n (now table) ⌝ }
+    requires { ⌜ (from < to) × (to * row-length ≤ length (now level)) × (n * image-length ≤ length (now table)) × Tabled n (now table) ⌝ }
     ensures { λ r. ⌜ r ≡ all-hold? (follows? b (table-order code (table-of n (now (table .entry)))) (now (level .entry))) (from + 1) (to - (from + 1)) ⌝ }
 {
     let mut before = tables::image_at(level, from, table, n);
@@ -198,7 +198,7 @@ fn vector_holds(
     table: &[u16],
     n: usize,
 ) -> bool
-    requires { ⌜ (level-length ≤ length (now level)) × (n * row-length ≤ length (now table)) × Tabled n (now table) ⌝ }
+    requires { ⌜ (level-length ≤ length (now level)) × (n * image-length ≤ length (now table)) × Tabled n (now table) ⌝ }
     ensures { λ r. ⌜ r ≡ vector-holds? b most (table-order code (table-of n (now (table .entry)))) (now (level .entry)) from to ⌝ }
 {
     if to <= from {
@@ -226,7 +226,7 @@ fn vectors_hold(
     table: &[u16],
     n: usize,
 ) -> bool
-    requires { ⌜ (r ≤ length (now ends)) × (level-length ≤ length (now level)) × (n * row-length ≤ length (now table)) × Tabled n (now table) ⌝ }
+    requires { ⌜ (r ≤ length (now ends)) × (level-length ≤ length (now level)) × (n * image-length ≤ length (now table)) × Tabled n (now table) ⌝ }
     ensures { λ x. ⌜ x ≡ vectors-hold? b most (table-order code (table-of n (now (table .entry)))) (now (level .entry)) 0 (take r (now (ends .entry))) ⌝ }
 {
     let mut from: usize = 0;
@@ -275,7 +275,7 @@ fn level_holds(
     table: &[u16],
     n: usize,
 ) -> bool
-    requires { ⌜ (state-length ≤ length (now state)) × (k < all-levels) × (high ≤ most-vectors) × (n * row-length ≤ length (now table))
+    requires { ⌜ (state-length ≤ length (now state)) × (k < all-levels) × (high ≤ most-vectors) × (n * image-length ≤ length (now table))
         × Tabled n (now table) ⌝ }
     ensures { λ r. ⌜ r ≡ level-holds? low high most b (table-order code (table-of n (now (table .entry)))) (now (state .entry)) k ⌝ }
 {
@@ -292,7 +292,7 @@ fn level_holds(
 
 // Level k, over the table of images of its module.
 fn level_test(state: &[u16], k: usize, table: &[u16], n: usize) -> bool
-    requires { ⌜ (state-length ≤ length (now state)) × (k < all-levels) × (n * row-length ≤ length (now table)) × Tabled n (now table) ⌝ }
+    requires { ⌜ (state-length ≤ length (now state)) × (k < all-levels) × (n * image-length ≤ length (now table)) × Tabled n (now table) ⌝ }
     ensures { λ r. ⌜ r ≡ level-test? (now (state .entry)) k (table-of n (now (table .entry))) ⌝ }
 {
     let p = state[0];

@@ -1,17 +1,14 @@
-// Terms as rows of ten words in a lent slice: coefficient, component, eight exponents.
+// Terms as rows of six words in a lent slice: coefficient, component, the exponents' number in four words, the lowest first.
 // Knows: crate definitions' Vectors and the rows of its Layout.
 // Every function works on the rows from row 0 of the slice that it is lent.
 ghost use mathlib.Core.Path.{_≡_};
-ghost use mathlib.Core.Bool.{true};
-ghost use mathlib.Core.List.{_∷_};
 ghost use Prim.Native.Nat.{_+_, _-_, _*_, _≤_, _<_};
-ghost use lib.Dec.{eqb};
 ghost use lib.ListN.{length, set};
 ghost use lib.Seq.{paste};
-ghost use Rattle.lists.specs.Marking.{mark-by};
-ghost use Rattle.definitions.specs.Monomial.{same-exponents?, same-monomial?};
-ghost use Rattle.definitions.specs.Layout.{byte, exponents-at, row-at};
-ghost use Rattle.definitions.proofs.Rows.{Eight};
+ghost use Rattle.definitions.specs.Monomial.{same-monomial?};
+ghost use Rattle.definitions.specs.Packed.{unpack};
+ghost use Rattle.definitions.specs.Layout.{row-at, row-of};
+ghost use Rattle.definitions.proofs.Packing.{Eight};
 ghost use Rattle.definitions.specs.Places.{row-length};
 ghost use Rattle.monomial.specs.Values.{monomial-of};
 ghost use Rattle.vectors.specs.terms.Rows.{term-of, written, closed, opened, cleared};
@@ -22,26 +19,13 @@ pub struct Term {
     pub monomial: Monomial,
 }
 
-fn exponents(s: &[u16], at: usize) -> [u8; words::EXPONENTS_LENGTH]
-    requires { ⌜ at + 8 ≤ length (now s) ⌝ }
-    ensures { λ r. ⌜ r ≡ exponents-at (now (s .entry)) at ⌝ }
-{
-    let mut e = [0u8; words::EXPONENTS_LENGTH];
-    let mut j = 0;
-    while j < words::EXPONENTS_LENGTH {
-        e[j] = words::narrow(s[at + j]);
-        j += 1;
-    }
-    e
-}
-
 // Row i by value.
 pub fn row(s: &[u16], i: usize) -> Term
     requires { ⌜ i * row-length + row-length ≤ length (now s) ⌝ }
     ensures { λ r. ⌜ term-of r ≡ row-at (now (s .entry)) i ⌝ }
 {
     let at = i * words::ROW_LENGTH;
-    let e = exponents(s, at + words::EXPONENTS_OFFSET);
+    let e = words::long(s, at + words::EXPONENTS_OFFSET);
     Term {
         coefficient: s[at],
         monomial: Monomial {
@@ -51,19 +35,21 @@ pub fn row(s: &[u16], i: usize) -> Term
     }
 }
 
-fn words(c: u16, m: u16, e: [u8; words::EXPONENTS_LENGTH]) -> [u16; words::ROW_LENGTH]
-    ensures { λ r. ⌜ (r ≡ c ∷ m ∷ e) × Eight e ⌝ }
+// The words of a row.
+fn words(c: u16, m: u16, e: u64) -> [u16; words::ROW_LENGTH]
+    ensures { λ r. ⌜ (r ≡ row-of (c, (unpack e, m))) × Eight (unpack e) ⌝ }
 {
-    let mut w = [c, m, 0, 0, 0, 0, 0, 0, 0, 0];
-    let mut j = 0;
-    while j < words::EXPONENTS_LENGTH {
-        w[j + 2] = words::wide(e[j]);
-        j += 1;
-    }
-    w
+    [
+        c,
+        m,
+        (e % 65536) as u16,
+        (e / 65536 % 65536) as u16,
+        (e / 0x0001_0000_0000 % 65536) as u16,
+        (e / 0x0001_0000_0000_0000) as u16,
+    ]
 }
 
-// Ten words stored from word at on.
+// Six words stored from word at on.
 fn store_words(s: &mut [u16], at: usize, w: [u16; words::ROW_LENGTH])
     requires { ⌜ at + row-length ≤ length (now s) ⌝ }
     ensures { λ _. ⌜ now (s .exit) ≡ paste (now (s .entry)) at w row-length ⌝ }
@@ -82,8 +68,7 @@ pub fn put(s: &mut [u16], i: usize, t: Term)
 {
     let c = t.coefficient;
     let m = t.monomial;
-    let e = m.exponents;
-    let w = words(c, m.component, e);
+    let w = words(c, m.component, m.exponents);
     store_words(s, i * words::ROW_LENGTH, w);
 }
 
@@ -95,42 +80,17 @@ pub fn set_coefficient(s: &mut [u16], i: usize, c: u16)
     s[i * words::ROW_LENGTH] = c;
 }
 
-// 1 where the word, read as an exponent, is not x; else the mark.
-fn mark_other(mark: u16, word: u16, x: u8) -> u16
-    ensures { λ r. ⌜ r ≡ mark-by (mathlib.Core.Bool.not (eqb x (byte word))) mark ⌝ }
-{
-    if words::clamped(word) != words::wide(x) {
-        return 1;
-    }
-    mark
-}
-
-// Whether the exponents from word at on are e.
-fn same_words(s: &[u16], at: usize, e: [u8; words::EXPONENTS_LENGTH]) -> bool
-    requires { ⌜ at + 8 ≤ length (now s) ⌝ }
-    ensures { λ r. ⌜ r ≡ same-exponents? e (exponents-at (now (s .entry)) at) ⌝ }
-{
-    let mut mark: u16 = 0;
-    let mut j = 0;
-    while j < words::EXPONENTS_LENGTH {
-        mark = mark_other(mark, s[at + j], e[j]);
-        j += 1;
-    }
-    mark == 0
-}
-
-// Whether row i has the monomial.
+// Whether row i has the monomial: its exponents decide mostly, and are one number.
 pub fn same_row(s: &[u16], i: usize, m: Monomial) -> bool
     requires { ⌜ i * row-length + row-length ≤ length (now s) ⌝ }
     ensures { λ r. ⌜ r ≡ same-monomial? (monomial-of m) (row-at (now (s .entry)) i .1) ⌝ }
 {
-    let at = i * words::ROW_LENGTH;
-    let a = m.component;
-    if s[at + words::COMPONENT_OFFSET] != a {
-        return false;
+    let t = row(s, i);
+    let n = t.monomial;
+    if monomial::same_exponents(m.exponents, n.exponents) {
+        return m.component == n.component;
     }
-    let e = m.exponents;
-    same_words(s, at + words::EXPONENTS_OFFSET, e)
+    false
 }
 
 // Row i leaves the first n rows; those above it close up.

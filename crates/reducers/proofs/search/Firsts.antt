@@ -14,7 +14,7 @@ use Rattle.definitions.specs.Layout.{Words, byte, exponents-at, row-at, rows}
 use Rattle.definitions.proofs.Rows.{byte-small, getD-rows, length-rows}
 use Rattle.definitions.specs.Places.{row-length, component-offset, exponents-offset}
 use Rattle.orders.specs.Images.{exponents-raw}
-use Rattle.vectors.proofs.terms.Stored.{row-is}
+use Rattle.definitions.proofs.Rows.{row-is}
 use Rattle.reducers.specs.search.Search.{head-raw, Small, Spanned, span-at, first-from, first-dividing}
 
 -- ## Numbers

@@ -15,7 +15,8 @@ use Rattle.definitions.specs.Layout.{Words, rows, row-at, vectors-at}
 use Rattle.definitions.proofs.Rows.{rows-same}
 use Rattle.definitions.specs.Places.{most-vectors, row-length, component-offset, ends-length}
 use borrow.Author.Tests.{le-leb, lt-leb}
-use Rattle.vectors.proofs.terms.Stored.{same-row, row-is}
+use Rattle.definitions.proofs.Rows.{row-is}
+use Rattle.vectors.proofs.terms.Stored.{same-row}
 use Rattle.vectors.proofs.terms.Moving.{getD-paste-in, getD-paste-below}
 use Rattle.runs.specs.declared.reduction.Ground.{Ground}
 use Rattle.runs.specs.frame_terms.Vectors.{lifted-vectors, end-of, Kept, Framed}

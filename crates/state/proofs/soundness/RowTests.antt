@@ -22,7 +22,7 @@ use Rattle.definitions.specs.Places.{most-exponent, row-length, component-offse
 use Rattle.reducers.proofs.tables.Imaging.{byte-bound}
 use Rattle.orders.specs.Images.{exponents-raw}
 use Rattle.orders.proofs.Comparing.{getD-raw}
-use Rattle.vectors.proofs.terms.Stored.{row-is}
+use Rattle.definitions.proofs.Rows.{row-is}
 use Rattle.state.specs.soundness.Holding.{limit-at, exponent-limits, bounds-of, row-holds?}
 use Rattle.state.proofs.soundness.Pointwise.{every-all}
 

@@ -10,7 +10,7 @@ use Rattle.definitions.specs.Layout.{Words, row-at, rows, row-of, rows-of}
 use Rattle.definitions.proofs.Rows.{Eight, Eights, no-terms, one-more, length-rows, length-rows-of, rows-of-append, rows-last, getD-exponents, length-row}
 use Rattle.definitions.specs.Places.{row-length, exponents-offset, count-offset}
 use Rattle.vectors.specs.terms.Rows.{written}
-use Rattle.vectors.proofs.terms.Stored.{row-is}
+use Rattle.definitions.proofs.Rows.{row-is}
 use Rattle.vectors.proofs.terms.Spelling.{eight-small}
 use Rattle.reducers.specs.tables.Cuts.{start-of}
 use Rattle.reducers.proofs.tables.Imaging.{byte-bound}

@@ -15,7 +15,7 @@ use Rattle.definitions.proofs.Tests.{and-left, and-right, every-at}
 use Rattle.definitions.proofs.Rows.{length-rows, rows-of-append, getD-exponents, byte-small}
 use Rattle.definitions.specs.Places.{most-exponent, most-vectors, most-rows, row-length, component-offset, exponents-offset, level-length, state-length}
 use Rattle.definitions.specs.Places.{count-offset, rows-offset}
-use Rattle.vectors.proofs.terms.Stored.{row-is}
+use Rattle.definitions.proofs.Rows.{row-is}
 use Rattle.reducers.specs.tables.Cuts.{start-of}
 use Rattle.reducers.proofs.tables.Cutting.{begin-from}
 use Rattle.state.specs.soundness.Places.{count-at, rows-from, ends-from}

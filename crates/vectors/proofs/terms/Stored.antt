@@ -10,52 +10,40 @@ use lib.ListN.{length, take, drop, getD, set, length-set, length-append, length-
 use lib.Seq.{ext-getD, getD-set-same, getD-set-other, getD-append-add, getD-take, getD-drop, length-take-le, length-paste}
 use Rattle.definitions.specs.Lists.{without}
 use Rattle.definitions.specs.Monomial.{Term, Vector}
-use Rattle.definitions.specs.Layout.{Words, byte, exponents-at, row-at, rows, row-of}
-use Rattle.definitions.proofs.Rows.{Eight, row-spelled, length-row, exponents-are, getD-exponents, length-rows, getD-rows, rows-same, rows-last}
+use Rattle.definitions.specs.Packed.{four, unpack}
+use Rattle.definitions.specs.Layout.{Words, row-at, rows, row-of}
+use Rattle.definitions.proofs.Packing.{Eight}
+use Rattle.definitions.proofs.Rows.{row-spelled, length-row, length-rows, getD-rows, rows-same, rows-last}
 use Rattle.definitions.specs.Places.{row-length, component-offset, exponents-offset}
 use Rattle.vectors.specs.terms.Rows.{written, closed, opened, let-in}
 use Rattle.vectors.proofs.terms.Moving.{getD-paste-in, getD-paste-below, getD-paste-above, length-opened}
 
 -- ## One row
 
-pub row-is : (s : Words) (i : ℕ) → row-at s i ≡ (
-  getD s (i * row-length) 0,
-  (exponents-at s (i * row-length + exponents-offset), getD s (i * row-length + component-offset) 0),
-)
-unfolding row-at
-row-is s i = refl
-
 -- rows whose words are the same
 pub same-row : (s z : Words) (i k : ℕ) → ((j : ℕ) → j < row-length → getD z (k * row-length + j) 0 ≡ getD s (i * row-length + j) 0) → row-at z k
     ≡ row-at s i
 unfolding row-at
-same-row s z i k w = λ x. (first x, (rest x, second x))
+same-row s z i k w = λ x. (
+  at (k * row-length) (i * row-length) 0 (omega arith) (omega arith) (omega arith) x,
+  (
+    unpack (four (at (k * row-length + exponents-offset + 3) (i * row-length + exponents-offset + 3) 5 (omega arith) (omega arith) (omega arith) x)
+        (at (k * row-length + exponents-offset + 2) (i * row-length + exponents-offset + 2) 4 (omega arith) (omega arith) (omega arith) x)
+        (at (k * row-length + exponents-offset + 1) (i * row-length + exponents-offset + 1) 3 (omega arith) (omega arith) (omega arith) x)
+        (at (k * row-length + exponents-offset) (i * row-length + exponents-offset) 2 (omega arith) (omega arith) (omega arith) x)),
+    at (k * row-length + component-offset) (i * row-length + component-offset) 1 (omega arith) (omega arith) (omega arith) x,
+  ),
+)
   where
-    first : getD z (k * row-length) 0 ≡ getD s (i * row-length) 0
-    first =
-        let p : k * row-length ≡ k * row-length + 0 = omega arith in
-        let q : i * row-length + 0 ≡ i * row-length = omega arith in
-        ap (λ n. getD z n 0) p ∙ w 0 (omega arith) ∙ ap (λ n. getD s n 0) q
-
-    second : getD z (k * row-length + component-offset) 0 ≡ getD s (i * row-length + component-offset) 0
-    second = w 1 (omega arith)
-
-    rest : exponents-at z (k * row-length + exponents-offset) ≡ exponents-at s (i * row-length + exponents-offset)
-    rest = exponents-are z (k * row-length + exponents-offset) (exponents-at s (i * row-length + exponents-offset)) refl one
-      where
-        one : (j : ℕ) → j < 8 → byte (getD z (k * row-length + exponents-offset + j) 0) ≡ getD (exponents-at s (i * row-length + exponents-offset)) j 0
-        one j h =
-            let p : k * row-length + exponents-offset + j ≡ k * row-length + (2 + j) = omega arith in
-            let q : i * row-length + (2 + j) ≡ i * row-length + exponents-offset + j = omega arith in
-            ap byte (ap (λ n. getD z n 0) p ∙ w (2 + j) (omega arith) ∙ ap (λ n. getD s n 0) q)
-            ∙ sym (getD-exponents s (i * row-length + exponents-offset) j h)
+    at : (n m j : ℕ) → n ≡ k * row-length + j → i * row-length + j ≡ m → j < row-length → getD z n 0 ≡ getD s m 0
+    at n m j e f l = ap (λ x. getD z x 0) e ∙ w j l ∙ ap (λ x. getD s x 0) f
 
 pub written-here : (s : Words) (i : ℕ) (t : Term) → i * row-length + row-length ≤ length s → Eight (t .1 .0) → row-at (written s i t) i ≡ t
 written-here s i t h e = same-row (row-of t) (written s i t) 0 i word ∙ row-spelled (row-of t) 0 t [] e (sym (append-nil (row-of t)))
   where
     word : (j : ℕ) → j < row-length → getD (written s i t) (i * row-length + j) 0 ≡ getD (row-of t) (0 * row-length + j) 0
     word j l = let q : j ≡ 0 * row-length + j = omega arith in getD-paste-in s (i * row-length) (row-of t) row-length j 0 h
-        (omega (arith, length-row t e)) l ∙ ap (λ n. getD (row-of t) n 0) q
+        (omega (arith, length-row t)) l ∙ ap (λ n. getD (row-of t) n 0) q
 
 pub written-other : (s : Words) (i : ℕ) (t : Term) (k : ℕ) → i * row-length + row-length ≤ length s → Eight (t .1 .0) → (k ≡ i → ⊥)
     → row-at (written s i t) k ≡ row-at s k
@@ -66,10 +54,10 @@ written-other s i t k h e d = same-row s (written s i t) k k (λ j l. go j l (lt
     go j l true f g = let u : k < i = f tt in getD-paste-below s (i * row-length) (row-of t) row-length (k * row-length + j) 0 (omega arith)
         (omega arith)
     go j l false f g = let u : i ≤ k = g tt in let n : k ≡ i → ⊥ = d in
-        getD-paste-above s (i * row-length) (row-of t) row-length (k * row-length + j) 0 h (omega (arith, length-row t e)) (omega arith)
+        getD-paste-above s (i * row-length) (row-of t) row-length (k * row-length + j) 0 h (omega (arith, length-row t)) (omega arith)
 
 pub length-written : (s : Words) (i : ℕ) (t : Term) → i * row-length + row-length ≤ length s → Eight (t .1 .0) → length (written s i t) ≡ length s
-length-written s i t h e = length-paste s (i * row-length) (row-of t) row-length h (omega (arith, length-row t e))
+length-written s i t h e = length-paste s (i * row-length) (row-of t) row-length h (omega (arith, length-row t))
 
 -- ## The first n rows
 
@@ -180,13 +168,15 @@ rows-coefficient s n i c h l = ext-getD (row-at s 0) (rows (set s (i * row-lengt
     here : row-at (set s (i * row-length) c) i ≡ (c, row-at s i .1)
     here = λ x. (
       getD-set-same s (i * row-length) c 0 (omega arith) x,
-      (exps x, getD-set-other s (i * row-length) (i * row-length + component-offset) c 0 (λ e. omega arith) x),
+      (
+        unpack (four (kept (i * row-length + exponents-offset + 3) (λ e. omega arith) x) (kept (i * row-length + exponents-offset + 2) (λ e. omega arith) x)
+            (kept (i * row-length + exponents-offset + 1) (λ e. omega arith) x) (kept (i * row-length + exponents-offset) (λ e. omega arith) x)),
+        kept (i * row-length + component-offset) (λ e. omega arith) x,
+      ),
     )
       where
-        exps : exponents-at (set s (i * row-length) c) (i * row-length + exponents-offset) ≡ exponents-at s (i * row-length + exponents-offset)
-        exps = exponents-are (set s (i * row-length) c) (i * row-length + exponents-offset) (exponents-at s (i * row-length + exponents-offset)) refl
-            (λ j q. ap byte (getD-set-other s (i * row-length) (i * row-length + exponents-offset + j) c 0 (λ e. omega arith))
-            ∙ sym (getD-exponents s (i * row-length + exponents-offset) j q))
+        kept : (n : ℕ) → (n ≡ i * row-length → ⊥) → getD (set s (i * row-length) c) n 0 ≡ getD s n 0
+        kept n d = getD-set-other s (i * row-length) n c 0 d
 
     other : (k : ℕ) → (k ≡ i → ⊥) → row-at (set s (i * row-length) c) k ≡ row-at s k
     other k d = same-row s (set s (i * row-length) c) k k (λ j q. getD-set-other s (i * row-length) (k * row-length + j) c 0 (λ e. d (omega arith)))

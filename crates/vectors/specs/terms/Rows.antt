@@ -16,11 +16,11 @@ term-of t = (t .coefficient, monomial-of (t .monomial))
 abbrev pub written : Words → ℕ → definition.Term → Words
 written s i t = paste s (i * row-length) (row-of t) row-length
 
--- the words from a + 10 on, up to end + 10, stand from a on
+-- the words from a row behind a on, up to a row behind end, stand from a on
 abbrev pub closed : Words → ℕ → ℕ → Words
 closed s a end = paste s a (drop (a + row-length) s) (end - a)
 
--- the words from a on, up to end, stand from a + 10 on
+-- the words from a on, up to end, stand from a row behind a on
 abbrev pub opened : Words → ℕ → ℕ → Words
 opened s a end = paste s (a + row-length) (drop a s) (end - a)
 

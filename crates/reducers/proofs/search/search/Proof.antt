@@ -8,7 +8,7 @@ use Rattle.definitions.specs.Layout.{row-at, rows}
 use Rattle.definitions.proofs.Rows.{getD-rows, length-rows}
 use Rattle.definitions.specs.Monomial.{no-term, Term}
 use Rattle.monomial.specs.Values.{monomial-of}
-use Rattle.vectors.proofs.terms.Stored.{row-is}
+use Rattle.definitions.proofs.Rows.{row-is}
 use Rattle.reducers.specs.declared.search.Answer.the-variants.{Reducer}
 use Rattle.reducers.proofs.search.search.Statement.{statement}
 use Rattle.reducers.proofs.search.search.Tie as tie

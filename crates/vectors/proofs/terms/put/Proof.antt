@@ -20,7 +20,7 @@ same-length c = search needs
 
 returns : tie.Need-returns
 returns c =
-    let a = c .before .before .before .before .before .before .before .before .args in (
+    let a = c .before .before .before .before .before .before .before .args in (
       c .before .before .store-words .ensures ∙ ap (λ w. paste (a .s .now) (a .i * row-length) w row-length)
           (c .before .before .before .before .words .ensures .0),
       c .before .before .before .before .words .ensures .1,

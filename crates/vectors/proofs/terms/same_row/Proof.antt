@@ -1,61 +1,34 @@
-use borrow.Author.Needs.{needs}
-use mathlib.Core.Path.{sym, ap, _∙_}
-use Prim.Native.Nat.{_+_, _*_}
-use lib.ListN.{getD}
-use Rattle.definitions.specs.Layout.{exponents-at}
-use Rattle.vectors.proofs.terms.Stored.{row-is}
-use Rattle.monomial.proofs.Scans.{components-differ, components-equal}
+use mathlib.Core.Path.{ap, _∙_}
+use Rattle.definitions.specs.Monomial.{Term, same-monomial?}
+use Rattle.definitions.specs.Packed.{unpack}
 use Rattle.monomial.specs.Values.{monomial-of}
-use Rattle.definitions.specs.Monomial.{same-exponents?, same-monomial?}
-use Rattle.definitions.specs.Places.{row-length, component-offset, exponents-offset}
+use Rattle.vectors.proofs.terms.Matching.{same-joined, same-apart}
+use borrow.Author.Needs.{needs}
 use Rattle.vectors.proofs.terms.same_row.Statement.{statement}
 use Rattle.vectors.proofs.terms.same_row.Tie as tie
 
-mul-at : tie.Need-mul-at
-mul-at c = search needs
+row-requires : tie.Need-row-requires
+row-requires c κs = search needs
 
-add-if1 : tie.Need-add-if1
-add-if1 c = search needs
-
-mul-if1 : tie.Need-mul-if1
-mul-if1 c = search needs
-
-shared-slice-read-if1 : tie.Need-shared-slice-read-if1
-shared-slice-read-if1 c = search needs
+same-exponents-requires : tie.Need-same-exponents-requires
+same-exponents-requires c κs = search needs
 
 returns : tie.Need-returns
 returns c =
-    let a = c .before .before .before .args in
-    let m = monomial-of (a .m) in
-    let s = a .s .now in
-    components-differ (m .1) (getD s (a .i * row-length + component-offset) 0)
-    (same-exponents? (m .0) (exponents-at s (a .i * row-length + exponents-offset))) (λ q. c .if1 .taken (sym q))
-    ∙ ap (λ t. same-monomial? m (t .1)) (sym (row-is s (a .i)))
-
-add-same-words : tie.Need-add-same-words
-add-same-words c = search needs
-
-same-words-requires : tie.Need-same-words-requires
-same-words-requires c κs = search needs
+    let at-5 = c .before .before .before .before .before in
+    let a = at-5 .before .before .args in
+    let n = at-5 .row .result .monomial in
+    let r = c .before .before .before .same-exponents in
+    same-joined (unpack (a .m .exponents)) (unpack (n .exponents)) (a .m .component) (n .component) (r .result) (r .ensures)
+    (c .before .before .if1 .taken) ∙ ap (λ (u : Term). same-monomial? (monomial-of (a .m)) (u .1)) (at-5 .row .ensures)
 
 returns-2 : tie.Need-returns-2
 returns-2 c =
     let a = c .before .before .before .before .before .args in
-    let m = monomial-of (a .m) in
-    let s = a .s .now in
-    components-equal (m .1) (getD s (a .i * row-length + component-offset) 0)
-    (same-exponents? (m .0) (exponents-at s (a .i * row-length + exponents-offset))) (c .same-words .result) (sym (c .before .before .if1 .left))
-    (c .same-words .ensures) ∙ ap (λ t. same-monomial? m (t .1)) (sym (row-is s (a .i)))
+    let n = c .before .before .before .row .result .monomial in
+    let r = c .before .same-exponents in
+    same-apart (unpack (a .m .exponents)) (unpack (n .exponents)) (a .m .component) (n .component) (r .result) (r .ensures) (c .if1 .left)
+    ∙ ap (λ (u : Term). same-monomial? (monomial-of (a .m)) (u .1)) (c .before .before .before .row .ensures)
 
 pub same-row-spec : {M : Type 1} → statement M
-same-row-spec =
-    tie.close
-    (tie.spec
-    mul-at
-    add-if1
-    mul-if1
-    shared-slice-read-if1
-    returns
-    add-same-words
-    same-words-requires
-    returns-2)
+same-row-spec = tie.close (tie.spec row-requires same-exponents-requires returns returns-2)
