@@ -8,8 +8,18 @@ use crate::lifting::Way;
 use crate::limits::Limits;
 use crate::monomial::{Exponents, Level, Monomial, Parameters, Term, Vector};
 
-/// "A term is a row of ten words: the coefficient, the component, the eight exponents".
-pub const ROW: usize = 10;
+/// "A term is a row of six words: the coefficient, the component, and its eight exponents in one
+/// unsigned 64-bit number".
+pub const ROW: usize = 6;
+
+/// The word of a row that holds the coefficient.
+const COEFFICIENT: usize = 0;
+
+/// The word of a row that holds the component.
+const COMPONENT: usize = 1;
+
+/// The first of the four words of a row that hold the exponents' number.
+const EXPONENTS: usize = 2;
 
 /// Words before the first level's count.
 const HEAD: usize = 5;
@@ -123,7 +133,7 @@ pub fn lift_call_within(
         return Some((16, 0));
     }
     let mut held = read_state(limits, state);
-    // "The cache's length in terms is the number of whole rows in it"
+    // "The cache's length in terms is the number of whole rows in it, its words divided by six."
     let cache_terms = (cache.len() / ROW) as u64;
     let outcome = held.lift(limits, level, way, cache_terms, budget);
     let Outcome::Answered(Answer { number, place, .. }) = outcome else {
@@ -212,17 +222,25 @@ fn read_level(layout: &Layout, state: &[u16], k: usize) -> Option<Level> {
 pub fn read_rows(words: &[u16]) -> Vector {
     words
         .chunks_exact(ROW)
-        .map(|row| {
-            let exponents: Exponents = std::array::from_fn(|x| u64::from(row[2 + x]));
-            Term {
-                coefficient: u64::from(row[0]),
-                monomial: Monomial {
-                    component: u64::from(row[1]),
-                    exponents,
-                },
-            }
+        .map(|row| Term {
+            coefficient: u64::from(row[COEFFICIENT]),
+            monomial: Monomial {
+                component: u64::from(row[COMPONENT]),
+                exponents: read_exponents(&row[EXPONENTS..]),
+            },
         })
         .collect()
+}
+
+/// "Every four words are some eight exponents."
+fn read_exponents(words: &[u16]) -> Exponents {
+    // "the lowest 16 bits first"
+    let number = words
+        .iter()
+        .rev()
+        .fold(0, |number: u64, word| (number << 16) | u64::from(*word));
+    // "a byte each, x1's in the top byte"
+    number.to_be_bytes().map(u64::from)
 }
 
 /// Writes a state; all words that its counts do not name become zero.
@@ -251,11 +269,17 @@ pub fn write_state(limits: &Limits, held: &State, state: &mut [u16]) {
 
 fn write_rows(vector: &[Term], words: &mut [u16]) {
     for (row, term) in words.chunks_exact_mut(ROW).zip(vector) {
-        row[0] = to_word(term.coefficient);
-        row[1] = to_word(term.monomial.component);
-        for (word, exponent) in row[2..].iter_mut().zip(term.monomial.exponents) {
-            *word = to_word(exponent);
-        }
+        row[COEFFICIENT] = to_word(term.coefficient);
+        row[COMPONENT] = to_word(term.monomial.component);
+        write_exponents(&term.monomial.exponents, &mut row[EXPONENTS..]);
+    }
+}
+
+fn write_exponents(exponents: &Exponents, words: &mut [u16]) {
+    let bytes = exponents.map(|exponent| u8::try_from(exponent).expect("an exponent is a byte"));
+    let number = u64::from_be_bytes(bytes);
+    for (at, word) in words.iter_mut().enumerate() {
+        *word = (number >> (16 * at)) as u16;
     }
 }
 

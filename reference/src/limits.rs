@@ -4,7 +4,8 @@
 /// and 13 to 15 with small files.
 ///
 /// Two limits are part of the shape of the data and may be lowered but not raised: a monomial
-/// has eight exponents, and levels run to 9.
+/// has eight exponents, and levels run to 9. In a buffer an exponent is a byte: its limit may be
+/// above 255 only where there are no buffers.
 #[derive(Clone, Copy, Debug, PartialEq, Eq)]
 pub struct Limits {
     /// "The upper end for p becomes 65,535" (request A4)
@@ -82,14 +83,15 @@ impl Limits {
         copy.slot(name).map(|slot| *slot)
     }
 
-    /// Sets the limit of that name. Numbers that the data's shape or a 16-bit word cannot hold
-    /// are turned down with a sentence that says so.
+    /// Sets the limit of that name. Numbers that the data's shape or their place in a buffer
+    /// cannot hold are turned down with a sentence that says so.
     pub fn set(&mut self, name: &str, value: u64) -> Result<(), String> {
         let most = match name {
             "variables" => 8,
             "levels" => 9,
-            "prime_bound" | "components" | "elements" | "exponent" | "field" | "vectors"
-            | "t_lines" | "level_terms" => 65_535,
+            "exponent" => 255,
+            "prime_bound" | "components" | "elements" | "field" | "vectors" | "t_lines"
+            | "level_terms" => 65_535,
             _ => 1 << 32,
         };
         let slot = self

@@ -4,12 +4,12 @@ mod common;
 
 use common::*;
 use reference::buffers::*;
-use reference::engine::{sound, State};
+use reference::engine::{sound, Basis, State};
 use reference::field::is_prime;
 use reference::generate::cases::calls_case;
 use reference::generate::scripts::{random_lengths, random_way, Reach};
 use reference::lifting::Way;
-use reference::monomial::Term;
+use reference::monomial::{Level, Parameters, Term};
 use reference::random::Random;
 use reference::script::{make_call, Call, Script};
 use reference::Limits;
@@ -26,39 +26,41 @@ const PRINTED: [&str; 6] = [
 #[test]
 fn lengths_of_document_01() {
     let limits = Limits::document_01();
-    assert_eq!(state_words(&limits), 206_095);
-    assert_eq!(work_words(&limits, None), 5_120);
-    assert_eq!(work_words(&limits, Some(Way::Division)), 5_120);
-    assert_eq!(work_words(&limits, Some(Way::Hybrid(1))), 5_120);
-    assert_eq!(work_words(&limits, Some(Way::Tree)), 40_960);
-    assert_eq!(out_words(&limits), 5_120);
+    assert_eq!(ROW, 6);
+    assert_eq!(state_words(&limits), 124_175);
+    assert_eq!(work_words(&limits, None), 3_072);
+    assert_eq!(work_words(&limits, Some(Way::Division)), 3_072);
+    assert_eq!(work_words(&limits, Some(Way::Hybrid(1))), 3_072);
+    assert_eq!(work_words(&limits, Some(Way::Tree)), 24_576);
+    assert_eq!(out_words(&limits), 3_072);
     let layout = Layout::new(&limits);
     for k in 0..10 {
         assert_eq!(layout.count(k), 5 + 129 * k);
         assert_eq!(layout.first_end(k), 6 + 129 * k);
-        assert_eq!(layout.first_row(k), 1_295 + 20_480 * k);
+        assert_eq!(layout.first_row(k), 1_295 + 12_288 * k);
     }
 }
 
 #[test]
 fn the_printed_example_word_by_word() {
     let limits = Limits::document_01();
-    let mut state = vec![9; 206_100];
-    let mut work = vec![9; 40_961];
+    let mut state = vec![9; 124_180];
+    let mut work = vec![9; 24_577];
     let mut cache = vec![9; 47];
-    let mut out = vec![9; 5_121];
+    let mut out = vec![9; 3_073];
     assert_eq!(
         read_call(&limits, &file(&PRINTED), &mut state, &mut work),
         (0, 0)
     );
-    let mut expected = vec![0; 206_100];
+    let mut expected = vec![0; 124_180];
     expected[..8].copy_from_slice(&[7, 2, 1, 1, 1, 2, 2, 4]);
-    for (row, words) in [[1, 1, 1, 0], [1, 1, 0, 1], [1, 1, 0, 2], [1, 1, 0, 0]]
-        .iter()
-        .enumerate()
-    {
-        expected[1_295 + 10 * row..][..4].copy_from_slice(words);
-    }
+    let elements = [
+        [1, 1, 0, 0, 0, 256],
+        [1, 1, 0, 0, 0, 1],
+        [1, 1, 0, 0, 0, 2],
+        [1, 1, 0, 0, 0, 0],
+    ];
+    expected[1_295..1_319].copy_from_slice(&elements.concat());
     assert!(state == expected);
     assert!(work.iter().all(|word| *word == 0));
     work.fill(9);
@@ -69,17 +71,18 @@ fn the_printed_example_word_by_word() {
     );
     expected[4] = 2;
     expected[134..136].copy_from_slice(&[1, 4]);
-    let vector = [[1, 2, 1, 0], [6, 1, 0, 2], [6, 1, 0, 0], [1, 2, 0, 1]];
-    for (row, words) in vector.iter().enumerate() {
-        expected[21_775 + 10 * row..][..4].copy_from_slice(words);
-    }
+    let vector = [
+        [1, 2, 0, 0, 0, 256],
+        [6, 1, 0, 0, 0, 2],
+        [6, 1, 0, 0, 0, 0],
+        [1, 2, 0, 0, 0, 1],
+    ];
+    expected[13_583..13_607].copy_from_slice(&vector.concat());
     assert!(state == expected);
     assert!(work.iter().chain(&cache).all(|word| *word == 0));
     assert_eq!(fetch_call(&limits, &state, 1, 1, &mut out), (0, 0));
-    let mut fetched = vec![0; 5_121];
-    for (row, words) in vector.iter().enumerate() {
-        fetched[10 * row..][..4].copy_from_slice(words);
-    }
+    let mut fetched = vector.concat();
+    fetched.resize(3_073, 0);
     assert_eq!(out, fetched);
     assert_eq!(
         lift_call(&limits, &mut state, 2, Way::Hybrid(2), &mut work, &mut []),
@@ -92,8 +95,8 @@ fn the_printed_example_word_by_word() {
 #[test]
 fn nine_leaves_its_value_in_work() {
     let limits = Limits::document_01();
-    let mut state = vec![9; 206_095];
-    let mut work = vec![9; 5_120];
+    let mut state = vec![9; 124_175];
+    let mut work = vec![9; 3_072];
     let lines = [
         "R,7,2,1,1",
         "T,1,1,1,2,0",
@@ -106,18 +109,47 @@ fn nine_leaves_its_value_in_work() {
         (9, 1)
     );
     assert!(state.iter().all(|word| *word == 0));
-    assert_eq!(work[..10], [6, 1, 0, 3, 0, 0, 0, 0, 0, 0]);
-    assert!(work[10..].iter().all(|word| *word == 0));
+    assert_eq!(work[..6], [6, 1, 0, 0, 0, 3]);
+    assert!(work[6..].iter().all(|word| *word == 0));
+    // the same of each two neighbours among eight variables, for each place of a row
+    let rows = [
+        [6, 1, 0, 0, 0, 3],
+        [6, 1, 0, 0, 768, 0],
+        [6, 1, 0, 0, 3, 0],
+        [6, 1, 0, 768, 0, 0],
+        [6, 1, 0, 3, 0, 0],
+        [6, 1, 768, 0, 0, 0],
+        [6, 1, 3, 0, 0, 0],
+    ];
+    for (x, row) in rows.iter().enumerate() {
+        let line = |start: &str, here, next| {
+            let mut exponents = [0; 8];
+            (exponents[x], exponents[x + 1]) = (here, next);
+            format!("{start},{}", exponents.map(|e| e.to_string()).join(","))
+        };
+        let lines = [
+            "R,7,8,1,1",
+            &line("T,1,1,1", 2, 0),
+            &line("T,2,1,1", 1, 1),
+            &line("T,2,1,1", 0, 2),
+            "E,3",
+        ];
+        work.fill(9);
+        let refused = read_call(&limits, &file(&lines), &mut state, &mut work);
+        assert_eq!(refused, (9, 1));
+        assert_eq!(work[..6], *row);
+        assert!(work[6..].iter().all(|word| *word == 0));
+    }
 }
 
 #[test]
 fn sixteen_comes_first_and_changes_nothing() {
     let limits = Limits::document_01();
-    let mut good = vec![0; 206_095];
-    let mut work = vec![0; 40_960];
+    let mut good = vec![0; 124_175];
+    let mut work = vec![0; 24_576];
     read_call(&limits, &file(&PRINTED), &mut good, &mut work);
     // a bad file, a level that is not complete, wrong numbers: 16 all the same
-    for (state_length, work_length) in [(206_094, 40_960), (206_095, 5_119), (0, 0)] {
+    for (state_length, work_length) in [(124_174, 24_576), (124_175, 3_071), (0, 0)] {
         let mut state = good[..state_length].to_vec();
         let mut work = vec![5; work_length];
         let before = (state.clone(), work.clone());
@@ -127,7 +159,7 @@ fn sixteen_comes_first_and_changes_nothing() {
         assert!((state, work) == before);
     }
     let mut state = good.clone();
-    let mut work = vec![5; 40_959];
+    let mut work = vec![5; 24_575];
     let mut cache = vec![5; 100];
     assert_eq!(
         lift_call(&limits, &mut state, 1, Way::Tree, &mut work, &mut cache),
@@ -141,19 +173,19 @@ fn sixteen_comes_first_and_changes_nothing() {
         (0, 0)
     );
     assert!(work.iter().chain(&cache).all(|word| *word == 0));
-    let mut out = vec![5; 5_119];
+    let mut out = vec![5; 3_071];
     assert_eq!(fetch_call(&limits, &state, 1, 1, &mut out), (16, 0));
     assert_eq!(
-        fetch_call(&limits, &state[..206_094], 1, 1, &mut vec![0; 5_120]),
+        fetch_call(&limits, &state[..124_174], 1, 1, &mut vec![0; 3_072]),
         (16, 0)
     );
     assert!(out.iter().all(|word| *word == 5));
     // 11 and 12 change nothing either
-    let mut out = vec![5; 5_120];
+    let mut out = vec![5; 3_072];
     assert_eq!(fetch_call(&limits, &state, 1, 2, &mut out), (12, 0));
     assert_eq!(fetch_call(&limits, &state, 2, 1, &mut out), (11, 0));
     assert!(out.iter().all(|word| *word == 5));
-    let mut work = vec![5; 5_120];
+    let mut work = vec![5; 3_072];
     for (level, way, number) in [(3, Way::Division, 11), (1, Way::Hybrid(0), 12)] {
         let before = state.clone();
         let refused = lift_call(&limits, &mut state, level, way, &mut work, &mut cache);
@@ -178,29 +210,39 @@ fn words_of(limits: &Limits, held: &State, length: usize) -> Vec<u16> {
     words[4] = basis.levels.len() as u16;
     for (k, level) in basis.levels.iter().enumerate() {
         let at = 5 + (ends + 1) * k;
-        let mut row = 5 + (ends + 1) * levels + 10 * rows * k;
+        let mut row = 5 + (ends + 1) * levels + ROW * rows * k;
         words[at] = level.len() as u16;
         let mut end = 0;
         for (v, vector) in level.iter().enumerate() {
             end += vector.len() as u16;
             words[at + 1 + v] = end;
             for term in vector {
-                words[row..row + 10].copy_from_slice(&row_of(term));
-                row += 10;
+                words[row..row + ROW].copy_from_slice(&row_of(term));
+                row += ROW;
             }
         }
     }
     words
 }
 
-fn row_of(term: &Term) -> [u16; 10] {
-    let mut row = [0; 10];
-    row[0] = term.coefficient as u16;
-    row[1] = term.monomial.component as u16;
-    for x in 0..8 {
-        row[2 + x] = term.monomial.exponents[x] as u16;
-    }
-    row
+/// The row of a term, word by word as the page's table has it.
+fn row_of(term: &Term) -> [u16; ROW] {
+    let exponents = term.monomial.exponents;
+    let bytes = exponents.map(|e| u8::try_from(e).expect("a byte"));
+    let [x1, x2, x3, x4, x5, x6, x7, x8] = bytes.map(u16::from);
+    [
+        term.coefficient as u16,
+        term.monomial.component as u16,
+        256 * x7 + x8,
+        256 * x5 + x6,
+        256 * x3 + x4,
+        256 * x1 + x2,
+    ]
+}
+
+/// The word of a row that has the exponent of variable x (x1 is 0), and what one of it counts there.
+fn place_of(x: usize) -> (usize, u16) {
+    (5 - x / 2, [256, 1][x % 2])
 }
 
 fn rows_then_zeros(vector: &[Term], length: usize) -> Vec<u16> {
@@ -343,7 +385,7 @@ fn sound_words(limits: &Limits, words: &[u16]) -> bool {
     let mut leads: Vec<Vec<(u64, Vec<u64>)>> = Vec::new();
     for k in 0..complete as usize {
         let at = 5 + (ends + 1) * k;
-        let first_row = 5 + (ends + 1) * levels + 10 * rows * k;
+        let first_row = 5 + (ends + 1) * levels + ROW * rows * k;
         let count = word(at);
         let (least, most, most_terms, most_of_one) = if k == 0 {
             (1, limits.elements, limits.t_lines, limits.t_lines)
@@ -362,8 +404,12 @@ fn sound_words(limits: &Limits, words: &[u16]) -> bool {
             }
             let mut before: Option<Vec<i64>> = None;
             for row in start..end {
-                let row = first_row + 10 * row as usize;
-                let exponents: Vec<u64> = (0..8).map(|x| word(row + 2 + x)).collect();
+                let row = first_row + ROW * row as usize;
+                let exponent = |x| {
+                    let (at, one) = place_of(x);
+                    word(row + at) / u64::from(one) % 256
+                };
+                let exponents: Vec<u64> = (0..8).map(exponent).collect();
                 let bad = word(row) < 1
                     || word(row) >= p
                     || word(row + 1) < 1
@@ -437,7 +483,7 @@ fn check_any_state(random: &mut Random, limits: &Limits, words: &[u16]) -> bool 
         }
         let mut state = words.to_vec();
         let mut work = garbage(random, work_words(limits, Some(way)));
-        let mut cache = garbage(random, 10 * cache as usize + 3);
+        let mut cache = garbage(random, ROW * cache as usize + 3);
         let before = (state.clone(), work.clone(), cache.clone());
         let budget = Some(20_000);
         let found = lift_call_within(
@@ -461,7 +507,7 @@ fn check_any_state(random: &mut Random, limits: &Limits, words: &[u16]) -> bool 
                 assert_eq!(place, 0);
                 assert!(work.iter().chain(&cache).all(|w| *w == 0));
                 let mut after = held.clone();
-                let length = (before.2.len() / 10) as u64;
+                let length = (before.2.len() / ROW) as u64;
                 after.lift(limits, level, way, length, None);
                 assert!(state == words_of(limits, &after, state.len()));
                 assert!(sound_words(limits, &state));
@@ -502,7 +548,8 @@ fn garbage_states() {
             .collect();
         if random.chance(90) {
             words[0] = 7;
-            words[1] = 2;
+            // with eight variables any words are exponents
+            words[1] = *random.pick(&[2, 8]);
             words[2] = 1;
             words[3] = 2;
             words[4] = random.between(1, 3) as u16;
@@ -538,21 +585,25 @@ fn altered_states() {
         for (k, level) in basis.levels.iter().enumerate() {
             named.extend(layout.count(k)..=layout.count(k) + level.len());
             let rows: usize = level.iter().map(Vec::len).sum();
-            named.extend(layout.first_row(k)..layout.first_row(k) + 10 * rows);
+            named.extend(layout.first_row(k)..layout.first_row(k) + ROW * rows);
         }
         let mut is_named = vec![false; words.len()];
         for at in &named {
             is_named[*at] = true;
         }
         assert!(check_any_state(&mut random, &limits, &words));
-        for _ in 0..6 {
+        for _ in 0..8 {
             let mut altered = words.clone();
             for _ in 0..random.between(1, 3) {
                 let at = *random.pick(&named);
-                altered[at] = match random.below(5) {
+                // a row's word has two exponents: either of them, or both
+                altered[at] = match random.below(9) {
                     0 => altered[at].wrapping_add(1),
                     1 => altered[at].wrapping_sub(1),
-                    2 => random.bits() as u16,
+                    2 => altered[at].wrapping_add(256),
+                    3 => altered[at].wrapping_sub(256),
+                    4 => random.bits() as u16,
+                    5 => (256 * random.below(12) + random.below(12)) as u16,
                     _ => random.below(12) as u16,
                 };
             }
@@ -579,8 +630,8 @@ fn altered_states() {
 fn garbage_states_of_full_length() {
     let mut random = Random::new(44);
     let limits = Limits::document_01();
-    let mut good = vec![0; 206_095];
-    let mut work = vec![0; 40_960];
+    let mut good = vec![0; 124_175];
+    let mut work = vec![0; 24_576];
     let lines = [
         "R,7,3,1,1",
         "T,1,1,1,1,0,0",
@@ -599,16 +650,315 @@ fn garbage_states_of_full_length() {
         let mut words = if random.chance(50) {
             good.clone()
         } else {
-            garbage(&mut random, 206_095)
+            garbage(&mut random, 124_175)
         };
         for _ in 0..random.below(4) {
             let at = match random.below(3) {
                 0 => random.below(5),
                 1 => random.below(1_295),
-                _ => 1_295 + 20_480 * random.below(10) + random.below(60),
+                _ => 1_295 + 12_288 * random.below(10) + random.below(36),
             };
             words[at as usize] = random.bits() as u16;
         }
         check_any_state(&mut random, &limits, &words);
     }
+}
+
+/// A state whose levels are these, over the prime 7.
+fn state_of(n: u64, order: u64, s: u64, levels: &[Level]) -> State {
+    let parameters = Parameters { p: 7, n, order, s };
+    let levels = levels.to_vec();
+    State {
+        basis: Some(Basis { parameters, levels }),
+    }
+}
+
+/// Limits under which a state is short enough for thousands of them.
+fn few_places() -> Limits {
+    Limits {
+        t_lines: 4,
+        level_terms: 4,
+        elements: 2,
+        vectors: 2,
+        levels: 2,
+        ..Limits::document_01()
+    }
+}
+
+/// What lifting level 1 answers, in a copy of the state.
+fn lifted(limits: &Limits, words: &[u16]) -> (u64, u64) {
+    let mut state = words.to_vec();
+    let mut work = vec![3; work_words(limits, Some(Way::Division))];
+    let answer = lift_call(limits, &mut state, 1, Way::Division, &mut work, &mut []);
+    if answer.0 == 11 {
+        assert!(state == words && work.iter().all(|word| *word == 3));
+    }
+    answer
+}
+
+#[test]
+fn the_worked_row() {
+    let row = [5, 9, 1_800, 1_286, 772, 258];
+    let term = term(5, 9, &[1, 2, 3, 4, 5, 6, 7, 8]);
+    assert_eq!(read_rows(&row), [term]);
+    assert_eq!(row_of(&term), row);
+    // x1 is in the top byte of the number, whose lowest 16 bits come first
+    let number = 0x0102_0304_0506_0708_u64;
+    assert_eq!(row[2..], [0, 16, 32, 48].map(|low| (number >> low) as u16));
+    // a processor with the lowest byte first has the number's bytes in memory
+    let memory = row[2..].iter().flat_map(|word| word.to_le_bytes());
+    assert!(memory.eq(number.to_le_bytes()));
+    let limits = Limits::document_01();
+    let mut state = vec![9; 124_175];
+    let mut work = vec![9; 3_072];
+    let lines = ["R,7,8,1,16", "T,1,5,9,1,2,3,4,5,6,7,8", "E,1"];
+    let accepted = read_call(&limits, &file(&lines), &mut state, &mut work);
+    assert_eq!(accepted, (0, 0));
+    assert_eq!(state[..7], [7, 8, 1, 16, 1, 1, 1]);
+    assert_eq!(state[1_295..1_301], row);
+    assert!(state[1_301..].iter().all(|word| *word == 0));
+    // as a vector of level 1, over nine elements
+    let elements = vec![vec![self::term(1, 1, &[])]; 9];
+    let held = state_of(8, 1, 1, &[elements, vec![vec![term]]]);
+    write_state(&limits, &held, &mut state);
+    assert_eq!(state[13_583..13_589], row);
+    assert_eq!(read_state(&limits, &state), held);
+    let mut out = vec![9; 3_072];
+    assert_eq!(fetch_call(&limits, &state, 1, 1, &mut out), (0, 0));
+    assert_eq!(out[..6], row);
+    assert!(out[6..].iter().all(|word| *word == 0));
+}
+
+#[test]
+fn rows_at_the_ends_of_the_exponents() {
+    let limits = few_places();
+    let row_at = Layout::new(&limits).first_row(0);
+    let check = |exponents: [u64; 8]| {
+        let text = exponents.map(|e| e.to_string()).join(",");
+        let lines = ["R,7,8,3,2", &format!("T,1,6,2,{text}"), "E,1"];
+        let mut state = vec![9; state_words(&limits)];
+        let mut work = vec![9; work_words(&limits, None)];
+        let accepted = read_call(&limits, &file(&lines), &mut state, &mut work);
+        assert_eq!(accepted, (0, 0));
+        let term = term(6, 2, &exponents);
+        let row = &state[row_at..row_at + ROW];
+        assert_eq!(row, row_of(&term));
+        let number = exponents.iter().fold(0, |number, e| 256 * number + e);
+        let words = row[2..].iter().rev().map(|word| u64::from(*word));
+        assert_eq!(words.fold(0, |found, word| 65_536 * found + word), number);
+        assert_eq!(read_rows(row), [term]);
+        assert_eq!(read_state(&limits, &state).levels(), [[vec![term]]]);
+        assert_eq!(lifted(&limits, &state), (0, 0));
+    };
+    // 0 or 255 in each place, in all ways
+    for choice in 0..256 {
+        check(std::array::from_fn(|x| 255 * (choice >> x & 1)));
+    }
+    // every exponent in each place, beside zeros
+    for x in 0..8 {
+        for e in 0..=255 {
+            let mut exponents = [0; 8];
+            exponents[x] = e;
+            check(exponents);
+        }
+    }
+}
+
+#[test]
+fn every_four_words_are_eight_exponents() {
+    let mut random = Random::new(45);
+    let limits = few_places();
+    let row_at = Layout::new(&limits).first_row(0);
+    let ends = [
+        0, 1, 255, 256, 257, 32_767, 32_768, 65_279, 65_280, 65_534, 65_535,
+    ];
+    // a lower limit on exponents is asked as before
+    let lower = Limits {
+        exponent: 254,
+        ..limits
+    };
+    let mut above = 0;
+    for _ in 0..5_000 {
+        let mut row = [3, 1, 0, 0, 0, 0];
+        for word in &mut row[2..] {
+            *word = if random.chance(50) {
+                random.bits() as u16
+            } else {
+                *random.pick(&ends)
+            };
+        }
+        let terms = read_rows(&row);
+        assert!(terms[0].monomial.exponents.iter().all(|e| *e <= 255));
+        assert_eq!(row_of(&terms[0]), row);
+        let held = state_of(8, random.between(1, 3), 1, &[vec![terms]]);
+        let mut words = vec![9; state_words(&limits)];
+        write_state(&limits, &held, &mut words);
+        assert_eq!(words[row_at..row_at + ROW], row);
+        assert_eq!(read_state(&limits, &words), held);
+        assert_eq!(lifted(&limits, &words), (0, 0));
+        let number = if words_have_255(&row[2..]) { 11 } else { 0 };
+        assert_eq!(lifted(&lower, &words), (number, 0));
+        above += number / 11;
+    }
+    assert!((500..4_500).contains(&above), "{above}");
+}
+
+fn words_have_255(words: &[u16]) -> bool {
+    words
+        .iter()
+        .any(|word| word / 256 == 255 || word % 256 == 255)
+}
+
+#[test]
+fn a_byte_past_n_is_eleven() {
+    let limits = few_places();
+    let layout = Layout::new(&limits);
+    for n in 1..=8 {
+        // two elements x1, and on level 1 the vector e_2 − e_1
+        let x1 = vec![term(1, 1, &[1])];
+        let vector = vec![term(1, 2, &[]), term(6, 1, &[])];
+        let held = state_of(n, 1, 1, &[vec![x1.clone(), x1], vec![vector]]);
+        let mut good = vec![0; state_words(&limits)];
+        write_state(&limits, &held, &mut good);
+        assert_eq!(lifted(&limits, &good), (0, 0));
+        for (level, row) in [(0, 0), (0, 1), (1, 0), (1, 1)] {
+            for x in 1..8 {
+                for byte in [1, 2, 127, 128, 255] {
+                    let (at, one) = place_of(x);
+                    let mut words = good.clone();
+                    words[layout.first_row(level) + ROW * row + at] += one * byte;
+                    // a level that is not complete is not looked at
+                    let mut shorter = words.clone();
+                    shorter[4] = 1;
+                    let past_n = x as u64 >= n;
+                    let short = if past_n && level == 0 { 11 } else { 0 };
+                    assert_eq!(lifted(&limits, &shorter), (short, 0));
+                    // within n it is in its range, and the order decides: the vector stays
+                    // descending if e_2's image became greater, by element 2 or by its own term
+                    let descending = (level, row) == (0, 1) || (level, row) == (1, 0);
+                    let number = if past_n || !descending { 11 } else { 0 };
+                    assert_eq!(lifted(&limits, &words), (number, 0));
+                    assert_eq!(sound_words(&limits, &words), number == 0);
+                    let mut out = vec![3; out_words(&limits)];
+                    let fetched = fetch_call(&limits, &words, 1, 1, &mut out);
+                    assert_eq!(fetched, (number, 0));
+                    assert_eq!(out.iter().all(|word| *word == 3), number == 11);
+                }
+            }
+        }
+    }
+}
+
+#[test]
+fn the_order_decides_among_rows_in_range() {
+    let limits = few_places();
+    let layout = Layout::new(&limits);
+    // two terms' last words, and the order codes by which the first is greater; by the others
+    // the second is
+    let pairs: [([u16; 4], [u16; 4], &[u64]); 9] = [
+        // x1, x2^255
+        ([0, 0, 0, 256], [0, 0, 0, 255], &[1]),
+        // x2, x3^255
+        ([0, 0, 0, 1], [0, 0, 65_280, 0], &[1]),
+        // x4, x5^255·x6^255
+        ([0, 0, 1, 0], [0, 65_535, 0, 0], &[1]),
+        // x7, x8
+        ([256, 0, 0, 0], [1, 0, 0, 0], &[1, 2, 3]),
+        // x6, x7
+        ([0, 1, 0, 0], [256, 0, 0, 0], &[1, 2, 3]),
+        // x1·x3, x2^2
+        ([0, 0, 256, 256], [0, 0, 0, 2], &[1, 2]),
+        // x1·x8, x2·x7
+        ([1, 0, 0, 256], [256, 0, 0, 1], &[1, 2]),
+        // all that there can be, one x8 less
+        ([65_535; 4], [65_534, 65_535, 65_535, 65_535], &[1, 2, 3]),
+        // one x8 less, one x1 less
+        (
+            [65_534, 65_535, 65_535, 65_535],
+            [65_535, 65_535, 65_535, 65_279],
+            &[1, 2, 3],
+        ),
+    ];
+    for (first, second, greater) in pairs {
+        for order in 1..=3 {
+            let with = |rows: [[u16; 4]; 2]| {
+                let mut words = vec![0; state_words(&limits)];
+                words[..7].copy_from_slice(&[7, 8, order as u16, 1, 1, 1, 2]);
+                for (row, numbers) in rows.iter().enumerate() {
+                    let at = layout.first_row(0) + ROW * row;
+                    words[at..at + 2].copy_from_slice(&[4, 1]);
+                    words[at + 2..at + ROW].copy_from_slice(numbers);
+                }
+                assert_eq!(sound_words(&limits, &words), lifted(&limits, &words).0 == 0);
+                lifted(&limits, &words)
+            };
+            let is_greater = greater.contains(&order);
+            let number = |sound| if sound { 0 } else { 11 };
+            assert_eq!(with([first, second]), (number(is_greater), 0));
+            assert_eq!(with([second, first]), (number(!is_greater), 0));
+            assert_eq!(with([first, first]), (11, 0));
+        }
+    }
+    // any two rows, whose bytes past n are mostly zero
+    let mut random = Random::new(46);
+    let (mut sound_ones, mut past_n, mut ascending) = (0, 0, 0);
+    for _ in 0..5_000 {
+        let n = random.between(1, 8) as u16;
+        let mut words = vec![0; state_words(&limits)];
+        words[..7].copy_from_slice(&[7, n, random.between(1, 3) as u16, 1, 1, 1, 2]);
+        let set = if random.chance(90) { usize::from(n) } else { 8 };
+        let most = *random.pick(&[1, 2, 255]);
+        for row in 0..2 {
+            let at = layout.first_row(0) + ROW * row;
+            words[at..at + 2].copy_from_slice(&[4, 1]);
+            for x in 0..set {
+                let (word, one) = place_of(x);
+                words[at + word] += one * random.between(0, most) as u16;
+            }
+        }
+        let sound_here = sound_words(&limits, &words);
+        let number = if sound_here { 0 } else { 11 };
+        assert_eq!(lifted(&limits, &words), (number, 0));
+        match (sound_here, set == usize::from(n)) {
+            (true, _) => sound_ones += 1,
+            (false, true) => ascending += 1,
+            (false, false) => past_n += 1,
+        }
+    }
+    assert!(
+        sound_ones > 1_000 && past_n > 300 && ascending > 1_000,
+        "{sound_ones} {past_n} {ascending}"
+    );
+}
+
+#[test]
+fn the_cache_counts_whole_rows() {
+    // y^10 is lifted through y^9, .., y, each y^d to d terms: all ten take 65 terms of the cache
+    let lines = [
+        "R,7,2,1,1",
+        "T,1,1,1,0,1",
+        "T,1,1,1,0,0",
+        "T,2,1,1,1,0",
+        "T,2,1,1,0,9",
+        "E,4",
+    ];
+    let mut limits = Limits::document_01();
+    // where one of them is not in the cache the work area needs 21 terms
+    limits.tree = 11;
+    let held = accepted(&lines);
+    let mut before = vec![0; state_words(&limits)];
+    write_state(&limits, &held, &mut before);
+    let mut answers = Vec::new();
+    for length in 0..=400 {
+        let mut state = before.clone();
+        let mut work = vec![9; work_words(&limits, Some(Way::Tree))];
+        let mut cache = vec![9; length];
+        let found = lift_call(&limits, &mut state, 1, Way::Tree, &mut work, &mut cache);
+        assert!(work.iter().chain(&cache).all(|word| *word == 0));
+        let answer = lift(&mut held.clone(), &limits, 1, Way::Tree, length as u64 / 6);
+        assert_eq!(found, (answer.number, answer.place));
+        answers.push(found);
+    }
+    assert!(answers[..390].iter().all(|answer| *answer == (14, 1)));
+    assert!(answers[390..].iter().all(|answer| *answer == (0, 0)));
 }

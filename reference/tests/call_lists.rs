@@ -140,6 +140,7 @@ fn mistakes_in_a_script_are_told() {
         "limits trees=4",
         "limits levels=10",
         "limits variables=9",
+        "limits exponent=256",
     ] {
         assert!(Script::parse(text).is_err(), "{text}");
     }
