@@ -10,12 +10,11 @@ use lib.ListN.{length, getD}
 use borrow.Author.Tests.{ltb-true, ltb-false, leb-true, leb-false, ne-eqb}
 use Rattle.definitions.specs.Lists.{_and_, choose}
 use Rattle.definitions.specs.Monomial.{Exponents, Monomial, Term, Vector, divides?, divides-monomial?, no-term}
-use Rattle.definitions.specs.Layout.{Words, byte, exponents-at, row-at, rows}
-use Rattle.definitions.proofs.Rows.{byte-small, getD-rows, length-rows}
+use Rattle.definitions.specs.Packed.{unpack}
+use Rattle.definitions.specs.Layout.{Words, long-at, row-at, rows}
+use Rattle.definitions.proofs.Rows.{row-is, getD-rows, length-rows}
 use Rattle.definitions.specs.Places.{row-length, component-offset, exponents-offset}
-use Rattle.orders.specs.Images.{exponents-raw}
-use Rattle.definitions.proofs.Rows.{row-is}
-use Rattle.reducers.specs.search.Search.{head-raw, Small, Spanned, span-at, first-from, first-dividing}
+use Rattle.reducers.specs.search.Search.{Spanned, span-at, first-from, first-dividing}
 
 -- ## Numbers
 
@@ -73,23 +72,9 @@ first-none m (u ∷ v) i f = ap (λ b. elim b [ true ↦ i | false ↦ first-div
 
 -- ## A table's words
 
-raw-is : (s : Words) (a : ℕ) → ((j : ℕ) → j < 8 → getD s (a + j) 0 < 256) → exponents-raw s a ≡ exponents-at s a
-raw-is s a h = λ i.
-    first i ∷ one 1 (omega arith) i ∷ one 2 (omega arith) i ∷ one 3 (omega arith) i ∷ one 4 (omega arith) i ∷ one 5 (omega arith) i
-    ∷ one 6 (omega arith) i ∷ one 7 (omega arith) i ∷ []
-  where
-    one : (j : ℕ) → j < 8 → getD s (a + j) 0 ≡ byte (getD s (a + j) 0)
-    one j l = sym (byte-small (getD s (a + j) 0) (h j l))
-
-    first : getD s a 0 ≡ byte (getD s a 0)
-    first = let z : a + 0 ≡ a = omega arith in subst (λ n. getD s n 0 ≡ byte (getD s n 0)) z (one 0 (omega arith))
-
--- row i's monomial is what its words say
-pub head-is : (s : Words) (r i : ℕ) → Small r s → i < r → getD (rows s 0 r) i no-term .1 ≡ head-raw s i
-head-is s r i h l =
-    let z : 0 + i ≡ i = omega arith in
-    ap (λ (t : Term). t .1) (getD-rows s 0 r i no-term l ∙ ap (row-at s) z ∙ row-is s i)
-    ∙ (λ j. (sym (raw-is s (i * row-length + exponents-offset) (h i l)) j, getD s (i * row-length + component-offset) 0))
+-- head i's monomial is that of row i
+pub head-is : (s : Words) (r i : ℕ) → i < r → getD (rows s 0 r) i no-term .1 ≡ row-at s i .1
+head-is s r i l = let z : 0 + i ≡ i = omega arith in ap (λ (t : Term). t .1) (getD-rows s 0 r i no-term l ∙ ap (row-at s) z)
 
 -- the span's part holds every row with the component
 pub record Holds (s : ℕ × ℕ) (r i : ℕ) (heads : Words) : Type 0 where
@@ -104,20 +89,20 @@ span-holds k r spans heads i h = go (leb k i) refl
     go false e = let n : i < k = leb-false k i e in record { ends = h i n .0; inside = h i n .1 }
 
 -- a row outside it has another component
-outside : (s : ℕ × ℕ) (r : ℕ) (heads : Words) (m : Monomial) (k : ℕ) → Small r heads → Holds s r (m .1) heads → k < r → ((s .0 ≤ k) → (k < s .1) → ⊥)
+outside : (s : ℕ × ℕ) (r : ℕ) (heads : Words) (m : Monomial) (k : ℕ) → Holds s r (m .1) heads → k < r → ((s .0 ≤ k) → (k < s .1) → ⊥)
     → divides-monomial? (getD (rows heads 0 r) k no-term .1) m ≡ false
-outside s r heads m k small h l n =
-    ap (λ x. divides-monomial? x m) (head-is heads r k small l) ∙ ap (λ b. b
-    and divides? (exponents-raw heads (k * row-length + exponents-offset)) (m .0))
+outside s r heads m k h l n =
+    ap (λ x. divides-monomial? x m) (head-is heads r k l ∙ ap (λ (t : Term). t .1) (row-is heads k))
+    ∙ ap (λ b. b and divides? (unpack (long-at heads (k * row-length + exponents-offset))) (m .0))
     (ne-eqb (getD heads (k * row-length + component-offset) 0) (m .1) (λ q. n (h .inside k l q .0) (h .inside k l q .1)))
 
 -- what the search in the span's part found is the first of all; none found: there is none
-pub first-spanned : (s : ℕ × ℕ) (r : ℕ) (heads : Words) (m : Monomial) (j : ℕ) → Small r heads → Holds s r (m .1) heads → j
-    ≡ first-from (λ i. divides-monomial? (head-raw heads i) m) (s .1 - s .0) (s .0) → j < s .1 → j ≡ first-dividing m (rows heads 0 r) 0
-first-spanned s r heads m j small h e l = sym (first-is m (rows heads 0 r) j 0 (omega (arith, length-rows heads 0 r)) here before ∙ omega arith)
+pub first-spanned : (s : ℕ × ℕ) (r : ℕ) (heads : Words) (m : Monomial) (j : ℕ) → Holds s r (m .1) heads → j
+    ≡ first-from (λ i. divides-monomial? (row-at heads i .1) m) (s .1 - s .0) (s .0) → j < s .1 → j ≡ first-dividing m (rows heads 0 r) 0
+first-spanned s r heads m j h e l = sym (first-is m (rows heads 0 r) j 0 (omega (arith, length-rows heads 0 r)) here before ∙ omega arith)
   where
     f : ℕ → Bool
-    f i = divides-monomial? (head-raw heads i) m
+    f i = divides-monomial? (row-at heads i .1) m
 
     found : First f (s .0) (s .0 + (s .1 - s .0)) j
     found = subst (First f (s .0) (s .0 + (s .1 - s .0))) (sym e) (first-at f (s .1 - s .0) (s .0))
@@ -129,21 +114,21 @@ first-spanned s r heads m j small h e l = sym (first-is m (rows heads 0 r) j 0 (
     end = h .ends
 
     here : divides-monomial? (getD (rows heads 0 r) j no-term .1) m ≡ true
-    here = ap (λ x. divides-monomial? x m) (head-is heads r j small (omega arith)) ∙ found .passes (omega arith)
+    here = ap (λ x. divides-monomial? x m) (head-is heads r j (omega arith)) ∙ found .passes (omega arith)
 
     before : (k : ℕ) → k < j → divides-monomial? (getD (rows heads 0 r) k no-term .1) m ≡ false
     before k q = go (leb (s .0) k) refl
       where
         go : (b : Bool) → leb (s .0) k ≡ b → divides-monomial? (getD (rows heads 0 r) k no-term .1) m ≡ false
-        go true t = ap (λ x. divides-monomial? x m) (head-is heads r k small (omega arith)) ∙ found .none-before k (leb-true (s .0) k t) q
-        go false t = let w : k < s .0 = leb-false (s .0) k t in outside s r heads m k small h (omega arith) (λ u v. omega arith)
+        go true t = ap (λ x. divides-monomial? x m) (head-is heads r k (omega arith)) ∙ found .none-before k (leb-true (s .0) k t) q
+        go false t = let w : k < s .0 = leb-false (s .0) k t in outside s r heads m k h (omega arith) (λ u v. omega arith)
 
-pub none-spanned : (s : ℕ × ℕ) (r : ℕ) (heads : Words) (m : Monomial) (j : ℕ) → Small r heads → Holds s r (m .1) heads → j
-    ≡ first-from (λ i. divides-monomial? (head-raw heads i) m) (s .1 - s .0) (s .0) → s .1 ≤ j → r ≡ first-dividing m (rows heads 0 r) 0
-none-spanned s r heads m j small h e l = sym (first-none m (rows heads 0 r) 0 each ∙ omega (arith, length-rows heads 0 r))
+pub none-spanned : (s : ℕ × ℕ) (r : ℕ) (heads : Words) (m : Monomial) (j : ℕ) → Holds s r (m .1) heads → j
+    ≡ first-from (λ i. divides-monomial? (row-at heads i .1) m) (s .1 - s .0) (s .0) → s .1 ≤ j → r ≡ first-dividing m (rows heads 0 r) 0
+none-spanned s r heads m j h e l = sym (first-none m (rows heads 0 r) 0 each ∙ omega (arith, length-rows heads 0 r))
   where
     f : ℕ → Bool
-    f i = divides-monomial? (head-raw heads i) m
+    f i = divides-monomial? (row-at heads i .1) m
 
     found : First f (s .0) (s .0 + (s .1 - s .0)) j
     found = subst (First f (s .0) (s .0 + (s .1 - s .0))) (sym e) (first-at f (s .1 - s .0) (s .0))
@@ -155,7 +140,7 @@ none-spanned s r heads m j small h e l = sym (first-none m (rows heads 0 r) 0 ea
         inside = omega (arith, length-rows heads 0 r)
 
         go : (b : Bool) → leb (s .0) k ≡ b → (d : Bool) → ltb k (s .1) ≡ d → divides-monomial? (getD (rows heads 0 r) k no-term .1) m ≡ false
-        go true t true u = let w : k < s .1 = ltb-true k (s .1) u in ap (λ x. divides-monomial? x m) (head-is heads r k small inside)
+        go true t true u = let w : k < s .1 = ltb-true k (s .1) u in ap (λ x. divides-monomial? x m) (head-is heads r k inside)
             ∙ found .none-before k (leb-true (s .0) k t) (omega arith)
-        go true t false u = let w : s .1 ≤ k = ltb-false k (s .1) u in outside s r heads m k small h inside (λ x v. omega arith)
-        go false t d u = let w : k < s .0 = leb-false (s .0) k t in outside s r heads m k small h inside (λ x v. omega arith)
+        go true t false u = let w : s .1 ≤ k = ltb-false k (s .1) u in outside s r heads m k h inside (λ x v. omega arith)
+        go false t d u = let w : k < s .0 = leb-false (s .0) k t in outside s r heads m k h inside (λ x v. omega arith)

@@ -11,22 +11,14 @@ use Rattle.definitions.specs.Monomial.{Exponents, Monomial, Term, Vector, divid
 use Rattle.definitions.specs.Reducer as definition
 use Rattle.definitions.specs.Reducer.{reducer, lower-order}
 use Rattle.definitions.specs.Layout.{Words}
-use Rattle.definitions.specs.Places.{most-exponent, row-length, component-offset, exponents-offset}
-use Rattle.orders.specs.Images.{exponents-raw}
+use Rattle.definitions.specs.Packed.{unpack}
+use Rattle.definitions.specs.Places.{most-exponent, row-length, component-offset}
 use Rattle.vectors.specs.terms.Rows.{term-of}
 use Rattle.reducers.specs.declared.search.Answer.{Answer}
 use Rattle.reducers.specs.declared.search.Answer.the-variants.{Reducer, LowerOrder}
 use Rattle.reducers.specs.declared.search.Found.{Found}
 use Rattle.reducers.specs.declared.search.Span.{Span}
 use Rattle.reducers.specs.declared.search.Multiple.{Multiple}
-
--- row i's monomial, its words as they stand
-abbrev pub head-raw : Words → ℕ → Monomial
-head-raw s i = (exponents-raw s (i * row-length + exponents-offset), getD s (i * row-length + component-offset) 0)
-
--- every exponent's word is a byte, so that words can be compared as they stand
-abbrev pub Small : ℕ → Words → Type 0
-Small r s = (i : ℕ) → i < r → (j : ℕ) → j < 8 → getD s (i * row-length + exponents-offset + j) 0 < 256
 
 -- the first of n numbers from i on that passes the test; the number behind them if none does
 abbrev pub first-from : (ℕ → Bool) → ℕ → ℕ → ℕ
@@ -65,7 +57,7 @@ answered (Reducer j c) q = reducer j c q
 answered LowerOrder q = lower-order
 
 abbrev pub answer-of : Found → definition.Answer
-answer-of x = answered (x .answer) (x .quotient)
+answer-of x = answered (x .answer) (unpack (x .quotient))
 
 -- 13's test: a product, or none where an exponent is above 255
 abbrev pub formed-term : Term → Option Term

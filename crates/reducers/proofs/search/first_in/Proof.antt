@@ -1,18 +1,20 @@
 use native.Mathlib.Omega.{arith}
 use mathlib.Core.Path.{_≡_, refl, sym, _∙_}
 use Prim.Native.Nat.{_-_, _≤_}
-use Rattle.reducers.specs.search.Search.{head-raw, first-from}
+use Rattle.definitions.specs.Layout.{row-at}
+use Rattle.monomial.specs.Values.{monomial-of}
+use Rattle.reducers.specs.search.Search.{first-from}
 use Rattle.reducers.proofs.search.Firsts.{first-here, first-past, first-end}
 use Rattle.definitions.specs.Monomial.{divides-monomial?}
 use Rattle.reducers.proofs.search.first_in.Statement.{statement}
 use Rattle.reducers.proofs.search.first_in.Tie as tie
 
 abbrev Inv-loop : tie.InvT-loop
-Inv-loop heads from to component w i₀ i = (from ≤ i) × (first-from (λ k. divides-monomial? (head-raw heads k) (w, component)) (to - from) from
-    ≡ first-from (λ k. divides-monomial? (head-raw heads k) (w, component)) (to - i) i)
+Inv-loop heads from to m i₀ i = (from ≤ i) × (first-from (λ k. divides-monomial? (row-at heads k .1) (monomial-of m)) (to - from) from
+    ≡ first-from (λ k. divides-monomial? (row-at heads k .1) (monomial-of m)) (to - i) i)
 
 abbrev μ-loop : tie.MeasureT-loop
-μ-loop heads from to component w i₀ i = to - i
+μ-loop heads from to m i₀ i = to - i
 
 loop-holds : tie.Need-loop-holds Inv-loop μ-loop
 loop-holds c = (omega arith, refl)
@@ -24,7 +26,7 @@ returns : tie.Need-returns Inv-loop μ-loop
 returns c =
     let l = c .before .before .before .loop in
     let a = c .before .before .before .before .before .args in
-    sym (l .inv .1 ∙ first-here (λ k. divides-monomial? (head-raw (a .heads .now) k) (a .w, a .component)) (l .i) (a .to) (omega arith)
+    sym (l .inv .1 ∙ first-here (λ k. divides-monomial? (row-at (a .heads .now) k .1) (monomial-of (a .m))) (l .i) (a .to) (omega arith)
     (sym (c .if1 .taken) ∙ c .before .row-divides .ensures))
 
 add-i : tie.Need-add-i Inv-loop μ-loop
@@ -38,7 +40,7 @@ loop-again c =
     let l = c .before .before .before .loop in
     let a = c .before .before .before .before .before .args in (
       omega arith,
-      l .inv .1 ∙ first-past (λ k. divides-monomial? (head-raw (a .heads .now) k) (a .w, a .component)) (l .i) (a .to) (omega arith)
+      l .inv .1 ∙ first-past (λ k. divides-monomial? (row-at (a .heads .now) k .1) (monomial-of (a .m))) (l .i) (a .to) (omega arith)
           (sym (c .if1 .left) ∙ c .before .row-divides .ensures),
     )
 
@@ -46,7 +48,7 @@ returns-2 : tie.Need-returns-2 Inv-loop μ-loop
 returns-2 c =
     let l = c .before .loop in
     let a = c .before .before .before .args in
-    sym (l .inv .1 ∙ first-end (λ k. divides-monomial? (head-raw (a .heads .now) k) (a .w, a .component)) (l .i) (a .to) (omega arith))
+    sym (l .inv .1 ∙ first-end (λ k. divides-monomial? (row-at (a .heads .now) k .1) (monomial-of (a .m))) (l .i) (a .to) (omega arith))
 
 pub first-in-spec : {M : Type 1} → statement M
 first-in-spec =

@@ -4,6 +4,7 @@ use Rattle.reducers.proofs.search.Answers.{product-formed}
 use Rattle.definitions.specs.Lists.{choose}
 use Rattle.definitions.specs.Field.{times}
 use Rattle.definitions.specs.Monomial.{Term, fits?, product}
+use Rattle.definitions.specs.Packed.{unpack}
 use Rattle.definitions.specs.Layout.{row-at}
 use Rattle.definitions.specs.Places.{most-exponent}
 use Rattle.monomial.specs.Values.{monomial-of, formed}
@@ -31,8 +32,8 @@ returns c =
       (c .before .before .before .times .ensures ∙ ap (λ u. times (a .p) (a .c) (u .0)) (c .before .before .before .before .row .ensures)) i,
       monomial-of (y .monomial),
     )) none)
-    ∙ product-formed x (y .fits) (fits? most-exponent (product (a .q) (t .1 .0))) (monomial-of (y .monomial)) (product (a .q) (t .1 .0), t .1 .1)
-    (c .before .product .ensures ∙ ap (λ u. formed (a .q) (u .1)) (c .before .before .before .before .row .ensures))
+    ∙ product-formed x (y .fits) (fits? most-exponent (product (unpack (a .q)) (t .1 .0))) (monomial-of (y .monomial)) (product (unpack (a .q)) (t .1 .0), t .1 .1)
+    (c .before .product .ensures ∙ ap (λ u. formed (unpack (a .q)) (u .1)) (c .before .before .before .before .row .ensures))
 
 pub multiplied-spec : {M : Type 1} → statement M
 multiplied-spec = tie.close (tie.spec row-requires times-requires product-requires returns)
