@@ -1,3 +1,4 @@
+pub mod Multiples
 pub mod Ascending
 pub mod Minimal
 pub mod Components

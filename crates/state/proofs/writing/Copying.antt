@@ -7,7 +7,8 @@ use lib.ListN.{length, take, drop, getD, length-append}
 use lib.Seq.{paste, take-paste, drop-paste, drop-drop, take-all, getD-drop}
 use Rattle.definitions.specs.Monomial.{Term, Vector}
 use Rattle.definitions.specs.Layout.{Words, row-at, rows, row-of, rows-of}
-use Rattle.definitions.proofs.Rows.{Eight, Eights, no-terms, one-more, length-rows, length-rows-of, rows-of-append, rows-last, getD-exponents, length-row}
+use Rattle.definitions.proofs.Packing.{Eight}
+use Rattle.definitions.proofs.Rows.{Eights, no-terms, one-more, length-rows, length-rows-of, rows-of-append, rows-last, getD-exponents, length-row}
 use Rattle.definitions.specs.Places.{row-length, exponents-offset, count-offset}
 use Rattle.vectors.specs.terms.Rows.{written}
 use Rattle.definitions.proofs.Rows.{row-is}
