@@ -9,8 +9,9 @@ ghost use Rattle.definitions.specs.Monomial.{vector-of};
 ghost use Rattle.definitions.specs.Vectors.{store};
 ghost use Rattle.definitions.specs.Reducer.{answer};
 ghost use Rattle.definitions.specs.Run.{add-term, unless-dropped, dropped?, add-products, multiple, by-code, greatest as greatest-definition};
+ghost use Rattle.definitions.specs.Packed.{unpack};
 ghost use Rattle.definitions.specs.Layout.{row-at, rows};
-ghost use Rattle.definitions.specs.Places.{row-length, tables-ends, tables-below};
+ghost use Rattle.definitions.specs.Places.{row-length, image-length, tables-ends, tables-below};
 ghost use Rattle.orders.specs.Images.{key, key-of, table-of, table-order, Tabled};
 ghost use Rattle.reducers.specs.search.Search.{answer-of};
 ghost use Rattle.vectors.specs.terms.Rows.{term-of};
@@ -99,7 +100,7 @@ fn add_product(
     level: &[u16],
     i: usize,
     c: u16,
-    q: [u8; words::EXPONENTS_LENGTH],
+    q: u64,
     tables: &[u16],
     g: Ground,
     drops: bool,
@@ -107,7 +108,7 @@ fn add_product(
     requires { ⌜ Tables g (now tables) × (n ≤ g .working) × (g .working * row-length ≤ length (now value))
         × (i * row-length + row-length ≤ length (now level)) ⌝ }
     ensures { λ x. ⌜ (added-of x (now (value .exit)) ≡ add-term (reduction-of g (now (tables .entry))) drops
-        (multiple (g .p) c q (row-at (now (level .entry)) i)) (rows (now (value .entry)) 0 n)) × Within (g .working) x ⌝ }
+        (multiple (g .p) c (unpack q) (row-at (now (level .entry)) i)) (rows (now (value .entry)) 0 n)) × Within (g .working) x ⌝ }
 {
     let x = search::multiplied(level, i, c, q, g.p);
     let fits = x.fits;
@@ -126,13 +127,13 @@ pub fn add_all(
     from: usize,
     to: usize,
     c: u16,
-    q: [u8; words::EXPONENTS_LENGTH],
+    q: u64,
     tables: &[u16],
     g: Ground,
     drops: bool,
 ) -> Added
     requires { ⌜ Tables g (now tables) × (n ≤ g .working) × (g .working * row-length ≤ length (now value)) × (to * row-length ≤ length (now level)) ⌝ }
-    ensures { λ x. ⌜ (added-of x (now (value .exit)) ≡ add-products (reduction-of g (now (tables .entry))) drops c q
+    ensures { λ x. ⌜ (added-of x (now (value .exit)) ≡ add-products (reduction-of g (now (tables .entry))) drops c (unpack q)
         (rows (now (level .entry)) from (to - from)) (rows (now (value .entry)) 0 n)) × Within (g .working) x ⌝ }
 {
     let mut k = n;
@@ -179,13 +180,13 @@ pub fn add_multiple(
     tables: &[u16],
     j: usize,
     c: u16,
-    q: [u8; words::EXPONENTS_LENGTH],
+    q: u64,
     g: Ground,
     drops: bool,
 ) -> Added
     requires { ⌜ Tables g (now tables) × Family g (now level) (ends-in (now tables)) × (n ≤ g .working) × (g .working * row-length ≤ length (now value))
         × (1 ≤ j) × (j ≤ g .r) ⌝ }
-    ensures { λ x. ⌜ (added-of x (now (value .exit)) ≡ add-products (reduction-of g (now (tables .entry))) drops c q
+    ensures { λ x. ⌜ (added-of x (now (value .exit)) ≡ add-products (reduction-of g (now (tables .entry))) drops c (unpack q)
         (vector-of (family-of g (now (level .entry)) (ends-in (now (tables .entry)))) j) (rows (now (value .entry)) 0 n)) × Within (g .working) x ⌝ }
 {
     let part = rows_of(tables, j);
@@ -196,7 +197,7 @@ pub fn add_multiple(
 
 // The place of the greatest of n terms: from each best so far, its image beside it, a walk to the next.
 pub fn greatest(value: &[u16], n: usize, code: u16, below: &[u16], images: usize) -> usize
-    requires { ⌜ (0 < n) × (n * row-length ≤ length (now value)) × (images * row-length ≤ length (now below)) × Tabled images (now below) ⌝ }
+    requires { ⌜ (0 < n) × (n * row-length ≤ length (now value)) × (images * image-length ≤ length (now below)) × Tabled images (now below) ⌝ }
     ensures { λ r. ⌜ some r ≡ greatest-definition (table-order code (table-of images (now (below .entry)))) (rows (now (value .entry)) 0 n) ⌝ }
 {
     let image = tables::image_at(value, 0, below, images);
@@ -221,7 +222,7 @@ pub fn greatest(value: &[u16], n: usize, code: u16, below: &[u16], images: usize
 // The place that the pick code says, of n terms.
 pub fn pick(value: &[u16], n: usize, pick: u16, tables: &[u16], g: Ground) -> usize
     requires { ⌜ (0 < n) × (n * row-length ≤ length (now value)) × (tables-below ≤ length (now tables))
-        × (g .images * row-length ≤ length (below-in (now tables))) × Tabled (g .images) (below-in (now tables)) ⌝ }
+        × (g .images * image-length ≤ length (below-in (now tables))) × Tabled (g .images) (below-in (now tables)) ⌝ }
     ensures { λ r. ⌜ some r ≡ by-code (table-order (g .code) (table-of (g .images) (below-in (now (tables .entry))))) pick
         (rows (now (value .entry)) 0 n) ⌝ }
 {

@@ -9,6 +9,7 @@ ghost use lib.ListN.{length};
 ghost use Rattle.definitions.specs.Monomial as definition;
 ghost use Rattle.definitions.specs.Order.{Comparison};
 ghost use Rattle.definitions.specs.Run.{step as step-definition, runs, run as run-definition, add-products};
+ghost use Rattle.definitions.specs.Packed.{unpack};
 ghost use Rattle.definitions.specs.Layout.{rows};
 ghost use Rattle.definitions.specs.Places.{row-length};
 ghost use Rattle.ending.specs.Good.{good?};
@@ -74,13 +75,13 @@ fn reduced(
     drops: bool,
     j: usize,
     c: u16,
-    q: [u8; words::EXPONENTS_LENGTH],
+    q: u64,
 ) -> Step
     requires { ⌜ Tables g (now tables) × Family g (now level) (ends-in (now tables)) × Rooms g (now value) (now vector) × (n ≤ g .working)
         × (v ≤ g .vector) × (1 ≤ j) × (j ≤ g .r) ⌝ }
     ensures { λ x. ⌜ ((order : definition.Monomial → definition.Monomial → Comparison) → step-of order (g .p) x (now (value .exit)) (now (vector .exit))
         ≡ reduced-by (reduction-of g (now (tables .entry))) (family-of g (now (level .entry)) (ends-in (now (tables .entry)))) drops
-        (run-of (now (value .entry)) n (now (vector .entry)) v) j c q) × Room g x ⌝ }
+        (run-of (now (value .entry)) n (now (vector .entry)) v) j c (unpack q)) × Room g x ⌝ }
 {
     let component = j as u16;
     let t = Term {

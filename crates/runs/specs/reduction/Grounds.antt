@@ -12,10 +12,10 @@ use Rattle.definitions.specs.Stage.{Reduction, Stage}
 use Rattle.definitions.specs.Run as definition
 use Rattle.definitions.specs.Run.{Run, by-code}
 use Rattle.definitions.specs.Layout.{Words, rows, vectors-at}
-use Rattle.definitions.specs.Places.{most-exponent, row-length, table-length}
+use Rattle.definitions.specs.Places.{most-exponent, row-length}
 use Rattle.definitions.specs.Places.{tables-above, tables-below, tables-ends, tables-length, tables-spans}
 use Rattle.orders.specs.Images.{table-of, table-order, Tabled}
-use Rattle.reducers.specs.search.Search.{Small, Spanned}
+use Rattle.reducers.specs.search.Search.{Spanned}
 use Rattle.runs.specs.declared.reduction.Ground.{Ground}
 use Rattle.runs.specs.declared.reduction.Added.{Added}
 use Rattle.runs.specs.declared.reduction.Added.the-variants.{Rows, Refused}
@@ -74,7 +74,6 @@ pub record Tables (g : Ground) (tables : Words) : Type 0 where
   pub long : tables-length ≤ length tables
   pub heads-fit : g .r * row-length ≤ length tables
   pub spans-fit : g .components * 2 ≤ length (spans-in tables)
-  pub small : Small (g .r) tables
   pub spanned : Spanned (g .components) (g .r) (spans-in tables) tables
 
 -- ## Answers

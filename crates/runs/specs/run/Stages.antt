@@ -10,7 +10,7 @@ use Rattle.definitions.specs.Stage.{Reduction, Stage}
 use Rattle.definitions.specs.Run as definition
 use Rattle.definitions.specs.Run.{Run, by-code, add-products, on}
 use Rattle.definitions.specs.Layout.{Words, rows}
-use Rattle.definitions.specs.Places.{row-length}
+use Rattle.definitions.specs.Places.{row-length, image-length}
 use Rattle.orders.specs.Images.{table-of, table-order, Tabled}
 use Rattle.vectors.specs.terms.Rows.{closed}
 use Rattle.runs.specs.reduction.Grounds.{reduction-of, family-of, ends-in, below-in}
@@ -42,7 +42,7 @@ run-of value n vector v = record { value = rows value 0 n; vector = rows vector 
 
 -- a table of images
 pub record Images (n : ℕ) (table : Words) : Type 0 where
-  pub fits : n * row-length ≤ length table
+  pub fits : n * image-length ≤ length table
   pub tabled : Tabled n table
 
 -- each slice has room for the value and for the vector: a finished vector is sorted where the value was, a value without a reducer where the vector was
