@@ -2,14 +2,18 @@
 // Knows: crate definitions' Problem, tests and refusals of R, T and E lines.
 // The sequence of lines is decided by `first_line` and `next_line` alone.
 ghost use mathlib.Core.Path.{_≡_};
+ghost use mathlib.Core.Bool.{true};
 ghost use Prim.Native.Nat.{_≤_};
+ghost use lib.Dec.{ltb};
 ghost use lib.ListN.{take, drop};
 ghost use Rattle.definitions.specs.Lists.{between};
 ghost use Rattle.definitions.specs.Limits.{document-01};
 ghost use Rattle.definitions.specs.Monomial.{fits?};
 ghost use Rattle.definitions.specs.Problem.{term-in-range?};
 ghost use Rattle.definitions.specs.Places.{most-exponent, most-rows};
+ghost use Rattle.lists.specs.Marking.{mark-by};
 ghost use Rattle.words.specs.parameters.Values.{parameters-of};
+ghost use Rattle.vectors.specs.terms.Rows.{term-of};
 ghost use Rattle.reader.specs.lines.Tests.{
   term-in,
   begins?,
@@ -23,7 +27,9 @@ ghost use Rattle.reader.specs.lines.Steps.{r-first, t-first, e-first, li
 ghost use Rattle.reader.specs.declared.lines.Step.the-variants.{Refused};
 use crate::fields;
 use crate::fields::End as LineEnd;
+use monomial::Monomial;
 use orders::Comparison;
+use vectors::terms::Term;
 use words::parameters;
 use words::parameters::Parameters;
 
@@ -124,13 +130,23 @@ fn exponents(w: [u16; 16]) -> [u16; words::EXPONENTS_LENGTH]
     [w[3], w[4], w[5], w[6], w[7], w[8], w[9], w[10]]
 }
 
+// 1 where x is above y, else the mark.
+fn mark_above(mark: u16, x: u16, y: u16) -> u16
+    ensures { λ r. ⌜ r ≡ mark-by (ltb y x) mark ⌝ }
+{
+    if y < x {
+        return 1;
+    }
+    mark
+}
+
 fn fits(e: [u16; words::EXPONENTS_LENGTH]) -> bool
     ensures { λ r. ⌜ r ≡ fits? most-exponent e ⌝ }
 {
     let mut mark: u16 = 0;
     let mut j = 0;
     while j < words::EXPONENTS_LENGTH {
-        mark = monomial::mark_above(mark, e[j], words::MOST_EXPONENT);
+        mark = mark_above(mark, e[j], words::MOST_EXPONENT);
         j += 1;
     }
     mark == 0
@@ -284,5 +300,37 @@ pub fn next_line(
         b'T' => term_line(file, at, q, count, elements, before),
         b'E' => end_line(file, at, count),
         _ => refused(1, count + 2),
+    }
+}
+
+// The exponents as bytes: they were tested.
+fn bytes(w: [u16; 16]) -> [u8; words::EXPONENTS_LENGTH]
+    requires { ⌜ fits? most-exponent (term-in w .1 .0) ≡ true ⌝ }
+    ensures { λ r. ⌜ r ≡ term-in w .1 .0 ⌝ }
+{
+    [
+        w[3] as u8,
+        w[4] as u8,
+        w[5] as u8,
+        w[6] as u8,
+        w[7] as u8,
+        w[8] as u8,
+        w[9] as u8,
+        w[10] as u8,
+    ]
+}
+
+// The term that a T line says.
+pub fn term_said(w: [u16; 16]) -> Term
+    requires { ⌜ fits? most-exponent (term-in w .1 .0) ≡ true ⌝ }
+    ensures { λ r. ⌜ term-of r ≡ term-in w ⌝ }
+{
+    let e = monomial::packed(bytes(w));
+    Term {
+        coefficient: w[1],
+        monomial: Monomial {
+            exponents: e,
+            component: w[2],
+        },
     }
 }

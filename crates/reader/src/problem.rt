@@ -2,13 +2,17 @@
 // Knows: crate definitions' Problem and the state's words in its Layout.
 // The state that it leaves is read, not accepted: only a call that goes on to accept it may use it.
 ghost use mathlib.Core.Path.{_≡_};
-ghost use Prim.Native.Nat.{_+_, _≤_, _<_};
+ghost use mathlib.Core.Bool.{true};
+ghost use Prim.Native.Nat.{_+_, _*_, _≤_, _<_};
 ghost use lib.ListN.{length, getD, drop, replicate};
 ghost use lib.Seq.{paste};
 ghost use Rattle.definitions.specs.Limits.{document-01};
+ghost use Rattle.definitions.specs.Monomial.{fits?};
 ghost use Rattle.definitions.specs.Problem.{problem as problem-definition};
-ghost use Rattle.definitions.specs.Places.{most-elements, most-rows, row-length, state-length};
+ghost use Rattle.definitions.specs.Layout.{row-of};
+ghost use Rattle.definitions.specs.Places.{most-exponent, most-elements, most-rows, row-length, rows-start, state-length};
 ghost use Rattle.words.specs.parameters.Values.{parameters-of};
+ghost use Rattle.reader.specs.lines.Tests.{term-in};
 ghost use Rattle.reader.specs.problem.Reading.{body-words, problem-words, read-as, stored, begun, outcome-as, answer-as};
 use crate::lines;
 use crate::lines::Start;
@@ -27,23 +31,21 @@ pub struct Reading {
     pub place: usize,
 }
 
-// A row: coefficient, component, eight exponents.
-fn store_row(state: &mut [u16], at: usize, w: [u16; 16])
-    requires { ⌜ at + row-length ≤ length (now state) ⌝ }
-    ensures { λ _. ⌜ now (state .exit) ≡ paste (now (state .entry)) at (drop 1 w) row-length ⌝ }
+// The row of a line's term, behind so many.
+fn store_row(state: &mut [u16], count: usize, w: [u16; 16])
+    requires { ⌜ (state-length ≤ length (now state)) × (count < most-rows) × (fits? most-exponent (term-in w .1 .0) ≡ true) ⌝ }
+    ensures { λ _. ⌜ now (state .exit) ≡ paste (now (state .entry)) (rows-start + count * row-length) (row-of (term-in w)) row-length ⌝ }
 {
-    let mut j = 0;
-    while j < words::ROW_LENGTH {
-        state[at + j] = w[j + 1];
-        j += 1;
-    }
+    let t = lines::term_said(w);
+    terms::put(&mut state[words::ROWS_START..], count, t);
 }
 
 fn store(state: &mut [u16], count: usize, w: [u16; 16])
-    requires { ⌜ (state-length ≤ length (now state)) × (count < most-rows) × (getD w 0 0 ≤ most-elements) ⌝ }
-    ensures { λ _. ⌜ (now (state .exit) ≡ stored (now (state .entry)) count w) × (length w ≡ 16) ⌝ }
+    requires { ⌜ (state-length ≤ length (now state)) × (count < most-rows) × (getD w 0 0 ≤ most-elements)
+        × (fits? most-exponent (term-in w .1 .0) ≡ true) ⌝ }
+    ensures { λ _. ⌜ now (state .exit) ≡ stored (now (state .entry)) count w ⌝ }
 {
-    store_row(state, words::ROWS_START + count * words::ROW_LENGTH, w);
+    store_row(state, count, w);
     let element = w[0];
     let e = lines::size_of(element);
     state[words::HEADER_LENGTH + e] = (count + 1) as u16;

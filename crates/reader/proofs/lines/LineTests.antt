@@ -1,19 +1,20 @@
 -- The tests of a line, from what the code's branches say.
-use mathlib.Core.Path.{_≡_, refl, sym, ap, _∙_}
+use mathlib.Core.Path.{_≡_, refl, sym, ap, _∙_, subst}
 use mathlib.Core.Bool.{Bool, true, false, not, _||_}
 use mathlib.Core.List.{[], _∷_}
-use Prim.Native.Nat.{ℕ, zero, suc, _-_, _<_, _≤_}
+use Prim.Native.Nat.{ℕ, zero, suc, _+_, _-_, _<_, _≤_}
 use native.Mathlib.Omega.{arith}
-use lib.Dec.{leb, ltb, eqb, eqb·suc-suc}
+use lib.Dec.{T, leb, ltb, eqb, eqb·suc-suc, leb→le}
 use lib.ListN.{length, getD, take, drop}
-use lib.Seq.{drop-cons}
+use lib.Seq.{drop-cons, getD-take, getD-drop}
 use borrow.Author.Tests.{lt-ltb, le-ltb, le-leb, lt-leb, eq-eqb, ne-eqb}
 use Rattle.definitions.specs.Limits.{document-01}
 use Rattle.definitions.specs.Lists.{_and_, between}
-use Rattle.definitions.specs.Monomial.{fits?}
+use Rattle.definitions.specs.Monomial.{Exponents, fits?}
 use Rattle.definitions.specs.Order.{Comparison, greater, equal, smaller, or-at-tie, numbers, exponents-by, greater?}
 use Rattle.definitions.specs.Problem.{Parameters, term-in-range?}
 use Rattle.definitions.specs.Layout.{Words}
+use Rattle.definitions.proofs.Tests.{is-true, and-left, and-right}
 use Rattle.definitions.proofs.Comparisons.{Says, numbers-say}
 use Rattle.definitions.specs.Places.{most-exponent, most-elements}
 use Rattle.reader.specs.lines.Tests.{term-in, begins?, goes-on?, follows?, above?}
@@ -80,6 +81,17 @@ last-eight w l =
     (drop-cons w 5 0 (omega arith) ∙ ap (λ z. getD w 5 0 ∷ z) (drop-cons w 6 0 (omega arith) ∙ ap (λ z. getD w 6 0 ∷ z)
     (drop-cons w 7 0 (omega arith) ∙ ap (λ z. getD w 7 0 ∷ z) (drop-cons w 8 0 (omega arith) ∙ ap (λ z. getD w 8 0 ∷ z)
     (drop-cons w 9 0 (omega arith) ∙ ap (λ z. getD w 9 0 ∷ z) (drop-cons w 10 0 (omega arith))))))))))
+
+-- .. each of them at most the limit, where they fit
+fits-at : (limit : ℕ) (e : Exponents) (k : ℕ) → T (fits? limit e) → getD e k 0 ≤ limit
+fits-at limit [] zero t = omega arith
+fits-at limit [] (suc k) t = omega arith
+fits-at limit (x ∷ e) zero t = leb→le x limit (and-left (leb x limit) (fits? limit e) t)
+fits-at limit (x ∷ e) (suc k) t = fits-at limit e k (and-right (leb x limit) (fits? limit e) t)
+
+pub exponent-fits : (w : Words) (k : ℕ) → fits? most-exponent (term-in w .1 .0) ≡ true → k < 8 → getD w (3 + k) 0 ≤ most-exponent
+exponent-fits w k e h = subst (λ x. x ≤ most-exponent) (getD-take 8 (drop 3 w) k 0 h ∙ getD-drop 3 w k 0)
+    (fits-at most-exponent (take 8 (drop 3 w)) k (is-true e))
 
 -- ## The order
 

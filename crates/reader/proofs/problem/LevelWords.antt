@@ -3,14 +3,30 @@ use mathlib.Core.Path.{_≡_, sym, ap, _∙_}
 use mathlib.Core.List.{[], _∷_, _++_, append-assoc, append-nil}
 use Prim.Native.Nat.{ℕ, suc, _+_, _-_, _*_, _<_, _≤_}
 use native.Mathlib.Omega.{arith}
-use lib.ListN.{length, take, drop, getD, set, replicate, length-append, length-drop, length-replicate, replicate-append-replicate}
-use lib.Seq.{paste, take-at, take-all, take-append-le, take-take, drop-at, drop-append-add, set-append-left, set-split, length-take-le}
+use lib.ListN.{length, take, drop, getD, set, replicate, length-append, length-drop, length-replicate, replicate-append-replicate, take-append-drop}
+use lib.Seq.{
+  paste,
+  take-add,
+  take-at,
+  take-all,
+  take-append-le,
+  take-take,
+  drop-at,
+  drop-drop,
+  drop-append-add,
+  drop-append-le,
+  set-append-left,
+  set-split,
+  length-take-le,
+}
 use Rattle.definitions.specs.Limits.{document-01}
 use Rattle.definitions.specs.Monomial.{Level}
 use Rattle.definitions.specs.Problem.{Parameters}
-use Rattle.definitions.specs.Layout.{Words, rows-of, padded, ends-from, joined, header-of, all-rows}
+use Rattle.definitions.specs.Layout.{Words, row-of, rows-of, padded, ends-from, joined, header-of, all-rows}
 use Rattle.definitions.proofs.RoundTrip.{length-padded}
+use Rattle.definitions.proofs.Rows.{length-row}
 use Rattle.definitions.specs.Places.{most-vectors, most-rows, row-length, header-length, counts-length, ends-start, rows-start, level-length, state-length}
+use Rattle.reader.specs.lines.Tests.{term-in}
 use Rattle.reader.specs.problem.Reading.{words-read, state-read, stored, begun}
 
 -- r elements with these ends and these rows
@@ -35,6 +51,23 @@ paste-behind s w m n at ls lw h =
     ++ (ap (λ k. drop k (s ++ replicate m 0)) c ∙ drop-append-add s (replicate m 0) n ∙ ap (λ k. drop n (replicate k 0)) e ∙ zeros-drop n (m - n))
     i)
     ∙ append-assoc s w (replicate (m - n) 0)
+
+-- ## A part that is lent
+
+-- the n words from b on, into which m others were pasted
+pub paste-part : (s w : Words) (b n a m : ℕ) → b + n ≤ length s → a + m ≤ n → take b s ++ (paste (take n (drop b s)) a w m ++ drop n (drop b s))
+    ≡ paste s (b + a) w m
+paste-part s w b n a m h l =
+    let part : Words = drop b s in
+    let z : b + (a + m) ≡ b + a + m = omega arith in
+    let t : length (take n part) ≡ n = length-take-le n part (omega (arith, length-drop b s)) in
+    let e : drop (a + m) (take n part) ++ drop n part ≡ drop (b + a + m) s =
+    sym (drop-append-le (a + m) (take n part) (drop n part) (omega arith)) ∙ ap (drop (a + m)) (take-append-drop n part) ∙ drop-drop (a + m) b s
+    ∙ ap (λ j. drop j s) z in
+    ap (λ x. take b s ++ x) (append-assoc (take a (take n part) ++ take m w) (drop (a + m) (take n part)) (drop n part)
+    ∙ (λ i. (take-take a n part (omega arith) i ++ take m w) ++ e i))
+    ∙ sym (append-assoc (take b s) (take a part ++ take m w) (drop (b + a + m) s))
+    ∙ ap (λ x. x ++ drop (b + a + m) s) (sym (append-assoc (take b s) (take a part) (take m w)) ∙ ap (λ x. x ++ take m w) (sym (take-add b a s)))
 
 -- ## Changed words
 
@@ -104,23 +137,15 @@ module _ (q : Parameters) (size : ℕ) where
             ap (λ k. drop k (ends ++ zeros)) d ∙ drop-append-add ends zeros (e - length ends) ∙ ap (λ k. drop (e - length ends) (replicate k 0)) s
             ∙ zeros-drop (e - length ends) (1289 - e) ∙ ap (λ k. replicate (1289 - k) 0) (sym count)
 
--- no more than ten words are pasted
-ten-words : (s : Words) (at : ℕ) (w : Words) → paste s at w row-length ≡ paste s at (take row-length w) row-length
-ten-words s at w = ap (λ z. (take at s ++ z) ++ drop (at + row-length) s) (sym (take-take row-length row-length w (omega arith)))
-
 -- a term stored: a row more, the end of its element, the count of elements
 pub laid-stored : (q : Parameters) (size r : ℕ) (ends rows : Words) (count : ℕ) (w : Words) → state-length ≤ size → length ends ≤ most-vectors
-    → length w ≡ 16 → length rows ≡ count * row-length → count < most-rows
+    → length rows ≡ count * row-length → count < most-rows
     → 1 ≤ getD w 0 0 → getD w 0 0 - 1 ≤ length ends → length ends ≤ getD w 0 0 → getD w 0 0 ≤ most-vectors
-    → stored (laid q r ends rows size) count w ≡ laid q (getD w 0 0) (take (getD w 0 0 - 1) ends ++ (count + 1) ∷ [])
-    (rows ++ take row-length (drop 1 w)) size
-laid-stored q size r ends rows count w h room lw lr few one low high most =
+    → stored (laid q r ends rows size) count w ≡ laid q (getD w 0 0) (take (getD w 0 0 - 1) ends ++ (count + 1) ∷ []) (rows ++ row-of (term-in w)) size
+laid-stored q size r ends rows count w h room lr few one low high most =
     ap (λ s. set (set s (header-length + getD w 0 0) (count + 1)) header-length (getD w 0 0))
-    (ten-words (laid q r ends rows size) (rows-start + count * row-length) (drop 1 w)
-    ∙ laid-row q size r ends rows room (take row-length (drop 1 w)) (rows-start + count * row-length)
-    (length-take-le row-length (drop 1 w) (omega (arith, length-drop 1 w))) (omega arith) (omega arith))
-    ∙ ap (λ s. set s header-length (getD w 0 0)) (laid-end q size r ends (rows ++ take row-length (drop 1 w)) room (getD w 0 0)
-    (count + 1) one low high most)
+    (laid-row q size r ends rows room (row-of (term-in w)) (rows-start + count * row-length) (length-row (term-in w)) (omega arith) (omega arith))
+    ∙ ap (λ s. set s header-length (getD w 0 0)) (laid-end q size r ends (rows ++ row-of (term-in w)) room (getD w 0 0) (count + 1) one low high most)
 
 -- ## The definitions' words
 

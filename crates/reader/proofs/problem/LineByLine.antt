@@ -12,7 +12,7 @@ use lib.Seq.{drop-append-le, take-append-add}
 use borrow.Author.Tests.{le-leb, lt-leb, eq-eqb, ne-eqb}
 use Rattle.definitions.specs.Limits.{document-01}
 use Rattle.definitions.specs.Lists.{_and_, _then_, last, empty?, between}
-use Rattle.definitions.specs.Monomial.{Level}
+use Rattle.definitions.specs.Monomial.{Term, Level, fits?}
 use Rattle.definitions.specs.Result.{Result, done, refused, unless-refused, _>>=_}
 use Rattle.definitions.specs.Problem.{
   Bytes,
@@ -41,9 +41,9 @@ use Rattle.definitions.specs.Problem.{
   problem,
 }
 use Rattle.definitions.specs.Layout.{Words, padded}
-use Rattle.definitions.proofs.Tests.{is-true, and-left, between-high}
+use Rattle.definitions.proofs.Tests.{true-is, is-true, and-left, and-right, between-high}
 use Rattle.definitions.proofs.Results.{If-done, If-some}
-use Rattle.definitions.specs.Places.{most-variables, most-components, most-elements, most-rows, file-length}
+use Rattle.definitions.specs.Places.{most-exponent, most-variables, most-components, most-elements, most-rows, file-length}
 use Rattle.reader.specs.fields.Scanning.{behind, shaped-of, shaped-first, in-sixteen}
 use Rattle.reader.proofs.fields.Lines.{first-of, lines-none, letter-differs, shaped-count}
 use Rattle.reader.specs.lines.Tests.{term-in, unless, begins?, follows?, above?, descends?, t-number}
@@ -266,19 +266,27 @@ module _ (q : Parameters) (few : q .n ≤ 8) (count : ℕ) (f : Level) (r : ℕ)
 abbrev pub Passed : ℕ → ℕ → Said → Type 0
 Passed count r none = Unit {0}
 Passed count r (some line) = (ltb count most-rows ≡ true) × (follows? r (getD (line .0) 0 0) ≡ true)
+    × (fits? most-exponent (term-in (line .0) .1 .0) ≡ true)
+
+fits-in-range : (q : Parameters) (t : Term) → term-in-range? document-01 q t ≡ true → fits? most-exponent (t .1 .0) ≡ true
+fits-in-range q t e =
+    true-is (fits? most-exponent (t .1 .0)) (and-right (between 1 (t .1 .1) (q .s)) (fits? most-exponent (t .1 .0))
+    (and-right (between 1 (t .0) (q .p - 1)) (between 1 (t .1 .1) (q .s) and fits? most-exponent (t .1 .0)) (is-true e)))
 
 module _ (q : Parameters) (count r : ℕ) (before : Words) where
   judged-passed : (line : Words × Bytes) → If-done (Passed count r) (t-judged q count r before line)
   judged-passed line =
-      go (ltb count most-rows) refl (follows? r (getD (line .0) 0 0)) refl
-      (unless (term-in-range? document-01 q (term-in (line .0))) 4 (unless (descends? (q .code) r before (line .0)) 6 0))
+      go (ltb count most-rows) refl (follows? r (getD (line .0) 0 0)) refl (term-in-range? document-01 q (term-in (line .0))) refl
+      (unless (descends? (q .code) r before (line .0)) 6 0)
     where
-      go : (a : Bool) → ltb count most-rows ≡ a → (b : Bool) → follows? r (getD (line .0) 0 0) ≡ b → (n : ℕ)
-          → If-done (Passed count r) (judged (unless a 8 (unless b 5 n)) (count + 2) (some line))
-      go false e b k n = tt
-      go true e false k n = tt
-      go true e true k zero = (e, k)
-      go true e true k (suc n) = tt
+      go : (a : Bool) → ltb count most-rows ≡ a → (b : Bool) → follows? r (getD (line .0) 0 0) ≡ b → (c : Bool)
+          → term-in-range? document-01 q (term-in (line .0)) ≡ c → (n : ℕ)
+          → If-done (Passed count r) (judged (unless a 8 (unless b 5 (unless c 4 n))) (count + 2) (some line))
+      go false e b k c t n = tt
+      go true e false k c t n = tt
+      go true e true k false t n = tt
+      go true e true k true t zero = (e, k, fits-in-range q (term-in (line .0)) t)
+      go true e true k true t (suc n) = tt
 
   shape-passed : (o : Option (Words × Bytes)) → If-done (Passed count r) (with-shape o (count + 2) (t-judged q count r before))
   shape-passed none = tt

@@ -5,14 +5,14 @@ use mathlib.Core.Option.{none, some}
 use mathlib.Core.List.{[], _∷_, _++_}
 use Prim.Native.Nat.{ℕ, suc, _+_, _-_, _*_, _<_, _≤_}
 use native.Mathlib.Omega.{arith}
-use lib.ListN.{length, take, drop, getD, replicate, length-append, length-drop}
-use lib.Seq.{drop-cons, length-take-le}
+use lib.ListN.{length, take, getD, replicate, length-append}
 use Rattle.definitions.specs.Limits.{document-01}
 use Rattle.definitions.specs.Monomial.{Level}
 use Rattle.definitions.specs.Problem.{Bytes, Parameters, lines, with-term, body}
 use Rattle.definitions.specs.State.{terms-of}
 use Rattle.definitions.specs.Result.{Result, done, refused, _>>=_}
 use Rattle.definitions.specs.Layout.{Words, row-of, rows-of, ends-from, joined}
+use Rattle.definitions.proofs.Rows.{length-row}
 use Rattle.definitions.specs.Places.{most-elements, most-rows, row-length, state-length}
 use Rattle.reader.specs.lines.Tests.{term-in, begins?, follows?}
 use Rattle.reader.specs.lines.Steps.{Said, line-first}
@@ -38,27 +38,22 @@ none-so-far q size before state h e = record {
   words = e ∙ laid-begun q size h;
 }
 
--- the row of a line's term
-row-in : (w : Words) → length w ≡ 16 → row-of (term-in w) ≡ take row-length (drop 1 w)
-row-in w l = sym (ap (take row-length) (drop-cons w 1 0 (omega arith) ∙ ap (λ z. getD w 1 0 ∷ z) (drop-cons w 2 0 (omega arith))))
-
 module _ (q : Parameters) (size : ℕ) (f : Level) (count r : ℕ) (before state : Words) (k : So-far q size f count r before state)
     (h : state-length ≤ size) where
   -- a term more
-  pub one-more : (w : Words) → count < most-rows → length w ≡ 16 → follows? r (getD w 0 0) ≡ true
+  pub one-more : (w : Words) → count < most-rows → follows? r (getD w 0 0) ≡ true
       → So-far q size (with-term (begins? r (getD w 0 0)) f (term-in w)) (count + 1) (getD w 0 0) w (stored state count w)
-  one-more w c l s = record {
+  one-more w c s = record {
     held = record { elements = g .elements; last-one = λ n. g .last-one };
     few = g .few;
     terms = g .terms ∙ ap (λ n. n + 1) (k .terms);
-    rows = ap length (g .rows ∙ ap (λ z. rows-of (joined f) ++ z) (row-in w l)) ∙ length-append (rows-of (joined f)) (take row-length (drop 1 w))
-        ∙ omega (arith, k .rows, length-take-le row-length (drop 1 w) (omega (arith, length-drop 1 w)));
+    rows = ap length (g .rows) ∙ length-append (rows-of (joined f)) (row-of (term-in w)) ∙ omega (arith, k .rows, length-row (term-in w));
     words =
         ap (λ z. stored z count w) (k .words)
-        ∙ laid-stored q size (length f) (ends-from 0 f) (rows-of (joined f)) count w h (omega (arith, length-ends 0 f, k .held .elements, k .few)) l
+        ∙ laid-stored q size (length f) (ends-from 0 f) (rows-of (joined f)) count w h (omega (arith, length-ends 0 f, k .held .elements, k .few))
         (k .rows) c (g .one) (g .low) (g .high) (omega (arith, g .few))
         ∙ sym (λ i. laid q (g .elements i) ((g .ends ∙ ap (λ n. take (getD w 0 0 - 1) (ends-from 0 f) ++ (n + 1) ∷ []) (k .terms)) i)
-        ((g .rows ∙ ap (λ z. rows-of (joined f) ++ z) (row-in w l)) i) size);
+        (g .rows i) size);
   }
     where
       g : Grown f (with-term (begins? r (getD w 0 0)) f (term-in w)) (getD w 0 0) (term-in w)

@@ -1,7 +1,7 @@
 -- What reading leaves in the state's words, and what it answers.
 use mathlib.Core.List.{[], _∷_}
 use Prim.Native.Nat.{ℕ, _+_, _*_}
-use lib.ListN.{getD, drop, set, replicate}
+use lib.ListN.{getD, set, replicate}
 use lib.Seq.{paste}
 use Rattle.definitions.specs.Limits.{document-01}
 use Rattle.definitions.specs.Monomial.{Level}
@@ -9,8 +9,9 @@ use Rattle.definitions.specs.Result.{Result, done, refused, unfinished, _>>=_}
 use Rattle.definitions.specs.Problem as definition
 use Rattle.definitions.specs.Problem.{Bytes, lines}
 use Rattle.definitions.specs.State.{State}
-use Rattle.definitions.specs.Layout.{Words, encode}
+use Rattle.definitions.specs.Layout.{Words, row-of, encode}
 use Rattle.definitions.specs.Places.{row-length, header-length, rows-start}
+use Rattle.reader.specs.lines.Tests.{term-in}
 use Rattle.reader.specs.declared.problem.Outcome.{Outcome}
 use Rattle.reader.specs.declared.problem.Outcome.the-variants.{Done, Refused}
 use Rattle.reader.specs.declared.problem.Reading.{Reading}
@@ -38,7 +39,7 @@ problem-words size file = definition.problem document-01 file >>= λ f. done (wo
 
 -- the words after a term was stored behind so many: its row, the end of its element, the count of elements
 abbrev pub stored : Words → ℕ → Words → Words
-stored s count w = set (set (paste s (rows-start + count * row-length) (drop 1 w) row-length) (header-length + getD w 0 0) (count + 1)) header-length
+stored s count w = set (set (paste s (rows-start + count * row-length) (row-of (term-in w)) row-length) (header-length + getD w 0 0) (count + 1)) header-length
     (getD w 0 0)
 
 -- the words of a state with no element yet, from zeros

@@ -64,7 +64,7 @@ store-requires c κs =
     let passed = if-done-says (Passed (l .count) (l .elements)) (line-first q (l .count) (l .elements) (l .before) (drop (l .at) file))
     (line-passed q (l .count) (l .elements) (l .before) (drop (l .at) file)) (some (w, drop next file)) said in
     let room : l .count < most-rows = ltb-true (l .count) most-rows (passed .0) in
-    (omega arith, omega arith, follows-says (l .elements) (getD w 0 0) (begins? (l .elements) (getD w 0 0)) refl (passed .1) .2)
+    (omega arith, omega arith, follows-says (l .elements) (getD w 0 0) (begins? (l .elements) (getD w 0 0)) refl (passed .1) .2, passed .2)
 
 array-read-elements : tie.Need-array-read-elements Inv-loop μ-loop
 array-read-elements c = omega arith
@@ -106,9 +106,8 @@ loop-again c =
       (
         with-term (begins? (l .elements) (getD w 0 0)) f (term-in w),
         subst (λ z. So-far q size (with-term (begins? (l .elements) (getD w 0 0)) f (term-in w)) (l .count + 1) (getD w 0 0) w z)
-            (sym (c .before .before .store .ensures .0))
-            (one-more q size f (l .count) (l .elements) (l .before) (l .state) (l .inv .2 .1) (omega arith) w room
-            (c .before .before .store .ensures .1) (passed .1)),
+            (sym (c .before .before .store .ensures))
+            (one-more q size f (l .count) (l .elements) (l .before) (l .state) (l .inv .2 .1) (omega arith) w room (passed .1)),
         goes-on-term q size f (l .count) (l .elements) (l .before) (l .state) (l .inv .2 .1) (omega arith)
             (at-8 .before .before .before .before .pre .0) (l .inv .0) (drop (a .from) file) (drop (l .at) file) (l .inv .2 .2) w (drop next file) said,
       ),

@@ -2,15 +2,9 @@ use borrow.Author.Needs.{needs}
 use native.Mathlib.Omega.{arith}
 use Prim.Native.Nat.{_+_}
 use lib.ListN.{getD, set, length-set}
+use Rattle.definitions.specs.Places.{header-length}
 use Rattle.reader.proofs.problem.store.Statement.{statement}
 use Rattle.reader.proofs.problem.store.Tie as tie
-use Rattle.definitions.specs.Places.{header-length}
-
-mul-store-row : tie.Need-mul-store-row
-mul-store-row c = search needs
-
-add-store-row : tie.Need-add-store-row
-add-store-row c = search needs
 
 store-row-requires : tie.Need-store-row-requires
 store-row-requires c κs = search needs
@@ -43,18 +37,15 @@ same-length : tie.Need-same-length
 same-length c = search needs
 
 returns : tie.Need-returns
-returns c = let a = c .before .before .before .before .before .before .args in (
-  (λ i. set (set (c .before .before .before .store-row .ensures i) (header-length + c .size-of .ensures i) (a .count + 1)) header-length
-      (getD (a .t3) 0 0)),
-  omega arith,
-)
+returns c =
+    let a = c .before .before .before .before .before .before .args in
+    λ i. set (set (c .before .before .before .store-row .ensures i) (header-length + c .size-of .ensures i) (a .count + 1)) header-length
+    (getD (a .t3) 0 0)
 
 pub store-spec : {M : Type 1} → statement M
 store-spec =
     tie.close
     (tie.spec
-    mul-store-row
-    add-store-row
     store-row-requires
     array-read-element
     size-of-requires
