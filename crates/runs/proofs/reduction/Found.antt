@@ -13,6 +13,7 @@ use Rattle.definitions.specs.Monomial.{Vector, Level, no-term}
 use Rattle.definitions.specs.Order.{compare-over}
 use Rattle.definitions.specs.Run.{greatest}
 use Rattle.definitions.specs.State.{State, sound?, up-to}
+use Rattle.definitions.specs.Packed.{low-bytes}
 use Rattle.definitions.specs.Layout.{Words, row-at, rows}
 use Rattle.definitions.proofs.Tests.{and-both}
 use Rattle.definitions.proofs.Rows.{rows-first}
@@ -32,7 +33,7 @@ led-dropped (suc n) ls (one-level {f} {below} h hs) = led-dropped n below hs
 
 -- a row has eight exponents
 row-eight : (s : Words) (i : ℕ) → T (eqb (length (row-at s i .1 .0)) 8)
-unfolding row-at
+unfolding row-at low-bytes
 row-eight s i = tt
 
 rows-eight : (s : Words) (i n : ℕ) → T (every (λ t. eqb (length (t .1 .0)) 8) (rows s i n))

@@ -4,6 +4,7 @@ use Prim.Native.Nat.{_-_, _≤_}
 use lib.ListN.{length}
 use Rattle.runs.proofs.reduction.Adding.{adding-on, adding-stops, adding-ends, within-rows}
 use Rattle.runs.specs.reduction.Grounds.{reduction-of}
+use Rattle.definitions.specs.Packed.{unpack}
 use Rattle.definitions.specs.Layout.{rows}
 use Rattle.definitions.specs.Run.{add-products}
 use Rattle.runs.proofs.reduction.add_all.Statement.{statement}
@@ -11,8 +12,8 @@ use Rattle.runs.proofs.reduction.add_all.Tie as tie
 
 abbrev Inv-loop : tie.InvT-loop
 Inv-loop value₀ n level from to c q tables g drops k₀ i₀ value k i = (from ≤ i) × (k ≤ g .working) × (length value ≡ length value₀)
-    × (add-products (reduction-of g tables) drops c q (rows level from (to - from)) (rows value₀ 0 n)
-    ≡ add-products (reduction-of g tables) drops c q (rows level i (to - i)) (rows value 0 k))
+    × (add-products (reduction-of g tables) drops c (unpack q) (rows level from (to - from)) (rows value₀ 0 n)
+    ≡ add-products (reduction-of g tables) drops c (unpack q) (rows level i (to - i)) (rows value 0 k))
 
 abbrev μ-loop : tie.MeasureT-loop
 μ-loop value₀ n level from to c q tables g drops k₀ i₀ value k i = to - i
@@ -38,7 +39,7 @@ returns c =
     let a = at-8 .before .before .before .before .args in
     let l = c .before .before .before .before .before .before .before .before .loop in
     let R = reduction-of (a .g) (a .tables .now) in (
-      sym (l .inv .3 ∙ adding-stops R (a .drops) (a .c) (a .q) (a .level .now) (l .i) (a .to) (rows (l .value) 0 (l .k)) (c .before .x2 .given .0 .0)
+      sym (l .inv .3 ∙ adding-stops R (a .drops) (a .c) (unpack (a .q)) (a .level .now) (l .i) (a .to) (rows (l .value) 0 (l .k)) (c .before .x2 .given .0 .0)
           (c .before .before .before .before .before .add-product .result) (c .before .before .before .before .before .add-product .last .0)
           (omega arith)
           (c .before .before .before .before .before .add-product .ensures .0) (c .before .x2 .given .1)),
@@ -62,7 +63,7 @@ loop-again c =
       within-rows (a .g .working) (c .before .before .before .before .before .add-product .result) k
           (c .before .before .before .before .before .add-product .ensures .1) (c .before .x .given .1),
       omega arith,
-      l .inv .3 ∙ adding-on R (a .drops) (a .c) (a .q) (a .level .now) (l .i) (a .to) (rows (l .value) 0 (l .k)) k
+      l .inv .3 ∙ adding-on R (a .drops) (a .c) (unpack (a .q)) (a .level .now) (l .i) (a .to) (rows (l .value) 0 (l .k)) k
           (c .before .before .before .before .before .add-product .result) (c .before .before .before .before .before .add-product .last .0)
           (omega arith) (c .before .before .before .before .before .add-product .ensures .0) (c .before .x .given .1),
     )
@@ -75,7 +76,7 @@ returns-2 c =
     let a = c .before .before .before .before .before .args in
     let l = c .before .loop in
     let R = reduction-of (a .g) (a .tables .now) in
-    (sym (l .inv .3 ∙ adding-ends R (a .drops) (a .c) (a .q) (a .level .now) (l .i) (a .to) (rows (l .value) 0 (l .k)) (omega arith)), omega arith)
+    (sym (l .inv .3 ∙ adding-ends R (a .drops) (a .c) (unpack (a .q)) (a .level .now) (l .i) (a .to) (rows (l .value) 0 (l .k)) (omega arith)), omega arith)
 
 pub add-all-spec : {M : Type 1} → statement M
 add-all-spec =

@@ -22,7 +22,6 @@ search-requires : tie.Need-search-requires
 search-requires c κs = (
   c .before .before .before .before .before .pre .0 .heads-fit,
   c .before .before .before .before .before .pre .0 .spans-fit,
-  c .before .before .before .before .before .pre .0 .small,
   c .before .before .before .before .before .pre .0 .spanned,
 )
 

@@ -5,6 +5,7 @@ use Prim.Native.Nat.{_-_, _*_, _≤_}
 use lib.ListN.{length, getD}
 use Rattle.runs.proofs.reduction.Families.{vector-at}
 use Rattle.runs.specs.reduction.Grounds.{reduction-of, ends-in}
+use Rattle.definitions.specs.Packed.{unpack}
 use Rattle.definitions.specs.Run.{add-products}
 use Rattle.definitions.specs.Layout.{rows}
 use Rattle.definitions.specs.Places.{row-length}
@@ -35,7 +36,7 @@ returns c =
     let v = rows (a .value .now) 0 (a .n) in
     let r = p .rows-of .ensures in (
       c .before .before .add-all .ensures .0
-          ∙ ap (λ f. add-products R (a .drops) (a .c) (a .q) f v) ((λ i. rows s (r .0 i) (r .1 i - r .0 i))
+          ∙ ap (λ f. add-products R (a .drops) (a .c) (unpack (a .q)) f v) ((λ i. rows s (r .0 i) (r .1 i - r .0 i))
           ∙ sym (vector-at s e (a .g .r) (a .j) (t .pre .1 .ends-fit) (omega arith) (omega arith))),
       c .before .before .add-all .ensures .1,
     )

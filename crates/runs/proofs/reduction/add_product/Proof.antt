@@ -3,6 +3,7 @@ use native.Mathlib.Omega.{arith}
 use mathlib.Core.Path.{_≡_, sym, ap, _∙_}
 use Rattle.runs.proofs.reduction.Adding.{fits-as, formed-as}
 use Rattle.runs.specs.reduction.Grounds.{reduction-of}
+use Rattle.definitions.specs.Packed.{unpack}
 use Rattle.definitions.specs.Layout.{row-at, rows}
 use Rattle.vectors.specs.terms.Rows.{term-of}
 use Rattle.definitions.specs.Run.{dropped?, unless-dropped, if-fits, multiple}
@@ -27,7 +28,7 @@ returns c =
     let a = at-8 .before .before .args in
     let R = reduction-of (a .g) (a .tables .now) in
     let x = c .before .before .before .before .before .before .multiplied .result in
-    let t = multiple (a .g .p) (a .c) (a .q) (row-at (a .level .now) (a .i)) in
+    let t = multiple (a .g .p) (a .c) (unpack (a .q)) (row-at (a .level .now) (a .i)) in
     let v = rows (a .value .now) 0 (a .n) in
     let u : term-of (x .term) ≡ t = formed-as (x .fits) (fits? most-exponent (t .1 .0)) (term-of (x .term)) t
     (c .before .before .before .before .before .before .multiplied .ensures) (c .before .before .before .before .if1 .taken) in
@@ -43,7 +44,7 @@ returns-2 c =
     let a = c .before .before .before .before .before .before .args in
     let R = reduction-of (a .g) (a .tables .now) in
     let x = c .before .before .multiplied .result in
-    let t = multiple (a .g .p) (a .c) (a .q) (row-at (a .level .now) (a .i)) in
+    let t = multiple (a .g .p) (a .c) (unpack (a .q)) (row-at (a .level .now) (a .i)) in
     let v = rows (a .value .now) 0 (a .n) in (
       sym (ap (λ b. if-fits b R (a .drops) t v) (sym (fits-as (x .fits) (fits? most-exponent (t .1 .0)) (term-of (x .term)) t
           (c .before .before .multiplied .ensures)) ∙ c .if1 .left)),

@@ -6,6 +6,7 @@ use Rattle.vectors.specs.terms.Rows.{term-of}
 use Rattle.vectors.proofs.sums.Rowwise.{at-row}
 use Rattle.reducers.specs.search.Search.{answered}
 use Rattle.definitions.proofs.Rows.{length-rows}
+use Rattle.definitions.specs.Packed.{unpack}
 use Rattle.definitions.specs.Reducer.{answer, reducer, lower-order}
 use Rattle.definitions.specs.Monomial.{no-term}
 use Rattle.definitions.specs.Layout.{rows}
@@ -88,7 +89,7 @@ returns c =
     let l = inside (a .value .now) n (order-of g (a .tables .now)) (a .w .pick) i
     (pick-there .ensures) in
     let told : lower-order ≡ answer (g .p) (rows (a .tables .now) 0 (g .r)) (getD (rows (a .value .now) 0 n) i no-term) =
-    sym (ap (λ y. answered y (c .before .before .before .before .before .before .reducer-of .result .quotient))
+    sym (ap (λ y. answered y (unpack (c .before .before .before .before .before .before .reducer-of .result .quotient)))
     (c .before .before .before .before .enum-told .given .1)) ∙ c .before .before .before .before .before .before .reducer-of .ensures
     ∙ ap (answer (g .p) (rows (a .tables .now) 0 (g .r))) (c .before .before .before .before .before .before .before .row .ensures
     ∙ sym (at-row (a .value .now) n i l)) in (
@@ -108,18 +109,18 @@ negative-requires c κs = search needs
 reduced-requires : tie.Need-reduced-requires
 reduced-requires c κs =
     let a =
-    let at-8 = c .before .before .before .before .before .before .before .before in
-    (at-8 .before .before .before .before .before .before .before .before) .args in
+    let at-7 = c .before .before .before .before .before .before .before in
+    (at-7 .before .before .before .before .before .before .before .before) .args in
     let asked =
-    let at-8 = c .before .before .before .before .before .before .before .before in
-    (at-8 .before .before .before .before .before .before .before .before) .pre in
+    let at-7 = c .before .before .before .before .before .before .before in
+    (at-7 .before .before .before .before .before .before .before .before) .pre in
     let hs = rows (a .tables .now) 0 (a .g .r) in
-    let b = reducer-number (a .g .p) hs (term-of (c .before .before .before .before .before .before .before .before .row .result))
-    (c .before .before .before .before .before .answer .given .0 .0) (c .before .before .before .before .before .answer .given .0 .1 .0)
-    (c .before .before .before .before .before .before .before .reducer-of .result .quotient)
-    (sym (ap (λ y. answered y (c .before .before .before .before .before .before .before .reducer-of .result .quotient))
-    (c .before .before .before .before .before .answer .given .1))
-    ∙ c .before .before .before .before .before .before .before .reducer-of .ensures) in (
+    let b = reducer-number (a .g .p) hs (term-of (c .before .before .before .before .before .before .before .row .result))
+    (c .before .before .before .before .answer .given .0 .0) (c .before .before .before .before .answer .given .0 .1 .0)
+    (unpack (c .before .before .before .before .before .before .reducer-of .result .quotient))
+    (sym (ap (λ y. answered y (unpack (c .before .before .before .before .before .before .reducer-of .result .quotient)))
+    (c .before .before .before .before .answer .given .1))
+    ∙ c .before .before .before .before .before .before .reducer-of .ensures) in (
       asked .0,
       asked .1,
       asked .3,
@@ -138,21 +139,21 @@ same-length-3 c = search needs
 returns-2 : tie.Need-returns-2
 returns-2 c =
     let a =
-    let at-8 = c .before .before .before .before .before .before .before .before in
-    let at-16 = at-8 .before .before .before .before .before .before .before .before in
-    (at-16 .before .before .before .before .before) .args in
+    let at-7 = c .before .before .before .before .before .before .before in
+    let at-15 = at-7 .before .before .before .before .before .before .before .before in
+    (at-15 .before .before .before .before .before) .args in
     let pick-there =
-    let at-8 = c .before .before .before .before .before .before .before .before in
-    (at-8 .before .before .before .before .before .before .before) .pick in
+    let at-7 = c .before .before .before .before .before .before .before in
+    (at-7 .before .before .before .before .before .before .before) .pick in
     let answer-there =
-    let at-8 = c .before .before .before .before .before .before .before .before in
-    (at-8 .before .before) .answer in
+    let at-7 = c .before .before .before .before .before .before .before in
+    (at-7 .before .before) .answer in
     let reducer-of-there =
-    let at-8 = c .before .before .before .before .before .before .before .before in
-    (at-8 .before .before .before .before) .reducer-of in
+    let at-7 = c .before .before .before .before .before .before .before in
+    (at-7 .before .before .before .before) .reducer-of in
     let row-there =
-    let at-8 = c .before .before .before .before .before .before .before .before in
-    (at-8 .before .before .before .before .before) .row in
+    let at-7 = c .before .before .before .before .before .before .before in
+    (at-7 .before .before .before .before .before) .row in
     let g = a .g in
     let n = a .n in
     let W = strategy-of g (a .tables .now) (a .w) in
@@ -161,7 +162,7 @@ returns-2 c =
     let d = c .before .before .before .before .reduced in
     let j = answer-there .given .0 .0 in
     let x = answer-there .given .0 .1 .0 in
-    let q = reducer-of-there .result .quotient in
+    let q = unpack (reducer-of-there .result .quotient) in
     let f = family-of g (a .level .now) (ends-in (a .tables .now)) in
     let R = reduction-of g (a .tables .now) in
     let l = inside (a .value .now) n (order-of g (a .tables .now)) (a .w .pick) i

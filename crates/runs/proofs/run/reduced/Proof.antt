@@ -1,6 +1,7 @@
 use borrow.Author.Needs.{needs}
 use native.Mathlib.Omega.{arith}
 use mathlib.Core.Path.{sym, ap, _∙_}
+use Rattle.definitions.specs.Packed.{unpack}
 use Rattle.definitions.specs.Layout.{rows}
 use Rattle.runs.specs.run.Stages.{run-of}
 use Rattle.runs.proofs.reduction.Adding.{within-rows}
@@ -64,7 +65,7 @@ returns c =
     let k = c .before .before .before .before .before .before .before .before .k .given .0 .0 in
     let m = c .before .m .given .0 .0 in
     let t = c .before .before .before .before .before .add-multiple in (
-      λ order. both-added R f (a .drops) r (a .j) (a .c) (a .q) (rows (s .last .0) 0 k) (rows (t .last .0) 0 m)
+      λ order. both-added R f (a .drops) r (a .j) (a .c) (unpack (a .q)) (rows (s .last .0) 0 k) (rows (t .last .0) 0 m)
           (sym (ap (λ y. added-of y (s .last .0)) (c .before .before .before .before .before .before .before .before .k .given .1)) ∙ s .ensures .0)
           (sym (ap (λ y. added-of y (t .last .0)) (c .before .m .given .1)) ∙ t .ensures .0),
       (
@@ -94,7 +95,7 @@ returns-2 c =
     let r = run-of (a .value .now) (a .n) (a .vector .now) (a .v) in
     let k = c .before .before .before .before .before .before .before .before .k .given .0 .0 in
     let t = c .before .before .before .before .before .add-multiple in (
-      λ order. products-refused R f (a .drops) r (a .j) (a .c) (a .q) (rows (s .last .0) 0 k) (c .before .x .given .0 .0)
+      λ order. products-refused R f (a .drops) r (a .j) (a .c) (unpack (a .q)) (rows (s .last .0) 0 k) (c .before .x .given .0 .0)
           (sym (ap (λ y. added-of y (s .last .0)) (c .before .before .before .before .before .before .before .before .k .given .1)) ∙ s .ensures .0)
           (sym (ap (λ y. added-of y (t .last .0)) (c .before .x .given .1)) ∙ t .ensures .0),
       tt,
@@ -112,7 +113,7 @@ returns-3 c =
     let f = family-of g (a .level .now) (ends-in (a .tables .now)) in
     let r = run-of (a .value .now) (a .n) (a .vector .now) (a .v) in
     let s = c .before .before .before .before .before .store-term in (
-      λ order. record-refused R f (a .drops) r (a .j) (a .c) (a .q) (c .before .x2 .given .0 .0)
+      λ order. record-refused R f (a .drops) r (a .j) (a .c) (unpack (a .q)) (c .before .x2 .given .0 .0)
           (sym (ap (λ y. added-of y (s .last .0)) (c .before .x2 .given .1)) ∙ s .ensures .0),
       tt,
     )

@@ -14,10 +14,10 @@ cast-i c = search needs
 
 add-multiple-requires : tie.Need-add-multiple-requires
 add-multiple-requires c κs = (
-  c .before .before .before .before .before .before .pre .0,
-  c .before .before .before .before .before .before .pre .1,
+  c .before .before .before .before .before .pre .0,
+  c .before .before .before .before .before .pre .1,
   omega arith,
-  c .before .before .before .before .before .before .pre .2,
+  c .before .before .before .before .before .pre .2,
   omega arith,
   omega arith,
 )
@@ -27,8 +27,7 @@ same-length c = search needs
 
 returns : tie.Need-returns
 returns c =
-    let at-8 = c .before .before .before .before .before .before .before .before in
-    let a = at-8 .before .args in
+    let a = c .before .before .before .before .before .before .before .before .args in
     let m = monomial-of (a .m) in (
       c .before .before .add-multiple .ensures .0 ∙ ap (add-products (reduction-of (a .g) (a .tables .now)) (a .drops) 1 (m .0)
           (definition.vector-of (family-of (a .g) (a .level .now) (ends-in (a .tables .now))) (m .1))) (rows-none (a .value .now) 0),
