@@ -5,6 +5,7 @@ ghost use mathlib.Core.Path.{_≡_};
 ghost use mathlib.Core.List.{[]};
 ghost use Prim.Native.Nat.{_+_, _-_, _*_, _/_, _≤_, _<_};
 ghost use lib.ListN.{length};
+ghost use Rattle.definitions.specs.Packed.{unpack};
 ghost use Rattle.definitions.specs.Layout.{row-at, rows};
 ghost use Rattle.definitions.specs.Tree.{lift-term, lift-vector as vector-definition, tree as tree-definition};
 ghost use Rattle.definitions.specs.Lifting.{lift-all as lift-all-definition};
@@ -76,7 +77,7 @@ fn lift_vector(
     used: usize,
     room: usize,
     work: &mut [u16],
-    q: [u8; words::EXPONENTS_LENGTH],
+    q: u64,
     from: usize,
     to: usize,
     level: &[u16],
@@ -89,7 +90,7 @@ fn lift_vector(
         ≡ vector-definition (stage-of g (now (level .entry)) (now (tables .entry))
         (table-order (g .code) (table-of (g .r) (above-in (now (tables .entry))))))
         (lift-term (stage-of g (now (level .entry)) (now (tables .entry)) (table-order (g .code) (table-of (g .r) (above-in (now (tables .entry))))))
-        room (g .tree)) 1 q (rows (now (level .entry)) from (to - from)) (rows (now (vector .entry)) 0 n, cache-of used (now (cache .entry))))
+        room (g .tree)) 1 (unpack q) (rows (now (level .entry)) from (to - from)) (rows (now (vector .entry)) 0 n, cache-of used (now (cache .entry))))
         × Fits 0 (g .vector) room z ⌝ }
 {
     let mut k = n;

@@ -6,6 +6,7 @@ ghost use Prim.Native.Nat.{_+_, _-_, _*_, _≤_, _<_};
 ghost use lib.Dec.{ltb};
 ghost use lib.ListN.{length, getD};
 ghost use Rattle.definitions.specs.Field.{minus};
+ghost use Rattle.definitions.specs.Packed.{unpack};
 ghost use Rattle.definitions.specs.Layout.{rows};
 ghost use Rattle.definitions.specs.Tree.{lift-term as term-definition, lift-list as list-definition, open-subtree as open-definition};
 ghost use Rattle.definitions.specs.Places.{row-length};
@@ -179,7 +180,7 @@ fn open_subtree(
     m: Monomial,
     j: usize,
     c: u16,
-    q: [u8; words::EXPONENTS_LENGTH],
+    q: u64,
     level: &[u16],
     tables: &[u16],
     g: Ground,
@@ -190,7 +191,7 @@ fn open_subtree(
         ≡ open-definition (ltb a (g .tree)) (stage-of g (now (level .entry)) (now (tables .entry))
         (table-order (g .code) (table-of (g .r) (above-in (now (tables .entry)))))) room
         (list-at (stage-of g (now (level .entry)) (now (tables .entry)) (table-order (g .code) (table-of (g .r) (above-in (now (tables .entry)))))) room
-        left) a (cache-of used (now (cache .entry))) (monomial-of m) j (minus (g .p) c) q) × Sized a (g .tree) room x
+        left) a (cache-of used (now (cache .entry))) (monomial-of m) j (minus (g .p) c) (unpack q)) × Sized a (g .tree) room x
         × Keeps a (now (work .entry)) (now (work .exit)) ⌝ }
 {
     if g.tree <= a {
@@ -246,7 +247,7 @@ fn lift_list(
     a: usize,
     n: usize,
     c: u16,
-    q: [u8; words::EXPONENTS_LENGTH],
+    q: u64,
     from: usize,
     to: usize,
     level: &[u16],
@@ -260,7 +261,7 @@ fn lift_list(
         ≡ list-definition (stage-of g (now (level .entry)) (now (tables .entry))
         (table-order (g .code) (table-of (g .r) (above-in (now (tables .entry))))))
         (term-definition (stage-of g (now (level .entry)) (now (tables .entry))
-        (table-order (g .code) (table-of (g .r) (above-in (now (tables .entry)))))) room left) a c q (rows (now (level .entry)) from (to - from))
+        (table-order (g .code) (table-of (g .r) (above-in (now (tables .entry)))))) room left) a c (unpack q) (rows (now (level .entry)) from (to - from))
         (rows (now (work .entry)) a n, cache-of used (now (cache .entry)))) × Fits a (g .tree) room z × Keeps a (now (work .entry)) (now (work .exit)) ⌝ }
 {
     let mut k = n;

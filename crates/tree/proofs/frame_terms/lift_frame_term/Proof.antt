@@ -29,16 +29,16 @@ lift-vector-requires : tie.Need-lift-vector-requires
 lift-vector-requires c κs =
     let a =
     let at-8 = c .before .before .before .before .before .before .before .before in
-    (at-8 .before .before .before .before .before .before .before) .args in
+    (at-8 .before .before .before .before .before .before) .args in
     let P =
     let at-8 = c .before .before .before .before .before .before .before .before in
-    (at-8 .before .before .before .before .before .before .before) .pre in
+    (at-8 .before .before .before .before .before .before) .pre in
     let g = a .g in
-    let pl = c .before .before .before .before .before .place in
-    let ro = c .before .before .before .before .rows-of in (
+    let pl = c .before .before .before .before .place in
+    let ro = c .before .before .before .rows-of in (
       P .0,
       P .1,
-      omega (arith, P .2, c .before .before .before .before .before .before .before .before .put .kept .0),
+      omega (arith, P .2, c .before .before .before .before .before .before .before .put .kept .0),
       omega (arith, ro .ensures .1, P .0 .family .rows-fit (pl .result - 1) (omega (arith, pl .ensures, P .3, P .4))),
       ro .ensures .3,
     )
@@ -55,22 +55,22 @@ same-length-3 c = search needs
 returns : tie.Need-returns
 returns c =
     let a =
-    let at-8 = c .before .before .before .before .before .before .before .before in
-    let at-16 = at-8 .before .before .before .before .before .before .before .before in
-    (at-16 .before .before .before .before .before .before) .args in
+    let at-7 = c .before .before .before .before .before .before .before in
+    let at-15 = at-7 .before .before .before .before .before .before .before .before in
+    (at-15 .before .before .before .before .before .before) .args in
     let P =
-    let at-8 = c .before .before .before .before .before .before .before .before in
-    let at-16 = at-8 .before .before .before .before .before .before .before .before in
-    (at-16 .before .before .before .before .before .before) .pre in
+    let at-7 = c .before .before .before .before .before .before .before in
+    let at-15 = at-7 .before .before .before .before .before .before .before .before in
+    (at-15 .before .before .before .before .before .before) .pre in
     let pl =
-    let at-8 = c .before .before .before .before .before .before .before .before in
-    (at-8 .before .before .before .before) .place in
+    let at-7 = c .before .before .before .before .before .before .before in
+    (at-7 .before .before .before .before) .place in
     let ro =
-    let at-8 = c .before .before .before .before .before .before .before .before in
-    (at-8 .before .before .before) .rows-of in
+    let at-7 = c .before .before .before .before .before .before .before in
+    (at-7 .before .before .before) .rows-of in
     let pt =
-    let at-8 = c .before .before .before .before .before .before .before .before in
-    (at-8 .before .before .before .before .before .before .before) .put in
+    let at-7 = c .before .before .before .before .before .before .before in
+    (at-7 .before .before .before .before .before .before .before) .put in
     let g = a .g in
     let S : Stage = stage-of g (a .level .now) (a .tables .now) (table-order (g .code) (table-of (g .r) (above-in (a .tables .now)))) in
     let lv = c .before .before .before .before .before .before .lift-vector in

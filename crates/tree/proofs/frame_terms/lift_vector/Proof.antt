@@ -3,6 +3,7 @@ use mathlib.Core.Path.{_≡_, refl, sym, _∙_, subst}
 use Prim.Native.Nat.{_-_, _<_, _≤_}
 use lib.ListN.{length}
 use mathlib.Core.Bool.{true, false}
+use Rattle.definitions.specs.Packed.{unpack}
 use Rattle.definitions.specs.Monomial.{fits?}
 use Rattle.definitions.specs.Run.{multiple}
 use Rattle.definitions.specs.Stage.{Stage}
@@ -25,10 +26,10 @@ abbrev Inv-loop : tie.InvT-loop
 Inv-loop vector₀ n cache₀ used room work₀ q from to level tables g k₀ v₀ i₀ vector cache work k v i =
     (k ≤ g .vector) × (v ≤ room) × (length vector ≡ length vector₀) × (length cache ≡ length cache₀) × (length work ≡ length work₀) ×
     (vector-definition (stage-of g level tables (table-order (g .code) (table-of (g .r) (above-in tables))))
-    (lift-term (stage-of g level tables (table-order (g .code) (table-of (g .r) (above-in tables)))) room (g .tree)) 1 q
+    (lift-term (stage-of g level tables (table-order (g .code) (table-of (g .r) (above-in tables)))) room (g .tree)) 1 (unpack q)
     (rows level from (to - from)) (rows vector₀ 0 n, cache-of used cache₀)
     ≡ filling-from (stage-of g level tables (table-order (g .code) (table-of (g .r) (above-in tables))))
-    (lift-term (stage-of g level tables (table-order (g .code) (table-of (g .r) (above-in tables)))) room (g .tree)) q level to i
+    (lift-term (stage-of g level tables (table-order (g .code) (table-of (g .r) (above-in tables)))) room (g .tree)) (unpack q) level to i
     (rows vector 0 k, cache-of v cache))
 
 abbrev μ-loop : tie.MeasureT-loop
@@ -156,7 +157,7 @@ returns c =
     let S : Stage = stage-of g (a .level .now) (a .tables .now) (table-order (g .code) (table-of (g .r) (above-in (a .tables .now)))) in
     let T : Lift-term = lift-term S (a .room) (g .tree) in
     let t = term-of (x .result .term) in
-    let p = multiple (g .p) 1 (a .q) (row-at (a .level .now) (l .i)) in
+    let p = multiple (g .p) 1 (unpack (a .q)) (row-at (a .level .now) (l .i)) in
     let inside : l .i < a .to =
     omega (arith, loop-test-there .taken) in
     let fits : fits? most-exponent (p .1 .0) ≡ true = sym (fits-as (x .result .fits) (fits? most-exponent (p .1 .0)) t p (x .ensures))
@@ -164,7 +165,7 @@ returns c =
     let ad = c .before .before .before .before .add-result in
     let product : t ≡ p = formed-as (x .result .fits) (fits? most-exponent (p .1 .0)) t p (x .ensures)
     (if1-there .taken) in (
-      (sym (l .inv .5 ∙ filling-stops S T (a .q) (a .level .now) (a .to) (l .i) (l .k) (l .vector) (lt .last .1 .1 .1 .0) (ad .last .0) (lt .last .0)
+      (sym (l .inv .5 ∙ filling-stops S T (unpack (a .q)) (a .level .now) (a .to) (l .i) (l .k) (l .vector) (lt .last .1 .1 .1 .0) (ad .last .0) (lt .last .0)
           (cache-of (l .v) (l .cache)) t (lt .result) (ad .result) inside fits product (lt .ensures .0) (ad .ensures .0) (c .enum-told .given .0 .0)
           (c .enum-told .given .1))),
       ad .ensures .1,
@@ -225,7 +226,7 @@ loop-again c =
     let S : Stage = stage-of g (a .level .now) (a .tables .now) (table-order (g .code) (table-of (g .r) (above-in (a .tables .now)))) in
     let T : Lift-term = lift-term S (a .room) (g .tree) in
     let t = term-of (x .result .term) in
-    let p = multiple (g .p) 1 (a .q) (row-at (a .level .now) (l .i)) in
+    let p = multiple (g .p) 1 (unpack (a .q)) (row-at (a .level .now) (l .i)) in
     let inside : l .i < a .to =
     omega (arith, loop-test-there .taken) in
     let fits : fits? most-exponent (p .1 .0) ≡ true = sym (fits-as (x .result .fits) (fits? most-exponent (p .1 .0)) t p (x .ensures))
@@ -240,7 +241,7 @@ loop-again c =
       omega (arith, ad .kept .0, l .inv .2),
       omega (arith, lt .kept .0, l .inv .3),
       omega (arith, lt .kept .1 .1 .1 .0, l .inv .4),
-      (l .inv .5 ∙ filling-on S T (a .q) (a .level .now) (a .to) (l .i) (l .k) (l .vector)
+      (l .inv .5 ∙ filling-on S T (unpack (a .q)) (a .level .now) (a .to) (l .i) (l .k) (l .vector)
           (lt .last .1 .1 .1 .0) (ad .last .0) (lt .last .0) (cache-of (l .v) (l .cache)) t (lt .result) (ad .result) inside fits product
           (lt .ensures .0)
           (ad .ensures .0) (c .before .y .given .0 .0) (c .before .y .given .0 .1 .0) b),
@@ -266,11 +267,11 @@ returns-2 c =
     let T : Lift-term = lift-term S (a .room) (g .tree) in
     let x = c .before .before .multiplied in
     let t = term-of (x .result .term) in
-    let p = multiple (g .p) 1 (a .q) (row-at (a .level .now) (l .i)) in
+    let p = multiple (g .p) 1 (unpack (a .q)) (row-at (a .level .now) (l .i)) in
     let inside : l .i < a .to = omega (arith, c .before .before .before .loop-test .taken) in
     let fits : fits? most-exponent (p .1 .0) ≡ false = sym (fits-as (x .result .fits) (fits? most-exponent (p .1 .0)) t p (x .ensures))
     ∙ c .if1 .left in (
-      (sym (l .inv .5 ∙ filling-unfit S T (a .q) (a .level .now) (a .to) (l .i) (rows (l .vector) 0 (l .k), cache-of (l .v) (l .cache)) inside fits)),
+      (sym (l .inv .5 ∙ filling-unfit S T (unpack (a .q)) (a .level .now) (a .to) (l .i) (rows (l .vector) 0 (l .k), cache-of (l .v) (l .cache)) inside fits)),
       tt,
     )
 
@@ -291,7 +292,7 @@ returns-3 c =
     let S : Stage = stage-of g (a .level .now) (a .tables .now) (table-order (g .code) (table-of (g .r) (above-in (a .tables .now)))) in
     let l = c .before .loop in
     let T : Lift-term = lift-term S (a .room) (g .tree) in (
-      (sym (l .inv .5 ∙ filling-ends S T (a .q) (a .level .now) (a .to) (l .i) (rows (l .vector) 0 (l .k), cache-of (l .v) (l .cache)) (omega arith))),
+      (sym (l .inv .5 ∙ filling-ends S T (unpack (a .q)) (a .level .now) (a .to) (l .i) (rows (l .vector) 0 (l .k), cache-of (l .v) (l .cache)) (omega arith))),
       (omega (arith, l .inv .0), l .inv .1),
     )
 

@@ -4,6 +4,7 @@ use Prim.Native.Nat.{ℕ, _+_, _-_, _*_, _<_, _≤_}
 use lib.ListN.{length}
 use mathlib.Core.Bool.{true, false}
 use lib.Dec.{ltb}
+use Rattle.definitions.specs.Packed.{unpack}
 use Rattle.definitions.specs.Field.{minus}
 use Rattle.definitions.specs.Monomial.{Term, Vector, fits?}
 use Rattle.definitions.specs.Result.{done, _>>=_}
@@ -90,10 +91,10 @@ abbrev lift-list-Inv-loop : lift-list-lts.InvT-loop
 lift-list-Inv-loop cache₀ used room work₀ a n c q from to level tables g left k₀ v₀ i₀ cache work k v i =
     (a + k ≤ g .tree) × (v ≤ room) × (length cache ≡ length cache₀) × (length work ≡ length work₀) × Keeps a work₀ work ×
     (list-definition (stage-of g level tables (table-order (g .code) (table-of (g .r) (above-in tables))))
-    (term-definition (stage-of g level tables (table-order (g .code) (table-of (g .r) (above-in tables)))) room left) a c q
+    (term-definition (stage-of g level tables (table-order (g .code) (table-of (g .r) (above-in tables)))) room left) a c (unpack q)
     (rows level from (to - from)) (rows work₀ a n, cache-of used cache₀)
     ≡ listing-from (stage-of g level tables (table-order (g .code) (table-of (g .r) (above-in tables))))
-    (term-definition (stage-of g level tables (table-order (g .code) (table-of (g .r) (above-in tables)))) room left) a c q level to i
+    (term-definition (stage-of g level tables (table-order (g .code) (table-of (g .r) (above-in tables)))) room left) a c (unpack q) level to i
     (rows work a k, cache-of v cache))
 
 abbrev lift-list-μ-loop : lift-list-lts.MeasureT-loop
@@ -283,7 +284,7 @@ lift-list-returns t c =
     let S : Stage = stage-of g (a .level .now) (a .tables .now) (table-order (g .code) (table-of (g .r) (above-in (a .tables .now)))) in
     let T : Lift-term = term-definition S (a .room) (a .left) in
     let t = term-of (x .result .term) in
-    let p = multiple (g .p) (a .c) (a .q) (row-at (a .level .now) (l .i)) in
+    let p = multiple (g .p) (a .c) (unpack (a .q)) (row-at (a .level .now) (l .i)) in
     let inside : l .i < a .to =
     omega (arith, loop-test-there .taken) in
     let fits : fits? most-exponent (p .1 .0) ≡ true = sym (fits-as (x .result .fits) (fits? most-exponent (p .1 .0)) t p (x .ensures))
@@ -291,7 +292,7 @@ lift-list-returns t c =
     let ad = c .before .before .before .before .add-subtree in
     let product : t ≡ p = formed-as (x .result .fits) (fits? most-exponent (p .1 .0)) t p (x .ensures)
     (if1-there .taken) in (
-      (sym (l .inv .5 ∙ listing-stops S T (a .a) (a .c) (a .q) (a .level .now) (a .to) (l .i) (l .k) (l .work) (lt .last .1 .1 .1 .0)
+      (sym (l .inv .5 ∙ listing-stops S T (a .a) (a .c) (unpack (a .q)) (a .level .now) (a .to) (l .i) (l .k) (l .work) (lt .last .1 .1 .1 .0)
           (ad .last .1 .1 .0)
           (lt .last .0) (cache-of (l .v) (l .cache)) t (lt .result) (ad .result) inside fits product (lt .ensures .2) (lt .ensures .0) (ad .ensures .0)
           (c .enum-told .given .0 .0) (c .enum-told .given .1))),
@@ -371,7 +372,7 @@ lift-list-loop-again t c =
     let S : Stage = stage-of g (a .level .now) (a .tables .now) (table-order (g .code) (table-of (g .r) (above-in (a .tables .now)))) in
     let T : Lift-term = term-definition S (a .room) (a .left) in
     let t = term-of (x .result .term) in
-    let p = multiple (g .p) (a .c) (a .q) (row-at (a .level .now) (l .i)) in
+    let p = multiple (g .p) (a .c) (unpack (a .q)) (row-at (a .level .now) (l .i)) in
     let inside : l .i < a .to =
     omega (arith, loop-test-there .taken) in
     let fits : fits? most-exponent (p .1 .0) ≡ true = sym (fits-as (x .result .fits) (fits? most-exponent (p .1 .0)) t p (x .ensures))
@@ -386,7 +387,7 @@ lift-list-loop-again t c =
       omega (arith, lt .kept .0, l .inv .2),
       omega (arith, lt .kept .1 .1 .1 .0, l .inv .3, ad .kept .1 .1 .0),
       (λ k h. ad .ensures .2 k h ∙ lt .ensures .2 k (omega (arith, h)) ∙ l .inv .4 k h),
-      (l .inv .5 ∙ listing-on S T (a .a) (a .c) (a .q) (a .level .now) (a .to) (l .i) (l .k) (l .work) (lt .last .1 .1 .1 .0) (ad .last .1 .1 .0)
+      (l .inv .5 ∙ listing-on S T (a .a) (a .c) (unpack (a .q)) (a .level .now) (a .to) (l .i) (l .k) (l .work) (lt .last .1 .1 .1 .0) (ad .last .1 .1 .0)
           (lt .last .0) (cache-of (l .v) (l .cache)) t (lt .result) (ad .result) inside fits product (lt .ensures .2) (lt .ensures .0) (ad .ensures .0)
           (c .before .y .given .0 .0) (c .before .y .given .0 .1 .0) b),
     )
@@ -429,11 +430,11 @@ lift-list-returns-2 t c =
     let T : Lift-term = term-definition S (a .room) (a .left) in
     let x = c .before .before .multiplied in
     let t = term-of (x .result .term) in
-    let p = multiple (g .p) (a .c) (a .q) (row-at (a .level .now) (l .i)) in
+    let p = multiple (g .p) (a .c) (unpack (a .q)) (row-at (a .level .now) (l .i)) in
     let inside : l .i < a .to = omega (arith, c .before .before .before .loop-test .taken) in
     let fits : fits? most-exponent (p .1 .0) ≡ false = sym (fits-as (x .result .fits) (fits? most-exponent (p .1 .0)) t p (x .ensures))
     ∙ c .if1 .left in (
-      (sym (l .inv .5 ∙ listing-unfit S T (a .a) (a .c) (a .q) (a .level .now) (a .to) (l .i)
+      (sym (l .inv .5 ∙ listing-unfit S T (a .a) (a .c) (unpack (a .q)) (a .level .now) (a .to) (l .i)
           (rows (l .work) (a .a) (l .k), cache-of (l .v) (l .cache)) inside fits)),
       tt,
       l .inv .4,
@@ -474,7 +475,7 @@ lift-list-returns-3 t c =
     let S : Stage = stage-of g (a .level .now) (a .tables .now) (table-order (g .code) (table-of (g .r) (above-in (a .tables .now)))) in
     let l = c .before .loop in
     let T : Lift-term = term-definition S (a .room) (a .left) in (
-      (sym (l .inv .5 ∙ listing-ends S T (a .a) (a .c) (a .q) (a .level .now) (a .to) (l .i) (rows (l .work) (a .a) (l .k), cache-of (l .v) (l .cache))
+      (sym (l .inv .5 ∙ listing-ends S T (a .a) (a .c) (unpack (a .q)) (a .level .now) (a .to) (l .i) (rows (l .work) (a .a) (l .k), cache-of (l .v) (l .cache))
           (omega arith))),
       (l .inv .0, l .inv .1),
       l .inv .4,
@@ -519,15 +520,15 @@ lift-term-returns : (t : ℕ) → lift-term-lts.Need-returns (
   open-subtree.Post,
 ) (lift-term-at t) lift-term.Post
 lift-term-returns t c =
-    let a = c .before .before .before .before .before .before .before .before .args in
-    let P = c .before .before .before .before .before .before .before .before .pre .1 in
+    let a = c .before .before .before .before .before .before .before .args in
+    let P = c .before .before .before .before .before .before .before .pre .1 in
     let g = a .g in
     let S : Stage = stage-of g (a .level .now) (a .tables .now) (table-order (g .code) (table-of (g .r) (above-in (a .tables .now)))) in
     let K = cache-of (a .used) (a .cache .now) in
     let m = monomial-of (a .m) in
-    let f = c .before .before .before .reducer-of in (
+    let f = c .before .before .reducer-of in (
       (ap (λ (v : Vector). done (v, 0, K)) (rows-none (a .cache .now) 0)
-          ∙ sym (term-lower S (a .room) (a .left) (a .a) K m (sym (ap (λ y. answered y (f .result .quotient)) (c .enum-told .given .1)) ∙ f .ensures))),
+          ∙ sym (term-lower S (a .room) (a .left) (a .a) K m (sym (ap (λ y. answered y (unpack (f .result .quotient))) (c .enum-told .given .1)) ∙ f .ensures))),
       (omega arith, P .0 .used-fits),
       λ k h. refl,
     )
@@ -544,8 +545,8 @@ lift-term-look-up-requires t c κs =
     let at-8 = c .before .before .before .before .before .before .before .before in
     omega (
       arith,
-      at-8 .before .before .pre .1 .0 .used-fits,
-      at-8 .before .before .pre .1 .0 .room-fits,
+      at-8 .before .pre .1 .0 .used-fits,
+      at-8 .before .pre .1 .0 .room-fits,
     )
 
 lift-term-enum-known-e : (t : ℕ) → lift-term-lts.Need-enum-known-e (
@@ -579,13 +580,13 @@ lift-term-open-subtree-requires : (t : ℕ) → lift-term-lts.Need-open-subtree-
 lift-term-open-subtree-requires t c κs =
     let a =
     let at-8 = c .before .before .before .before .before .before .before .before in
-    (at-8 .before .before .before .before .before .before .before) .args in
+    (at-8 .before .before .before .before .before .before) .args in
     let asked =
     let at-8 = c .before .before .before .before .before .before .before .before in
-    (at-8 .before .before .before .before .before .before .before) .pre in
+    (at-8 .before .before .before .before .before .before) .pre in
     let f =
     let at-8 = c .before .before .before .before .before .before .before .before in
-    (at-8 .before .before) .reducer-of in
+    (at-8 .before) .reducer-of in
     let P = asked .1 in
     let g = a .g in
     let S : Stage = stage-of g (a .level .now) (a .tables .now) (table-order (g .code) (table-of (g .r) (above-in (a .tables .now)))) in
@@ -593,9 +594,9 @@ lift-term-open-subtree-requires t c κs =
     let m = monomial-of (a .m) in
     let j = c .before .before .before .before .before .before .before .answer .given .0 .0 in
     let x = c .before .before .before .before .before .before .before .answer .given .0 .1 .0 in
-    let eq = sym (ap (λ y. answered y (f .result .quotient)) (c .before .before .before .before .before .before .before .answer .given .1))
+    let eq = sym (ap (λ y. answered y (unpack (f .result .quotient))) (c .before .before .before .before .before .before .before .answer .given .1))
     ∙ f .ensures in
-    let n = reducer-number (g .p) (rows (a .tables .now) 0 (g .r)) (1, m) j x (f .result .quotient) eq in (
+    let n = reducer-number (g .p) (rows (a .tables .now) 0 (g .r)) (1, m) j x (unpack (f .result .quotient)) eq in (
       omega (arith, asked .0),
       (P .0, P .1, n .0, omega (arith, n .1, length-rows (a .tables .now) 0 (g .r))),
     )
@@ -632,14 +633,14 @@ lift-term-returns-2 t c =
     let a =
     let at-8 = c .before .before .before .before .before .before .before .before in
     let at-16 = at-8 .before .before .before .before .before .before .before .before in
-    (at-16 .before .before .before .before) .args in
+    (at-16 .before .before .before) .args in
     let asked =
     let at-8 = c .before .before .before .before .before .before .before .before in
     let at-16 = at-8 .before .before .before .before .before .before .before .before in
-    (at-16 .before .before .before .before) .pre in
+    (at-16 .before .before .before) .pre in
     let f =
     let at-8 = c .before .before .before .before .before .before .before .before in
-    (at-8 .before .before .before .before .before .before .before) .reducer-of in
+    (at-8 .before .before .before .before .before .before) .reducer-of in
     let answer-there =
     let at-8 = c .before .before .before .before .before .before .before .before in
     (at-8 .before .before .before .before) .answer in
@@ -653,10 +654,10 @@ lift-term-returns-2 t c =
     let m = monomial-of (a .m) in
     let j = answer-there .given .0 .0 in
     let x = answer-there .given .0 .1 .0 in
-    let eq = sym (ap (λ y. answered y (f .result .quotient))
+    let eq = sym (ap (λ y. answered y (unpack (f .result .quotient)))
     (answer-there .given .1)) ∙ f .ensures in
     let op = c .before .before .before .before .open-subtree in (
-      (op .ensures .0 ∙ sym (term-opened S (a .room) (a .left) (a .a) K m j x (f .result .quotient) eq
+      (op .ensures .0 ∙ sym (term-opened S (a .room) (a .left) (a .a) K m j x (unpack (f .result .quotient)) eq
           (sym (ap (entry-of (a .cache .now)) (c .before .before .before .before .before .before .before .enum-told2 .given .1))
           ∙ look-up-there .ensures .0))),
       op .ensures .1,
@@ -684,13 +685,13 @@ lift-term-returns-3 : (t : ℕ) → lift-term-lts.Need-returns-3 (
 lift-term-returns-3 t c =
     let a =
     let at-8 = c .before .before .before .before .before .before .before .before in
-    (at-8 .before .before .before .before .before .before) .args in
+    (at-8 .before .before .before .before .before) .args in
     let asked =
     let at-8 = c .before .before .before .before .before .before .before .before in
-    (at-8 .before .before .before .before .before .before) .pre in
+    (at-8 .before .before .before .before .before) .pre in
     let f =
     let at-8 = c .before .before .before .before .before .before .before .before in
-    (at-8 .before) .reducer-of in
+    at-8 .reducer-of in
     let P = asked .1 in
     let g = a .g in
     let S : Stage = stage-of g (a .level .now) (a .tables .now) (table-order (g .code) (table-of (g .r) (above-in (a .tables .now)))) in
@@ -698,9 +699,9 @@ lift-term-returns-3 t c =
     let m = monomial-of (a .m) in
     let j = c .before .before .before .before .before .before .answer .given .0 .0 in
     let x = c .before .before .before .before .before .before .answer .given .0 .1 .0 in
-    let eq = sym (ap (λ y. answered y (f .result .quotient)) (c .before .before .before .before .before .before .answer .given .1)) ∙ f .ensures in
+    let eq = sym (ap (λ y. answered y (unpack (f .result .quotient))) (c .before .before .before .before .before .before .answer .given .1)) ∙ f .ensures in
     let b = c .before .e .given .1 in (
-      (sym (term-found S (a .room) (a .left) (a .a) K m j x (f .result .quotient)
+      (sym (term-found S (a .room) (a .left) (a .a) K m j x (unpack (f .result .quotient))
           (rows (a .cache .now) (c .before .e .given .0 .0) (c .before .e .given .0 .1 .0)) eq
           (sym (ap (entry-of (a .cache .now)) b) ∙ c .before .before .before .look-up .ensures .0))),
       (subst (Inside (a .used)) b (c .before .before .before .look-up .ensures .1), P .0 .used-fits),
@@ -729,7 +730,7 @@ open-subtree-returns t c =
     let K = cache-of (a .used) (a .cache .now) in
     let m = monomial-of (a .m) in
     let W = a .work .now in
-    ((sym (opened-full S (a .room) (a .left) (a .a) K m (a .j) (minus (g .p) (a .c)) (a .q) (c .if1 .taken))), tt, λ k h. refl)
+    ((sym (opened-full S (a .room) (a .left) (a .a) K m (a .j) (minus (g .p) (a .c)) (unpack (a .q)) (c .if1 .taken))), tt, λ k h. refl)
 
 open-subtree-returns-2 : (t : ℕ) → open-subtree-lts.Need-returns-2 (
   negative-reads.Asked,
@@ -753,7 +754,7 @@ open-subtree-returns-2 t c =
     let K = cache-of (a .used) (a .cache .now) in
     let m = monomial-of (a .m) in
     let W = a .work .now in
-    ((sym (opened-deep S (a .room) (a .left) (a .a) K m (a .j) (minus (g .p) (a .c)) (a .q) (ltb (a .a) (g .tree)) (c .if2 .taken))), tt, λ k h. refl)
+    ((sym (opened-deep S (a .room) (a .left) (a .a) K m (a .j) (minus (g .p) (a .c)) (unpack (a .q)) (ltb (a .a) (g .tree)) (c .if2 .taken))), tt, λ k h. refl)
 
 open-subtree-negative-requires : (t : ℕ) → open-subtree-lts.Need-negative-requires (
   negative-reads.Asked,
@@ -1035,7 +1036,7 @@ open-subtree-returns-3 t c =
     let m = monomial-of (a .m) in
     let W = a .work .now in
     let ll = c .before .before .before .before .before .before .before .lift-list in
-    let t : Term = (ne .result, (a .q, a .j)) in
+    let t : Term = (ne .result, (unpack (a .q), a .j)) in
     let fits : a .a * row-length + row-length ≤ length W = omega (
       arith,
       if1-there .left,
@@ -1046,7 +1047,7 @@ open-subtree-returns-3 t c =
     let pa = c .passed in (
       (handed-on (a .room) m (a .a) (g .tree) (c .before .enum-told .given .0 .0) (ll .last .0) (ll .last .1 .1 .1 .0) (ll .result) (pa .result) b
           (pa .ensures) ∙ ap (λ y. y >>= λ r. done (finish (a .room) m r)) (ll .ensures .0)
-          ∙ sym (opened-list S (a .room) (a .left) (a .a) K m (a .j) (minus (g .p) (a .c)) (ne .result) (a .q)
+          ∙ sym (opened-list S (a .room) (a .left) (a .a) K m (a .j) (minus (g .p) (a .c)) (ne .result) (unpack (a .q))
           (rows (a .level .now) (ro .result .from + 1) (ro .result .to - (ro .result .from + 1))) (rows (pt .last .0) (a .a) 1)
           (omega (arith, if1-there .left)) (omega (arith, if2-there .left)) (ne .ensures)
           (rest-of g (a .level .now) (ends-in (a .tables .now)) (a .j) (ro .result .from) (ro .result .to) (P .0 .family) (P .2) (P .3)
@@ -1188,7 +1189,7 @@ open-subtree-returns-4 t c =
     let K = cache-of (a .used) (a .cache .now) in
     let m = monomial-of (a .m) in
     let W = a .work .now in
-    let t : Term = (ne .result, (a .q, a .j)) in
+    let t : Term = (ne .result, (unpack (a .q), a .j)) in
     let fits : a .a * row-length + row-length ≤ length W = omega (
       arith,
       if1-there .left,
@@ -1199,7 +1200,7 @@ open-subtree-returns-4 t c =
     let kp = c .before .before .before .before .keep in (
       (kp .ensures .0 ∙ ap (λ y. y >>= λ r. done (finish (a .room) m r))
           (sym (ap (λ y. sum-of (a .a) y (ll .last .0) (ll .last .1 .1 .1 .0)) b) ∙ ll .ensures .0)
-          ∙ sym (opened-list S (a .room) (a .left) (a .a) K m (a .j) (minus (g .p) (a .c)) (ne .result) (a .q)
+          ∙ sym (opened-list S (a .room) (a .left) (a .a) K m (a .j) (minus (g .p) (a .c)) (ne .result) (unpack (a .q))
           (rows (a .level .now) (ro .result .from + 1) (ro .result .to - (ro .result .from + 1))) (rows (pt .last .0) (a .a) 1)
           (omega (arith, if1-there .left)) (omega (arith, if2-there .left)) (ne .ensures)
           (rest-of g (a .level .now) (ends-in (a .tables .now)) (a .j) (ro .result .from) (ro .result .to) (P .0 .family) (P .2) (P .3)
