@@ -7,7 +7,7 @@ ghost use lib.ListN.{length};
 ghost use Rattle.definitions.specs.Monomial.{Vector};
 ghost use Rattle.definitions.specs.Lifting.{accept-from};
 ghost use Rattle.definitions.specs.Layout.{Words, rows, rows-of, padded};
-ghost use Rattle.definitions.specs.Places.{row-length, value-length, table-length, spans-length, ends-length, lifted-length};
+ghost use Rattle.definitions.specs.Places.{row-length, value-length, images-length, spans-length, ends-length, lifted-length};
 ghost use Rattle.definitions.specs.Places.{tables-length};
 ghost use Rattle.state.specs.soundness.Places.{count-below};
 ghost use Rattle.runs.specs.frame_terms.Vectors.{frame-terms};
@@ -103,14 +103,14 @@ pub fn ground_of(state: &[u16], j: usize, b: Bounds) -> Ground
 // Spans, ends and images behind the heads.
 fn join_tables(tables: &mut [u16], spans: &[u16], ends: &[u16], below: &[u16], above: &[u16])
     requires { ⌜ (tables-length ≤ length (now tables)) × (spans-length ≤ length (now spans)) × (ends-length ≤ length (now ends))
-        × (table-length ≤ length (now below)) × (table-length ≤ length (now above)) ⌝ }
+        × (images-length ≤ length (now below)) × (images-length ≤ length (now above)) ⌝ }
     ensures { λ _. ⌜ now (tables .exit) ≡ joined (now (tables .entry)) (now (spans .entry)) (now (ends .entry)) (now (below .entry))
         (now (above .entry)) ⌝ }
 {
     terms::copy(tables, words::TABLES_SPANS, spans, words::SPANS_LENGTH);
     terms::copy(tables, words::TABLES_ENDS, ends, words::ENDS_LENGTH);
-    terms::copy(tables, words::TABLES_BELOW, below, words::TABLE_LENGTH);
-    terms::copy(tables, words::TABLES_ABOVE, above, words::TABLE_LENGTH);
+    terms::copy(tables, words::TABLES_BELOW, below, words::IMAGES_LENGTH);
+    terms::copy(tables, words::TABLES_ABOVE, above, words::IMAGES_LENGTH);
 }
 
 // The tables of a lifting over level j.
@@ -119,8 +119,8 @@ pub fn make_tables(tables: &mut [u16], state: &[u16], j: usize)
     ensures { λ _. ⌜ Tables-at (now (state .entry)) j (now (tables .exit)) ⌝ }
 {
     let mut spans = [0u16; words::SPANS_LENGTH];
-    let mut below = [0u16; words::TABLE_LENGTH];
-    let mut above = [0u16; words::TABLE_LENGTH];
+    let mut below = [0u16; words::IMAGES_LENGTH];
+    let mut above = [0u16; words::IMAGES_LENGTH];
     preparing::fill_leads(tables, &mut spans, state, j);
     preparing::fill_tables(&mut below, &mut above, state, j + 1);
     let ends = words::ENDS_START + j * words::COUNTS_LENGTH;
@@ -174,8 +174,8 @@ fn lift_with(
     ensures { λ x. ⌜ ((n : ℕ) × (v : Words) × (leveled-of x (now (out .exit)) v ≡ lift-over b (now (state .entry)) j w n))
         × Stored-as x (now (out .exit)) ⌝ }
 {
-    let mut framed = [0u16; words::TABLE_LENGTH];
-    let mut gens = [0u16; words::TABLE_LENGTH];
+    let mut framed = [0u16; words::HEADS_LENGTH];
+    let mut gens = [0u16; words::HEADS_LENGTH];
     let r = soundness::count_of(state, j);
     // numbered by code 1, the lexicographic order, whatever the file's (A10)
     match frame::form(&mut framed, words::MOST_VECTORS, &mut gens, tables, r, 1) {
@@ -262,8 +262,8 @@ fn accept_with(work: &mut [u16], state: &[u16], tables: &[u16]) -> Accepted
     requires { ⌜ Base (now state) 0 × Tables-at (now state) 0 (now tables) × (value-length ≤ length (now work)) ⌝ }
     ensures { λ x. ⌜ ((n : ℕ) × (v : Vector) × (accepted-with x v ≡ accepted-over (now (state .entry)) n) × Shown x v (now (work .exit))) ⌝ }
 {
-    let mut framed = [0u16; words::TABLE_LENGTH];
-    let mut gens = [0u16; words::TABLE_LENGTH];
+    let mut framed = [0u16; words::HEADS_LENGTH];
+    let mut gens = [0u16; words::HEADS_LENGTH];
     let r = soundness::count_of(state, 0);
     // numbered by code 1, the lexicographic order, whatever the file's (A10)
     match frame::form(&mut framed, words::MOST_VECTORS, &mut gens, tables, r, 1) {

@@ -92,7 +92,7 @@ fn term(out: &mut [u8], at: usize, t: Term, n: usize) -> usize
     ensures { λ r. ⌜ Printed (now (out .entry)) (now (out .exit)) at r (listed (term-fields n (term-of t))) × (r ≤ at + 60) ⌝ }
 {
     let m = t.monomial;
-    let e = m.exponents;
+    let e = monomial::apart(m.exponents);
     let a = word(out, at, t.coefficient);
     let b = word(out, a, m.component);
     exponents(out, b, e, n)

@@ -152,10 +152,10 @@ fn long_numbers(x: u64, y: u64) -> Comparison
     if y < x {
         return Comparison::Greater;
     }
-    if x < y {
-        return Comparison::Smaller;
+    if x == y {
+        return Comparison::Equal;
     }
-    Comparison::Equal
+    Comparison::Smaller
 }
 
 // The larger number is the larger one lexicographically: x1 is its top byte.
@@ -189,20 +189,14 @@ pub fn compare_exponents(code: u16, x: u64, y: u64) -> Comparison
     match code {
         1 => packed_lexicographic(x, y),
         2 => {
-            let d = long_numbers(
-                monomial::degree_exponents(x),
-                monomial::degree_exponents(y),
-            );
+            let d = long_numbers(monomial::degree_exponents(x), monomial::degree_exponents(y));
             if decided(d) {
                 return d;
             }
             packed_lexicographic(x, y)
         }
         _ => {
-            let d = long_numbers(
-                monomial::degree_exponents(x),
-                monomial::degree_exponents(y),
-            );
+            let d = long_numbers(monomial::degree_exponents(x), monomial::degree_exponents(y));
             if decided(d) {
                 return d;
             }

@@ -52,8 +52,8 @@ fn lift_with(
     ensures { λ x. ⌜ (leveled-of x (now (out .exit)) [] ≡ tree-over b (now (state .entry)) j (length (now (cache .entry)) / row-length))
         × Stored-as x (now (out .exit)) ⌝ }
 {
-    let mut framed = [0u16; words::TABLE_LENGTH];
-    let mut gens = [0u16; words::TABLE_LENGTH];
+    let mut framed = [0u16; words::HEADS_LENGTH];
+    let mut gens = [0u16; words::HEADS_LENGTH];
     let r = soundness::count_of(state, j);
     // numbered by code 1, the lexicographic order, whatever the file's (A10)
     match frame::form(&mut framed, words::MOST_VECTORS, &mut gens, tables, r, 1) {

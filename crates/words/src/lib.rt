@@ -57,7 +57,6 @@ ghost use Rattle.definitions.specs.Places.{
   all-lines-length,
   sheet-length,
 };
-
 ghost use Rattle.words.specs.Slices.{Sixteen-bits};
 
 pub mod parameters;

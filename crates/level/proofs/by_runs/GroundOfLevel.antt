@@ -106,7 +106,6 @@ module _ (s : Words) (j : ℕ) (b : Base s j) (lim : Bounds) where
       long = t .long;
       heads-fit = omega (arith, few-vectors s j b, t .long);
       spans-fit = omega (arith, components-few s (b .long) (b .holds) j (b .has), length-part tables-spans tables, t .long);
-      small = t .led .small;
       spanned = t .led .spanned;
     }
 

@@ -7,7 +7,8 @@ use lib.ListN.{length, getD, take}
 use lib.Seq.{paste, length-paste, getD-take, getD-drop, length-take-le, ext-getD}
 use Rattle.definitions.specs.Layout.{Words}
 use Rattle.definitions.proofs.Rows.{rows-same}
-use Rattle.definitions.specs.Places.{most-vectors, row-length, component-offset, exponents-offset, table-length, spans-length, tables-spans, tables-ends}
+use Rattle.definitions.specs.Places.{most-vectors, row-length, image-length, component-offset, rank-offset, exponents-offset, heads-length, images-length}
+use Rattle.definitions.specs.Places.{spans-length, tables-spans, tables-ends}
 use Rattle.definitions.specs.Places.{tables-below, tables-above, tables-length, ends-length}
 use Rattle.orders.specs.Images.{entry-at, table-of}
 use Rattle.vectors.proofs.terms.Moving.{getD-paste-in, getD-paste-below}
@@ -30,24 +31,23 @@ unfolding table-of
 table-same zero s z h = refl
 table-same (suc n) s z h = λ i. table-same n s z (λ j l. h j (omega arith)) i ++ h n (omega arith) i ∷ []
 
-ready-same : (s : Words) (k : ℕ) (t z : Words) → ((i : ℕ) → i < table-length → getD z i 0 ≡ getD t i 0) → Ready s k t → Ready s k z
+ready-same : (s : Words) (k : ℕ) (t z : Words) → ((i : ℕ) → i < images-length → getD z i 0 ≡ getD t i 0) → Ready s k t → Ready s k z
 ready-same s k t z w r = record {
   few = r .few;
   made = table-same (count-below s k) t z (λ i h x. (
-    raw-same t z (i * row-length + exponents-offset)
-        (λ j l. w (i * row-length + exponents-offset + j) (omega (arith, r .few))) x,
-    w (i * row-length + component-offset) (omega (arith, r .few)) x,
+    raw-same t z (i * image-length + exponents-offset)
+        (λ j l. w (i * image-length + exponents-offset + j) (omega (arith, r .few))) x,
+    w (i * image-length + rank-offset) (omega (arith, r .few)) x,
   ))
       ∙ r .made;
-  capped = λ i h j l. omega (arith, w (i * row-length + exponents-offset + j) (omega (arith, r .few)), r .capped i h j l);
+  capped = λ i h j l. omega (arith, w (i * image-length + exponents-offset + j) (omega (arith, r .few)), r .capped i h j l);
 }
 
 led-same : (s : Words) (k : ℕ) (t z spans spans′ : Words) → count-at s k ≤ most-vectors → components-at s k ≤ most-vectors
-    → ((i : ℕ) → i < table-length → getD z i 0 ≡ getD t i 0) → ((i : ℕ) → i < spans-length → getD spans′ i 0 ≡ getD spans i 0) → Led s k t spans
+    → ((i : ℕ) → i < heads-length → getD z i 0 ≡ getD t i 0) → ((i : ℕ) → i < spans-length → getD spans′ i 0 ≡ getD spans i 0) → Led s k t spans
     → Led s k z spans′
 led-same s k t z spans spans′ few kinds w v l = record {
   made = rows-same t z 0 0 (count-at s k) (λ i h. same-row t z (0 + i) (0 + i) (λ j m. w ((0 + i) * row-length + j) (omega arith))) ∙ l .made;
-  small = λ i h j m. omega (arith, w (i * row-length + exponents-offset + j) (omega arith), l .small i h j m);
   spanned = λ i h. (
     omega (arith, v (i * 2 + 1) (omega arith), l .spanned i h .0),
     λ j m e.
@@ -59,7 +59,7 @@ led-same s k t z spans spans′ few kinds w v l = record {
 -- ## The parts
 
 module _ (t spans ends below above : Words) (long : tables-length ≤ length t) (hs : spans-length ≤ length spans) (he : ends-length ≤ length ends)
-    (hb : table-length ≤ length below) (ha : table-length ≤ length above) where
+    (hb : images-length ≤ length below) (ha : images-length ≤ length above) where
   abbrev t₁ : Words
   t₁ = paste t tables-spans spans spans-length
 
@@ -67,7 +67,7 @@ module _ (t spans ends below above : Words) (long : tables-length ≤ length t) 
   t₂ = paste t₁ tables-ends ends ends-length
 
   abbrev t₃ : Words
-  t₃ = paste t₂ tables-below below table-length
+  t₃ = paste t₂ tables-below below images-length
 
   l₁ : length t₁ ≡ length t
   l₁ = length-paste t tables-spans spans spans-length (omega arith) hs
@@ -76,24 +76,24 @@ module _ (t spans ends below above : Words) (long : tables-length ≤ length t) 
   l₂ = length-paste t₁ tables-ends ends ends-length (omega (arith, l₁)) he ∙ l₁
 
   l₃ : length t₃ ≡ length t
-  l₃ = length-paste t₂ tables-below below table-length (omega (arith, l₂)) hb ∙ l₂
+  l₃ = length-paste t₂ tables-below below images-length (omega (arith, l₂)) hb ∙ l₂
 
   pub length-joined : length (joined t spans ends below above) ≡ length t
-  length-joined = length-paste t₃ tables-above above table-length (omega (arith, l₃)) ha ∙ l₃
+  length-joined = length-paste t₃ tables-above above images-length (omega (arith, l₃)) ha ∙ l₃
 
-  off₁ : (k : ℕ) → k < table-length → getD t₁ k 0 ≡ getD t k 0
+  off₁ : (k : ℕ) → k < heads-length → getD t₁ k 0 ≡ getD t k 0
   off₁ k h = getD-paste-below t tables-spans spans spans-length k 0 (omega arith) h
 
   off₂ : (k : ℕ) → k < tables-ends → getD t₂ k 0 ≡ getD t₁ k 0
   off₂ k h = getD-paste-below t₁ tables-ends ends ends-length k 0 (omega (arith, l₁)) h
 
   off₃ : (k : ℕ) → k < tables-below → getD t₃ k 0 ≡ getD t₂ k 0
-  off₃ k h = getD-paste-below t₂ tables-below below table-length k 0 (omega (arith, l₂)) h
+  off₃ k h = getD-paste-below t₂ tables-below below images-length k 0 (omega (arith, l₂)) h
 
   off₄ : (k : ℕ) → k < tables-above → getD (joined t spans ends below above) k 0 ≡ getD t₃ k 0
-  off₄ k h = getD-paste-below t₃ tables-above above table-length k 0 (omega (arith, l₃)) h
+  off₄ k h = getD-paste-below t₃ tables-above above images-length k 0 (omega (arith, l₃)) h
 
-  pub heads-word : (k : ℕ) → k < table-length → getD (joined t spans ends below above) k 0 ≡ getD t k 0
+  pub heads-word : (k : ℕ) → k < heads-length → getD (joined t spans ends below above) k 0 ≡ getD t k 0
   heads-word k h = off₄ k (omega arith) ∙ off₃ k (omega arith) ∙ off₂ k (omega arith) ∙ off₁ k h
 
   pub spans-word : (k : ℕ) → k < spans-length → getD (spans-in (joined t spans ends below above)) k 0 ≡ getD spans k 0
@@ -108,14 +108,14 @@ module _ (t spans ends below above : Words) (long : tables-length ≤ length t) 
       ∙ off₄ (tables-ends + k) (omega arith) ∙ off₃ (tables-ends + k) (omega arith)
       ∙ getD-paste-in t₁ tables-ends ends ends-length k 0 (omega (arith, l₁)) he h
 
-  pub below-word : (k : ℕ) → k < table-length → getD (below-in (joined t spans ends below above)) k 0 ≡ getD below k 0
+  pub below-word : (k : ℕ) → k < images-length → getD (below-in (joined t spans ends below above)) k 0 ≡ getD below k 0
   below-word k h =
       part-word tables-below (joined t spans ends below above) k
-      ∙ off₄ (tables-below + k) (omega arith) ∙ getD-paste-in t₂ tables-below below table-length k 0 (omega (arith, l₂)) hb h
+      ∙ off₄ (tables-below + k) (omega arith) ∙ getD-paste-in t₂ tables-below below images-length k 0 (omega (arith, l₂)) hb h
 
-  pub above-word : (k : ℕ) → k < table-length → getD (above-in (joined t spans ends below above)) k 0 ≡ getD above k 0
+  pub above-word : (k : ℕ) → k < images-length → getD (above-in (joined t spans ends below above)) k 0 ≡ getD above k 0
   above-word k h = part-word tables-above (joined t spans ends below above) k
-      ∙ getD-paste-in t₃ tables-above above table-length k 0 (omega (arith, l₃)) ha h
+      ∙ getD-paste-in t₃ tables-above above images-length k 0 (omega (arith, l₃)) ha h
 
   pub tables-joined : (s : Words) (j : ℕ) → count-at s j ≤ most-vectors → components-at s j ≤ most-vectors → Led s j t spans → ends ≡ ends-from s j
       → Ready s j below → Ready s (suc j) above

@@ -15,7 +15,7 @@ use Rattle.definitions.specs.Frame.{frame}
 use Rattle.definitions.specs.Lifting.{limited-frame, lift-all, accept}
 use Rattle.definitions.specs.Layout.{Words, rows, rows-of, padded, level-at, levels-at, holds-state?}
 use Rattle.definitions.specs.Places.{most-exponent, most-vectors, most-rows, most-terms, most-tree-terms, all-levels, row-length, state-length}
-use Rattle.definitions.specs.Places.{table-length, spans-length, ends-length}
+use Rattle.definitions.specs.Places.{images-length, spans-length, ends-length}
 use Rattle.definitions.specs.Places.{tables-above, tables-below, tables-ends, tables-length, tables-spans}
 use Rattle.state.specs.soundness.Places.{count-at, count-below, ends-from}
 use Rattle.state.specs.soundness.Tabled.{Ready}
@@ -95,7 +95,7 @@ strategy-at b s j w = record { drops = w .drops; pick = by-code (stage-at b s j 
 -- behind the heads
 abbrev pub joined : Words → Words → Words → Words → Words → Words
 joined heads spans ends below above = paste (paste (paste (paste heads tables-spans spans spans-length) tables-ends ends ends-length) tables-below below
-    table-length) tables-above above table-length
+    images-length) tables-above above images-length
 
 pub record Tables-at (s : Words) (j : ℕ) (tables : Words) : Type 0 where
   pub long : tables-length ≤ length tables

@@ -11,14 +11,13 @@ use lib.Dec.{T, leb, ltb, leb→le}
 use lib.ListN.{length, getD, drop}
 use lib.Seq.{getD-take, length-take-le}
 use Rattle.definitions.specs.Limits.{Limits, document-01}
-use Rattle.definitions.specs.Lists.{_and_, _then_, choose, empty?, last}
+use Rattle.definitions.specs.Lists.{_and_, _then_, choose, empty?}
 use Rattle.definitions.specs.Monomial.{Vector, Level}
 use Rattle.definitions.specs.Result.{Result, done, refused, unfinished, at-level, _>>=_}
 use Rattle.definitions.specs.Lifting.{by-hybrid, lift-level}
 use Rattle.definitions.specs.Problem.{Bytes}
 use Rattle.definitions.specs.State.{State, up-to}
-use Rattle.definitions.specs.Layout.{Words, decode, level-at, levels-at, ends-at, holds-state?, words-sound?, all-words-sound?, ascending?, exponents-fit?}
-use Rattle.definitions.specs.Layout.{last-end}
+use Rattle.definitions.specs.Layout.{Words, decode, level-at, levels-at, ends-at, holds-state?, words-sound?, all-words-sound?, ascending?}
 use Rattle.definitions.specs.Sheet.{printed, letter-X, x-lines, level-lines, if-more, level-then, levels-from}
 use Rattle.definitions.proofs.Tests.{and-left, and-right}
 use Rattle.definitions.proofs.Numbers as numbers
@@ -40,16 +39,13 @@ ascends-each limit a (e ∷ es) t (suc j) h =
     ascends-each limit e es (and-right (leb e limit) (ascending? limit e es) (and-right (ltb a e) (leb e limit and ascending? limit e es) t)) j
     (omega arith)
 
-abbrev small : Words → ℕ → Bool
-small s k = exponents-fit? (drop (rows-offset k) s) (last-end (last (ends-at document-01 s k)))
-
 pub short-level : (s : Words) → state-length ≤ length s → T (holds-state? document-01 s) → (k : ℕ) → k < getD s 4 0
     → count-at s k ≤ length (ends-from s k) → Short (count-at s k) (ends-from s k)
 short-level s long holds k h f j l =
     let w = words-below s long holds (suc k) h in
     let t = and-left (words-sound? document-01 s k) (all-words-sound? document-01 s k) w in
-    let u = and-right (leb (count-at s k) most-vectors) (ascending? most-rows 0 (ends-at document-01 s k) and small s k) t in
-    let v = ascends-each most-rows 0 (ends-at document-01 s k) (and-left (ascending? most-rows 0 (ends-at document-01 s k)) (small s k) u) j
+    let u = and-right (leb (count-at s k) most-vectors) (ascending? most-rows 0 (ends-at document-01 s k)) t in
+    let v = ascends-each most-rows 0 (ends-at document-01 s k) u j
     (omega (arith, length-take-le (count-at s k) (ends-from s k) f)) in
     subst (λ e. e ≤ most-rows) (getD-take (count-at s k) (ends-from s k) j 0 l) v
 

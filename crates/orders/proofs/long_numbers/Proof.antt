@@ -9,10 +9,10 @@ returns : tie.Need-returns
 returns c = sym (numbers-are _ _ greater (c .if1 .taken))
 
 returns-2 : tie.Need-returns-2
-returns-2 c = sym (numbers-are _ _ smaller (c .if2 .taken))
+returns-2 c = sym (numbers-are _ _ equal (c .if2 .taken))
 
 returns-3 : tie.Need-returns-3
-returns-3 c = let a = c .before .before .args in sym (numbers-are (a .x) (a .y) equal (omega arith))
+returns-3 c = let a = c .before .before .args in sym (numbers-are (a .x) (a .y) smaller (omega arith))
 
 pub long-numbers-spec : {M : Type 1} → statement M
 long-numbers-spec = tie.close (tie.spec returns returns-2 returns-3)

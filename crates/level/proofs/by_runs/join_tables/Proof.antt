@@ -3,7 +3,7 @@ use mathlib.Core.Path.{ap, _∙_}
 use lib.Seq.{paste}
 use Rattle.level.proofs.by_runs.join_tables.Statement.{statement}
 use Rattle.level.proofs.by_runs.join_tables.Tie as tie
-use Rattle.definitions.specs.Places.{most-vectors, table-length}
+use Rattle.definitions.specs.Places.{most-vectors, images-length}
 use Rattle.definitions.specs.Places.{tables-above, tables-below, tables-ends}
 
 copy-requires : tie.Need-copy-requires
@@ -34,9 +34,9 @@ returns c =
     let at-8 = c .before .before .before .before .before .before .before .before in
     (at-8 .before .before .before .before .before .before) .copy in
     c .before .before .copy4 .ensures
-    ∙ ap (λ z. paste z tables-above (a .above .now) table-length) (
+    ∙ ap (λ z. paste z tables-above (a .above .now) images-length) (
     c .before .before .before .before .before .before .copy3 .ensures
-    ∙ ap (λ z. paste z tables-below (a .below .now) table-length)
+    ∙ ap (λ z. paste z tables-below (a .below .now) images-length)
     (copy2-there .ensures
     ∙ ap (λ z. paste z tables-ends (a .ends .now) most-vectors)
     (copy-there .ensures))
