@@ -7,7 +7,7 @@ use lib.Dec.{T, leb, leb→le, le→leb}
 use lib.ListN.{length, getD}
 use lib.Arith.{digits-div, digits-mod}
 use Rattle.definitions.specs.Monomial.{Exponents, fits?}
-use Rattle.definitions.specs.Packed.{low-bytes, unpack, pack, pack-from, four}
+use Rattle.definitions.specs.Packed.{low-bytes, unpack, pack, pack-from, four, long-bound}
 use Rattle.definitions.specs.Layout.{words-of}
 use Rattle.definitions.specs.Places.{most-exponent}
 use Rattle.definitions.proofs.Tests.{and-left, and-right, and-both}
@@ -39,7 +39,7 @@ pub record Bytes (x : ℕ) : Type 0 where
   pub whole : x ≡ four (d1 * 256 + d2) (d3 * 256 + d4) (d5 * 256 + d6) (d7 * 256 + d8)
   pub spelled : unpack x ≡ d1 ∷ d2 ∷ d3 ∷ d4 ∷ d5 ∷ d6 ∷ d7 ∷ d8 ∷ []
 
-pub bytes-of : (x : ℕ) → x < 18446744073709551616 → Bytes x
+pub bytes-of : (x : ℕ) → x < long-bound → Bytes x
 unfolding low-bytes
 bytes-of x h =
     record {
@@ -146,7 +146,7 @@ pack-below : (a b : ℕ) (l : Exponents) → Small l → a < b → pack-from a l
 pack-below a b [] none h = h
 pack-below a b (x ∷ l) (more k s) h = pack-below (a * 256 + x) (b * 256) l s (omega arith)
 
-pub pack-fits : (e : Exponents) → length e ≡ 8 → Small e → pack e < 18446744073709551616
+pub pack-fits : (e : Exponents) → length e ≡ 8 → Small e → pack e < long-bound
 pack-fits e h s = subst (λ n. pack e < n) (power-long 1 e ∙ ap (λ n. times n 1) h) (pack-below 0 1 e s (omega arith))
 
 byte : (x : ℕ) → x % 256 < 256
@@ -177,19 +177,19 @@ pub unpack-eight : (x : ℕ) → Eight (unpack x)
 unpack-eight x = record { eight = unpack-long x; small = small-eight (unpack x) (unpack-small x) }
 
 -- the two are inverse
-pub pack-unpack : (x : ℕ) → x < 18446744073709551616 → pack (unpack x) ≡ x
+pub pack-unpack : (x : ℕ) → x < long-bound → pack (unpack x) ≡ x
 pack-unpack x h = let a = bytes-of x h in ap pack (a .spelled) ∙ omega arith
 
 pub packed-eight : (e : Exponents) → Eight e → unpack (pack e) ≡ e
 packed-eight e h = unpack-pack e (h .eight) (eight-small e (h .small))
 
-pub packed-below : (e : Exponents) → Eight e → pack e < 18446744073709551616
+pub packed-below : (e : Exponents) → Eight e → pack e < long-bound
 packed-below e h = pack-fits e (h .eight) (eight-small e (h .small))
 
 -- ## Its four words
 
 -- a number of 64 bits from its words
-pub long-of : (x : ℕ) → x < 18446744073709551616 → four (x / 281474976710656) (x / 4294967296 % 65536) (x / 65536 % 65536) (x % 65536) ≡ x
+pub long-of : (x : ℕ) → x < long-bound → four (x / 281474976710656) (x / 4294967296 % 65536) (x / 65536 % 65536) (x % 65536) ≡ x
 long-of x h = omega arith
 
 -- .. and the words from the number
@@ -205,5 +205,5 @@ words-of-four a b c d ha hb hc hd =
     let z : four a b c d / 281474976710656 ≡ a = omega arith in
     λ i. w i ∷ x i ∷ y i ∷ z i ∷ []
 
-pub four-below : (a b c d : ℕ) → a < 65536 → b < 65536 → c < 65536 → d < 65536 → four a b c d < 18446744073709551616
+pub four-below : (a b c d : ℕ) → a < 65536 → b < 65536 → c < 65536 → d < 65536 → four a b c d < long-bound
 four-below a b c d ha hb hc hd = omega arith

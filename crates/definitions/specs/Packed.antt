@@ -24,3 +24,7 @@ pack e = pack-from 0 e
 -- four numbers of 16 bits side by side in one of 64 bits, the top one first
 abbrev pub four : ℕ → ℕ → ℕ → ℕ → ℕ
 four a b c d = ((a * 65536 + b) * 65536 + c) * 65536 + d
+
+-- what 64 bits can hold is below this
+abbrev pub long-bound : ℕ
+long-bound = 18_446_744_073_709_551_616

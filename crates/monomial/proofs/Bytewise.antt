@@ -11,9 +11,10 @@ use mir.Syntax.{w64}
 use lib.ListN.{length, getD}
 use lib.Seq.{ext-getD}
 use borrow.Author.Tests.{eq-eqb, ne-eqb, eqb-true, eqb-false}
+use Rattle.monomial.specs.Values.{lane-bytes}
 use Rattle.definitions.specs.Lists.{_and_}
 use Rattle.definitions.specs.Monomial.{Exponents, unit, same-exponents?, degree}
-use Rattle.definitions.specs.Packed.{low-bytes, four, unpack, pack, pack-from}
+use Rattle.definitions.specs.Packed.{low-bytes, four, unpack, pack, pack-from, long-bound}
 use Rattle.definitions.proofs.Packing.{Bytes, unpack-is, Small, none, more}
 use Rattle.monomial.proofs.Lanes.{lows, highs, sums}
 use Rattle.monomial.proofs.Dividing.{regrouped, ended}
@@ -68,7 +69,7 @@ halves p q r s hp hq hr hs = omega arith
 lane-sum : (p q r s : ℕ) → p < 511 → q < 511 → r < 511 → s < 511 → added (four p q r s) ≡ p + r + (q + s)
 lane-sum p q r s hp hq hr hs = ap (λ n. n / 65536 + n % 65536) (halves p q r s hp hq hr hs) ∙ omega arith
 
-pub degree-packed : (x : ℕ) → Bytes x → added (bitAnd (x / 256) 71777214294589695 + bitAnd x 71777214294589695) ≡ degree (unpack x)
+pub degree-packed : (x : ℕ) → Bytes x → added (bitAnd (x / 256) lane-bytes + bitAnd x lane-bytes) ≡ degree (unpack x)
 degree-packed x a =
     (λ i. added (highs x a i + lows x a i))
     ∙ ap added (sums (a .d1) (a .d3) (a .d5) (a .d7) (a .d2) (a .d4) (a .d6) (a .d8))
@@ -82,7 +83,7 @@ halved-fits n h = omega arith
 pub added-fits : (n : ℕ) → n ≤ 143554428589179390 → Fits w64 (added n)
 added-fits n h = go (halved n) (omega arith)
   where
-    go : (t : ℕ) → t < 18446744073709551616 → Fits w64 (t / 65536 + t % 65536)
+    go : (t : ℕ) → t < long-bound → Fits w64 (t / 65536 + t % 65536)
     go t l = omega arith
 
 -- ## Each byte

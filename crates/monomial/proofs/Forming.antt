@@ -8,31 +8,32 @@ use native.Mathlib.Nat.{mod-eq-of-lt}
 use lib.Dec.{leb, eqb}
 use lib.Bits.{bitAnd, and-high}
 use borrow.Author.Tests.{leb-true, leb-false, eq-eqb, ne-eqb, eqb-true, eqb-false}
+use Rattle.definitions.specs.Places.{most-exponent}
 use Rattle.definitions.specs.Lists.{_and_, choose}
 use Rattle.definitions.specs.Monomial as definition
 use Rattle.definitions.specs.Monomial.{Exponents, divides?, product, quotient, fits?}
-use Rattle.definitions.specs.Packed.{four, unpack}
-use Rattle.monomial.specs.Values.{formed}
+use Rattle.definitions.specs.Packed.{four, unpack, long-bound}
+use Rattle.monomial.specs.Values.{formed, lane-bytes, lane-marks}
 use Rattle.definitions.proofs.Packing.{Bytes, unpack-is}
 use Rattle.monomial.proofs.Lanes.{and4, lows, highs, sums}
 use Rattle.monomial.proofs.Dividing.{regrouped, ended}
 
--- the mark of a lane that passed 255
+-- the mark of a lane that passed most-exponent
 abbrev over : Bool → ℕ
 over true = 0
 over false = 256
 
-sum-mark : (x y : ℕ) → x < 256 → y < 256 → bitAnd (x + y) 256 ≡ over (leb (x + y) 255)
-sum-mark x y hx hy = and-high (x + y) 1 8 ∙ go (leb (x + y) 255) refl
+sum-mark : (x y : ℕ) → x < 256 → y < 256 → bitAnd (x + y) 256 ≡ over (leb (x + y) most-exponent)
+sum-mark x y hx hy = and-high (x + y) 1 8 ∙ go (leb (x + y) most-exponent) refl
   where
-    go : (b : Bool) → leb (x + y) 255 ≡ b → (x + y) / 256 % 2 * 256 ≡ over b
-    go true e = let l : x + y ≤ 255 = leb-true (x + y) 255 e in omega arith
-    go false e = let l : 255 < x + y = leb-false (x + y) 255 e in omega arith
+    go : (b : Bool) → leb (x + y) most-exponent ≡ b → (x + y) / 256 % 2 * 256 ≡ over b
+    go true e = let l : x + y ≤ most-exponent = leb-true (x + y) most-exponent e in omega arith
+    go false e = let l : most-exponent < x + y = leb-false (x + y) most-exponent e in omega arith
 
 sum-marks : (a b c d p q r s : ℕ) → a < 256 → b < 256 → c < 256 → d < 256 → p < 256 → q < 256 → r < 256 → s < 256
-    → bitAnd (four a b c d + four p q r s) 72058693566333184 ≡ four (over (leb (a + p) 255)) (over (leb (b + q) 255)) (over (leb (c + r) 255)) (over (leb (d + s) 255))
+    → bitAnd (four a b c d + four p q r s) lane-marks ≡ four (over (leb (a + p) most-exponent)) (over (leb (b + q) most-exponent)) (over (leb (c + r) most-exponent)) (over (leb (d + s) most-exponent))
 sum-marks a b c d p q r s ha hb hc hd hp hq hr hs =
-    ap (λ n. bitAnd n 72058693566333184) (sums a b c d p q r s)
+    ap (λ n. bitAnd n lane-marks) (sums a b c d p q r s)
     ∙ and4 (a + p) (b + q) (c + r) (d + s) 256 256 256 256 (omega arith) (omega arith) (omega arith) (omega arith) (omega arith) (omega arith)
     ∙ (λ i. four (sum-mark a p ha hp i) (sum-mark b q hb hq i) (sum-mark c r hc hr i) (sum-mark d s hd hs i))
 
@@ -65,18 +66,18 @@ unmarked p q r s t u v w =
     ∙ (λ i. p and (q and (r and (s and regrouped t u (v and (w and true)) i))))
 
 pub fits-lanes : (x y : ℕ) → Bytes x → Bytes y
-    → eqb (bitAnd (bitAnd (x / 256) 71777214294589695 + bitAnd (y / 256) 71777214294589695) 72058693566333184
-    + bitAnd (bitAnd x 71777214294589695 + bitAnd y 71777214294589695) 72058693566333184) 0
-    ≡ fits? 255 (product (unpack x) (unpack y))
+    → eqb (bitAnd (bitAnd (x / 256) lane-bytes + bitAnd (y / 256) lane-bytes) lane-marks
+    + bitAnd (bitAnd x lane-bytes + bitAnd y lane-bytes) lane-marks) 0
+    ≡ fits? most-exponent (product (unpack x) (unpack y))
 fits-lanes x y a b =
     ap₂ (λ m n. eqb (m + n) 0)
-    ((λ i. bitAnd (highs x a i + highs y b i) 72058693566333184)
+    ((λ i. bitAnd (highs x a i + highs y b i) lane-marks)
     ∙ sum-marks (a .d1) (a .d3) (a .d5) (a .d7) (b .d1) (b .d3) (b .d5) (b .d7) (a .s1) (a .s3) (a .s5) (a .s7) (b .s1) (b .s3) (b .s5) (b .s7))
-    ((λ i. bitAnd (lows x a i + lows y b i) 72058693566333184)
+    ((λ i. bitAnd (lows x a i + lows y b i) lane-marks)
     ∙ sum-marks (a .d2) (a .d4) (a .d6) (a .d8) (b .d2) (b .d4) (b .d6) (b .d8) (a .s2) (a .s4) (a .s6) (a .s8) (b .s2) (b .s4) (b .s6) (b .s8))
-    ∙ unmarked (leb (a .d1 + b .d1) 255) (leb (a .d2 + b .d2) 255) (leb (a .d3 + b .d3) 255) (leb (a .d4 + b .d4) 255)
-    (leb (a .d5 + b .d5) 255) (leb (a .d6 + b .d6) 255) (leb (a .d7 + b .d7) 255) (leb (a .d8 + b .d8) 255)
-    ∙ sym (λ i. fits? 255 (product (a .spelled i) (b .spelled i)))
+    ∙ unmarked (leb (a .d1 + b .d1) most-exponent) (leb (a .d2 + b .d2) most-exponent) (leb (a .d3 + b .d3) most-exponent) (leb (a .d4 + b .d4) most-exponent)
+    (leb (a .d5 + b .d5) most-exponent) (leb (a .d6 + b .d6) most-exponent) (leb (a .d7 + b .d7) most-exponent) (leb (a .d8 + b .d8) most-exponent)
+    ∙ sym (λ i. fits? most-exponent (product (a .spelled i) (b .spelled i)))
 
 -- ## What a conjunction of eight says
 
@@ -120,54 +121,54 @@ each p q r s t u v w e =
 
 -- ## Products that fit
 
-pub product-fits : (x y : ℕ) → Bytes x → Bytes y → fits? 255 (product (unpack x) (unpack y)) ≡ true → unpack ((x + y) % 18446744073709551616) ≡ product (unpack x) (unpack y)
+pub product-fits : (x y : ℕ) → Bytes x → Bytes y → fits? most-exponent (product (unpack x) (unpack y)) ≡ true → unpack ((x + y) % long-bound) ≡ product (unpack x) (unpack y)
 product-fits x y a b f =
-    unpack-is ((x + y) % 18446744073709551616) (a .d1 + b .d1) (a .d2 + b .d2) (a .d3 + b .d3) (a .d4 + b .d4) (a .d5 + b .d5) (a .d6 + b .d6) (a .d7 + b .d7) (a .d8 + b .d8)
+    unpack-is ((x + y) % long-bound) (a .d1 + b .d1) (a .d2 + b .d2) (a .d3 + b .d3) (a .d4 + b .d4) (a .d5 + b .d5) (a .d6 + b .d6) (a .d7 + b .d7) (a .d8 + b .d8)
     (mod-eq-of-lt bound ∙ total) (omega (arith, l1)) (omega (arith, l2)) (omega (arith, l3)) (omega (arith, l4)) (omega (arith, l5)) (omega (arith, l6)) (omega (arith, l7)) (omega (arith, l8))
     ∙ sym (λ i. product (a .spelled i) (b .spelled i))
   where
-    all : Each (leb (a .d1 + b .d1) 255) (leb (a .d2 + b .d2) 255) (leb (a .d3 + b .d3) 255) (leb (a .d4 + b .d4) 255)
-        (leb (a .d5 + b .d5) 255) (leb (a .d6 + b .d6) 255) (leb (a .d7 + b .d7) 255) (leb (a .d8 + b .d8) 255)
-    all = each _ _ _ _ _ _ _ _ (sym (λ i. fits? 255 (product (a .spelled i) (b .spelled i))) ∙ f)
+    all : Each (leb (a .d1 + b .d1) most-exponent) (leb (a .d2 + b .d2) most-exponent) (leb (a .d3 + b .d3) most-exponent) (leb (a .d4 + b .d4) most-exponent)
+        (leb (a .d5 + b .d5) most-exponent) (leb (a .d6 + b .d6) most-exponent) (leb (a .d7 + b .d7) most-exponent) (leb (a .d8 + b .d8) most-exponent)
+    all = each _ _ _ _ _ _ _ _ (sym (λ i. fits? most-exponent (product (a .spelled i) (b .spelled i))) ∙ f)
 
-    l1 : a .d1 + b .d1 ≤ 255
-    l1 = leb-true (a .d1 + b .d1) 255 (all .e1)
+    l1 : a .d1 + b .d1 ≤ most-exponent
+    l1 = leb-true (a .d1 + b .d1) most-exponent (all .e1)
 
-    l2 : a .d2 + b .d2 ≤ 255
-    l2 = leb-true (a .d2 + b .d2) 255 (all .e2)
+    l2 : a .d2 + b .d2 ≤ most-exponent
+    l2 = leb-true (a .d2 + b .d2) most-exponent (all .e2)
 
-    l3 : a .d3 + b .d3 ≤ 255
-    l3 = leb-true (a .d3 + b .d3) 255 (all .e3)
+    l3 : a .d3 + b .d3 ≤ most-exponent
+    l3 = leb-true (a .d3 + b .d3) most-exponent (all .e3)
 
-    l4 : a .d4 + b .d4 ≤ 255
-    l4 = leb-true (a .d4 + b .d4) 255 (all .e4)
+    l4 : a .d4 + b .d4 ≤ most-exponent
+    l4 = leb-true (a .d4 + b .d4) most-exponent (all .e4)
 
-    l5 : a .d5 + b .d5 ≤ 255
-    l5 = leb-true (a .d5 + b .d5) 255 (all .e5)
+    l5 : a .d5 + b .d5 ≤ most-exponent
+    l5 = leb-true (a .d5 + b .d5) most-exponent (all .e5)
 
-    l6 : a .d6 + b .d6 ≤ 255
-    l6 = leb-true (a .d6 + b .d6) 255 (all .e6)
+    l6 : a .d6 + b .d6 ≤ most-exponent
+    l6 = leb-true (a .d6 + b .d6) most-exponent (all .e6)
 
-    l7 : a .d7 + b .d7 ≤ 255
-    l7 = leb-true (a .d7 + b .d7) 255 (all .e7)
+    l7 : a .d7 + b .d7 ≤ most-exponent
+    l7 = leb-true (a .d7 + b .d7) most-exponent (all .e7)
 
-    l8 : a .d8 + b .d8 ≤ 255
-    l8 = leb-true (a .d8 + b .d8) 255 (all .e8)
+    l8 : a .d8 + b .d8 ≤ most-exponent
+    l8 = leb-true (a .d8 + b .d8) most-exponent (all .e8)
 
     total : x + y ≡ four ((a .d1 + b .d1) * 256 + (a .d2 + b .d2)) ((a .d3 + b .d3) * 256 + (a .d4 + b .d4)) ((a .d5 + b .d5) * 256 + (a .d6 + b .d6)) ((a .d7 + b .d7) * 256 + (a .d8 + b .d8))
     total = omega arith
 
-    bound : x + y < 18446744073709551616
+    bound : x + y < long-bound
     bound = omega (arith, total, l1, l2, l3, l4, l5, l6, l7, l8)
 
-pub product-lanes : (x y z component : ℕ) (t : Bool) → Bytes x → Bytes y → t ≡ fits? 255 (product (unpack x) (unpack y))
-    → z ≡ (x + y) % 18446744073709551616
+pub product-lanes : (x y z component : ℕ) (t : Bool) → Bytes x → Bytes y → t ≡ fits? most-exponent (product (unpack x) (unpack y))
+    → z ≡ (x + y) % long-bound
     → _≡_ {A = Option definition.Monomial} (choose t (some (unpack z, component)) none) (formed (unpack x) (unpack y, component))
 product-lanes x y z component t a b f e =
-    (λ i. choose (f i) (some (unpack (e i), component)) none) ∙ go (fits? 255 (product (unpack x) (unpack y))) refl
+    (λ i. choose (f i) (some (unpack (e i), component)) none) ∙ go (fits? most-exponent (product (unpack x) (unpack y))) refl
   where
-    go : (t : Bool) → fits? 255 (product (unpack x) (unpack y)) ≡ t
-        → _≡_ {A = Option definition.Monomial} (choose t (some (unpack ((x + y) % 18446744073709551616), component)) none)
+    go : (t : Bool) → fits? most-exponent (product (unpack x) (unpack y)) ≡ t
+        → _≡_ {A = Option definition.Monomial} (choose t (some (unpack ((x + y) % long-bound), component)) none)
         (choose t (some (product (unpack x) (unpack y), component)) none)
     go true h = λ i. some (product-fits x y a b h i, component)
     go false h = refl

@@ -5,6 +5,8 @@ use Prim.Native.Nat.{ℕ, _+_, _-_, _*_, _/_, _%_, _<_, _≤_}
 use native.Mathlib.Omega.{arith}
 use lib.Bits.{bitAnd, and-block, and-mask, and-high}
 use lib.Pow.{low}
+use Rattle.definitions.specs.Places.{most-exponent}
+use Rattle.monomial.specs.Values.{lane-bytes}
 use Rattle.definitions.specs.Packed.{four}
 use Rattle.definitions.proofs.Packing.{Bytes}
 
@@ -20,29 +22,29 @@ pub sums : (a b c d p q r s : ℕ) → four a b c d + four p q r s ≡ four (a +
 sums a b c d p q r s = omega arith
 
 -- the lower byte of a lane
-lower : (h l : ℕ) → l < 256 → bitAnd (h * 256 + l) 255 ≡ l
+lower : (h l : ℕ) → l < 256 → bitAnd (h * 256 + l) most-exponent ≡ l
 lower h l s = and-mask (h * 256 + l) 8 ∙ low h 8 s
 
-own : (l : ℕ) → l < 256 → bitAnd l 255 ≡ l
-own l s = ap (λ n. bitAnd n 255) (same l) ∙ lower 0 l s
+own : (l : ℕ) → l < 256 → bitAnd l most-exponent ≡ l
+own l s = ap (λ n. bitAnd n most-exponent) (same l) ∙ lower 0 l s
   where
     same : (l : ℕ) → l ≡ 0 * 256 + l
     same l = omega arith
 
 module _ (x : ℕ) (a : Bytes x) where
-  pub lows : bitAnd x 71777214294589695 ≡ four (a .d2) (a .d4) (a .d6) (a .d8)
+  pub lows : bitAnd x lane-bytes ≡ four (a .d2) (a .d4) (a .d6) (a .d8)
   lows =
-      ap (λ n. bitAnd n 71777214294589695) (a .whole)
-      ∙ and4 (a .d1 * 256 + a .d2) (a .d3 * 256 + a .d4) (a .d5 * 256 + a .d6) (a .d7 * 256 + a .d8) 255 255 255 255
+      ap (λ n. bitAnd n lane-bytes) (a .whole)
+      ∙ and4 (a .d1 * 256 + a .d2) (a .d3 * 256 + a .d4) (a .d5 * 256 + a .d6) (a .d7 * 256 + a .d8) most-exponent most-exponent most-exponent most-exponent
       (omega arith) (omega arith) (omega arith) (omega arith) (omega arith) (omega arith)
       ∙ (λ i. four (lower (a .d1) (a .d2) (a .s2) i) (lower (a .d3) (a .d4) (a .s4) i) (lower (a .d5) (a .d6) (a .s6) i) (lower (a .d7) (a .d8) (a .s8) i))
 
   shifted : x / 256 ≡ four (a .d1) (a .d2 * 256 + a .d3) (a .d4 * 256 + a .d5) (a .d6 * 256 + a .d7)
   shifted = omega arith
 
-  pub highs : bitAnd (x / 256) 71777214294589695 ≡ four (a .d1) (a .d3) (a .d5) (a .d7)
+  pub highs : bitAnd (x / 256) lane-bytes ≡ four (a .d1) (a .d3) (a .d5) (a .d7)
   highs =
-      ap (λ n. bitAnd n 71777214294589695) shifted
-      ∙ and4 (a .d1) (a .d2 * 256 + a .d3) (a .d4 * 256 + a .d5) (a .d6 * 256 + a .d7) 255 255 255 255
+      ap (λ n. bitAnd n lane-bytes) shifted
+      ∙ and4 (a .d1) (a .d2 * 256 + a .d3) (a .d4 * 256 + a .d5) (a .d6 * 256 + a .d7) most-exponent most-exponent most-exponent most-exponent
       (omega arith) (omega arith) (omega arith) (omega arith) (omega arith) (omega arith)
       ∙ (λ i. four (own (a .d1) (a .s1) i) (lower (a .d2) (a .d3) (a .s3) i) (lower (a .d4) (a .d5) (a .s5) i) (lower (a .d6) (a .d7) (a .s7) i))

@@ -7,15 +7,16 @@ use lib.Dec.{leb}
 use lib.ListN.{getD}
 use lib.Bits.{bitAnd, and-mask, and-zero-r}
 use borrow.Author.Tests.{leb-true, leb-false}
+use Rattle.definitions.specs.Places.{most-exponent}
 use Rattle.definitions.specs.Monomial.{Exponents, lcm}
 use Rattle.definitions.specs.Packed.{low-bytes, four, unpack}
-use Rattle.monomial.specs.Values.{even-lanes}
+use Rattle.monomial.specs.Values.{even-lanes, lane-bytes, lane-marks}
 use Rattle.definitions.proofs.Packing.{Bytes, unpack-is}
 use Rattle.monomial.proofs.Lanes.{and4, lows, sums}
 use Rattle.monomial.proofs.Dividing.{mark, gaps, gap-marks}
 
 abbrev fill : Bool → ℕ
-fill true = 255
+fill true = most-exponent
 fill false = 0
 
 filled : (p : Bool) → fill p < 65536
@@ -52,7 +53,7 @@ raise : (x y : ℕ) → x + (y - x) ≡ max x y
 raise x y = omega arith
 
 abbrev raised : ℕ → ℕ → ℕ
-raised x y = x + bitAnd (y + 72058693566333184 - x) (bitAnd (y + 72058693566333184 - x) 72058693566333184 - bitAnd (y + 72058693566333184 - x) 72058693566333184 / 256)
+raised x y = x + bitAnd (y + lane-marks - x) (bitAnd (y + lane-marks - x) lane-marks - bitAnd (y + lane-marks - x) lane-marks / 256)
 
 raised-lanes : (a b c d p q r s : ℕ) → a < 256 → b < 256 → c < 256 → d < 256 → p < 256 → q < 256 → r < 256 → s < 256
     → raised (four a b c d) (four p q r s) ≡ four (max a p) (max b q) (max c r) (max d s)
@@ -69,7 +70,7 @@ raised-lanes a b c d p q r s ha hb hc hd hp hq hr hs =
 max-small : (x y : ℕ) → x < 256 → y < 256 → max x y < 256
 max-small x y hx hy = omega arith
 
-pub lanes-small : (a b c d : ℕ) → a < 256 → b < 256 → c < 256 → d < 256 → four a b c d ≤ 71777214294589695
+pub lanes-small : (a b c d : ℕ) → a < 256 → b < 256 → c < 256 → d < 256 → four a b c d ≤ lane-bytes
 lanes-small a b c d ha hb hc hd = omega arith
 
 weave : (a b c d e f g h : ℕ) → four a c e g * 256 + four b d f h ≡ four (a * 256 + b) (c * 256 + d) (e * 256 + f) (g * 256 + h)
@@ -83,13 +84,13 @@ unfolding low-bytes
 one-lower x y = refl
 
 module _ (x y : ℕ) (a : Bytes x) (b : Bytes y) where
-  pub raised-word : raised (bitAnd x 71777214294589695) (bitAnd y 71777214294589695) ≡ even-lanes (lcm (unpack x) (unpack y))
+  pub raised-word : raised (bitAnd x lane-bytes) (bitAnd y lane-bytes) ≡ even-lanes (lcm (unpack x) (unpack y))
   raised-word =
       (λ i. raised (lows x a i) (lows y b i))
       ∙ raised-lanes (a .d2) (a .d4) (a .d6) (a .d8) (b .d2) (b .d4) (b .d6) (b .d8) (a .s2) (a .s4) (a .s6) (a .s8) (b .s2) (b .s4) (b .s6) (b .s8)
       ∙ sym (λ i. even-lanes (lcm (a .spelled i) (b .spelled i)))
 
-  pub lcm-small : even-lanes (lcm (unpack x) (unpack y)) ≤ 71777214294589695
+  pub lcm-small : even-lanes (lcm (unpack x) (unpack y)) ≤ lane-bytes
   lcm-small =
       rw (a .spelled, b .spelled)
       (lanes-small (max (a .d2) (b .d2)) (max (a .d4) (b .d4)) (max (a .d6) (b .d6)) (max (a .d8) (b .d8))

@@ -32,4 +32,8 @@ even-lanes e = four (getD e 1 0) (getD e 3 0) (getD e 5 0) (getD e 7 0)
 
 -- the most that four lanes of eight bits hold
 abbrev pub lane-bytes : ℕ
-lane-bytes = 71777214294589695
+lane-bytes = 71_777_214_294_589_695
+
+-- the bit above each of them
+abbrev pub lane-marks : ℕ
+lane-marks = 72_058_693_566_333_184

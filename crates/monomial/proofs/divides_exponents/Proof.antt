@@ -1,19 +1,20 @@
 use Prim.Native.Nat.{_/_, _<_}
 use native.Mathlib.Omega.{arith}
 use lib.Bits.{and-le-r}
+use Rattle.monomial.specs.Values.{lane-bytes}
 use Rattle.definitions.proofs.Packing.{bytes-of}
 use Rattle.monomial.proofs.Dividing.{divides-lanes, enough}
 use Rattle.monomial.proofs.divides_exponents.Statement.{statement}
 use Rattle.monomial.proofs.divides_exponents.Tie as tie
 
 add-o : tie.Need-add-o
-add-o c = omega (arith, and-le-r (c .args .y / 256) 71777214294589695)
+add-o c = omega (arith, and-le-r (c .args .y / 256) lane-bytes)
 
 sub-o : tie.Need-sub-o
 sub-o c = enough (c .args .x / 256) (c .args .y / 256)
 
 add-e : tie.Need-add-e
-add-e c = omega (arith, and-le-r (c .args .y) 71777214294589695)
+add-e c = omega (arith, and-le-r (c .args .y) lane-bytes)
 
 sub-e : tie.Need-sub-e
 sub-e c = enough (c .args .x) (c .args .y)

@@ -2,23 +2,24 @@ use borrow.Author.Needs.{needs}
 use Prim.Native.Nat.{_/_, _+_}
 use native.Mathlib.Omega.{arith}
 use lib.Bits.{bitAnd, and-le-r}
+use Rattle.monomial.specs.Values.{lane-bytes, lane-marks}
 use Rattle.definitions.proofs.Packing.{bytes-of}
 use Rattle.monomial.proofs.Forming.{fits-lanes, product-lanes}
 use Rattle.monomial.proofs.product_exponents.Statement.{statement}
 use Rattle.monomial.proofs.product_exponents.Tie as tie
 
 add-o : tie.Need-add-o
-add-o c = omega (arith, and-le-r (c .args .q / 256) 71777214294589695, and-le-r (c .args .e / 256) 71777214294589695)
+add-o c = omega (arith, and-le-r (c .args .q / 256) lane-bytes, and-le-r (c .args .e / 256) lane-bytes)
 
 add-l : tie.Need-add-l
-add-l c = omega (arith, and-le-r (c .args .q) 71777214294589695, and-le-r (c .args .e) 71777214294589695)
+add-l c = omega (arith, and-le-r (c .args .q) lane-bytes, and-le-r (c .args .e) lane-bytes)
 
 add-m : tie.Need-add-m
 add-m c =
     omega (
       arith,
-      and-le-r (bitAnd (c .args .q / 256) 71777214294589695 + bitAnd (c .args .e / 256) 71777214294589695) 72058693566333184,
-      and-le-r (bitAnd (c .args .q) 71777214294589695 + bitAnd (c .args .e) 71777214294589695) 72058693566333184,
+      and-le-r (bitAnd (c .args .q / 256) lane-bytes + bitAnd (c .args .e / 256) lane-bytes) lane-marks,
+      and-le-r (bitAnd (c .args .q) lane-bytes + bitAnd (c .args .e) lane-bytes) lane-marks,
     )
 
 wrapping-add-u64-requires : tie.Need-wrapping-add-u64-requires
