@@ -135,7 +135,8 @@ unpack-pack e h s = let z : 8 ≡ length e + 0 = omega arith in ap (λ k. low-by
 
 pub eight-small : (e : Exponents) → T (fits? 255 e) → Small e
 eight-small [] t = none
-eight-small (x ∷ e) t = let l : x ≤ 255 = leb→le x 255 (and-left (leb x 255) (fits? 255 e) t) in let h : x < 256 = omega arith in more h (eight-small e (and-right (leb x 255) (fits? 255 e) t))
+eight-small (x ∷ e) t = let l : x ≤ 255 = leb→le x 255 (and-left (leb x 255) (fits? 255 e) t) in let h : x < 256 = omega arith in
+    more h (eight-small e (and-right (leb x 255) (fits? 255 e) t))
 
 small-eight : (e : Exponents) → Small e → T (fits? 255 e)
 small-eight [] none = tt

@@ -6,9 +6,11 @@ use Rattle.definitions.specs.Limits.{document-01}
 use lib.ListN.{length}
 use Rattle.definitions.specs.Layout.{words-of, level-vectors, level-rows, count-place, rows-place, state-words, work-words, out-words, division, tree}
 use Rattle.definitions.specs.Places.{exponents-length, most-exponent, most-variables, most-components, most-elements, most-vectors, most-rows, most-terms}
-use Rattle.definitions.specs.Places.{most-tree-terms, most-levels, all-levels, packed-length, row-length, image-length, component-offset, exponents-offset, rank-offset, counts-length}
+use Rattle.definitions.specs.Places.{most-tree-terms, most-levels, all-levels, packed-length, row-length, image-length, component-offset}
+use Rattle.definitions.specs.Places.{exponents-offset, rank-offset, counts-length}
 use Rattle.definitions.specs.Places.{rows-start, level-length, state-length, count-offset, ends-offset, rows-offset, value-length, tree-length}
-use Rattle.definitions.specs.Places.{vector-length, heads-length, images-length, spans-length, tables-spans, tables-ends, tables-below, tables-above, tables-length}
+use Rattle.definitions.specs.Places.{vector-length, heads-length, images-length, spans-length, tables-spans, tables-ends, tables-below, tables-above}
+use Rattle.definitions.specs.Places.{tables-length}
 use Rattle.definitions.specs.Places.{ends-length, lifted-length, grown-length, file-length, read-length, s-line-length, pair-line-length, s-lines-length}
 use Rattle.definitions.specs.Places.{level-lines-length, all-lines-length, sheet-length}
 
@@ -45,7 +47,8 @@ state-is = (refl, refl, refl, refl)
 
 -- of the other buffers
 buffers-are : (value-length ≡ work-words document-01 division) × (tree-length ≡ work-words document-01 tree) × (vector-length ≡ out-words document-01)
-    × (heads-length ≡ most-vectors * row-length) × (images-length ≡ most-vectors * image-length) × (spans-length ≡ suc most-vectors * 2) × (ends-length ≡ most-vectors)
+    × (heads-length ≡ most-vectors * row-length) × (images-length ≡ most-vectors * image-length) × (spans-length ≡ suc most-vectors * 2)
+    × (ends-length ≡ most-vectors)
     × (lifted-length ≡ ends-length + level-length)
     × (grown-length ≡ lifted-length + vector-length) × (tables-spans ≡ heads-length) × (tables-ends ≡ tables-spans + spans-length)
     × (tables-below ≡ tables-ends + ends-length)

@@ -52,7 +52,8 @@ same-from a b (x ∷ l) (y ∷ m) e (more h s) (more k t) =
 
 pub same-packed : (x y : ℕ) → Bytes x → Bytes y → eqb x y ≡ same-exponents? (unpack x) (unpack y)
 same-packed x y a b =
-    (λ i. eqb (bytes-packed x a i) (bytes-packed y b i)) ∙ same-from 0 0 _ _ refl (bytes-small x a) (bytes-small y b) ∙ sym (λ i. same-exponents? (a .spelled i) (b .spelled i))
+    (λ i. eqb (bytes-packed x a i) (bytes-packed y b i)) ∙ same-from 0 0 _ _ refl (bytes-small x a) (bytes-small y b)
+    ∙ sym (λ i. same-exponents? (a .spelled i) (b .spelled i))
 
 -- ## Degrees
 
@@ -113,7 +114,8 @@ module _ (x : ℕ) (a : Bytes x) where
   pub e1 : x / 72057594037927936 ≡ a .d1
   e1 = omega arith
 
-  pub widened-packed : x / 72057594037927936 ∷ x / 281474976710656 % 256 ∷ x / 1099511627776 % 256 ∷ x / 4294967296 % 256 ∷ x / 16777216 % 256 ∷ x / 65536 % 256 ∷ x / 256 % 256 ∷ x % 256 ∷ [] ≡ unpack x
+  pub widened-packed : x / 72057594037927936 ∷ x / 281474976710656 % 256 ∷ x / 1099511627776 % 256 ∷ x / 4294967296 % 256 ∷ x / 16777216 % 256 ∷ x / 65536 %
+      256 ∷ x / 256 % 256 ∷ x % 256 ∷ [] ≡ unpack x
   widened-packed = (λ i. e1 i ∷ e2 i ∷ e3 i ∷ e4 i ∷ e5 i ∷ e6 i ∷ e7 i ∷ e8 i ∷ []) ∙ sym (a .spelled)
 
 -- ## Eight bytes put together

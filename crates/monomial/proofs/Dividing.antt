@@ -35,7 +35,8 @@ pub gap-marks : (a b c d p q r s : ℕ) → a < 256 → b < 256 → c < 256 → 
     → bitAnd (four p q r s + lane-marks - four a b c d) lane-marks ≡ four (mark (leb a p)) (mark (leb b q)) (mark (leb c r)) (mark (leb d s))
 gap-marks a b c d p q r s ha hb hc hd hp hq hr hs =
     ap (λ n. bitAnd n lane-marks) (gaps a b c d p q r s ha hb hc hd)
-    ∙ and4 (p + 256 - a) (q + 256 - b) (r + 256 - c) (s + 256 - d) 256 256 256 256 (omega arith) (omega arith) (omega arith) (omega arith) (omega arith) (omega arith)
+    ∙ and4 (p + 256 - a) (q + 256 - b) (r + 256 - c) (s + 256 - d) 256 256 256 256 (omega arith) (omega arith) (omega arith) (omega arith) (omega arith)
+    (omega arith)
     ∙ (λ i. four (gap-mark a p ha hp i) (gap-mark b q hb hq i) (gap-mark c r hc hr i) (gap-mark d s hd hs i))
 
 both : (p q : Bool) → bitAnd (mark p) (mark q) ≡ mark (p and q)
@@ -74,7 +75,8 @@ ended true = refl
 ended false = refl
 
 pub marks-and : (p q r s t u v w : Bool)
-    → eqb (bitAnd (four (mark p) (mark r) (mark t) (mark v)) (four (mark q) (mark s) (mark u) (mark w))) lane-marks ≡ (p and (q and (r and (s and (t and (u and (v and (w and true))))))))
+    → eqb (bitAnd (four (mark p) (mark r) (mark t) (mark v)) (four (mark q) (mark s) (mark u) (mark w))) lane-marks
+    ≡ (p and (q and (r and (s and (t and (u and (v and (w and true))))))))
 marks-and p q r s t u v w =
     ap (λ n. eqb n lane-marks)
     (and4 (mark p) (mark r) (mark t) (mark v) (mark q) (mark s) (mark u) (mark w) (small r) (small t) (small v) (small s) (small u) (small w)
@@ -97,7 +99,8 @@ divides-lanes x y a b =
     ∙ gap-marks (a .d1) (a .d3) (a .d5) (a .d7) (b .d1) (b .d3) (b .d5) (b .d7) (a .s1) (a .s3) (a .s5) (a .s7) (b .s1) (b .s3) (b .s5) (b .s7))
     ((λ i. bitAnd (lows y b i + lane-marks - lows x a i) lane-marks)
     ∙ gap-marks (a .d2) (a .d4) (a .d6) (a .d8) (b .d2) (b .d4) (b .d6) (b .d8) (a .s2) (a .s4) (a .s6) (a .s8) (b .s2) (b .s4) (b .s6) (b .s8))
-    ∙ marks-and (leb (a .d1) (b .d1)) (leb (a .d2) (b .d2)) (leb (a .d3) (b .d3)) (leb (a .d4) (b .d4)) (leb (a .d5) (b .d5)) (leb (a .d6) (b .d6)) (leb (a .d7) (b .d7)) (leb (a .d8) (b .d8))
+    ∙ marks-and (leb (a .d1) (b .d1)) (leb (a .d2) (b .d2)) (leb (a .d3) (b .d3)) (leb (a .d4) (b .d4)) (leb (a .d5) (b .d5)) (leb (a .d6) (b .d6))
+    (leb (a .d7) (b .d7)) (leb (a .d8) (b .d8))
     ∙ sym (λ i. divides? (a .spelled i) (b .spelled i))
 
 -- no difference goes below zero

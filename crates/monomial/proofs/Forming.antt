@@ -31,7 +31,8 @@ sum-mark x y hx hy = and-high (x + y) 1 8 ∙ go (leb (x + y) most-exponent) ref
     go false e = let l : most-exponent < x + y = leb-false (x + y) most-exponent e in omega arith
 
 sum-marks : (a b c d p q r s : ℕ) → a < 256 → b < 256 → c < 256 → d < 256 → p < 256 → q < 256 → r < 256 → s < 256
-    → bitAnd (four a b c d + four p q r s) lane-marks ≡ four (over (leb (a + p) most-exponent)) (over (leb (b + q) most-exponent)) (over (leb (c + r) most-exponent)) (over (leb (d + s) most-exponent))
+    → bitAnd (four a b c d + four p q r s) lane-marks ≡ four (over (leb (a + p) most-exponent)) (over (leb (b + q) most-exponent))
+    (over (leb (c + r) most-exponent)) (over (leb (d + s) most-exponent))
 sum-marks a b c d p q r s ha hb hc hd hp hq hr hs =
     ap (λ n. bitAnd n lane-marks) (sums a b c d p q r s)
     ∙ and4 (a + p) (b + q) (c + r) (d + s) 256 256 256 256 (omega arith) (omega arith) (omega arith) (omega arith) (omega arith) (omega arith)
@@ -52,7 +53,8 @@ neither false true = refl
 neither false false = refl
 
 unmarked : (p q r s t u v w : Bool)
-    → eqb (four (over p) (over r) (over t) (over v) + four (over q) (over s) (over u) (over w)) 0 ≡ (p and (q and (r and (s and (t and (u and (v and (w and true))))))))
+    → eqb (four (over p) (over r) (over t) (over v) + four (over q) (over s) (over u) (over w)) 0
+    ≡ (p and (q and (r and (s and (t and (u and (v and (w and true))))))))
 unmarked p q r s t u v w =
     ap (λ n. eqb n 0) (sums (over p) (over r) (over t) (over v) (over q) (over s) (over u) (over w))
     ∙ zero-two (((over p + over q) * 65536 + (over r + over s)) * 65536 + (over t + over u)) (over v + over w)
@@ -121,10 +123,13 @@ each p q r s t u v w e =
 
 -- ## Products that fit
 
-pub product-fits : (x y : ℕ) → Bytes x → Bytes y → fits? most-exponent (product (unpack x) (unpack y)) ≡ true → unpack ((x + y) % long-bound) ≡ product (unpack x) (unpack y)
+pub product-fits : (x y : ℕ) → Bytes x → Bytes y → fits? most-exponent (product (unpack x) (unpack y)) ≡ true → unpack ((x + y) % long-bound)
+    ≡ product (unpack x) (unpack y)
 product-fits x y a b f =
-    unpack-is ((x + y) % long-bound) (a .d1 + b .d1) (a .d2 + b .d2) (a .d3 + b .d3) (a .d4 + b .d4) (a .d5 + b .d5) (a .d6 + b .d6) (a .d7 + b .d7) (a .d8 + b .d8)
-    (mod-eq-of-lt bound ∙ total) (omega (arith, l1)) (omega (arith, l2)) (omega (arith, l3)) (omega (arith, l4)) (omega (arith, l5)) (omega (arith, l6)) (omega (arith, l7)) (omega (arith, l8))
+    unpack-is ((x + y) % long-bound) (a .d1 + b .d1) (a .d2 + b .d2) (a .d3 + b .d3) (a .d4 + b .d4) (a .d5 + b .d5) (a .d6 + b .d6) (a .d7 + b .d7)
+    (a .d8 + b .d8)
+    (mod-eq-of-lt bound ∙ total) (omega (arith, l1)) (omega (arith, l2)) (omega (arith, l3)) (omega (arith, l4)) (omega (arith, l5)) (omega (arith, l6))
+    (omega (arith, l7)) (omega (arith, l8))
     ∙ sym (λ i. product (a .spelled i) (b .spelled i))
   where
     all : Each (leb (a .d1 + b .d1) most-exponent) (leb (a .d2 + b .d2) most-exponent) (leb (a .d3 + b .d3) most-exponent) (leb (a .d4 + b .d4) most-exponent)
@@ -155,7 +160,8 @@ product-fits x y a b f =
     l8 : a .d8 + b .d8 ≤ most-exponent
     l8 = leb-true (a .d8 + b .d8) most-exponent (all .e8)
 
-    total : x + y ≡ four ((a .d1 + b .d1) * 256 + (a .d2 + b .d2)) ((a .d3 + b .d3) * 256 + (a .d4 + b .d4)) ((a .d5 + b .d5) * 256 + (a .d6 + b .d6)) ((a .d7 + b .d7) * 256 + (a .d8 + b .d8))
+    total : x + y ≡ four ((a .d1 + b .d1) * 256 + (a .d2 + b .d2)) ((a .d3 + b .d3) * 256 + (a .d4 + b .d4)) ((a .d5 + b .d5) * 256 + (a .d6 + b .d6))
+        ((a .d7 + b .d7) * 256 + (a .d8 + b .d8))
     total = omega arith
 
     bound : x + y < long-bound
@@ -175,11 +181,14 @@ product-lanes x y z component t a b f e =
 
 -- ## Quotients, where it divides
 
-differences : (x y : ℕ) (a : Bytes x) (b : Bytes y) (g1 g2 g3 g4 g5 g6 g7 g8 : ℕ) → a .d1 + g1 ≡ b .d1 → a .d2 + g2 ≡ b .d2 → a .d3 + g3 ≡ b .d3 → a .d4 + g4 ≡ b .d4 → a .d5 + g5 ≡ b .d5 → a .d6 + g6 ≡ b .d6 → a .d7 + g7 ≡ b .d7 → a .d8 + g8 ≡ b .d8 → y - x ≡ four (g1 * 256 + g2) (g3 * 256 + g4) (g5 * 256 + g6) (g7 * 256 + g8)
+differences : (x y : ℕ) (a : Bytes x) (b : Bytes y) (g1 g2 g3 g4 g5 g6 g7 g8 : ℕ) → a .d1 + g1 ≡ b .d1 → a .d2 + g2 ≡ b .d2 → a .d3 + g3 ≡ b .d3 → a .d4 + g4
+    ≡ b .d4 → a .d5 + g5 ≡ b .d5 → a .d6 + g6 ≡ b .d6 → a .d7 + g7 ≡ b .d7 → a .d8 + g8 ≡ b .d8 → y - x
+    ≡ four (g1 * 256 + g2) (g3 * 256 + g4) (g5 * 256 + g6) (g7 * 256 + g8)
 differences x y a b g1 g2 g3 g4 g5 g6 g7 g8 h1 h2 h3 h4 h5 h6 h7 h8 = omega arith
 
 module _ (x y : ℕ) (a : Bytes x) (b : Bytes y) (f : divides? (unpack x) (unpack y) ≡ true) where
-  below : Each (leb (a .d1) (b .d1)) (leb (a .d2) (b .d2)) (leb (a .d3) (b .d3)) (leb (a .d4) (b .d4)) (leb (a .d5) (b .d5)) (leb (a .d6) (b .d6)) (leb (a .d7) (b .d7)) (leb (a .d8) (b .d8))
+  below : Each (leb (a .d1) (b .d1)) (leb (a .d2) (b .d2)) (leb (a .d3) (b .d3)) (leb (a .d4) (b .d4)) (leb (a .d5) (b .d5)) (leb (a .d6) (b .d6))
+      (leb (a .d7) (b .d7)) (leb (a .d8) (b .d8))
   below = each _ _ _ _ _ _ _ _ (sym (λ i. divides? (a .spelled i) (b .spelled i)) ∙ f)
 
   m1 : a .d1 ≤ b .d1
@@ -212,6 +221,8 @@ module _ (x y : ℕ) (a : Bytes x) (b : Bytes y) (f : divides? (unpack x) (unpac
   pub quotient-word : unpack (y - x) ≡ quotient (unpack y) (unpack x)
   quotient-word =
       unpack-is (y - x) (b .d1 - a .d1) (b .d2 - a .d2) (b .d3 - a .d3) (b .d4 - a .d4) (b .d5 - a .d5) (b .d6 - a .d6) (b .d7 - a .d7) (b .d8 - a .d8)
-      (differences x y a b (b .d1 - a .d1) (b .d2 - a .d2) (b .d3 - a .d3) (b .d4 - a .d4) (b .d5 - a .d5) (b .d6 - a .d6) (b .d7 - a .d7) (b .d8 - a .d8) (omega (arith, m1)) (omega (arith, m2)) (omega (arith, m3)) (omega (arith, m4)) (omega (arith, m5)) (omega (arith, m6)) (omega (arith, m7)) (omega (arith, m8)))
+      (differences x y a b (b .d1 - a .d1) (b .d2 - a .d2) (b .d3 - a .d3) (b .d4 - a .d4) (b .d5 - a .d5) (b .d6 - a .d6) (b .d7 - a .d7) (b .d8 - a .d8)
+      (omega (arith, m1)) (omega (arith, m2)) (omega (arith, m3)) (omega (arith, m4)) (omega (arith, m5)) (omega (arith, m6)) (omega (arith, m7))
+      (omega (arith, m8)))
       (omega arith) (omega arith) (omega arith) (omega arith) (omega arith) (omega arith) (omega arith) (omega arith)
       ∙ sym (λ i. quotient (b .spelled i) (a .spelled i))

@@ -94,16 +94,23 @@ module _ (x y : ℕ) (a : Bytes x) (b : Bytes y) where
   lcm-small =
       rw (a .spelled, b .spelled)
       (lanes-small (max (a .d2) (b .d2)) (max (a .d4) (b .d4)) (max (a .d6) (b .d6)) (max (a .d8) (b .d8))
-      (max-small (a .d2) (b .d2) (a .s2) (b .s2)) (max-small (a .d4) (b .d4) (a .s4) (b .s4)) (max-small (a .d6) (b .d6) (a .s6) (b .s6)) (max-small (a .d8) (b .d8) (a .s8) (b .s8)))
+      (max-small (a .d2) (b .d2) (a .s2) (b .s2)) (max-small (a .d4) (b .d4) (a .s4) (b .s4)) (max-small (a .d6) (b .d6) (a .s6) (b .s6))
+      (max-small (a .d8) (b .d8) (a .s8) (b .s8)))
 
   -- the bytes of odd place stand one place lower in a 256th
   odds : even-lanes (lcm (unpack (x / 256)) (unpack (y / 256))) ≡ four (max (a .d1) (b .d1)) (max (a .d3) (b .d3)) (max (a .d5) (b .d5)) (max (a .d7) (b .d7))
   odds = one-lower x y ∙ (λ i. odd-lanes (lcm (a .spelled i) (b .spelled i)))
 
-  pub lcm-word : (h l : ℕ) → h ≡ even-lanes (lcm (unpack (x / 256)) (unpack (y / 256))) → l ≡ even-lanes (lcm (unpack x) (unpack y)) → unpack (h * 256 + l) ≡ lcm (unpack x) (unpack y)
+  pub lcm-word : (h l : ℕ) → h ≡ even-lanes (lcm (unpack (x / 256)) (unpack (y / 256))) → l ≡ even-lanes (lcm (unpack x) (unpack y)) → unpack (h * 256 + l)
+      ≡ lcm (unpack x) (unpack y)
   lcm-word h l p q =
-      unpack-is (h * 256 + l) (max (a .d1) (b .d1)) (max (a .d2) (b .d2)) (max (a .d3) (b .d3)) (max (a .d4) (b .d4)) (max (a .d5) (b .d5)) (max (a .d6) (b .d6)) (max (a .d7) (b .d7)) (max (a .d8) (b .d8))
-      ((λ i. (p ∙ odds) i * 256 + (q ∙ (λ j. even-lanes (lcm (a .spelled j) (b .spelled j)))) i) ∙ weave (max (a .d1) (b .d1)) (max (a .d2) (b .d2)) (max (a .d3) (b .d3)) (max (a .d4) (b .d4)) (max (a .d5) (b .d5)) (max (a .d6) (b .d6)) (max (a .d7) (b .d7)) (max (a .d8) (b .d8)))
-      (max-small (a .d1) (b .d1) (a .s1) (b .s1)) (max-small (a .d2) (b .d2) (a .s2) (b .s2)) (max-small (a .d3) (b .d3) (a .s3) (b .s3)) (max-small (a .d4) (b .d4) (a .s4) (b .s4))
-      (max-small (a .d5) (b .d5) (a .s5) (b .s5)) (max-small (a .d6) (b .d6) (a .s6) (b .s6)) (max-small (a .d7) (b .d7) (a .s7) (b .s7)) (max-small (a .d8) (b .d8) (a .s8) (b .s8))
+      unpack-is (h * 256 + l) (max (a .d1) (b .d1)) (max (a .d2) (b .d2)) (max (a .d3) (b .d3)) (max (a .d4) (b .d4)) (max (a .d5) (b .d5))
+      (max (a .d6) (b .d6)) (max (a .d7) (b .d7)) (max (a .d8) (b .d8))
+      ((λ i. (p ∙ odds) i * 256 + (q ∙ (λ j. even-lanes (lcm (a .spelled j) (b .spelled j)))) i)
+      ∙ weave (max (a .d1) (b .d1)) (max (a .d2) (b .d2)) (max (a .d3) (b .d3)) (max (a .d4) (b .d4)) (max (a .d5) (b .d5)) (max (a .d6) (b .d6))
+      (max (a .d7) (b .d7)) (max (a .d8) (b .d8)))
+      (max-small (a .d1) (b .d1) (a .s1) (b .s1)) (max-small (a .d2) (b .d2) (a .s2) (b .s2)) (max-small (a .d3) (b .d3) (a .s3) (b .s3))
+      (max-small (a .d4) (b .d4) (a .s4) (b .s4))
+      (max-small (a .d5) (b .d5) (a .s5) (b .s5)) (max-small (a .d6) (b .d6) (a .s6) (b .s6)) (max-small (a .d7) (b .d7) (a .s7) (b .s7))
+      (max-small (a .d8) (b .d8) (a .s8) (b .s8))
       ∙ sym (λ i. lcm (a .spelled i) (b .spelled i))

@@ -63,7 +63,8 @@ module _ {A B C : Type 0} where
 
 -- ## compare, on level 0
 
-pub compare-tells : (code : ℕ) → T (between 1 code 3) → (a b : Monomial) → (r : Comparison) → comparison-of r ≡ compare-over code [] (monomial-of a) (monomial-of b)
+pub compare-tells : (code : ℕ) → T (between 1 code 3) → (a b : Monomial) → (r : Comparison) → comparison-of r
+    ≡ compare-over code [] (monomial-of a) (monomial-of b)
     → Tells (Above code [] (monomial-of a) (monomial-of b)) (monomial-of a ≡ monomial-of b) (Above code [] (monomial-of b) (monomial-of a)) r
 compare-tells code t a b r e =
     tells r (compare-over code [] (monomial-of a) (monomial-of b)) e

@@ -11,10 +11,12 @@ add-s : tie.Need-add-s
 add-s c = omega (arith, and-le-r (c .args .x / 256) lane-bytes, and-le-r (c .args .x) lane-bytes)
 
 add-t : tie.Need-add-t
-add-t c = halved-fits (bitAnd (c .args .x / 256) lane-bytes + bitAnd (c .args .x) lane-bytes) (omega (arith, and-le-r (c .args .x / 256) lane-bytes, and-le-r (c .args .x) lane-bytes))
+add-t c = halved-fits (bitAnd (c .args .x / 256) lane-bytes + bitAnd (c .args .x) lane-bytes)
+    (omega (arith, and-le-r (c .args .x / 256) lane-bytes, and-le-r (c .args .x) lane-bytes))
 
 add-result : tie.Need-add-result
-add-result c = added-fits (bitAnd (c .args .x / 256) lane-bytes + bitAnd (c .args .x) lane-bytes) (omega (arith, and-le-r (c .args .x / 256) lane-bytes, and-le-r (c .args .x) lane-bytes))
+add-result c = added-fits (bitAnd (c .args .x / 256) lane-bytes + bitAnd (c .args .x) lane-bytes)
+    (omega (arith, and-le-r (c .args .x / 256) lane-bytes, and-le-r (c .args .x) lane-bytes))
 
 returns : tie.Need-returns
 returns c = degree-packed (c .args .x) (bytes-of (c .args .x) (omega arith))

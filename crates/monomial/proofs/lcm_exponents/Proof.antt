@@ -21,7 +21,8 @@ returns : tie.Need-returns
 returns c =
     let x = c .before .before .args .x in
     let y = c .before .before .args .y in
-    lcm-word x y (bytes-of x (omega arith)) (bytes-of y (omega arith)) (c .before .larger .result) (c .larger2 .result) (c .before .larger .ensures .0) (c .larger2 .ensures .0)
+    lcm-word x y (bytes-of x (omega arith)) (bytes-of y (omega arith)) (c .before .larger .result) (c .larger2 .result) (c .before .larger .ensures .0)
+    (c .larger2 .ensures .0)
 
 pub lcm-exponents-spec : {M : Type 1} → statement M
 lcm-exponents-spec = tie.close (tie.spec larger-requires mul-result larger-requires-2 add-result returns)

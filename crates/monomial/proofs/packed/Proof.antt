@@ -96,9 +96,16 @@ add-result c = search needs
 
 returns : tie.Need-returns
 returns c =
-    packed-bytes (c .before .before .before .before .before .before .before .before .args .t1) (c .before .before .before .before .before .before .before .wide .result) (c .before .before .before .before .before .before .wide2 .result) (c .before .before .before .before .before .wide3 .result) (c .before .before .before .before .wide4 .result) (c .before .before .before .wide5 .result) (c .before .before .wide6 .result) (c .before .wide7 .result) (c .wide8 .result) (omega arith)
-    (c .before .before .before .before .before .before .before .wide .ensures .0) (c .before .before .before .before .before .before .wide2 .ensures .0) (c .before .before .before .before .before .wide3 .ensures .0) (c .before .before .before .before .wide4 .ensures .0) (c .before .before .before .wide5 .ensures .0) (c .before .before .wide6 .ensures .0) (c .before .wide7 .ensures .0) (c .wide8 .ensures .0)
-    (c .before .before .before .before .before .before .before .wide .ensures .1) (c .before .before .before .before .before .before .wide2 .ensures .1) (c .before .before .before .before .before .wide3 .ensures .1) (c .before .before .before .before .wide4 .ensures .1) (c .before .before .before .wide5 .ensures .1) (c .before .before .wide6 .ensures .1) (c .before .wide7 .ensures .1) (c .wide8 .ensures .1)
+    packed-bytes (c .before .before .before .before .before .before .before .before .args .t1)
+    (c .before .before .before .before .before .before .before .wide .result) (c .before .before .before .before .before .before .wide2 .result)
+    (c .before .before .before .before .before .wide3 .result) (c .before .before .before .before .wide4 .result)
+    (c .before .before .before .wide5 .result) (c .before .before .wide6 .result) (c .before .wide7 .result) (c .wide8 .result) (omega arith)
+    (c .before .before .before .before .before .before .before .wide .ensures .0) (c .before .before .before .before .before .before .wide2 .ensures .0)
+    (c .before .before .before .before .before .wide3 .ensures .0) (c .before .before .before .before .wide4 .ensures .0)
+    (c .before .before .before .wide5 .ensures .0) (c .before .before .wide6 .ensures .0) (c .before .wide7 .ensures .0) (c .wide8 .ensures .0)
+    (c .before .before .before .before .before .before .before .wide .ensures .1) (c .before .before .before .before .before .before .wide2 .ensures .1)
+    (c .before .before .before .before .before .wide3 .ensures .1) (c .before .before .before .before .wide4 .ensures .1)
+    (c .before .before .before .wide5 .ensures .1) (c .before .before .wide6 .ensures .1) (c .before .wide7 .ensures .1) (c .wide8 .ensures .1)
 
 pub packed-spec : {M : Type 1} → statement M
 packed-spec =

@@ -29,7 +29,8 @@ returns : tie.Need-returns
 returns c =
     let a = bytes-of (c .before .args .q) (omega arith) in
     let b = bytes-of (c .before .args .e) (omega arith) in
-    product-lanes (c .before .args .q) (c .before .args .e) (c .wrapping-add-u64 .result) (c .before .args .component) _ a b (fits-lanes (c .before .args .q) (c .before .args .e) a b) (c .wrapping-add-u64 .ensures)
+    product-lanes (c .before .args .q) (c .before .args .e) (c .wrapping-add-u64 .result) (c .before .args .component) _ a b
+    (fits-lanes (c .before .args .q) (c .before .args .e) a b) (c .wrapping-add-u64 .ensures)
 
 pub product-exponents-spec : {M : Type 1} → statement M
 product-exponents-spec = tie.close (tie.spec add-o add-l add-m wrapping-add-u64-requires returns)

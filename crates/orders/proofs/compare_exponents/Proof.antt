@@ -58,21 +58,26 @@ packed-last-differing-requires : tie.Need-packed-last-differing-requires
 packed-last-differing-requires c κs = search needs
 
 returns-3 : tie.Need-returns-3
-returns-3 c = let a = c .before .before .args in c .packed-lexicographic .ensures ∙ sym (code-1 (a .code) (unpack (a .x)) (unpack (a .y)) (c .before .match .keys1))
+returns-3 c = let a = c .before .before .args in c .packed-lexicographic .ensures
+    ∙ sym (code-1 (a .code) (unpack (a .x)) (unpack (a .y)) (c .before .match .keys1))
 
 returns-4 : tie.Need-returns-4
 returns-4 c =
     let a = c .before .before .before .before .before .before .before .args in
-    let d : comparison-of (c .before .before .before .long-numbers .result) ≡ degrees (unpack (a .x)) (unpack (a .y)) = c .before .before .before .long-numbers .ensures
-    ∙ (λ i. numbers (c .before .before .before .before .before .degree-exponents .ensures i) (c .before .before .before .before .degree-exponents2 .ensures i)) in
+    let d : comparison-of (c .before .before .before .long-numbers .result)
+    ≡ degrees (unpack (a .x)) (unpack (a .y)) = c .before .before .before .long-numbers .ensures
+    ∙ (λ i. numbers (c .before .before .before .before .before .degree-exponents .ensures i) (c .before .before .before .before .degree-exponents2 .ensures i))
+    in
     second-decides _ _ _ _ d (sym (c .before .before .decided .ensures) ∙ c .before .if1 .left) (c .packed-lexicographic2 .ensures)
     ∙ sym (code-2 (a .code) (unpack (a .x)) (unpack (a .y)) (c .before .before .before .before .before .before .match .keys2))
 
 returns-5 : tie.Need-returns-5
 returns-5 c =
     let a = c .before .before .before .before .before .before .before .args in
-    let d : comparison-of (c .before .before .before .long-numbers2 .result) ≡ degrees (unpack (a .x)) (unpack (a .y)) = c .before .before .before .long-numbers2 .ensures
-    ∙ (λ i. numbers (c .before .before .before .before .before .degree-exponents3 .ensures i) (c .before .before .before .before .degree-exponents4 .ensures i)) in
+    let d : comparison-of (c .before .before .before .long-numbers2 .result)
+    ≡ degrees (unpack (a .x)) (unpack (a .y)) = c .before .before .before .long-numbers2 .ensures
+    ∙ (λ i. numbers (c .before .before .before .before .before .degree-exponents3 .ensures i)
+    (c .before .before .before .before .degree-exponents4 .ensures i)) in
     second-decides _ _ _ _ d (sym (c .before .before .decided2 .ensures) ∙ c .before .if2 .left) (c .packed-last-differing .ensures)
     ∙ sym (code-3 (a .code) (unpack (a .x)) (unpack (a .y)) (c .before .before .before .before .before .before .match .rest .0 .1)
     (c .before .before .before .before .before .before .match .rest .1))

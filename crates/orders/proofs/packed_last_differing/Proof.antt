@@ -19,8 +19,10 @@ returns : tie.Need-returns
 returns c =
     let a = c .before .before .before .args in
     c .long-numbers .ensures
-    ∙ last-differing-packed (a .x) (a .y) (c .before .before .swapped .result) (c .before .swapped2 .result) (bytes-of (a .x) (omega arith)) (bytes-of (a .y) (omega arith))
-    (bytes-of (c .before .before .swapped .result) (omega arith)) (bytes-of (c .before .swapped2 .result) (omega arith)) (c .before .before .swapped .ensures) (c .before .swapped2 .ensures)
+    ∙ last-differing-packed (a .x) (a .y) (c .before .before .swapped .result) (c .before .swapped2 .result) (bytes-of (a .x) (omega arith))
+    (bytes-of (a .y) (omega arith))
+    (bytes-of (c .before .before .swapped .result) (omega arith)) (bytes-of (c .before .swapped2 .result) (omega arith)) (c .before .before .swapped .ensures)
+    (c .before .swapped2 .ensures)
 
 pub packed-last-differing-spec : {M : Type 1} → statement M
 packed-last-differing-spec =

@@ -10,7 +10,8 @@ long-numbers-requires : tie.Need-long-numbers-requires
 long-numbers-requires c κs = search needs
 
 returns : tie.Need-returns
-returns c = let a = c .before .args in c .long-numbers .ensures ∙ lexicographic-packed (a .x) (a .y) (bytes-of (a .x) (omega arith)) (bytes-of (a .y) (omega arith))
+returns c = let a = c .before .args in c .long-numbers .ensures
+    ∙ lexicographic-packed (a .x) (a .y) (bytes-of (a .x) (omega arith)) (bytes-of (a .y) (omega arith))
 
 pub packed-lexicographic-spec : {M : Type 1} → statement M
 packed-lexicographic-spec = tie.close (tie.spec long-numbers-requires returns)

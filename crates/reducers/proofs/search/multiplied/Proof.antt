@@ -32,7 +32,8 @@ returns c =
       (c .before .before .before .times .ensures ∙ ap (λ u. times (a .p) (a .c) (u .0)) (c .before .before .before .before .row .ensures)) i,
       monomial-of (y .monomial),
     )) none)
-    ∙ product-formed x (y .fits) (fits? most-exponent (product (unpack (a .q)) (t .1 .0))) (monomial-of (y .monomial)) (product (unpack (a .q)) (t .1 .0), t .1 .1)
+    ∙ product-formed x (y .fits) (fits? most-exponent (product (unpack (a .q)) (t .1 .0))) (monomial-of (y .monomial))
+    (product (unpack (a .q)) (t .1 .0), t .1 .1)
     (c .before .product .ensures ∙ ap (λ u. formed (unpack (a .q)) (u .1)) (c .before .before .before .before .row .ensures))
 
 pub multiplied-spec : {M : Type 1} → statement M

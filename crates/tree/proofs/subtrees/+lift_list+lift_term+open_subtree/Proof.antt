@@ -528,7 +528,8 @@ lift-term-returns t c =
     let m = monomial-of (a .m) in
     let f = c .before .before .reducer-of in (
       (ap (λ (v : Vector). done (v, 0, K)) (rows-none (a .cache .now) 0)
-          ∙ sym (term-lower S (a .room) (a .left) (a .a) K m (sym (ap (λ y. answered y (unpack (f .result .quotient))) (c .enum-told .given .1)) ∙ f .ensures))),
+          ∙ sym (term-lower S (a .room) (a .left) (a .a) K m (sym (ap (λ y. answered y (unpack (f .result .quotient))) (c .enum-told .given .1))
+          ∙ f .ensures))),
       (omega arith, P .0 .used-fits),
       λ k h. refl,
     )

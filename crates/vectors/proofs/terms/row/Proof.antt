@@ -35,7 +35,8 @@ shared-slice-read-t11 c = search needs
 returns : tie.Need-returns
 returns c =
     let a = c .before .before .before .before .args in
-    (λ i. (getD (a .s .now) (a .i * row-length) 0, (unpack (c .before .before .long .ensures i), getD (a .s .now) (a .i * row-length + component-offset) 0))) ∙ sym (row-is (a .s .now) (a .i))
+    (λ i. (getD (a .s .now) (a .i * row-length) 0, (unpack (c .before .before .long .ensures i), getD (a .s .now) (a .i * row-length + component-offset) 0)))
+    ∙ sym (row-is (a .s .now) (a .i))
 
 pub row-spec : {M : Type 1} → statement M
 row-spec =
