@@ -8,7 +8,7 @@ use Prim.Native.String.{String}
 use lib.ListN.{replicate}
 use Rattle.definitions.specs.Limits.{Limits, document-01}
 use Rattle.definitions.specs.Monomial.{Level}
-use Rattle.definitions.specs.Order.{greater, equal, compare-over}
+use Rattle.definitions.specs.Order.{greater, compare-over}
 use Rattle.definitions.specs.Frame.{frame}
 use Rattle.definitions.specs.Lifting.{by-division, by-hybrid, by-tree}
 use Rattle.definitions.specs.State.{State, empty, sound?}

@@ -3,18 +3,18 @@ use mathlib.Core.Path.{_≡_, refl, sym, ap, subst, subst₂}
 use mathlib.Core.Bool.{Bool, true, false, not}
 use mathlib.Core.Option.{some}
 use mathlib.Core.List.{List, [], _∷_}
-use Prim.Native.Nat.{ℕ, zero, suc, _+_, _-_, _*_, _<_, _≤_}
+use Prim.Native.Nat.{ℕ, zero, suc, _-_, _*_, _<_, _≤_}
 use native.Mathlib.Omega.{arith}
 use lib.Dec.{T, leb, leb→le, ltb→lt}
 use lib.ListN.{length, getD, replicate}
 use Rattle.definitions.specs.Limits.{Limits}
-use Rattle.definitions.specs.Lists.{_then_, choose, every, between}
+use Rattle.definitions.specs.Lists.{_then_, choose, between}
 use Rattle.definitions.specs.Monomial.{Vector, Level, vector-of}
 use Rattle.definitions.specs.Result.{Result}
 use Rattle.definitions.specs.Stage.{highest}
 use Rattle.definitions.specs.Lifting.{Lifting}
 use Rattle.definitions.specs.Problem.{Bytes, Parameters}
-use Rattle.definitions.specs.State.{State, has-level?, up-to, term-sound?, vector-sound?, levels-sound?, sound?}
+use Rattle.definitions.specs.State.{State, has-level?, up-to, vector-sound?, levels-sound?, sound?}
 use Rattle.definitions.specs.Calls.{Reply, refuse, settled, lift, fetch, eleven?, pick-code?, lifts?, fetches?, read-reply, lift-reply, fetch-reply}
 use Rattle.definitions.specs.Layout.{Words, zeros, padded, rows-of, state-words, encode, meant, Way, division, lifting-by, work-words, out-words, long-enough?}
 use Rattle.definitions.specs.Layout.{read-left, read-call, Lift, lift-left, lift-call, Fetch, fetch-left, fetch-call}
@@ -27,7 +27,6 @@ use Rattle.demands.specs.Demands
 use Rattle.demands.specs.Demands.{sensible?, out-long-enough?, no-basis, limit-met, Refused-reading, ill-formed, not-accepted}
 use Rattle.demands.specs.Demands.{Read-form, accepted-as, Lift-form, lifted-as, Fetch-form, fetched-as}
 use Rattle.demands.proofs.Results.{Holds, holds, nothing}
-use Rattle.demands.proofs.Over.{small-exponents}
 use Rattle.demands.proofs.Lifts
 use Rattle.demands.proofs.Lifts.{Lifted-to, one-more, still-lifting, lifted-to, levels-stay, height-up-to, with-level, not-eleven}
 use Rattle.demands.proofs.Sheets.{Reading, taken, refused-reading, still-reading, reading}

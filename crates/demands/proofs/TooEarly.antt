@@ -2,16 +2,16 @@
 use mathlib.Core.Path.{_≡_, refl, sym, ap, _∙_, subst}
 use mathlib.Core.Bool.{Bool, true, false, not}
 use mathlib.Core.Option.{some}
-use mathlib.Core.List.{List, [], _∷_}
+use mathlib.Core.List.{[], _∷_}
 use Prim.Native.Nat.{ℕ}
 use native.Mathlib.Omega.{arith}
 use lib.Dec.{T, ltb}
 use lib.ListN.{length, replicate}
 use Rattle.definitions.specs.Limits.{Limits, document-01}
 use Rattle.definitions.specs.Lists.{_and_, between}
-use Rattle.definitions.specs.Monomial.{Vector, Level}
+use Rattle.definitions.specs.Monomial.{Vector}
 use Rattle.definitions.specs.Result.{Result, done, refused, unfinished, finished?}
-use Rattle.definitions.specs.Problem.{Bytes, Parameters}
+use Rattle.definitions.specs.Problem.{Bytes}
 use Rattle.definitions.specs.State.{State}
 use Rattle.definitions.specs.Calls
 use Rattle.definitions.specs.Calls.{read}
@@ -22,7 +22,6 @@ use Rattle.definitions.proofs.Text.{text}
 use Rattle.definitions.proofs.Instances.{xy, f₁, g₁}
 use Rattle.definitions.proofs.Steady.{steady-once}
 use Rattle.definitions.proofs.Bound.{read-steady}
-use Rattle.files.specs.Answers.{Refused-right}
 use Rattle.demands.specs.Demands
 use Rattle.demands.specs.Demands.{sensible?, level-of, Fetch-right, Read-form, accepted-as, Refused-reading, ill-formed, not-accepted, no-basis}
 use Rattle.demands.specs.Demands.{limit-met, Lift-form, lifted-as}

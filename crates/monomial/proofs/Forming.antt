@@ -11,7 +11,7 @@ use borrow.Author.Tests.{leb-true, leb-false, eq-eqb, ne-eqb, eqb-true, eqb-fals
 use Rattle.definitions.specs.Places.{most-exponent}
 use Rattle.definitions.specs.Lists.{_and_, choose}
 use Rattle.definitions.specs.Monomial as definition
-use Rattle.definitions.specs.Monomial.{Exponents, divides?, product, quotient, fits?}
+use Rattle.definitions.specs.Monomial.{divides?, product, quotient, fits?}
 use Rattle.definitions.specs.Packed.{four, unpack, long-bound}
 use Rattle.monomial.specs.Values.{formed, lane-bytes, lane-marks}
 use Rattle.definitions.proofs.Packing.{Bytes, unpack-is}

@@ -1,9 +1,8 @@
 -- Masks and sums lane by lane.
-use mathlib.Core.Path.{_≡_, refl, sym, ap, _∙_}
-use mathlib.Core.Bool.{Bool, true, false}
-use Prim.Native.Nat.{ℕ, _+_, _-_, _*_, _/_, _%_, _<_, _≤_}
+use mathlib.Core.Path.{_≡_, ap, _∙_}
+use Prim.Native.Nat.{ℕ, _+_, _*_, _/_, _<_}
 use native.Mathlib.Omega.{arith}
-use lib.Bits.{bitAnd, and-block, and-mask, and-high}
+use lib.Bits.{bitAnd, and-block, and-mask}
 use lib.Pow.{low}
 use Rattle.definitions.specs.Places.{most-exponent}
 use Rattle.monomial.specs.Values.{lane-bytes}

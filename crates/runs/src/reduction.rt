@@ -12,7 +12,7 @@ ghost use Rattle.definitions.specs.Run.{add-term, unless-dropped, dropped?, add
 ghost use Rattle.definitions.specs.Packed.{unpack};
 ghost use Rattle.definitions.specs.Layout.{row-at, rows};
 ghost use Rattle.definitions.specs.Places.{row-length, image-length, tables-ends, tables-below};
-ghost use Rattle.orders.specs.Images.{key, key-of, table-of, table-order, Tabled};
+ghost use Rattle.orders.specs.Images.{table-of, table-order, Tabled};
 ghost use Rattle.reducers.specs.search.Search.{answer-of};
 ghost use Rattle.vectors.specs.terms.Rows.{term-of};
 ghost use Rattle.runs.specs.reduction.Grounds.{

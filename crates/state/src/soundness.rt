@@ -6,7 +6,7 @@ ghost use mathlib.Core.Bool.{not};
 ghost use Prim.Native.Nat.{_+_, _-_, _*_, _≤_, _<_};
 ghost use lib.ListN.{length, take};
 ghost use Rattle.definitions.specs.Limits.{document-01};
-ghost use Rattle.definitions.specs.Lists.{_and_, between as between-definition};
+ghost use Rattle.definitions.specs.Lists.{_and_};
 ghost use Rattle.definitions.specs.Monomial.{divides?};
 ghost use Rattle.definitions.specs.Order.{greater?};
 ghost use Rattle.definitions.specs.Layout.{holds-state?};

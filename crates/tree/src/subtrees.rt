@@ -4,16 +4,15 @@
 ghost use mathlib.Core.Path.{_≡_};
 ghost use Prim.Native.Nat.{_+_, _-_, _*_, _≤_, _<_};
 ghost use lib.Dec.{ltb};
-ghost use lib.ListN.{length, getD};
+ghost use lib.ListN.{length};
 ghost use Rattle.definitions.specs.Field.{minus};
 ghost use Rattle.definitions.specs.Packed.{unpack};
 ghost use Rattle.definitions.specs.Layout.{rows};
 ghost use Rattle.definitions.specs.Tree.{lift-term as term-definition, lift-list as list-definition, open-subtree as open-definition};
 ghost use Rattle.definitions.specs.Places.{row-length};
-ghost use Rattle.definitions.specs.Places.{tables-ends};
 ghost use Rattle.monomial.specs.Values.{monomial-of};
 ghost use Rattle.orders.specs.Images.{table-of, table-order};
-ghost use Rattle.runs.specs.reduction.Grounds.{first-row, ends-in, above-in, Tables};
+ghost use Rattle.runs.specs.reduction.Grounds.{above-in, Tables};
 ghost use Rattle.runs.specs.run.Stages.{stage-of, Images};
 ghost use Rattle.cache.specs.Area.{Keeps};
 ghost use Rattle.cache.specs.Entries.{cache-of, subtree-of, Sized};

@@ -1,7 +1,7 @@
 -- The tables of a sound state's level are what lifting over it asks for, and its stage is the definitions'.
 use mathlib.Core.Path.{_≡_, refl, sym, ap, _∙_, subst}
 use mathlib.Core.List.{List, _∷_}
-use Prim.Native.Nat.{ℕ, zero, suc, _+_, _-_, _*_, _<_, _≤_}
+use Prim.Native.Nat.{ℕ, zero, suc, _-_, _<_, _≤_}
 use native.Mathlib.Nat.{not-suc-le-zero}
 use native.Mathlib.Omega.{arith}
 use native.Mathlib.Decide.{ℕ-discrete}
@@ -9,7 +9,6 @@ use lib.Dec.{T, leb}
 use lib.ListN.{length, getD, take, drop}
 use lib.Seq.{getD-take}
 use Rattle.definitions.specs.Limits.{document-01}
-use Rattle.definitions.specs.Lists.{_and_}
 use Rattle.definitions.specs.Field.{prime?}
 use Rattle.definitions.specs.Monomial.{Monomial, Level}
 use Rattle.definitions.specs.Order.{Comparison, compare-over}

@@ -3,7 +3,7 @@ use mathlib.Core.Path.{_≡_, refl, sym, ap, _∙_, subst}
 use mathlib.Core.Bool.{Bool, true, false}
 use mathlib.Core.Option.{Option, none, some}
 use mathlib.Core.List.{List, [], _∷_, _++_, append-nil, append-assoc}
-use Prim.Native.Nat.{ℕ, zero, suc, _+_, _-_, _*_, _<_, _≤_}
+use Prim.Native.Nat.{ℕ, zero, suc, _+_, _-_, _<_, _≤_}
 use native.Mathlib.Nat.{not-suc-le-zero}
 use native.Mathlib.Omega.{arith}
 use borrow.Author.Tests.{ne-eqb}
@@ -22,7 +22,7 @@ use Rattle.definitions.specs.Sheet.{printed, letter-X, x-lines, level-lines, if
 use Rattle.definitions.proofs.Tests.{and-left, and-right}
 use Rattle.definitions.proofs.Numbers as numbers
 use Rattle.definitions.proofs.Numbers.{limit-number?, Numbered, lift-level-number}
-use Rattle.definitions.specs.Places.{most-vectors, most-rows, most-levels, state-length, rows-offset}
+use Rattle.definitions.specs.Places.{most-vectors, most-rows, most-levels, state-length}
 use Rattle.state.specs.soundness.Places.{count-at, ends-from}
 use Rattle.state.proofs.preparing.Complete.{words-below, length-levels}
 use Rattle.level.specs.all_levels.Levels.{Levels, unless-last, then-levels, reached-from, reached}

@@ -1,4 +1,4 @@
-use Prim.Native.Nat.{_/_, _<_}
+use Prim.Native.Nat.{_/_}
 use native.Mathlib.Omega.{arith}
 use lib.Bits.{and-le-r}
 use Rattle.monomial.specs.Values.{lane-bytes}

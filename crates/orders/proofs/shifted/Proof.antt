@@ -1,8 +1,7 @@
 use borrow.Author.Needs.{needs}
 use native.Mathlib.Omega.{arith}
-use mathlib.Core.Path.{_≡_, refl, sym, ap, _∙_, subst}
-use mathlib.Core.List.{List, [], _∷_, _++_}
-use Prim.Native.Nat.{ℕ, suc, _+_, _-_, _*_, _<_, _≤_}
+use mathlib.Core.Path.{_≡_, refl, sym, _∙_, subst}
+use Prim.Native.Nat.{_+_, _-_, _<_, _≤_}
 use Rattle.definitions.specs.Monomial.{product}
 use Rattle.definitions.specs.Packed.{unpack}
 use Rattle.definitions.proofs.Packing.{unpack-long, unpack-at}
@@ -11,7 +10,7 @@ use Rattle.monomial.proofs.Places.{getD-product, length-product}
 use Rattle.orders.specs.Images.{exponents-raw}
 use Rattle.orders.proofs.Comparing.{getD-raw}
 use native.Mathlib.Nat.{not-suc-le-zero}
-use lib.ListN.{length, take, drop, getD, set, length-set}
+use lib.ListN.{length, getD, length-set}
 use Rattle.orders.proofs.shifted.Statement.{statement}
 use Rattle.orders.proofs.shifted.Tie as tie
 use Rattle.orders.proofs.shifted.Reads as reads

@@ -6,7 +6,7 @@ use mathlib.Core.List.{[], _∷_, _++_}
 use Prim.Native.Nat.{ℕ, zero, suc, _+_, _-_, _<_, _≤_}
 use native.Mathlib.Omega.{arith}
 use native.Mathlib.Decide.{ℕ-discrete}
-use lib.Dec.{T, leb, ltb, eqb, eqb·suc-zero}
+use lib.Dec.{leb, ltb, eqb, eqb·suc-zero}
 use lib.ListN.{length, getD, take, drop, replicate, length-drop}
 use lib.Seq.{drop-append-le, take-append-add}
 use borrow.Author.Tests.{le-leb, lt-leb, eq-eqb, ne-eqb}
@@ -14,32 +14,7 @@ use Rattle.definitions.specs.Limits.{document-01}
 use Rattle.definitions.specs.Lists.{_and_, _then_, last, empty?, between}
 use Rattle.definitions.specs.Monomial.{Term, Level, fits?}
 use Rattle.definitions.specs.Result.{Result, done, refused, unless-refused, _>>=_}
-use Rattle.definitions.specs.Problem.{
-  Bytes,
-  Line,
-  Parameters,
-  lines,
-  shaped,
-  prime-in-range?,
-  in-ranges?,
-  parameters-of,
-  r-line,
-  term-of,
-  next?,
-  same?,
-  in-sequence?,
-  term-in-range?,
-  below?,
-  last-term,
-  with-term,
-  t-line,
-  e-line,
-  by-shape,
-  body,
-  after-r,
-  first-line,
-  problem,
-}
+use Rattle.definitions.specs.Problem.{Bytes, Line, Parameters, lines, shaped, prime-in-range?, in-ranges?, parameters-of, r-line, term-of, term-in-range?, below?, last-term, with-term, t-line, e-line, by-shape, body, after-r, first-line, problem}
 use Rattle.definitions.specs.Layout.{Words, padded}
 use Rattle.definitions.proofs.Tests.{true-is, is-true, and-left, and-right, between-high}
 use Rattle.definitions.proofs.Results.{If-done, If-some}

@@ -10,11 +10,11 @@ use lib.ListN.{length, getD}
 use borrow.Author.Tests.{ltb-true, ltb-false, lt-ltb, le-ltb}
 use Rattle.definitions.specs.Lists.{_and_, choose}
 use Rattle.definitions.specs.Field.{times}
-use Rattle.definitions.specs.Monomial.{Exponents, Monomial, Term, Vector, divides?, divides-monomial?, quotient, no-term, fits?}
+use Rattle.definitions.specs.Monomial.{Monomial, Term, Vector, divides?, divides-monomial?, quotient, no-term}
 use Rattle.definitions.specs.Reducer.{Answer, reducer, lower-order, answer-from}
 use Rattle.reducers.specs.declared.search.Answer as code
 use Rattle.reducers.specs.declared.search.Answer.the-variants.{Reducer, LowerOrder}
-use Rattle.reducers.specs.search.Search.{searched, searched-at, first-dividing, formed-term}
+use Rattle.reducers.specs.search.Search.{searched, searched-at, first-dividing}
 
 abbrev answer-at : ℕ → ℕ → Vector → Term → ℕ → Answer
 answer-at p k v t j = reducer (k + j) (times p (t .0) (getD v j no-term .0)) (quotient (t .1 .0) (getD v j no-term .1 .0))

@@ -9,7 +9,7 @@ use lib.Dec.{T, leb, ltb, ltb→lt, nltb→le}
 use lib.ListN.{length, getD}
 use borrow.Author.Tests.{ltb-true, ltb-false, leb-true, leb-false, ne-eqb}
 use Rattle.definitions.specs.Lists.{_and_, choose}
-use Rattle.definitions.specs.Monomial.{Exponents, Monomial, Term, Vector, divides?, divides-monomial?, no-term}
+use Rattle.definitions.specs.Monomial.{Monomial, Term, Vector, divides?, divides-monomial?, no-term}
 use Rattle.definitions.specs.Packed.{unpack}
 use Rattle.definitions.specs.Layout.{Words, long-at, row-at, rows}
 use Rattle.definitions.proofs.Rows.{row-is, getD-rows, length-rows}

@@ -1,15 +1,14 @@
 -- A3 of the code's search: the term that `greatest` finds is the greatest of the working value, in document 01's order over the levels of a sound
 -- state.
-use mathlib.Core.Path.{_≡_, refl, sym, ap, _∙_, subst}
-use mathlib.Core.Bool.{true}
+use mathlib.Core.Path.{_≡_, sym, ap, _∙_, subst}
 use mathlib.Core.Option.{some}
-use mathlib.Core.List.{List, [], _∷_}
+use mathlib.Core.List.{List}
 use Prim.Native.Nat.{ℕ, zero, suc, _-_}
 use lib.Dec.{T, eqb}
 use lib.ListN.{length, drop, getD}
 use Rattle.definitions.specs.Limits.{Limits}
 use Rattle.definitions.specs.Lists.{every}
-use Rattle.definitions.specs.Monomial.{Vector, Level, no-term}
+use Rattle.definitions.specs.Monomial.{Level, no-term}
 use Rattle.definitions.specs.Order.{compare-over}
 use Rattle.definitions.specs.Run.{greatest}
 use Rattle.definitions.specs.State.{State, sound?, up-to}

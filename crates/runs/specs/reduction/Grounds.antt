@@ -1,20 +1,15 @@
 -- What the lent slices and the ground mean: the reduction, the stage and the run of the definitions.
-use mathlib.Core.Path.{_≡_}
-use mathlib.Core.Bool.{Bool, true}
-use mathlib.Core.List.{[], _∷_}
-use Prim.Native.Nat.{ℕ, zero, suc, _+_, _-_, _*_, _<_, _≤_}
-use lib.Dec.{eqb}
+use Prim.Native.Nat.{ℕ, zero, suc, _-_, _*_, _<_, _≤_}
 use lib.ListN.{length, getD, take, drop}
 use Rattle.definitions.specs.Limits.{Limits, document-01}
 use Rattle.definitions.specs.Monomial.{Vector, Level}
-use Rattle.definitions.specs.Result.{Result, done, refused, refusal}
-use Rattle.definitions.specs.Stage.{Reduction, Stage}
+use Rattle.definitions.specs.Result.{Result, done, refusal}
+use Rattle.definitions.specs.Stage.{Reduction}
 use Rattle.definitions.specs.Run as definition
-use Rattle.definitions.specs.Run.{Run, by-code}
+use Rattle.definitions.specs.Run.{Run}
 use Rattle.definitions.specs.Layout.{Words, rows, vectors-at}
 use Rattle.definitions.specs.Places.{most-exponent, row-length}
 use Rattle.definitions.specs.Places.{tables-above, tables-below, tables-ends, tables-length, tables-spans}
-use Rattle.orders.specs.Images.{table-of, table-order, Tabled}
 use Rattle.reducers.specs.search.Search.{Spanned}
 use Rattle.runs.specs.declared.reduction.Ground.{Ground}
 use Rattle.runs.specs.declared.reduction.Added.{Added}

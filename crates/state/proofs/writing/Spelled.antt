@@ -8,7 +8,7 @@ use lib.Dec.{T, leb, ltb, ltb→lt, leb→le}
 use lib.ListN.{length, take, drop, getD, length-drop}
 use lib.Seq.{take-add, drop-drop, ext-getD, getD-take, getD-drop, length-take-le}
 use Rattle.definitions.specs.Limits.{document-01}
-use Rattle.definitions.specs.Lists.{_and_, last}
+use Rattle.definitions.specs.Lists.{_and_}
 use Rattle.definitions.specs.Layout as layout
 use Rattle.definitions.specs.Layout.{Words, row-at, rows, row-of, rows-of, joined, vectors-at, ends-at, level-at, ascending?, words-sound?, all-words-sound?}
 use Rattle.definitions.proofs.Tests.{and-left, and-right, every-at}

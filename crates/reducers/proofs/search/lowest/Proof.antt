@@ -1,6 +1,6 @@
 use borrow.Author.Needs.{needs}
 use native.Mathlib.Omega.{arith}
-use mathlib.Core.Path.{_≡_, sym, ap, _∙_, subst}
+use mathlib.Core.Path.{_≡_, sym, ap, subst}
 use Prim.Native.Nat.{ℕ}
 use Rattle.reducers.specs.search.Search.{span-at, span-of}
 use Rattle.reducers.proofs.search.Firsts.{span-holds, first-spanned, none-spanned}
