@@ -8,7 +8,7 @@ ghost use lib.Dec.{T};
 ghost use lib.ListN.{length, getD};
 ghost use Rattle.definitions.specs.Limits.{document-01};
 ghost use Rattle.definitions.specs.Layout.{holds-state?};
-ghost use Rattle.definitions.specs.Places.{all-levels, state-length, table-length, spans-length};
+ghost use Rattle.definitions.specs.Places.{all-levels, state-length, heads-length, images-length, spans-length};
 ghost use Rattle.state.specs.preparing.Prepared.{components-at, Ready-pair, Led};
 use crate::soundness;
 use reducers::tables;
@@ -16,7 +16,7 @@ use reducers::tables;
 // The tables of images over levels 0 to k − 1, above, and over levels 0 to k − 2, below.
 pub fn fill_tables(below: &mut [u16], above: &mut [u16], state: &[u16], k: usize)
     requires { ⌜ (state-length ≤ length (now state)) × T (holds-state? document-01 (now state)) × (k ≤ getD (now state) 4 0)
-        × (table-length ≤ length (now below)) × (table-length ≤ length (now above)) ⌝ }
+        × (images-length ≤ length (now below)) × (images-length ≤ length (now above)) ⌝ }
     ensures { λ _. ⌜ Ready-pair (now (state .entry)) k (now (below .exit)) (now (above .exit)) ⌝ }
 {
     let mut j: usize = 0;
@@ -40,7 +40,7 @@ pub fn components_of(state: &[u16], k: usize) -> usize
 // The leading rows of level k and the spans of its components.
 pub fn fill_leads(heads: &mut [u16], spans: &mut [u16], state: &[u16], k: usize)
     requires { ⌜ (state-length ≤ length (now state)) × T (holds-state? document-01 (now state)) × (k < getD (now state) 4 0)
-        × (table-length ≤ length (now heads)) × (spans-length ≤ length (now spans)) ⌝ }
+        × (heads-length ≤ length (now heads)) × (spans-length ≤ length (now spans)) ⌝ }
     ensures { λ _. ⌜ Led (now (state .entry)) k (now (heads .exit)) (now (spans .exit)) ⌝ }
 {
     let r = soundness::count_of(state, k);

@@ -7,16 +7,15 @@ ghost use Prim.Native.Nat.{_+_, _-_, _*_, _≤_, _<_};
 ghost use lib.ListN.{length, take};
 ghost use Rattle.definitions.specs.Limits.{document-01};
 ghost use Rattle.definitions.specs.Lists.{_and_};
-ghost use Rattle.definitions.specs.Monomial.{divides?};
+ghost use Rattle.definitions.specs.Packed.{pack};
 ghost use Rattle.definitions.specs.Order.{greater?};
 ghost use Rattle.definitions.specs.Layout.{holds-state?};
-ghost use Rattle.definitions.specs.Places.{most-vectors, all-levels, row-length, header-length, level-length, state-length, table-length, image-length};
-ghost use Rattle.orders.specs.Images.{exponents-raw, key-of, compare-keys, table-of, table-order, Tabled};
+ghost use Rattle.definitions.specs.Places.{most-vectors, all-levels, row-length, header-length, level-length, state-length, images-length, image-length};
+ghost use Rattle.orders.specs.Images.{key-of, compare-keys, table-of, table-order, Tabled};
 ghost use Rattle.words.specs.parameters.Values.{parameters-of};
 ghost use Rattle.state.specs.soundness.Places.{parameters-at, count-at, count-below, rows-from, ends-from};
 ghost use Rattle.state.specs.soundness.Holding.{
   exponent-limits as limits-definition,
-  limit-at,
   bounds-of,
   row-holds?,
   follows?,
@@ -36,11 +35,11 @@ use vectors::terms;
 use words::parameters;
 use words::parameters::Parameters;
 
-// What a row's words are held to: the greatest coefficient and component, the greatest of each exponent.
+// What a row's words are held to: the greatest coefficient and component, the greatest of each exponent, packed as a row's are.
 pub struct Bounds {
     pub top: u16,
     pub components: u16,
-    pub exponents: [u16; words::EXPONENTS_LENGTH],
+    pub exponents: u64,
 }
 
 fn both(a: bool, b: bool) -> bool
@@ -77,26 +76,21 @@ pub fn read_parameters(state: &[u16]) -> Parameters
 
 // ## Rows
 
-// The greatest value of exponent j.
-fn limit(n: u16, j: usize) -> u16
-    ensures { λ r. ⌜ r ≡ limit-at n j ⌝ }
+// The greatest values of the exponents: 255 of the first n, 0 past them.
+fn exponent_limits(n: u16) -> u64
+    ensures { λ r. ⌜ r ≡ pack (limits-definition n) ⌝ }
 {
-    if j < words::place(n) {
-        return words::MOST_EXPONENT;
+    match n {
+        0 => 0,
+        1 => 0xff00_0000_0000_0000,
+        2 => 0xffff_0000_0000_0000,
+        3 => 0xffff_ff00_0000_0000,
+        4 => 0xffff_ffff_0000_0000,
+        5 => 0xffff_ffff_ff00_0000,
+        6 => 0xffff_ffff_ffff_0000,
+        7 => 0xffff_ffff_ffff_ff00,
+        _ => 0xffff_ffff_ffff_ffff,
     }
-    0
-}
-
-fn exponent_limits(n: u16) -> [u16; words::EXPONENTS_LENGTH]
-    ensures { λ r. ⌜ r ≡ limits-definition n ⌝ }
-{
-    let mut w = [0u16; words::EXPONENTS_LENGTH];
-    let mut j = 0;
-    while j < words::EXPONENTS_LENGTH {
-        w[j] = limit(n, j);
-        j += 1;
-    }
-    w
 }
 
 fn less_one(p: u16) -> u16
@@ -120,29 +114,15 @@ fn row_bounds(p: u16, n: u16, components: u16) -> Bounds
     }
 }
 
-// Whether each of the eight words from at on is at most its limit.
-fn within(level: &[u16], at: usize, w: [u16; words::EXPONENTS_LENGTH]) -> bool
-    requires { ⌜ at + 8 ≤ length (now level) ⌝ }
-    ensures { λ r. ⌜ r ≡ divides? (exponents-raw (now (level .entry)) at) w ⌝ }
-{
-    let mut mark: u16 = 0;
-    let mut j = 0;
-    while j < words::EXPONENTS_LENGTH {
-        mark = monomial::mark_above(mark, level[at + j], w[j]);
-        j += 1;
-    }
-    mark == 0
-}
-
 fn row_holds(level: &[u16], i: usize, b: Bounds) -> bool
     requires { ⌜ i * row-length + row-length ≤ length (now level) ⌝ }
     ensures { λ r. ⌜ r ≡ row-holds? b (now (level .entry)) i ⌝ }
 {
     let at = i * words::ROW_LENGTH;
-    let w = b.exponents;
     let c = words::between(1, level[at], b.top);
     let m = words::between(1, level[at + words::COMPONENT_OFFSET], b.components);
-    let e = within(level, at + words::EXPONENTS_OFFSET, w);
+    let x = words::long(level, at + words::EXPONENTS_OFFSET);
+    let e = monomial::divides_exponents(x, b.exponents);
     both(c, both(m, e))
 }
 
@@ -334,13 +314,13 @@ fn level_test(state: &[u16], k: usize, table: &[u16], n: usize) -> bool
 
 // The table over levels 0 to k − 1 goes from above to below, the one over level k too is made from it.
 pub fn advance(below: &mut [u16], above: &mut [u16], state: &[u16], k: usize)
-    requires { ⌜ (state-length ≤ length (now state)) × (k < all-levels) × (table-length ≤ length (now below)) × (table-length ≤ length (now above))
+    requires { ⌜ (state-length ≤ length (now state)) × (k < all-levels) × (images-length ≤ length (now below)) × (images-length ≤ length (now above))
         × (count-below (now state) k ≤ most-vectors) × (count-at (now state) k ≤ most-vectors)
         × Cut (count-at (now state) k) (rows-from (now state) k) (ends-from (now state) k) × Tabled (count-below (now state) k) (now above) ⌝ }
     ensures { λ _. ⌜ Advanced (now (state .entry)) k (now (above .entry)) (now (below .exit)) (now (above .exit)) ⌝ }
 {
     let n = count_under(state, k);
-    terms::copy(below, 0, above, n * words::ROW_LENGTH);
+    terms::copy(below, 0, above, n * words::IMAGE_LENGTH);
     let r = count_of(state, k);
     let start = words::ROWS_START + k * words::LEVEL_LENGTH;
     let ends = words::ENDS_START + k * words::COUNTS_LENGTH;
@@ -349,7 +329,7 @@ pub fn advance(below: &mut [u16], above: &mut [u16], state: &[u16], k: usize)
 
 // Levels 0 to h − 1, each over the table of the ones below it.
 fn levels_hold(below: &mut [u16], above: &mut [u16], state: &[u16], h: usize) -> bool
-    requires { ⌜ (state-length ≤ length (now state)) × (h ≤ all-levels) × (table-length ≤ length (now below)) × (table-length ≤ length (now above)) ⌝ }
+    requires { ⌜ (state-length ≤ length (now state)) × (h ≤ all-levels) × (images-length ≤ length (now below)) × (images-length ≤ length (now above)) ⌝ }
     ensures { λ r. ⌜ r ≡ levels-hold? (now (state .entry)) h ⌝ }
 {
     let mut k: usize = 0;
@@ -383,7 +363,7 @@ pub fn sound(state: &[u16]) -> bool
     if fails(both(field::prime_in_range(q.p), ranges)) {
         return false;
     }
-    let mut below = [0u16; words::TABLE_LENGTH];
-    let mut above = [0u16; words::TABLE_LENGTH];
+    let mut below = [0u16; words::IMAGES_LENGTH];
+    let mut above = [0u16; words::IMAGES_LENGTH];
     levels_hold(&mut below, &mut above, state, h)
 }

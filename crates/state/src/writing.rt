@@ -86,11 +86,12 @@ fn tidy(state: &mut [u16], h: usize)
     }
 }
 
-// All unused places of a state with h complete levels.
+// All unused places of a state with h complete levels. Its words are of sixteen bits: so the rows that are kept are those of what they say.
 fn settle(state: &mut [u16], h: usize)
     requires { ⌜ (state-length ≤ length (now state)) × (h ≤ all-levels) × (getD (now state) 4 0 ≡ h) × T (all-words-sound? document-01 (now state) h) ⌝ }
     ensures { λ _. ⌜ now (state .exit) ≡ encode document-01 (length (now (state .entry))) (decode document-01 (now (state .entry))) ⌝ }
 {
+    words::know(state);
     tidy(state, h);
     let a = words::HEADER_LENGTH + h * words::COUNTS_LENGTH;
     terms::clear(&mut state[a..words::ROWS_START], 0);
@@ -121,12 +122,13 @@ fn copy_out(out: &mut [u16], state: &[u16], start: usize, n: usize)
     terms::clear(out, n);
 }
 
-// Vector v of level k in rows from the beginning of out, zeros behind it.
+// Vector v of level k in rows from the beginning of out, zeros behind it. Words of sixteen bits are the rows of what they say.
 pub fn fetch_rows(out: &mut [u16], state: &[u16], k: usize, v: usize)
     requires { ⌜ (state-length ≤ length (now state)) × T (holds-state? document-01 (now state)) × (1 ≤ k) × (k < getD (now state) 4 0) × (1 ≤ v)
         × (v ≤ count-at (now state) k) × (vector-length ≤ length (now out)) ⌝ }
     ensures { λ _. ⌜ now (out .exit) ≡ padded (length (now (out .entry))) (rows-of (vector-of (level-at document-01 (now (state .entry)) k) v)) ⌝ }
 {
+    words::know(state);
     let from = end_of(state, k, v - 1);
     let to = end_of(state, k, v);
     copy_out(

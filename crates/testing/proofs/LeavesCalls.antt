@@ -17,7 +17,7 @@ use Rattle.definitions.specs.Places.{all-levels, row-length, state-length}
 use Rattle.monomial.specs.Values.{formed}
 use Rattle.vectors.specs.terms.Rows.{written}
 use Rattle.orders.specs.Images.{Tabled}
-use Rattle.reducers.specs.search.Search.{Small, Spanned}
+use Rattle.reducers.specs.search.Search.{Spanned}
 use Rattle.state.specs.soundness.Places.{count-at}
 use Rattle.state.specs.soundness.Tabled.{Ready}
 use Rattle.state.proofs.soundness.TablesGrow.{ready-tabled}
@@ -133,12 +133,9 @@ ready-said state k s n e =
 -- ## What a state's tables are for
 
 pub led-spans : (state : Words) (k r c : ℕ) (leads spans : Words) → r ≡ count-at state k → c ≡ components-at state k → Led state k leads spans
-    → Small r leads × Spanned (c + 1) r spans leads
-led-spans state k r c leads spans er ec l = (
-  subst (λ m. Small m leads) (sym er) (l .small),
-  subst (λ m. Spanned (m + 1) r spans leads) (sym ec)
-      (subst (λ m. Spanned (components-at state k + 1) m spans leads) (sym er) (l .spanned)),
-)
+    → Spanned (c + 1) r spans leads
+led-spans state k r c leads spans er ec l = subst (λ m. Spanned (m + 1) r spans leads) (sym ec)
+    (subst (λ m. Spanned (components-at state k + 1) m spans leads) (sym er) (l .spanned))
 
 -- the table over levels 0 to k
 pub table-ready : (state : Words) (k : ℕ) (below above : Words) → Ready-pair state (k + 1) below above → Ready state (suc k) above

@@ -11,7 +11,7 @@ ghost use Rattle.definitions.specs.Layout.{row-at, rows};
 ghost use Rattle.definitions.specs.Places.{row-length};
 ghost use Rattle.monomial.specs.Values.{product-of};
 ghost use Rattle.orders.specs.Images.{comparison-of};
-ghost use Rattle.reducers.specs.search.Search.{Small, Spanned, searched};
+ghost use Rattle.reducers.specs.search.Search.{Spanned, searched};
 ghost use Rattle.vectors.specs.terms.Rows.{term-of};
 ghost use Rattle.testing.specs.Leaves.{
   greater-mark,
@@ -52,7 +52,7 @@ fn greater(c: Comparison) -> usize
 
 // 1 where row i is greater than the row behind it.
 fn descent_at(s: &[u16], i: usize, code: u16) -> usize
-    requires { ⌜ i * row-length + 20 ≤ length (now s) ⌝ }
+    requires { ⌜ (i + 2) * row-length ≤ length (now s) ⌝ }
     ensures { λ r. ⌜ (r ≡ descent code (now (s .entry)) i) × (r ≤ 1) ⌝ }
 {
     let a = terms::row(s, i);
@@ -101,15 +101,14 @@ fn row_of(x: Product) -> Term
 
 // Row i times the exponents of the row behind it.
 fn product_at(s: &[u16], i: usize) -> Term
-    requires { ⌜ i * row-length + 20 ≤ length (now s) ⌝ }
+    requires { ⌜ (i + 2) * row-length ≤ length (now s) ⌝ }
     ensures { λ r. ⌜ term-of r ≡ product-at-definition (now (s .entry)) i ⌝ }
 {
     let a = terms::row(s, i);
     let b = terms::row(s, i + 1);
     let x = a.monomial;
     let y = b.monomial;
-    let q = y.exponents;
-    row_of(x.product(q))
+    row_of(x.product(y.exponents))
 }
 
 fn fill_products(d: &mut [u16], s: &[u16], n: usize)
@@ -167,7 +166,7 @@ fn mark_lower(a: Answer) -> usize
 
 // How many of n rows none of the heads divides.
 fn count_lower(heads: &[u16], r: usize, spans: &[u16], k: usize, s: &[u16], n: usize) -> usize
-    requires { ⌜ (r * row-length ≤ length (now heads)) × (k * 2 ≤ length (now spans)) × Small r (now heads) × Spanned k r (now spans) (now heads)
+    requires { ⌜ (r * row-length ≤ length (now heads)) × (k * 2 ≤ length (now spans)) × Spanned k r (now spans) (now heads)
         × (n * row-length ≤ length (now s)) ⌝ }
     ensures { λ x. ⌜ x ≡ counted (λ i. lower-mark (searched (rows (now (heads .entry)) 0 r) (row-at (now (s .entry)) i .1))) n ⌝ }
 {
@@ -188,7 +187,7 @@ pub extern "C" fn leaves_lower(state: &[u16], k: usize, s: &[u16], n: usize) -> 
     ensures { λ x. ⌜ x ≡ lower (now (state .entry)) k (now (s .entry)) n ⌝ }
 {
     if ready(state, k, s, n) {
-        let mut heads = [0u16; words::TABLE_LENGTH];
+        let mut heads = [0u16; words::HEADS_LENGTH];
         let mut spans = [0u16; words::SPANS_LENGTH];
         preparing::fill_leads(&mut heads, &mut spans, state, k);
         let r = soundness::count_of(state, k);
@@ -211,8 +210,8 @@ pub extern "C" fn leaves_sort(d: &mut [u16], s: &[u16], n: usize, state: &[u16],
         return 0;
     }
     if ready(state, k, s, n) {
-        let mut below = [0u16; words::TABLE_LENGTH];
-        let mut above = [0u16; words::TABLE_LENGTH];
+        let mut below = [0u16; words::IMAGES_LENGTH];
+        let mut above = [0u16; words::IMAGES_LENGTH];
         preparing::fill_tables(&mut below, &mut above, state, k + 1);
         let r = soundness::count_of(state, k);
         let code = state[2];

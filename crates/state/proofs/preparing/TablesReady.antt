@@ -1,6 +1,6 @@
 -- What a sound state gives to a lifting.
 use mathlib.Core.Path.{_≡_, refl, sym, ap, _∙_, subst}
-use Prim.Native.Nat.{ℕ, zero, suc, _+_, _-_, _*_, _<_, _≤_}
+use Prim.Native.Nat.{ℕ, zero, suc, _+_, _-_, _<_, _≤_}
 use native.Mathlib.Omega.{arith}
 use lib.Dec.{T}
 use lib.ListN.{length, getD, take, drop}
@@ -10,7 +10,7 @@ use Rattle.definitions.specs.Reducer.{heads}
 use Rattle.definitions.specs.Layout.{Words, rows, holds-state?}
 use Rattle.definitions.proofs.Tests.{and-right, between-high}
 use Rattle.definitions.specs.Places.{most-vectors, state-length, count-offset, ends-offset, rows-offset}
-use Rattle.reducers.specs.search.Search.{Small, Spanned}
+use Rattle.reducers.specs.search.Search.{Spanned}
 use Rattle.reducers.specs.tables.Cuts.{cut-level}
 use Rattle.state.specs.soundness.Places.{count-at}
 use Rattle.state.specs.soundness.Tabled.{Ready, Advanced}
@@ -57,12 +57,11 @@ components-above s (suc k) n = let z : suc k - 1 ≡ k = omega arith in ap (coun
 pub led : (s : Words) (k r c : ℕ) (leads spans : Words) → r ≡ count-at s k → c ≡ components-at s k
     → rows leads 0 r ≡ heads (getD s 0 0) (cut-level r (take (length s - (rows-offset k)) (drop (rows-offset k) s))
     (take (length s - (ends-offset k)) (drop (ends-offset k) s)))
-    → Small r leads → Spanned (c + 1) r spans leads → Led s k leads spans
-led s k r c leads spans er ec made small spanned =
+    → Spanned (c + 1) r spans leads → Led s k leads spans
+led s k r c leads spans er ec made spanned =
     let z : ends-offset k ≡ suc (count-offset k) = omega arith in
     record {
       made = ap (rows leads 0) (sym er) ∙ made ∙ (λ i. heads (getD s 0 0)
           (cut-level (er i) (whole-part (rows-offset k) s i) ((whole-part (ends-offset k) s ∙ ap (λ m. drop m s) z) i)));
-      small = subst (λ n. Small n leads) er small;
       spanned = subst (λ n. Spanned (n + 1) (count-at s k) spans leads) ec (subst (λ n. Spanned (c + 1) n spans leads) er spanned);
     }

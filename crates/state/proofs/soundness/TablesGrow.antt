@@ -13,10 +13,10 @@ use Rattle.definitions.specs.Monomial.{Monomial}
 use Rattle.definitions.specs.Order.{Comparison}
 use Rattle.definitions.specs.Layout.{Words, ends-at}
 use Rattle.definitions.proofs.Tests.{and-left, and-right, between-high}
-use Rattle.definitions.specs.Places.{most-exponent, most-elements, most-vectors, most-rows, most-terms, all-levels, row-length, component-offset}
+use Rattle.definitions.specs.Places.{most-exponent, most-elements, most-vectors, most-rows, most-terms, all-levels, image-length, rank-offset}
 use Rattle.definitions.specs.Places.{exponents-offset, state-length, count-offset, ends-offset, rows-offset}
 use Rattle.orders.specs.Images.{Table, entry-at, table-of, table-order, Tabled}
-use Rattle.orders.specs.Levels.{table-over, images}
+use Rattle.orders.specs.Levels.{table-over}
 use Rattle.vectors.proofs.terms.Moving.{getD-paste-in}
 use Rattle.reducers.specs.tables.Cuts.{start-of, Cut, cut-level}
 use Rattle.reducers.specs.tables.Ranking.{Capped, Raised}
@@ -85,20 +85,20 @@ unfolding table-of
 table-same zero s z h = refl
 table-same (suc n) s z h = λ i. table-same n s z (λ j l. h j (omega arith)) i ++ h n (omega arith) i ∷ []
 
-module _ (d s : Words) (n : ℕ) (room : n * row-length ≤ length d) (long : n * row-length ≤ length s) where
-  copied-word : (k : ℕ) → k < n * row-length → getD (paste d 0 s (n * row-length)) k 0 ≡ getD s k 0
-  copied-word k h = let z : k ≡ 0 + k = omega arith in ap (λ j. getD (paste d 0 s (n * row-length)) j 0) z
-      ∙ getD-paste-in d 0 s (n * row-length) k 0 (omega arith) long h
+module _ (d s : Words) (n : ℕ) (room : n * image-length ≤ length d) (long : n * image-length ≤ length s) where
+  copied-word : (k : ℕ) → k < n * image-length → getD (paste d 0 s (n * image-length)) k 0 ≡ getD s k 0
+  copied-word k h = let z : k ≡ 0 + k = omega arith in ap (λ j. getD (paste d 0 s (n * image-length)) j 0) z
+      ∙ getD-paste-in d 0 s (n * image-length) k 0 (omega arith) long h
 
-  pub copied-table : table-of n (paste d 0 s (n * row-length)) ≡ table-of n s
-  copied-table = table-same n s (paste d 0 s (n * row-length)) (λ i h x. (
-    raw-same s (paste d 0 s (n * row-length)) (i * row-length + exponents-offset)
-        (λ k l. copied-word (i * row-length + exponents-offset + k) (omega arith)) x,
-    copied-word (i * row-length + component-offset) (omega arith) x,
+  pub copied-table : table-of n (paste d 0 s (n * image-length)) ≡ table-of n s
+  copied-table = table-same n s (paste d 0 s (n * image-length)) (λ i h x. (
+    raw-same s (paste d 0 s (n * image-length)) (i * image-length + exponents-offset)
+        (λ k l. copied-word (i * image-length + exponents-offset + k) (omega arith)) x,
+    copied-word (i * image-length + rank-offset) (omega arith) x,
   ))
 
-  pub copied-cap : (b : ℕ) → Capped b n s → Capped b n (paste d 0 s (n * row-length))
-  copied-cap b f i h j l = omega (arith, copied-word (i * row-length + exponents-offset + j) (omega arith), f i h j l)
+  pub copied-cap : (b : ℕ) → Capped b n s → Capped b n (paste d 0 s (n * image-length))
+  copied-cap b f i h j l = omega (arith, copied-word (i * image-length + exponents-offset + j) (omega arith), f i h j l)
 
 -- ## One level more
 
@@ -134,8 +134,8 @@ cut-parts s k r e c =
     (subst (λ l. Cut (count-at s k) l (take (length s - (ends-offset k)) (drop (ends-offset k) s))) (sym (whole-part (rows-offset k) s))
     (subst (Cut (count-at s k) (rows-from s k)) (ap (λ n. drop n s) z ∙ sym (whole-part (ends-offset k) s)) c))
 
-pub advanced : (s : Words) (k n r : ℕ) (d old below above : Words) → n ≡ count-below s k → r ≡ count-at s k → n * row-length ≤ length d
-    → n * row-length ≤ length old → below ≡ paste d 0 old (n * row-length)
+pub advanced : (s : Words) (k n r : ℕ) (d old below above : Words) → n ≡ count-below s k → r ≡ count-at s k → n * image-length ≤ length d
+    → n * image-length ≤ length old → below ≡ paste d 0 old (n * image-length)
     → table-of r above ≡ table-over (table-of n below) (cut-level r (take (length s - (rows-offset k)) (drop (rows-offset k) s))
     (take (length s - (ends-offset k)) (drop (ends-offset k) s)))
     → Raised n below r above → Advanced s k old below above
@@ -156,7 +156,7 @@ advanced s k n r d old below above en er room long e made raised = record {
     cap : (b : ℕ) → Capped b n old → Capped b n below
     cap b f = subst (Capped b n) (sym e) (copied-cap d old n room long b f)
 
-pub copied-tabled : (s : Words) (k n : ℕ) (d old below : Words) → n ≡ count-below s k → n * row-length ≤ length d → n * row-length ≤ length old → below
-    ≡ paste d 0 old (n * row-length) → Tabled (count-below s k) old → Tabled n below
+pub copied-tabled : (s : Words) (k n : ℕ) (d old below : Words) → n ≡ count-below s k → n * image-length ≤ length d → n * image-length ≤ length old → below
+    ≡ paste d 0 old (n * image-length) → Tabled (count-below s k) old → Tabled n below
 copied-tabled s k n d old below en room long e t = subst (Capped 65280 n) (sym e)
     (copied-cap d old n room long 65280 (subst (λ m. Capped 65280 m old) (sym en) t))

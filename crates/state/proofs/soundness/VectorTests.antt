@@ -1,49 +1,28 @@
 -- A level's vectors, as the code tests them and as the definitions do.
 use mathlib.Core.Path.{_≡_, refl, sym, ap, _∙_, subst}
-use mathlib.Core.Bool.{Bool, true, false}
-use mathlib.Core.Option.{Option, none, some}
+use mathlib.Core.Bool.{Bool}
 use mathlib.Core.List.{List, [], _∷_}
-use Prim.Native.Nat.{ℕ, zero, suc, _+_, _-_, _*_, _<_, _≤_}
+use Prim.Native.Nat.{ℕ, suc, _+_, _-_, _<_, _≤_}
 use native.Mathlib.Omega.{arith}
 use native.Mathlib.Decide.{ℕ-discrete}
-use lib.Dec.{T, leb, ltb, leb→le, le→leb, lt→ltb, ltb→lt, nltb→le}
-use lib.ListN.{length, getD, take, drop}
+use lib.Dec.{T, leb, ltb, leb→le, le→leb, lt→ltb, ltb→lt}
+use lib.ListN.{length, getD}
 use Rattle.definitions.specs.Limits.{document-01}
-use Rattle.definitions.specs.Lists.{_and_, every, last}
-use Rattle.definitions.specs.Monomial.{Monomial, Vector, Level, fits?, no-term}
+use Rattle.definitions.specs.Lists.{_and_, every}
+use Rattle.definitions.specs.Monomial.{Monomial, Vector, Level, no-term}
 use Rattle.definitions.specs.Order.{Comparison, greater?, compare-over}
 use Rattle.definitions.specs.Problem.{Parameters}
 use Rattle.definitions.specs.State.{term-sound?, vector-sound?, terms-of}
-use Rattle.definitions.specs.Layout.{Words, row-at, rows, vectors-at, ascending?, last-end, exponents-fit?}
+use Rattle.definitions.specs.Layout.{Words, row-at, rows, vectors-at, ascending?}
 use Rattle.definitions.proofs.Tests.{and-left, and-right, and-both, every-at}
 use Rattle.definitions.proofs.Sound.{Sound-vector, vector-says, vector-shown}
 use Rattle.definitions.proofs.Rows.{length-rows, getD-rows}
-use Rattle.definitions.specs.Places.{most-exponent, most-rows, row-length, exponents-offset, level-length}
+use Rattle.definitions.specs.Places.{most-rows}
 use Rattle.state.specs.declared.soundness.Bounds.{Bounds}
 use Rattle.state.specs.soundness.Holding.{bounds-of, row-holds?, follows?, all-hold?, vector-holds?, vectors-hold?}
 use Rattle.state.proofs.soundness.Pointwise.{every-all, holds-at, holds-all, descends-at, descends-all}
-use Rattle.state.proofs.soundness.RowTests.{Fits, row-said, row-shown}
+use Rattle.state.proofs.soundness.RowTests.{row-said, row-shown}
 use Rattle.state.proofs.soundness.TablesGrow.{vector-ends}
-
--- ## Rows from a row on
-
--- the exponents' words of rows a to e − 1 are in range
-abbrev pub All-fit : Words → ℕ → ℕ → Type 0
-All-fit s a e = (i : ℕ) → a ≤ i → i < e → Fits s i
-
-pub fit-said : (s : Words) (n : ℕ) → T (exponents-fit? s n) → All-fit s 0 n
-fit-said s zero t i h l = absurd (omega arith)
-fit-said s (suc n) t i h l =
-    go (ℕ-discrete i n) (fit-said s n (and-left (exponents-fit? s n) (fits? most-exponent (take 8 (drop (n * row-length + exponents-offset) s))) t) i)
-  where
-    go : Dec (i ≡ n) → (0 ≤ i → i < n → Fits s i) → Fits s i
-    go (yes e) r = subst (Fits s) (sym e) (and-right (exponents-fit? s n) (fits? most-exponent (take 8 (drop (n * row-length + exponents-offset) s))) t)
-    go (no e) r = r (omega arith) (omega arith)
-
-pub fit-shown : (s : Words) (n : ℕ) → All-fit s 0 n → T (exponents-fit? s n)
-fit-shown s zero h = tt
-fit-shown s (suc n) h = and-both (exponents-fit? s n) (fits? most-exponent (take 8 (drop (n * row-length + exponents-offset) s)))
-    (fit-shown s n (λ i l m. h i l (omega arith))) (h n (omega arith) (omega arith))
 
 -- ## One vector
 
@@ -84,14 +63,9 @@ module _ (b : Bounds) (most : ℕ) (order : Monomial → Monomial → Comparison
       (holds-all (follows? b order s) (suc a) (e - suc a) (λ i u v. and-both (row-holds? b s i) (greater? (order (row-at s (i - 1) .1) (row-at s i .1)))
       (f i (omega arith) (omega arith)) (g i u (omega arith)))))))
 
-module _ (q : Parameters) (components most : ℕ) (s : Words) (long : level-length ≤ length s) where
+module _ (q : Parameters) (components most : ℕ) (s : Words) where
   abbrev B : Bounds
   B = bounds-of (q .p) (q .n) components
-
-  pub vector-fits : (order : Monomial → Monomial → Comparison) (a e : ℕ) → T (vector-holds? (bounds-of (q .p) (q .n) components) most order s a e)
-      → All-fit s a e
-  vector-fits order a e t i h l = row-said q components s i (omega (arith, vector-ends B most order s a e t .1))
-      (rows-said B most order s a e t i h l) .0
 
   module _ (order : Monomial → Monomial → Comparison) (below : List Level)
       (agree : (m m′ : Monomial) → order m m′ ≡ compare-over (q .code) below m m′) where
@@ -111,7 +85,7 @@ module _ (q : Parameters) (components most : ℕ) (s : Words) (long : level-leng
         vs = vector-ends B most order s a e t
 
         term : (i : ℕ) → a ≤ i → i < e → T (term-sound? document-01 q components (row-at s i))
-        term i h l = row-said q components s i (omega (arith, vs .1)) (rows-said B most order s a e t i h l) .1
+        term i h l = row-said q components s i (rows-said B most order s a e t i h l)
 
         falls : (i : ℕ) → suc i < length (rows s a (e - a)) → T (greater?
             (compare-over (q .code) below (getD (rows s a (e - a)) i no-term .1) (getD (rows s a (e - a)) (suc i) no-term .1)))
@@ -123,10 +97,10 @@ module _ (q : Parameters) (components most : ℕ) (s : Words) (long : level-leng
             ∙ (λ j. compare-over (q .code) below ((ap (row-at s) x ∙ sym (getD-rows s a (e - a) i no-term (omega arith))) j .1)
             (sym (getD-rows s a (e - a) (suc i) no-term l) j .1))) u
 
-    pub vector-kept : (a e : ℕ) → a < e → e ≤ most-rows → All-fit s a e → T (vector-sound? document-01 q components most below (rows s a (e - a)))
+    pub vector-kept : (a e : ℕ) → a < e → e ≤ most-rows → T (vector-sound? document-01 q components most below (rows s a (e - a)))
         → T (vector-holds? (bounds-of (q .p) (q .n) components) most order s a e)
-    vector-kept a e h l f t = rows-shown B most order s a e h l (omega (arith, v .short, length-rows s a (e - a)))
-        (λ i m n. row-shown q components s i (omega arith) (f i m n) (term i m n)) falls
+    vector-kept a e h l t = rows-shown B most order s a e h l (omega (arith, v .short, length-rows s a (e - a)))
+        (λ i m n. row-shown q components s i (term i m n)) falls
       where
         v : Sound-vector document-01 q components most below (rows s a (e - a))
         v = vector-says document-01 q components most below (rows s a (e - a)) t
@@ -153,25 +127,6 @@ module _ (q : Parameters) (components most : ℕ) (s : Words) (long : level-leng
 abbrev pub end-of : ℕ → Words → ℕ
 end-of a [] = a
 end-of a (e ∷ es) = end-of e es
-
-abbrev end-or : ℕ → Option ℕ → ℕ
-end-or a none = a
-end-or a (some e) = e
-
-last-from : (a : ℕ) (es : Words) → end-or a (last es) ≡ end-of a es
-last-from a [] = refl
-last-from a (e ∷ es) = go (last es) (last-from e es)
-  where
-    go : (l : Option ℕ) → end-or e l ≡ end-of e es → end-or a (elim l [ none ↦ some e | some b ↦ some b ]) ≡ end-of e es
-    go none h = h
-    go (some b) h = h
-
-pub last-end-is : (es : Words) → last-end (last es) ≡ end-of 0 es
-last-end-is es = go (last es) ∙ last-from 0 es
-  where
-    go : (l : Option ℕ) → last-end l ≡ end-or 0 l
-    go none = refl
-    go (some e) = refl
 
 pub ascends-past : (limit a : ℕ) (es : Words) → T (ascending? limit a es) → a ≤ end-of a es
 ascends-past limit a [] t = omega arith
@@ -213,18 +168,7 @@ module _ (b : Bounds) (most : ℕ) (order : Monomial → Monomial → Comparison
       (and-both (leb e most-rows) (ascending? most-rows e es) (le→leb e most-rows (v .1))
       (vectors-ascend e es (and-right (vector-holds? b most order s a e) (vectors-hold? b most order s e es) t)))
 
-module _ (q : Parameters) (components most : ℕ) (s : Words) (long : level-length ≤ length s) (order : Monomial → Monomial → Comparison) where
-  pub vectors-fit : (a : ℕ) (es : Words) → T (vectors-hold? (bounds-of (q .p) (q .n) components) most order s a es) → All-fit s a (end-of a es)
-  vectors-fit a [] t i h l = absurd (omega arith)
-  vectors-fit a (e ∷ es) t i h l = go (ltb i e) (ltb→lt i e) (nltb→le i e)
-      (vectors-fit e es (and-right (vector-holds? (bounds-of (q .p) (q .n) components) most order s a e)
-      (vectors-hold? (bounds-of (q .p) (q .n) components) most order s e es) t) i)
-    where
-      go : (c : Bool) → (T c → i < e) → (T (mathlib.Core.Bool.not c) → e ≤ i) → (e ≤ i → i < end-of e es → Fits s i) → Fits s i
-      go true f g r = vector-fits q components most s long order a e (and-left (vector-holds? (bounds-of (q .p) (q .n) components) most order s a e)
-          (vectors-hold? (bounds-of (q .p) (q .n) components) most order s e es) t) i h (f tt)
-      go false f g r = r (g tt) l
-
+module _ (q : Parameters) (components most : ℕ) (s : Words) (order : Monomial → Monomial → Comparison) where
   module _ (below : List Level) (agree : (m m′ : Monomial) → order m m′ ≡ compare-over (q .code) below m m′) where
     abbrev good? : Vector → Bool
     good? = vector-sound? document-01 q components most below
@@ -237,20 +181,18 @@ module _ (q : Parameters) (components most : ℕ) (s : Words) (long : level-leng
     vectors-said a [] t = tt
     vectors-said a (e ∷ es) t =
         and-both (good? (rows s a (e - a))) (every good? (vectors-at s e es))
-        (vector-said q components most s long order below agree a e
+        (vector-said q components most s order below agree a e
         (and-left (kept? a e) (vectors-hold? (bounds-of (q .p) (q .n) components) most order s e es) t))
         (vectors-said e es (and-right (kept? a e) (vectors-hold? (bounds-of (q .p) (q .n) components) most order s e es) t))
 
-    pub vectors-shown : (a : ℕ) (es : Words) → T (ascending? most-rows a es) → All-fit s a (end-of a es)
-        → T (every (vector-sound? document-01 q components most below) (vectors-at s a es))
+    pub vectors-shown : (a : ℕ) (es : Words) → T (ascending? most-rows a es) → T (every (vector-sound? document-01 q components most below) (vectors-at s a es))
         → T (vectors-hold? (bounds-of (q .p) (q .n) components) most order s a es)
-    vectors-shown a [] t f v = tt
-    vectors-shown a (e ∷ es) t f v =
+    vectors-shown a [] t v = tt
+    vectors-shown a (e ∷ es) t v =
         let h : a < e = ltb→lt a e (and-left (ltb a e) (leb e most-rows and ascending? most-rows e es) t) in
         let u = and-right (ltb a e) (leb e most-rows and ascending? most-rows e es) t in
         let w = and-right (leb e most-rows) (ascending? most-rows e es) u in
-        let m : e ≤ end-of e es = ascends-past most-rows e es w in
         and-both (kept? a e) (vectors-hold? (bounds-of (q .p) (q .n) components) most order s e es)
-        (vector-kept q components most s long order below agree a e h (leb→le e most-rows (and-left (leb e most-rows) (ascending? most-rows e es) u))
-        (λ i x y. f i x (omega arith)) (and-left (good? (rows s a (e - a))) (every good? (vectors-at s e es)) v))
-        (vectors-shown e es w (λ i x y. f i (omega arith) y) (and-right (good? (rows s a (e - a))) (every good? (vectors-at s e es)) v))
+        (vector-kept q components most s order below agree a e h (leb→le e most-rows (and-left (leb e most-rows) (ascending? most-rows e es) u))
+        (and-left (good? (rows s a (e - a))) (every good? (vectors-at s e es)) v))
+        (vectors-shown e es w (and-right (good? (rows s a (e - a))) (every good? (vectors-at s e es)) v))

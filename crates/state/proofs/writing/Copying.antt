@@ -1,20 +1,17 @@
 -- Rows copied one behind the other; where a level's last end stands.
-use mathlib.Core.Path.{_≡_, refl, sym, ap, _∙_}
+use mathlib.Core.Path.{_≡_, refl, sym, ap, _∙_, subst}
 use mathlib.Core.List.{[], _∷_, _++_, append-assoc, append-nil}
 use Prim.Native.Nat.{ℕ, zero, suc, _+_, _*_, _≤_}
 use native.Mathlib.Omega.{arith}
 use lib.ListN.{length, take, drop, getD, length-append}
 use lib.Seq.{paste, take-paste, drop-paste, drop-drop, take-all, getD-drop}
 use Rattle.definitions.specs.Monomial.{Term, Vector}
-use Rattle.definitions.specs.Layout.{Words, row-at, rows, row-of, rows-of}
-use Rattle.definitions.proofs.Packing.{Eight}
-use Rattle.definitions.proofs.Rows.{Eights, no-terms, one-more, length-rows, length-rows-of, rows-of-append, rows-last, getD-exponents, length-row}
+use Rattle.definitions.specs.Layout.{Words, long-at, row-at, rows, row-of, rows-of}
+use Rattle.definitions.proofs.Packing.{Eight, unpack-eight}
+use Rattle.definitions.proofs.Rows.{Eights, row-is, no-terms, one-more, length-rows, length-rows-of, rows-of-append, rows-last, length-row}
 use Rattle.definitions.specs.Places.{row-length, exponents-offset, count-offset}
 use Rattle.vectors.specs.terms.Rows.{written}
-use Rattle.definitions.proofs.Rows.{row-is}
-use Rattle.vectors.proofs.terms.Spelling.{eight-small}
 use Rattle.reducers.specs.tables.Cuts.{start-of}
-use Rattle.reducers.proofs.tables.Imaging.{byte-bound}
 use Rattle.state.specs.soundness.Places.{ends-from}
 
 -- ## One list pasted behind another
@@ -33,13 +30,7 @@ paste-joined d u w a n m p q h =
 -- ## Rows as they are read have eight exponents in range
 
 pub eight-row : (s : Words) (i : ℕ) → Eight (row-at s i .1 .0)
-eight-row s i = eight-small (row-at s i .1 .0) (ap (λ t. length (t .1 .0)) (row-is s i))
-    (λ k h. omega (
-      arith,
-      ap (λ t. getD (t .1 .0) k 0) (row-is s i),
-      getD-exponents s (i * row-length + exponents-offset) k h,
-      byte-bound (getD s (i * row-length + exponents-offset + k) 0),
-    ))
+eight-row s i = subst (λ t. Eight (t .1 .0)) (sym (row-is s i)) (unpack-eight (long-at s (i * row-length + exponents-offset)))
 
 pub eights-rows : (s : Words) (a n : ℕ) → Eights (rows s a n)
 unfolding rows
@@ -51,7 +42,7 @@ eights-rows s a (suc n) = more (rows s a n) (eights-rows s a n)
     more v (one-more {t} {v = w} h hs) = one-more h (more w hs)
 
 pub length-spelled : (s : Words) (a n : ℕ) → length (rows-of (rows s a n)) ≡ n * row-length
-length-spelled s a n = length-rows-of (rows s a n) (eights-rows s a n) ∙ ap (λ k. k * row-length) (length-rows s a n)
+length-spelled s a n = length-rows-of (rows s a n) ∙ ap (λ k. k * row-length) (length-rows s a n)
 
 pub copied-none : (d value : Words) (used : ℕ) → d ≡ paste d (used * row-length) (rows-of (rows value 0 0)) (0 * row-length)
 copied-none d value used = lib.Seq.paste-zero d (used * row-length) (rows-of (rows value 0 0))
@@ -70,7 +61,7 @@ copied-more d value used j t h e =
     ∙ ap (λ w. rows-of (rows value 0 j) ++ w) (append-nil (row-of (row-at value j))) in
     (λ i. paste old (y i) (row-of (e i)) row-length)
     ∙ paste-joined d (rows-of (rows value 0 j)) (row-of (row-at value j)) (used * row-length) (j * row-length) row-length (length-spelled value 0 j)
-    (length-row (row-at value j) (eight-row value j)) h
+    (length-row (row-at value j)) h
     ∙ (λ i. paste d (used * row-length) (sym r i) (z i))
 
 -- ## The last end

@@ -14,6 +14,7 @@ use Rattle.definitions.specs.Layout.{words-sound?, all-words-sound?}
 use Rattle.definitions.proofs.RoundTrip.{length-padded}
 use Rattle.definitions.specs.Places.{most-vectors, all-levels, row-length, header-length, counts-length, rows-start, level-length, state-length, count-offset}
 use Rattle.definitions.specs.Places.{rows-offset}
+use Rattle.words.specs.Slices.{Sixteen-bits}
 use Rattle.vectors.specs.terms.Rows.{cleared}
 use Rattle.reducers.proofs.tables.Spanning.{zero-everywhere}
 use Rattle.state.specs.soundness.Places.{count-at, rows-from, ends-from}
@@ -58,8 +59,8 @@ zeros-rest z a h f =
 
 -- ## The words of one level
 
-module _ (s z : Words) (long : state-length ≤ length s) (same-long : length z ≡ length s) (j : ℕ) (inside : j < all-levels)
-    (w : T (words-sound? document-01 s j)) (t : Tidy s z j) where
+module _ (s z : Words) (long : state-length ≤ length s) (same-long : length z ≡ length s) (known : Sixteen-bits s) (j : ℕ)
+    (inside : j < all-levels) (w : T (words-sound? document-01 s j)) (t : Tidy s z j) where
   sized : Sized s j
   sized = sound-sized s long j inside w
 
@@ -94,7 +95,7 @@ module _ (s z : Words) (long : state-length ≤ length s) (same-long : length z 
   rows-block =
       part-is z (padded level-length (take (used-at s j * row-length) (rows-from s j))) (rows-offset j) level-length (omega arith)
       (length-padded level-length (take (used-at s j * row-length) (rows-from s j)) (omega (arith, n, sized .1))) word
-      ∙ sym (ap (padded level-length) (level-rows-back s long j inside w))
+      ∙ sym (ap (padded level-length) (level-rows-back s long j inside w known))
     where
       room : used-at s j * row-length ≤ length (rows-from s j)
       room = omega (arith, sized .1, length-drop (rows-offset j) s)
@@ -131,7 +132,7 @@ rows-last (g ∷ ls) f =
     ap (λ l. padded level-length (rows-of (joined g)) ++ l) (rows-last ls f)
     ∙ sym (append-assoc (padded level-length (rows-of (joined g))) (all-rows document-01 ls) (padded level-length (rows-of (joined f))))
 
-module _ (s z : Words) (long : state-length ≤ length s) (same-long : length z ≡ length s) where
+module _ (s z : Words) (long : state-length ≤ length s) (same-long : length z ≡ length s) (known : Sixteen-bits s) where
   counts-blocks : (h : ℕ) → h ≤ all-levels → T (all-words-sound? document-01 s h) → ((j : ℕ) → j < h → Tidy s z j)
       → take (h * counts-length) (drop header-length z) ≡ all-counts document-01 (reverse (levels-at document-01 s h))
   counts-blocks zero l t f = refl
@@ -141,7 +142,7 @@ module _ (s z : Words) (long : state-length ≤ length s) (same-long : length z 
       ∙ (λ i. counts-blocks h (omega arith) (Rattle.definitions.proofs.Tests.and-right (words-sound? document-01 s h)
       (all-words-sound? document-01 s h) t) (λ j m. f j (omega arith)) i
       ++ (ap (take counts-length) (drop-drop (h * counts-length) header-length z)
-      ∙ counts-block s z long same-long h l (all-sound-at s (suc h) t h (omega arith)) (f h (omega arith))) i)
+      ∙ counts-block s z long same-long known h l (all-sound-at s (suc h) t h (omega arith)) (f h (omega arith))) i)
       ∙ sym (ap (all-counts document-01) (reverse-cons (level-at document-01 s h) (levels-at document-01 s h))
       ∙ counts-last (reverse (levels-at document-01 s h)) (level-at document-01 s h))
 
@@ -154,7 +155,7 @@ module _ (s z : Words) (long : state-length ≤ length s) (same-long : length z 
       ∙ (λ i. rows-blocks h (omega arith) (Rattle.definitions.proofs.Tests.and-right (words-sound? document-01 s h)
       (all-words-sound? document-01 s h) t) (λ j m. f j (omega arith)) i
       ++ (ap (take level-length) (drop-drop (h * level-length) rows-start z)
-      ∙ rows-block s z long same-long h l (all-sound-at s (suc h) t h (omega arith)) (f h (omega arith))) i)
+      ∙ rows-block s z long same-long known h l (all-sound-at s (suc h) t h (omega arith)) (f h (omega arith))) i)
       ∙ sym (ap (all-rows document-01) (reverse-cons (level-at document-01 s h) (levels-at document-01 s h))
       ∙ rows-last (reverse (levels-at document-01 s h)) (level-at document-01 s h))
 
@@ -164,8 +165,8 @@ length-levels s (suc k) = ap suc (length-levels s k)
 
 -- ## The whole
 
-module _ (s z : Words) (h : ℕ) (long : state-length ≤ length s) (same-long : length z ≡ length s) (l : h ≤ all-levels) (e : getD s 4 0 ≡ h)
-    (t : T (all-words-sound? document-01 s h))
+module _ (s z : Words) (h : ℕ) (long : state-length ≤ length s) (same-long : length z ≡ length s) (known : Sixteen-bits s)
+    (l : h ≤ all-levels) (e : getD s 4 0 ≡ h) (t : T (all-words-sound? document-01 s h))
     (front : Same z s 0 header-length) (made : (j : ℕ) → j < h → Tidy s z j) (no-counts : Zero z (count-offset h) rows-start)
     (no-terms : Zero z (rows-offset h) (length s)) where
   abbrev ls : List Level
@@ -190,7 +191,7 @@ module _ (s z : Words) (h : ℕ) (long : state-length ≤ length s) (same-long :
   header = five ++ all-counts document-01 (reverse ls)
 
   head-is : take (count-offset h) z ≡ header
-  head-is = take-add header-length (h * counts-length) z ∙ (λ i. first-five i ++ counts-blocks s z long same-long h l t made i)
+  head-is = take-add header-length (h * counts-length) z ∙ (λ i. first-five i ++ counts-blocks s z long same-long known h l t made i)
 
   head-long : length header ≡ count-offset h
   head-long = sym (ap length head-is) ∙ length-take-le (count-offset h) z (omega arith)
@@ -207,13 +208,13 @@ module _ (s z : Words) (h : ℕ) (long : state-length ≤ length s) (same-long :
   tail = all-rows document-01 (reverse ls)
 
   tail-long : length tail ≡ h * level-length
-  tail-long = sym (ap length (rows-blocks s z long same-long h l t made))
+  tail-long = sym (ap length (rows-blocks s z long same-long known h l t made))
       ∙ length-take-le (h * level-length) (drop rows-start z) (omega (arith, length-drop rows-start z))
 
   high-is : drop rows-start z ≡ tail ++ replicate (length s - (rows-offset h)) 0
   high-is =
       sym (take-append-drop (h * level-length) (drop rows-start z))
-      ∙ (λ i. rows-blocks s z long same-long h l t made i ++ (drop-drop (h * level-length) rows-start z
+      ∙ (λ i. rows-blocks s z long same-long known h l t made i ++ (drop-drop (h * level-length) rows-start z
       ∙ zeros-rest z (rows-offset h) (omega arith) (λ j a b. no-terms j a (omega arith)) ∙ ap (λ k. replicate (k - (rows-offset h)) 0) same-long) i)
 
   pub settled-encodes : z
@@ -230,12 +231,12 @@ module _ (s z : Words) (h : ℕ) (long : state-length ≤ length s) (same-long :
       ∙ ap (λ k. (padded rows-start header ++ tail) ++ replicate k 0) n
 
 -- what clearing the words behind the counts and behind the rows of tidied levels leaves
-pub settled-by : (s z : Words) (h : ℕ) → state-length ≤ length s → h ≤ all-levels → getD s 4 0 ≡ h → T (all-words-sound? document-01 s h)
+pub settled-by : (s z : Words) (h : ℕ) → state-length ≤ length s → Sixteen-bits s → h ≤ all-levels → getD s 4 0 ≡ h → T (all-words-sound? document-01 s h)
     → Tidied-to s z h
     → cleared (block-cleared (count-offset h) (rows-start - (count-offset h)) 0 z) (rows-offset h)
     ≡ encode document-01 (length s) (decode document-01 s)
-settled-by s z h long l e t d =
-    settled-encodes s out h long (out-long ∙ mid-long ∙ d .long) l e t
+settled-by s z h long known l e t d =
+    settled-encodes s out h long (out-long ∙ mid-long ∙ d .long) known l e t
     (λ i a b. under i (omega arith) ∙ mid-under i (omega arith) ∙ d .front i a b)
     made
     (λ i a b. under i (omega arith) ∙ block-zero A N 0 z fit (omega arith) i (omega arith) (omega arith))

@@ -18,6 +18,7 @@ use Rattle.definitions.proofs.Tests.{and-left, and-right}
 use Rattle.definitions.specs.Places.{most-vectors, most-rows, most-terms, all-levels, row-length, state-length, rows-offset}
 use Rattle.orders.specs.Images.{table-order}
 use Rattle.orders.specs.Levels.{images}
+use Rattle.words.specs.Slices.{Sixteen-bits}
 use Rattle.vectors.specs.terms.Rows.{cleared}
 use Rattle.reducers.specs.tables.Cuts.{start-of, Cut}
 use Rattle.reducers.proofs.tables.Cutting.{begin-from}
@@ -28,8 +29,8 @@ use Rattle.state.proofs.soundness.TablesGrow.{vector-ends}
 use Rattle.state.proofs.soundness.LevelByLevel.{own-test?}
 use Rattle.state.proofs.soundness.SoundLevels.{height, complete-test, complete-cut}
 use Rattle.state.proofs.soundness.StateTests.{words-parts}
-use Rattle.state.proofs.soundness.VectorTests.{All-fit, end-of, ascends-past}
-use Rattle.state.proofs.writing.Spelled.{rows-back, all-sound-at}
+use Rattle.state.proofs.soundness.VectorTests.{end-of, ascends-past}
+use Rattle.state.proofs.writing.Spelled.{sixteen-from, rows-back, all-sound-at}
 
 vector-from : (s : Words) (a : ℕ) (es : Words) (i : ℕ) → i < length es → getD (vectors-at s a es) i []
     ≡ rows s (begin-from a es i) (getD es i 0 - begin-from a es i)
@@ -94,7 +95,6 @@ module _ (s : Words) (long : state-length ≤ length s) (t : T (holds-state? doc
             (count-at s (suc k)) j i i′) x
 
     parts : (count-at s k ≤ most-vectors) × T (ascending? most-rows 0 (ends-at document-01 s k))
-        × All-fit (rows-from s k) 0 (end-of 0 (ends-at document-01 s k))
     parts = words-parts s long k (complete-words k high)
 
     many : length (ends-at document-01 s k) ≡ count-at s k
@@ -116,12 +116,12 @@ module _ (s : Words) (long : state-length ≤ length s) (t : T (holds-state? doc
       vector-short l,
     )
 
-    pub vector-words : rows-of (vector-of (level-at document-01 s k) (suc j))
+    pub vector-words : Sixteen-bits s → rows-of (vector-of (level-at document-01 s k) (suc j))
         ≡ take ((getD (ends-from s k) j 0 - start-of (ends-from s k) j) * row-length) (drop (rows-offset k + start-of (ends-from s k) j * row-length) s)
-    vector-words =
+    vector-words known =
         ap rows-of (vector-from R 0 es j (omega (arith, many, inside))
         ∙ (λ i. rows R (begin-taken ends (count-at s k) j inside i) (taken i - begin-taken ends (count-at s k) j inside i)))
-        ∙ rows-back R from (to - from) (omega (arith, e .0, room)) (λ i a b. parts .2 i (omega arith) (omega (arith, e .1, taken)))
+        ∙ rows-back R from (to - from) (omega (arith, e .0, room)) (sixteen-from s (rows-offset k) known)
         ∙ ap (take ((to - from) * row-length)) (drop-drop (from * row-length) (rows-offset k) s)
       where
         R : Words
@@ -163,7 +163,8 @@ pub record Fetchable (s : Words) (k v : ℕ) : Type 0 where
   pub filled : start-of (ends-from s k) (v - 1) < start-of (ends-from s k) v
   pub within : start-of (ends-from s k) v ≤ most-rows
   pub short : start-of (ends-from s k) v - start-of (ends-from s k) (v - 1) ≤ most-terms
-  pub words : rows-of (vector-of (level-at document-01 s k) v) ≡ take ((start-of (ends-from s k) v - start-of (ends-from s k) (v - 1)) * row-length)
+  pub words : Sixteen-bits s → rows-of (vector-of (level-at document-01 s k) v)
+      ≡ take ((start-of (ends-from s k) v - start-of (ends-from s k) (v - 1)) * row-length)
       (drop (rows-offset k + start-of (ends-from s k) (v - 1) * row-length) s)
 
 pub fetchable : (s : Words) (long : state-length ≤ length s) (t : T (holds-state? document-01 s)) (k v : ℕ) → 1 ≤ k → k < getD s 4 0 → 1 ≤ v
@@ -178,7 +179,7 @@ fetchable s long t k (suc j) a b c d =
       filled = subst (λ n. start-of (ends-from s k) n < getD (ends-from s k) j 0) z (x .0);
       within = x .1;
       short = subst (λ n. getD (ends-from s k) j 0 - start-of (ends-from s k) n ≤ most-terms) z (x .2);
-      words = subst (λ n. rows-of (vector-of (level-at document-01 s k) (suc j))
+      words = subst (λ n. Sixteen-bits s → rows-of (vector-of (level-at document-01 s k) (suc j))
           ≡ take ((getD (ends-from s k) j 0 - start-of (ends-from s k) n) * row-length)
           (drop (rows-offset k + start-of (ends-from s k) n * row-length) s)) z (vector-words s long t k b j d);
     }

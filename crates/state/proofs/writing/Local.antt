@@ -7,17 +7,16 @@ use lib.Dec.{T, leb, ltb, leb→le, le→leb, ltb→lt}
 use lib.ListN.{length, take, drop, getD, set, length-drop, length-set}
 use lib.Seq.{ext-getD, getD-take, getD-drop, getD-set-same, getD-set-other, drop-set-lt, length-take-le}
 use Rattle.definitions.specs.Limits.{document-01}
-use Rattle.definitions.specs.Lists.{_and_, last}
-use Rattle.definitions.specs.Layout.{Words, row-at, vectors-at, ascending?, ends-at, level-at, levels-at, decode, last-end, exponents-fit?, words-sound?}
+use Rattle.definitions.specs.Lists.{_and_}
+use Rattle.definitions.specs.Layout.{Words, row-at, vectors-at, ascending?, ends-at, level-at, levels-at, decode, words-sound?}
 use Rattle.definitions.specs.Layout.{all-words-sound?}
 use Rattle.definitions.proofs.Tests.{and-left, and-right, and-both}
 use Rattle.definitions.proofs.Rows.{rows-same}
-use Rattle.definitions.specs.Places.{most-exponent, most-vectors, most-rows, all-levels, row-length, exponents-offset, header-length, rows-start, level-length}
+use Rattle.definitions.specs.Places.{most-vectors, most-rows, all-levels, row-length, header-length, rows-start, level-length}
 use Rattle.definitions.specs.Places.{state-length, count-offset, rows-offset}
 use Rattle.vectors.proofs.terms.Stored.{same-row}
 use Rattle.state.specs.soundness.Places.{count-at, rows-from, ends-from}
-use Rattle.state.proofs.soundness.RowTests.{Fits}
-use Rattle.state.proofs.soundness.VectorTests.{All-fit, fit-shown, end-of, last-end-is, ascends-past, ascends-within}
+use Rattle.state.proofs.soundness.VectorTests.{end-of, ascends-past, ascends-within}
 use Rattle.state.proofs.soundness.StateTests.{words-parts}
 use Rattle.state.specs.writing.LevelSoFar.{words-so-far?, finished}
 use Rattle.state.specs.writing.Zeroed.{Same}
@@ -26,22 +25,6 @@ use Rattle.state.specs.writing.Zeroed.{Same}
 
 pub row-stays : (s z : Words) (i : ℕ) → Same z s (i * row-length) (i * row-length + row-length) → row-at z i ≡ row-at s i
 row-stays s z i f = same-row s z i i (λ j h. f (i * row-length + j) (omega arith) (omega arith))
-
-pub fits-stays : (s z : Words) (i : ℕ) → i * row-length + row-length ≤ length s → i * row-length + row-length ≤ length z
-    → Same z s (i * row-length) (i * row-length + row-length) → Fits s i → Fits z i
-fits-stays s z i h l f t = subst (λ e. T (Rattle.definitions.specs.Monomial.fits? most-exponent e)) (sym same) t
-  where
-    n : (w : Words) → i * row-length + row-length ≤ length w → length (take 8 (drop (i * row-length + exponents-offset) w)) ≡ 8
-    n w m = length-take-le 8 (drop (i * row-length + exponents-offset) w) (omega (arith, length-drop (i * row-length + exponents-offset) w))
-
-    word : (w : Words) (j : ℕ) → j < 8 → getD (take 8 (drop (i * row-length + exponents-offset) w)) j 0
-        ≡ getD w (i * row-length + exponents-offset + j) 0
-    word w j m = getD-take 8 (drop (i * row-length + exponents-offset) w) j 0 m ∙ getD-drop (i * row-length + exponents-offset) w j 0
-
-    same : take 8 (drop (i * row-length + exponents-offset) z) ≡ take 8 (drop (i * row-length + exponents-offset) s)
-    same = ext-getD 0 (take 8 (drop (i * row-length + exponents-offset) z)) (take 8 (drop (i * row-length + exponents-offset) s)) (n z l ∙ sym (n s h))
-        (λ j m. word z j (omega (arith, n z l)) ∙ f (i * row-length + exponents-offset + j) (omega arith) (omega (arith, n z l))
-        ∙ sym (word s j (omega (arith, n z l))))
 
 pub vectors-stay : (s z : Words) (a : ℕ) (es : Words) → T (ascending? most-rows a es) → ((i : ℕ) → i < end-of a es → row-at z i ≡ row-at s i)
     → vectors-at z a es ≡ vectors-at s a es
@@ -54,26 +37,14 @@ vectors-stay s z a (e ∷ es) t f =
 
 -- ## A level
 
-module _ (s z : Words) (es : Words) (t : T (ascending? most-rows 0 es)) (f : All-fit s 0 (end-of 0 es)) (long : level-length ≤ length s)
-    (same-long : level-length ≤ length z) (same : Same z s 0 (end-of 0 es * row-length)) where
-  abbrev E : ℕ
-  E = end-of 0 es
-
-  short : end-of 0 es ≤ most-rows
-  short = ascends-within most-rows 0 es (omega arith) t
-
-  pub level-stays : vectors-at z 0 es ≡ vectors-at s 0 es
-  level-stays = vectors-stay s z 0 es t (λ i h. row-stays s z i (λ j a b. same j (omega arith) (omega arith)))
-
-  pub fit-stays : T (exponents-fit? z (last-end (last es)))
-  fit-stays = subst (λ n. T (exponents-fit? z n)) (sym (last-end-is es))
-      (fit-shown z E (λ i a b. fits-stays s z i (omega (arith, short)) (omega (arith, short)) (λ j c d. same j (omega arith) (omega arith)) (f i a b)))
+pub level-stays : (s z : Words) (es : Words) → T (ascending? most-rows 0 es) → Same z s 0 (end-of 0 es * row-length) → vectors-at z 0 es
+    ≡ vectors-at s 0 es
+level-stays s z es t same = vectors-stay s z 0 es t (λ i h. row-stays s z i (λ j a b. same j (omega arith) (omega arith)))
 
 module _ (s z : Words) (long : state-length ≤ length s) (same-long : length z ≡ length s) where
   module _ (j : ℕ) (inside : j < all-levels) (t : T (words-sound? document-01 s j)) (counts : Same z s (count-offset j) (count-offset (suc j)))
       (terms : Same z s (rows-offset j) (rows-offset (suc j))) where
     p : (count-at s j ≤ most-vectors) × T (ascending? most-rows 0 (ends-at document-01 s j))
-        × All-fit (rows-from s j) 0 (end-of 0 (ends-at document-01 s j))
     p = words-parts s long j t
 
     count-same : count-at z j ≡ count-at s j
@@ -95,9 +66,6 @@ module _ (s z : Words) (long : state-length ≤ length s) (same-long : length z 
     rows-same-from i a b = getD-drop (rows-offset j) z i 0 ∙ terms (rows-offset j + i) (omega arith) (omega arith)
         ∙ sym (getD-drop (rows-offset j) s i 0)
 
-    room : (w : Words) → state-length ≤ length w → level-length ≤ length (rows-from w j)
-    room w l = omega (arith, length-drop (rows-offset j) w)
-
     abbrev es : Words
     es = ends-at document-01 s j
 
@@ -105,17 +73,13 @@ module _ (s z : Words) (long : state-length ≤ length s) (same-long : length z 
     used i a b = rows-same-from i a (omega (arith, ascends-within most-rows 0 es (omega arith) (p .1)))
 
     pub level-local : level-at document-01 z j ≡ level-at document-01 s j
-    level-local = ap (vectors-at (rows-from z j) 0) ends-same ∙ level-stays (rows-from s j) (rows-from z j) es (p .1) (p .2) (room s long)
-        (room z (omega arith)) used
+    level-local = ap (vectors-at (rows-from z j) 0) ends-same ∙ level-stays (rows-from s j) (rows-from z j) es (p .1) used
 
     pub words-local : T (words-sound? document-01 z j)
     words-local =
-        subst (λ e. T (leb (count-at z j) most-vectors and ascending? most-rows 0 e and exponents-fit? (rows-from z j) (last-end (last e))))
-        (sym ends-same)
-        (and-both (leb (count-at z j) most-vectors) (ascending? most-rows 0 es and exponents-fit? (rows-from z j) (last-end (last es)))
-        (le→leb (count-at z j) most-vectors (omega (arith, count-same, p .0)))
-        (and-both (ascending? most-rows 0 es) (exponents-fit? (rows-from z j) (last-end (last es))) (p .1)
-        (fit-stays (rows-from s j) (rows-from z j) es (p .1) (p .2) (room s long) (room z (omega arith)) used)))
+        subst (λ e. T (leb (count-at z j) most-vectors and ascending? most-rows 0 e)) (sym ends-same)
+        (and-both (leb (count-at z j) most-vectors) (ascending? most-rows 0 es) (le→leb (count-at z j) most-vectors (omega (arith, count-same, p .0)))
+        (p .1))
 
   -- levels 0 to h − 1
   pub levels-local : (h : ℕ) → h ≤ all-levels → T (all-words-sound? document-01 s h) → Same z s header-length (count-offset h)
@@ -172,8 +136,7 @@ module _ (s : Words) (k count : ℕ) (long : state-length ≤ length s) (inside 
       subst (λ n. T (all-words-sound? document-01 z n)) y (and-both (words-sound? document-01 z k) (all-words-sound? document-01 z k) here (under .1))
     where
       here : T (words-sound? document-01 (set (set s (count-offset k) count) 4 (k + 1)) k)
-      here = subst T (sym (λ i. leb (new-count i) most-vectors and ascending? most-rows 0 (take (new-count i) (ends-kept i))
-          and exponents-fit? (rows-kept i) (last-end (last (take (new-count i) (ends-kept i)))))) so-far
+      here = subst T (sym (λ i. leb (new-count i) most-vectors and ascending? most-rows 0 (take (new-count i) (ends-kept i)))) so-far
 
   pub new-state : decode document-01 (set (set s (count-offset k) count) 4 (k + 1)) ≡ finished s k count
   new-state =
@@ -190,5 +153,4 @@ module _ (s : Words) (k count : ℕ) (long : state-length ≤ length s) (inside 
       })
 
 pub so-far-few : (s : Words) (k count : ℕ) → T (words-so-far? s k count) → count ≤ most-vectors
-so-far-few s k count t = leb→le count most-vectors (and-left (leb count most-vectors)
-    (ascending? most-rows 0 (take count (ends-from s k)) and exponents-fit? (rows-from s k) (last-end (last (take count (ends-from s k))))) t)
+so-far-few s k count t = leb→le count most-vectors (and-left (leb count most-vectors) (ascending? most-rows 0 (take count (ends-from s k))) t)

@@ -5,7 +5,7 @@ use lib.ListN.{getD}
 use Rattle.definitions.specs.Limits.{document-01}
 use Rattle.definitions.specs.Reducer.{heads}
 use Rattle.definitions.specs.Layout.{Words, rows, level-at}
-use Rattle.reducers.specs.search.Search.{Small, Spanned}
+use Rattle.reducers.specs.search.Search.{Spanned}
 use Rattle.state.specs.soundness.Places.{count-at}
 use Rattle.state.specs.soundness.Tabled.{Ready}
 
@@ -22,5 +22,4 @@ Ready-pair s (suc k) below above = Ready s (suc k) above × Ready s k below
 -- the leading rows of level k, as the reducer rule reads them
 pub record Led (s : Words) (k : ℕ) (leads spans : Words) : Type 0 where
   pub made : rows leads 0 (count-at s k) ≡ heads (getD s 0 0) (level-at document-01 s k)
-  pub small : Small (count-at s k) leads
   pub spanned : Spanned (components-at s k + 1) (count-at s k) spans leads

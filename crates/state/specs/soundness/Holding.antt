@@ -8,9 +8,10 @@ use Rattle.definitions.specs.Limits.{document-01}
 use Rattle.definitions.specs.Lists.{_and_, between, choose}
 use Rattle.definitions.specs.Monomial.{Exponents, Monomial, divides?}
 use Rattle.definitions.specs.Order.{Comparison, greater?}
-use Rattle.definitions.specs.Layout.{Words, row-at, ends-at, levels-at}
+use Rattle.definitions.specs.Packed.{unpack, pack}
+use Rattle.definitions.specs.Layout.{Words, long-at, row-at, ends-at, levels-at}
 use Rattle.definitions.specs.Places.{most-exponent, most-elements, most-vectors, most-rows, most-terms, row-length, component-offset, exponents-offset}
-use Rattle.orders.specs.Images.{Table, exponents-raw, table-order}
+use Rattle.orders.specs.Images.{Table, table-order}
 use Rattle.orders.specs.Levels.{images}
 use Rattle.state.specs.declared.soundness.Bounds.{Bounds}
 use Rattle.state.specs.soundness.Places.{count-at, rows-from}
@@ -23,13 +24,13 @@ abbrev pub exponent-limits : ℕ → Exponents
 exponent-limits n = limit-at n 0 ∷ limit-at n 1 ∷ limit-at n 2 ∷ limit-at n 3 ∷ limit-at n 4 ∷ limit-at n 5 ∷ limit-at n 6 ∷ limit-at n 7 ∷ []
 
 abbrev pub bounds-of : ℕ → ℕ → ℕ → Bounds
-bounds-of p n components = record { top = p - 1; components = components; exponents = exponent-limits n }
+bounds-of p n components = record { top = p - 1; components = components; exponents = pack (exponent-limits n) }
 
 -- the words of row i are in range
 abbrev pub row-holds? : Bounds → Words → ℕ → Bool
 row-holds? b s i =
     between 1 (getD s (i * row-length) 0) (b .top) and between 1 (getD s (i * row-length + component-offset) 0) (b .components)
-    and divides? (exponents-raw s (i * row-length + exponents-offset)) (b .exponents)
+    and divides? (unpack (long-at s (i * row-length + exponents-offset))) (unpack (b .exponents))
 
 -- .. and the row before it is greater
 abbrev pub follows? : Bounds → (Monomial → Monomial → Comparison) → Words → ℕ → Bool

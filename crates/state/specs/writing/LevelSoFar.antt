@@ -6,10 +6,10 @@ use lib.Dec.{leb}
 use lib.ListN.{set, take, drop}
 use lib.Seq.{paste}
 use Rattle.definitions.specs.Limits.{document-01}
-use Rattle.definitions.specs.Lists.{_and_, last}
+use Rattle.definitions.specs.Lists.{_and_}
 use Rattle.definitions.specs.Monomial.{Vector, Level}
 use Rattle.definitions.specs.State.{State}
-use Rattle.definitions.specs.Layout.{Words, rows-of, count-place, rows-place, vectors-at, levels-at, ascending?, last-end, exponents-fit?}
+use Rattle.definitions.specs.Layout.{Words, rows-of, count-place, rows-place, vectors-at, levels-at, ascending?}
 use Rattle.definitions.specs.Places.{most-vectors, most-rows, row-length, counts-length, level-length, count-offset, rows-offset}
 use Rattle.vectors.specs.terms.Rows.{cleared}
 use Rattle.reducers.specs.tables.Cuts.{start-of}
@@ -21,9 +21,7 @@ level-so-far s k count = vectors-at (rows-from s k) 0 (take count (ends-from s k
 
 -- its words are such that the vectors can be cut out
 abbrev pub words-so-far? : Words → ℕ → ℕ → Bool
-words-so-far? s k count =
-    leb count most-vectors and ascending? most-rows 0 (take count (ends-from s k))
-    and exponents-fit? (rows-from s k) (last-end (last (take count (ends-from s k))))
+words-so-far? s k count = leb count most-vectors and ascending? most-rows 0 (take count (ends-from s k))
 
 -- one vector more, of n terms: its rows behind those used, its end behind the ends
 abbrev pub appended : Words → ℕ → ℕ → ℕ → Vector → ℕ → Words

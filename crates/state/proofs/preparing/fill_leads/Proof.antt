@@ -193,8 +193,7 @@ returns c =
     (c .before .before .before .before .before .components-of .result)
     (c .before .before .before .before .before .before .before .before .fill-heads .last .0) (c .before .before .fill-spans .last .0)
     (at-8 .before .before .before .before .before .count-of .ensures) (c .before .before .before .before .before .components-of .ensures)
-    (c .before .before .before .before .before .before .before .before .fill-heads .ensures .0)
-    (c .before .before .before .before .before .before .before .before .fill-heads .ensures .1) (c .before .before .fill-spans .ensures)
+    (c .before .before .before .before .before .before .before .before .fill-heads .ensures) (c .before .before .fill-spans .ensures)
 
 pub fill-leads-spec : {M : Type 1} → statement M
 fill-leads-spec =

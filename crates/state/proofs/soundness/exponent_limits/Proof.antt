@@ -1,61 +1,56 @@
 use native.Mathlib.Omega.{arith}
-use mathlib.Core.Path.{_≡_, refl, sym, _∙_}
-use Prim.Native.Nat.{_-_, _≤_}
-use lib.ListN.{length, getD, length-set}
-use native.Mathlib.Nat.{not-suc-le-zero}
-use Rattle.lists.specs.Filling.{Filled, filled-more, filled-list}
+use mathlib.Core.Path.{_≡_, sym, ap}
+use Prim.Native.Nat.{ℕ, suc, _≤_}
+use Rattle.definitions.specs.Packed.{pack}
 use Rattle.state.specs.soundness.Holding.{exponent-limits as limits-definition}
-use Rattle.state.proofs.soundness.RowTests.{getD-limits}
+use Rattle.state.proofs.soundness.RowTests.{limits-all}
 use Rattle.state.proofs.soundness.exponent_limits.Statement.{statement}
 use Rattle.state.proofs.soundness.exponent_limits.Tie as tie
 
-abbrev Inv-loop : tie.InvT-loop
-Inv-loop n w₀ j₀ w j = (j ≤ 8) × (length w ≡ 8) × Filled (λ k. getD (limits-definition n) k 0) j w
+past : (n k : ℕ) → k ≤ n → (n ≡ k → ⊥) → suc k ≤ n
+past n k h e = omega arith
 
-abbrev μ-loop : tie.MeasureT-loop
-μ-loop n w₀ j₀ w j = 8 - j
+returns : tie.Need-returns
+returns c = sym (ap (λ n. pack (limits-definition n)) (c .match .keys1))
 
-loop-holds : tie.Need-loop-holds Inv-loop μ-loop
-loop-holds c = (omega arith, refl, λ k h. absurd (not-suc-le-zero h))
+returns-2 : tie.Need-returns-2
+returns-2 c = sym (ap (λ n. pack (limits-definition n)) (c .match .keys2))
 
-limit-requires : tie.Need-limit-requires Inv-loop μ-loop
-limit-requires c κs = omega arith
+returns-3 : tie.Need-returns-3
+returns-3 c = sym (ap (λ n. pack (limits-definition n)) (c .match .keys3))
 
-mul-w : tie.Need-mul-w Inv-loop μ-loop
-mul-w c = omega arith
+returns-4 : tie.Need-returns-4
+returns-4 c = sym (ap (λ n. pack (limits-definition n)) (c .match .keys4))
 
-array-write-w : tie.Need-array-write-w Inv-loop μ-loop
-array-write-w c = omega arith
+returns-5 : tie.Need-returns-5
+returns-5 c = sym (ap (λ n. pack (limits-definition n)) (c .match .keys5))
 
-add-j : tie.Need-add-j Inv-loop μ-loop
-add-j c = omega arith
+returns-6 : tie.Need-returns-6
+returns-6 c = sym (ap (λ n. pack (limits-definition n)) (c .match .keys6))
 
-loop-less : tie.Need-loop-less Inv-loop μ-loop
-loop-less c = omega arith
+returns-7 : tie.Need-returns-7
+returns-7 c = sym (ap (λ n. pack (limits-definition n)) (c .match .keys7))
 
-loop-again : tie.Need-loop-again Inv-loop μ-loop
-loop-again c = let l = c .before .before .loop in (
-  omega arith,
-  simp length-set (l .inv .1),
-  filled-more (λ k. getD (limits-definition (c .before .before .before .args .n)) k 0) (l .j) (c .limit .result) (l .w) (omega arith)
-      (c .limit .ensures ∙ sym (getD-limits (c .before .before .before .args .n) (l .j) (omega arith))) (l .inv .2),
-)
+returns-8 : tie.Need-returns-8
+returns-8 c = sym (ap (λ n. pack (limits-definition n)) (c .match .keys8))
 
-returns : tie.Need-returns Inv-loop μ-loop
-returns c = let l = c .before .loop in filled-list (limits-definition (c .before .before .args .n)) (l .w) (l .inv .1)
-    (λ k h. l .inv .2 k (omega arith))
+returns-9 : tie.Need-returns-9
+returns-9 c =
+    let n = c .before .args .n in
+    let r = c .match .rest in
+    sym (limits-all n (past n 7 (past n 6 (past n 5 (past n 4 (past n 3 (past n 2 (past n 1 (past n 0 (omega arith) (r .0 .0 .0 .0 .0 .0 .0 .1))
+    (r .0 .0 .0 .0 .0 .0 .1)) (r .0 .0 .0 .0 .0 .1)) (r .0 .0 .0 .0 .1)) (r .0 .0 .0 .1)) (r .0 .0 .1)) (r .0 .1)) (r .1)))
 
 pub exponent-limits-spec : {M : Type 1} → statement M
 exponent-limits-spec =
     tie.close
     (tie.spec
-    Inv-loop
-    μ-loop
-    loop-holds
-    limit-requires
-    mul-w
-    array-write-w
-    add-j
-    loop-less
-    loop-again
-    returns)
+    returns
+    returns-2
+    returns-3
+    returns-4
+    returns-5
+    returns-6
+    returns-7
+    returns-8
+    returns-9)

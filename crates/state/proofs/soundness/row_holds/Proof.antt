@@ -1,6 +1,8 @@
 use borrow.Author.Needs.{needs}
-use mathlib.Core.Path.{_∙_}
+use mathlib.Core.Path.{_∙_, ap}
 use Rattle.definitions.specs.Lists.{_and_}
+use Rattle.definitions.specs.Monomial.{divides?}
+use Rattle.definitions.specs.Packed.{unpack}
 use Rattle.state.proofs.soundness.row_holds.Statement.{statement}
 use Rattle.state.proofs.soundness.row_holds.Tie as tie
 
@@ -28,11 +30,14 @@ shared-slice-read-between-2 c = search needs
 between-requires-2 : tie.Need-between-requires-2
 between-requires-2 c κs = search needs
 
-add-within : tie.Need-add-within
-add-within c = search needs
+add-long : tie.Need-add-long
+add-long c = search needs
 
-within-requires : tie.Need-within-requires
-within-requires c κs = search needs
+long-requires : tie.Need-long-requires
+long-requires c κs = search needs
+
+divides-exponents-requires : tie.Need-divides-exponents-requires
+divides-exponents-requires c κs = search needs
 
 both-requires : tie.Need-both-requires
 both-requires c κs = search needs
@@ -41,8 +46,12 @@ both-requires-2 : tie.Need-both-requires-2
 both-requires-2 c κs = search needs
 
 returns : tie.Need-returns
-returns c = c .both2 .ensures ∙ (λ i. c .before .before .before .before .before .between .ensures i
-    and (c .before .both .ensures ∙ (λ j. c .before .before .before .between2 .ensures j and c .before .before .within .ensures j)) i)
+returns c =
+    let at-8 = c .before .before .before .before .before .before .before .before in
+    let limits = at-8 .before .args .b .exponents in
+    let e = c .before .before .divides-exponents .ensures ∙ ap (λ n. divides? (unpack n) (unpack limits)) (c .before .before .before .long .ensures) in
+    c .both2 .ensures ∙ (λ i. c .before .before .before .before .before .before .between .ensures i
+    and (c .before .both .ensures ∙ (λ j. c .before .before .before .before .between2 .ensures j and e j)) i)
 
 pub row-holds-spec : {M : Type 1} → statement M
 row-holds-spec =
@@ -56,8 +65,9 @@ row-holds-spec =
     mul-between-2
     shared-slice-read-between-2
     between-requires-2
-    add-within
-    within-requires
+    add-long
+    long-requires
+    divides-exponents-requires
     both-requires
     both-requires-2
     returns)
