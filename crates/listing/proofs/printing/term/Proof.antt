@@ -1,9 +1,15 @@
 use borrow.Author.Needs.{needs}
 use native.Mathlib.Omega.{arith}
 use Prim.Native.Nat.{_-_}
-use Rattle.listing.proofs.printing.Spelling.{after}
+use mathlib.Core.Path.{ap}
+use lib.ListN.{take}
+use Rattle.listing.specs.printing.Lines.{listed}
+use Rattle.listing.proofs.printing.Spelling.{after, spelled}
 use Rattle.listing.proofs.printing.term.Statement.{statement}
 use Rattle.listing.proofs.printing.term.Tie as tie
+
+apart-requires : tie.Need-apart-requires
+apart-requires c κs = search needs
 
 word-requires : tie.Need-word-requires
 word-requires c κs = omega (arith, c .before .before .before .before .pre .1)
@@ -38,9 +44,16 @@ returns c =
     (at-8 .before .before) .word in
     let asked =
     let at-8 = c .before .before .before .before .before .before .before .before in
-    (at-8 .before .before .before .before .before .before .before) .pre in (
+    (at-8 .before .before .before .before .before .before .before) .pre in
+    let n =
+    let at-8 = c .before .before .before .before .before .before .before .before in
+    (at-8 .before .before .before .before .before .before .before) .args .n in
+    let apart-there =
+    let at-8 = c .before .before .before .before .before .before .before .before in
+    (at-8 .before .before .before .before) .apart in (
       after (word-there .ensures .0)
-          (after (c .before .before .before .before .before .before .word2 .ensures .0) (c .before .before .exponents .ensures .0)),
+          (after (c .before .before .before .before .before .before .word2 .ensures .0)
+          (spelled (ap (λ e. listed (take n e)) (apart-there .ensures)) (c .before .before .exponents .ensures .0))),
       omega (
         arith,
         asked .0,
@@ -52,4 +65,4 @@ returns c =
 
 pub term-spec : {M : Type 1} → statement M
 term-spec =
-    tie.close (tie.spec word-requires word-requires-2 exponents-requires same-length returns)
+    tie.close (tie.spec apart-requires word-requires word-requires-2 exponents-requires same-length returns)
