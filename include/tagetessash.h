@@ -24,8 +24,12 @@
 extern "C" {
 #endif
 
-/* Grows with every change of a function here, of the state's layout, of which vectors a level has or of what the sheet prints. */
-#define TAGETESSASH_VERSION 1
+/* Grows with every change of a function here, of the state's layout, of which vectors a level has or of what the sheet prints.
+ *     1    an exponent has a word of its own, a row ten words
+ *     2    the exponents are packed, a row has six words; what the accessors below give and what the sheet prints is as it was
+ * Version 1's buffers are long enough for version 2: a program that was compiled with that header is refused nothing and reads other words. Only the version
+ * tells it. */
+#define TAGETESSASH_VERSION 2
 
 /* How many bytes of stack a call finds enough, from where it is called, so that a thread of this size and what its own functions need is safe. Of the stack
  * alone the library can not tell you that it is too small: the process dies. All calls but the tree's have arrays of fixed length and do not call themselves:
@@ -36,16 +40,43 @@ extern "C" {
 #define TAGETESSASH_TREE_STACK_BYTES 4194304
 
 /* How many words a buffer has at the least; a shorter one is refused with 16, a longer one may be lent. The file and the cache may have any length. */
-#define TAGETESSASH_STATE_WORDS 206095
-#define TAGETESSASH_WORK_WORDS 5120       /* to read, and to lift by division or hybrid */
-#define TAGETESSASH_TREE_WORK_WORDS 40960 /* to lift by the tree */
-#define TAGETESSASH_OUT_WORDS 5120
+#define TAGETESSASH_STATE_WORDS 124175
+#define TAGETESSASH_WORK_WORDS 3072       /* to read, and to lift by division or hybrid */
+#define TAGETESSASH_TREE_WORK_WORDS 24576 /* to lift by the tree */
+#define TAGETESSASH_OUT_WORDS 3072
 #define TAGETESSASH_SHEET_BYTES 1400000   /* the sheet's out has bytes */
 
-/* A term is a row of words: its coefficient, its component, its eight exponents (x1's first, zero past the last variable). */
-#define TAGETESSASH_ROW_WORDS 10
+/* The most that there can be. A longer file is refused with 1, T lines for more terms of level 0 with 8, more terms of a vector or of the tree's work area with
+ * 14, more vectors or terms of a level above 0 with 15. */
+#define TAGETESSASH_FILE_BYTES 65536
 #define TAGETESSASH_VARIABLES 8
 #define TAGETESSASH_HIGHEST_LEVEL 9
+#define TAGETESSASH_LEVEL_VECTORS 128
+#define TAGETESSASH_LEVEL_TERMS 2048
+#define TAGETESSASH_VECTOR_TERMS 512
+#define TAGETESSASH_TREE_TERMS 4096
+
+/* A term is a row of words: its coefficient, its component, its eight exponents in one number of 64 bits, a byte each. x1's is the top byte; those past the
+ * last variable are zero. The number stands in four words, the lowest 16 bits first, so that on x86-64 these are its bytes in memory. */
+#define TAGETESSASH_ROW_WORDS 6
+#define TAGETESSASH_PACKED_WORDS 4
+#define TAGETESSASH_WORD_BITS 16
+#define TAGETESSASH_EXPONENT_BITS 8
+
+/* At which word what stands; the accessors below know it. In a row: */
+#define TAGETESSASH_COEFFICIENT_AT 0
+#define TAGETESSASH_COMPONENT_AT 1
+#define TAGETESSASH_PACKED_AT 2
+/* in the state: */
+#define TAGETESSASH_PRIME_AT 0
+#define TAGETESSASH_VARIABLES_AT 1
+#define TAGETESSASH_ORDER_AT 2
+#define TAGETESSASH_COMPONENTS_AT 3
+#define TAGETESSASH_COMPLETE_AT 4
+#define TAGETESSASH_COUNTS_AT 5       /* how many vectors level 0 has, behind it an end for each of them; .. */
+#define TAGETESSASH_COUNTS_WORDS 129  /* .. so many words behind it the next level's */
+#define TAGETESSASH_ROWS_AT 1295      /* the rows of level 0, vector after vector; .. */
+#define TAGETESSASH_LEVEL_WORDS 12288 /* .. so many words behind them the next level's */
 
 /* By which way a level is lifted. All three give the same vectors wherever they are not refused; 13 to 15 may come by one and not by another. */
 enum {
@@ -102,8 +133,8 @@ uint16_t tagetessash_lift(uint16_t *state, size_t state_words, uint16_t *work, s
 uint16_t tagetessash_fetch(const uint16_t *state, size_t state_words, uint16_t *out, size_t out_words, size_t level, size_t vector, size_t *place);
 
 /* Writes the sheet of a problem file, the bytes that the program prints, into out, zeros after them, and how many there are into length. Returns 0 for every
- * file, a refused one too (its X line says so), or 16, which changes no buffer and has length 0. After 0 state and work are zero: they are lent for the work alone.
- * It lifts by the hybrid way with the newest term, which on some files takes very long. */
+ * file, a refused one too (its X line says so), or 16, which changes no buffer and has length 0. After 0 state and work are zero: they are lent for the work
+ * alone. It lifts by the hybrid way with the newest term, which on some files takes very long. */
 uint16_t tagetessash_sheet(const uint8_t *file, size_t file_bytes, uint16_t *state, size_t state_words, uint16_t *work, size_t work_words, uint8_t *out,
     size_t out_bytes, size_t *length);
 
@@ -114,14 +145,34 @@ uint16_t tagetessash_version(void);
 typedef struct {
     uint16_t coefficient;
     uint16_t component; /* level 0: of the file's module; above it: the number of a vector of the level below */
-    uint16_t exponents[TAGETESSASH_VARIABLES];
+    uint16_t exponents[TAGETESSASH_VARIABLES]; /* x1's first */
 } tagetessash_term;
+
+/* The same of the row that begins here, one by one. */
+static inline uint16_t tagetessash_coefficient(const uint16_t *row) { return row[TAGETESSASH_COEFFICIENT_AT]; }
+static inline uint16_t tagetessash_component(const uint16_t *row) { return row[TAGETESSASH_COMPONENT_AT]; }
+
+/* all exponents in one number, x1's in the top byte: two rows have the same ones where these are equal, and the larger one is lexicographically greater */
+static inline uint64_t tagetessash_packed(const uint16_t *row)
+{
+    uint64_t packed = 0;
+    size_t w = TAGETESSASH_PACKED_WORDS;
+    while (w-- != 0)
+        packed = packed << TAGETESSASH_WORD_BITS | row[TAGETESSASH_PACKED_AT + w];
+    return packed;
+}
+
+/* exponent 0 (of x1) to 7 (of x8) */
+static inline uint16_t tagetessash_exponent(const uint16_t *row, size_t i)
+{
+    return (uint8_t)(tagetessash_packed(row) >> TAGETESSASH_EXPONENT_BITS * (TAGETESSASH_VARIABLES - 1 - i));
+}
 
 /* How many rows stand in front of the zeros: of out after a fetch, of the work area after 9. */
 static inline size_t tagetessash_row_count(const uint16_t *rows, size_t words)
 {
     size_t i = 0;
-    while (i < words / TAGETESSASH_ROW_WORDS && rows[i * TAGETESSASH_ROW_WORDS] != 0)
+    while (i < words / TAGETESSASH_ROW_WORDS && tagetessash_coefficient(rows + i * TAGETESSASH_ROW_WORDS) != 0)
         i++;
     return i;
 }
@@ -132,34 +183,36 @@ static inline tagetessash_term tagetessash_row(const uint16_t *rows, size_t i)
     const uint16_t *row = rows + i * TAGETESSASH_ROW_WORDS;
     tagetessash_term term;
     size_t x;
-    term.coefficient = row[0];
-    term.component = row[1];
+    term.coefficient = tagetessash_coefficient(row);
+    term.component = tagetessash_component(row);
     for (x = 0; x < TAGETESSASH_VARIABLES; x++)
-        term.exponents[x] = row[2 + x];
+        term.exponents[x] = tagetessash_exponent(row, x);
     return term;
 }
 
 /* What a state holds, for states as calls leave them (or all zero: nothing). */
 
 /* p, n, the order code and s of the file's first line */
-static inline uint16_t tagetessash_prime(const uint16_t *state) { return state[0]; }
-static inline uint16_t tagetessash_variables(const uint16_t *state) { return state[1]; }
-static inline uint16_t tagetessash_order(const uint16_t *state) { return state[2]; }
-static inline uint16_t tagetessash_components(const uint16_t *state) { return state[3]; }
+static inline uint16_t tagetessash_prime(const uint16_t *state) { return state[TAGETESSASH_PRIME_AT]; }
+static inline uint16_t tagetessash_variables(const uint16_t *state) { return state[TAGETESSASH_VARIABLES_AT]; }
+static inline uint16_t tagetessash_order(const uint16_t *state) { return state[TAGETESSASH_ORDER_AT]; }
+static inline uint16_t tagetessash_components(const uint16_t *state) { return state[TAGETESSASH_COMPONENTS_AT]; }
 
 /* how many levels are complete: 0 without a basis, else levels 0 to this - 1 */
-static inline size_t tagetessash_complete(const uint16_t *state) { return state[4]; }
+static inline size_t tagetessash_complete(const uint16_t *state) { return state[TAGETESSASH_COMPLETE_AT]; }
 
 /* how many vectors a level has, of level 0 how many elements; 0 for a level that is not complete */
 static inline size_t tagetessash_count(const uint16_t *state, size_t level)
 {
-    return level < tagetessash_complete(state) ? state[5 + 129 * level] : 0;
+    return level < tagetessash_complete(state) ? state[TAGETESSASH_COUNTS_AT + TAGETESSASH_COUNTS_WORDS * level] : 0;
 }
 
 /* how many terms the first so many vectors of a level have together */
 static inline size_t tagetessash_end(const uint16_t *state, size_t level, size_t vectors)
 {
-    return vectors != 0 && vectors <= tagetessash_count(state, level) ? state[5 + 129 * level + vectors] : 0;
+    return vectors != 0 && vectors <= tagetessash_count(state, level)
+        ? state[TAGETESSASH_COUNTS_AT + TAGETESSASH_COUNTS_WORDS * level + vectors]
+        : 0;
 }
 
 /* how many terms a level has */
@@ -180,7 +233,7 @@ static inline size_t tagetessash_terms(const uint16_t *state, size_t level, size
 static inline const uint16_t *tagetessash_rows(const uint16_t *state, size_t level, size_t vector)
 {
     return tagetessash_terms(state, level, vector) != 0
-        ? state + 1295 + 20480 * level + TAGETESSASH_ROW_WORDS * tagetessash_end(state, level, vector - 1)
+        ? state + TAGETESSASH_ROWS_AT + TAGETESSASH_LEVEL_WORDS * level + TAGETESSASH_ROW_WORDS * tagetessash_end(state, level, vector - 1)
         : NULL;
 }
 

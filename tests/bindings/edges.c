@@ -1,4 +1,5 @@
-/* What the header says beyond the answers that resolve prints: null with length 0, buffers one word too short, wrong numbers, levels dropped, the accessors, the sheet. */
+/* What the header says beyond the answers that resolve prints: its numbers, packed rows, null with length 0, buffers one word too short, wrong numbers, altered
+ * states, levels dropped, the accessors, the sheet. */
 #include <stdio.h>
 #include <stdlib.h>
 #include <string.h>
@@ -13,6 +14,19 @@ static int failures;
             failures++; \
         } \
     } while (0)
+
+/* The header's numbers fit each other: there is no array of a negative length. */
+#define HOLDS(name, what) typedef char name[(what) ? 1 : -1]
+#define LEVELS (TAGETESSASH_HIGHEST_LEVEL + 1)
+HOLDS(a_row, TAGETESSASH_PACKED_AT + TAGETESSASH_PACKED_WORDS == TAGETESSASH_ROW_WORDS);
+HOLDS(packed_exponents, TAGETESSASH_VARIABLES * TAGETESSASH_EXPONENT_BITS == TAGETESSASH_PACKED_WORDS * TAGETESSASH_WORD_BITS);
+HOLDS(a_levels_counts, TAGETESSASH_COUNTS_WORDS == 1 + TAGETESSASH_LEVEL_VECTORS);
+HOLDS(a_levels_rows, TAGETESSASH_LEVEL_WORDS == TAGETESSASH_LEVEL_TERMS * TAGETESSASH_ROW_WORDS);
+HOLDS(rows_behind_counts, TAGETESSASH_ROWS_AT == TAGETESSASH_COUNTS_AT + LEVELS * TAGETESSASH_COUNTS_WORDS);
+HOLDS(the_state, TAGETESSASH_STATE_WORDS == TAGETESSASH_ROWS_AT + LEVELS * TAGETESSASH_LEVEL_WORDS);
+HOLDS(the_work_area, TAGETESSASH_WORK_WORDS == TAGETESSASH_VECTOR_TERMS * TAGETESSASH_ROW_WORDS);
+HOLDS(the_trees_work_area, TAGETESSASH_TREE_WORK_WORDS == TAGETESSASH_TREE_TERMS * TAGETESSASH_ROW_WORDS);
+HOLDS(a_fetched_vector, TAGETESSASH_OUT_WORDS == TAGETESSASH_VECTOR_TERMS * TAGETESSASH_ROW_WORDS);
 
 static const char three[] = "R,7,3,3,1\nT,1,1,1,1,0,0\nT,2,1,1,0,1,0\nT,3,2,1,0,0,1\nE,3\n";
 static const char no_basis[] = "R,7,2,1,1\nT,1,1,1,2,0\nT,2,1,1,1,1\nT,2,1,1,0,2\nE,3\n";
@@ -70,6 +84,43 @@ static uint16_t fetch(size_t level, size_t vector)
         CHECK(memcmp(before, state, TAGETESSASH_STATE_WORDS * sizeof *state) == 0); \
     } while (0)
 
+/* the row that docs/BUFFERS.md prints, by each accessor and as it stands in memory; the same exponents read from a file */
+static void packed_rows(void)
+{
+    static const uint16_t printed[TAGETESSASH_ROW_WORDS] = { 5, 9, 1800, 1286, 772, 258 };
+    uint64_t packed;
+    size_t i;
+    CHECK(tagetessash_coefficient(printed) == 5 && tagetessash_component(printed) == 9);
+    CHECK(tagetessash_packed(printed) == 0x0102030405060708u);
+    memcpy(&packed, printed + TAGETESSASH_PACKED_AT, sizeof packed);
+    CHECK(packed == tagetessash_packed(printed));
+    CHECK(tagetessash_row(printed, 0).coefficient == 5 && tagetessash_row(printed, 0).component == 9);
+    for (i = 0; i < TAGETESSASH_VARIABLES; i++)
+        CHECK(tagetessash_exponent(printed, i) == i + 1 && tagetessash_row(printed, 0).exponents[i] == i + 1);
+    CHECK(read_text("R,7,8,1,9\nT,1,5,9,1,2,3,4,5,6,7,8\nT,1,6,9,0,255,0,0,0,0,0,255\nE,2\n") == TAGETESSASH_DONE);
+    CHECK(memcmp(tagetessash_rows(state, 0, 1), printed, sizeof printed) == 0);
+    CHECK(tagetessash_packed(tagetessash_rows(state, 0, 1) + TAGETESSASH_ROW_WORDS) == 0x00ff0000000000ffu);
+}
+
+/* Each exponent of one term altered to 1: past the last variable there is no accepted basis then, and nothing is changed. */
+static void past_the_last_variable(void)
+{
+    size_t n, i;
+    for (n = 1; n <= TAGETESSASH_VARIABLES; n++)
+        for (i = 0; i < TAGETESSASH_VARIABLES; i++) {
+            size_t bit = (TAGETESSASH_VARIABLES - 1 - i) * TAGETESSASH_EXPONENT_BITS;
+            char text[100];
+            sprintf(text, "R,7,%d,2,1\nT,1,1,1%.*s\nE,1\n", (int)n, (int)(2 * n), ",0,0,0,0,0,0,0,0");
+            CHECK(read_text(text) == TAGETESSASH_DONE && tagetessash_packed(tagetessash_rows(state, 0, 1)) == 0);
+            state[TAGETESSASH_ROWS_AT + TAGETESSASH_PACKED_AT + bit / TAGETESSASH_WORD_BITS] = (uint16_t)(1u << bit % TAGETESSASH_WORD_BITS);
+            CHECK(tagetessash_exponent(tagetessash_rows(state, 0, 1), i) == 1);
+            if (i < n)
+                CHECK(lift(1, TAGETESSASH_DIVISION, 0) == TAGETESSASH_DONE && tagetessash_exponent(tagetessash_rows(state, 0, 1), i) == 1);
+            else
+                REFUSED(lift(1, TAGETESSASH_DIVISION, 0), TAGETESSASH_NO_LEVEL);
+        }
+}
+
 static void null_with_length_0(void)
 {
     fill(state, TAGETESSASH_STATE_WORDS, 5);
@@ -124,7 +175,8 @@ static void large_prime(unsigned p)
     for (i = 0; i < 5; i++) {
         CHECK(read_text(text) == TAGETESSASH_DONE && tagetessash_prime(state) == p);
         CHECK(tagetessash_row(tagetessash_rows(state, 0, 2), 0).coefficient == p - 1);
-        CHECK(tagetessash_lift(state, TAGETESSASH_STATE_WORDS, tree, TAGETESSASH_TREE_WORK_WORDS, NULL, 0, 1, (uint16_t)ways[i][0], (uint16_t)ways[i][1], &place)
+        CHECK(tagetessash_lift(
+                  state, TAGETESSASH_STATE_WORDS, tree, TAGETESSASH_TREE_WORK_WORDS, NULL, 0, 1, (uint16_t)ways[i][0], (uint16_t)ways[i][1], &place)
             == TAGETESSASH_DONE);
         CHECK(fetch(1, 1) == TAGETESSASH_DONE && tagetessash_row_count(out, TAGETESSASH_OUT_WORDS) == 3);
         CHECK(tagetessash_row(out, 0).coefficient == 1 && tagetessash_row(out, 1).coefficient == p - 1 && tagetessash_row(out, 2).coefficient == 1);
@@ -191,14 +243,18 @@ static void the_sheet(void)
     memset(sheet, 5, TAGETESSASH_SHEET_BYTES);
     fill(state, TAGETESSASH_STATE_WORDS, 5);
     fill(work, TAGETESSASH_WORK_WORDS, 5);
-    CHECK(tagetessash_sheet(file, bytes, state, TAGETESSASH_STATE_WORDS - 1, work, TAGETESSASH_WORK_WORDS, sheet, TAGETESSASH_SHEET_BYTES, &length) == TAGETESSASH_SHORT_BUFFER);
-    CHECK(tagetessash_sheet(file, bytes, state, TAGETESSASH_STATE_WORDS, work, TAGETESSASH_WORK_WORDS - 1, sheet, TAGETESSASH_SHEET_BYTES, &length) == TAGETESSASH_SHORT_BUFFER);
-    CHECK(tagetessash_sheet(file, bytes, state, TAGETESSASH_STATE_WORDS, work, TAGETESSASH_WORK_WORDS, sheet, TAGETESSASH_SHEET_BYTES - 1, &length) == TAGETESSASH_SHORT_BUFFER);
+    CHECK(tagetessash_sheet(file, bytes, state, TAGETESSASH_STATE_WORDS - 1, work, TAGETESSASH_WORK_WORDS, sheet, TAGETESSASH_SHEET_BYTES, &length)
+        == TAGETESSASH_SHORT_BUFFER);
+    CHECK(tagetessash_sheet(file, bytes, state, TAGETESSASH_STATE_WORDS, work, TAGETESSASH_WORK_WORDS - 1, sheet, TAGETESSASH_SHEET_BYTES, &length)
+        == TAGETESSASH_SHORT_BUFFER);
+    CHECK(tagetessash_sheet(file, bytes, state, TAGETESSASH_STATE_WORDS, work, TAGETESSASH_WORK_WORDS, sheet, TAGETESSASH_SHEET_BYTES - 1, &length)
+        == TAGETESSASH_SHORT_BUFFER);
     CHECK(length == 0 && all(state, TAGETESSASH_STATE_WORDS, 5) && all(work, TAGETESSASH_WORK_WORDS, 5));
     for (i = 0; i < TAGETESSASH_SHEET_BYTES && sheet[i] == 5; i++)
         ;
     CHECK(i == TAGETESSASH_SHEET_BYTES);
-    CHECK(tagetessash_sheet(file, bytes, state, TAGETESSASH_STATE_WORDS, work, TAGETESSASH_WORK_WORDS, sheet, TAGETESSASH_SHEET_BYTES, &length) == TAGETESSASH_DONE);
+    CHECK(tagetessash_sheet(file, bytes, state, TAGETESSASH_STATE_WORDS, work, TAGETESSASH_WORK_WORDS, sheet, TAGETESSASH_SHEET_BYTES, &length)
+        == TAGETESSASH_DONE);
     CHECK(length == strlen(expected) && memcmp(sheet, expected, strlen(expected)) == 0);
     for (i = length; i < TAGETESSASH_SHEET_BYTES && sheet[i] == 0; i++)
         ;
@@ -214,6 +270,8 @@ int main(void)
     work = words(TAGETESSASH_WORK_WORDS);
     tree = words(TAGETESSASH_TREE_WORK_WORDS);
     out = words(TAGETESSASH_OUT_WORDS);
+    packed_rows();
+    past_the_last_variable();
     null_with_length_0();
     without_a_basis();
     one_word_short();

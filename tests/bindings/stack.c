@@ -20,7 +20,7 @@ static const char deep[] = "R,7,5,1,2\nT,1,1,2,1,0,0,0,0\nT,1,1,1,0,8,11,244,1\n
 enum { READ, DIVISION, HYBRID, TREE, FETCH, SHEET, CALLS };
 static const char *const names[CALLS] = { "read", "lift by division", "lift by hybrid", "lift by the tree", "fetch", "sheet" };
 
-static uint8_t file[65536], sheet[TAGETESSASH_SHEET_BYTES];
+static uint8_t file[TAGETESSASH_FILE_BYTES], sheet[TAGETESSASH_SHEET_BYTES];
 static size_t file_bytes, level, place;
 static uint16_t state[TAGETESSASH_STATE_WORDS], work[TAGETESSASH_TREE_WORK_WORDS], cache[CACHE_WORDS], out[TAGETESSASH_OUT_WORDS];
 static uint16_t number;

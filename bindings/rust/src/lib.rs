@@ -19,10 +19,12 @@
 
 #![warn(missing_docs, missing_debug_implementations)]
 
+use layout::*;
 use std::fmt;
 
 #[doc(hidden)]
 pub mod calls;
+mod layout;
 mod problem;
 mod refusal;
 #[cfg(test)]
@@ -33,27 +35,13 @@ pub use refusal::Refusal;
 
 /// The version of the library that this crate is for: `TAGETESSASH_VERSION` of the header. A library of another version is refused by a panic at the first
 /// call.
-pub const VERSION: u16 = 1;
+pub const VERSION: u16 = 2;
 
 /// The highest level.
 pub const HIGHEST_LEVEL: usize = 9;
 /// The length of the tree's cache in terms, unless [`Engine::with_cache`] says another.
 pub const CACHE_TERMS: usize = 4_096;
 
-const STATE_WORDS: usize = 206_095;
-const WORK_WORDS: usize = 5_120;
-const TREE_WORK_WORDS: usize = 40_960;
-const OUT_WORDS: usize = 5_120;
-const ROW_WORDS: usize = 10;
-const SHEET_BYTES: usize = 1_400_000;
-/// The word of the state that holds how many vectors a level has; their ends stand behind it.
-const fn count_at(level: usize) -> usize {
-    5 + 129 * level
-}
-/// The first word of a level's rows.
-const fn rows_at(level: usize) -> usize {
-    count_at(HIGHEST_LEVEL + 1) + 2_048 * ROW_WORDS * level
-}
 /// `TAGETESSASH_TREE_STACK_BYTES` and room for the thread's own: more than a thread of Rust's has.
 const TREE_STACK: usize = 8 << 20;
 
@@ -118,7 +106,7 @@ pub struct Term {
     /// Of level 0's module 1 to s, of a level above it the number of a vector of the level below.
     pub component: u16,
     /// x1's first; 0 past the last variable
-    pub exponents: [u8; 8],
+    pub exponents: [u8; VARIABLES],
 }
 
 impl Term {
@@ -128,7 +116,7 @@ impl Term {
     ///
     /// If there are more than eight exponents.
     pub fn new(coefficient: u16, component: u16, exponents: &[u8]) -> Term {
-        let mut all = [0; 8];
+        let mut all = [0; VARIABLES];
         all[..exponents.len()].copy_from_slice(exponents);
         Term {
             coefficient,
@@ -139,9 +127,9 @@ impl Term {
 
     fn of(row: &[u16]) -> Term {
         Term {
-            coefficient: row[0],
-            component: row[1],
-            exponents: std::array::from_fn(|x| row[2 + x] as u8),
+            coefficient: row[COEFFICIENT_AT],
+            component: row[COMPONENT_AT],
+            exponents: exponents(row),
         }
     }
 }
@@ -256,22 +244,22 @@ impl Engine {
 
     /// p of the file; 0 without a basis.
     pub fn prime(&self) -> u16 {
-        self.state[0]
+        self.state[PRIME_AT]
     }
 
     /// n of the file, how many variables there are; 0 without a basis.
     pub fn variables(&self) -> usize {
-        usize::from(self.state[1])
+        usize::from(self.state[VARIABLES_AT])
     }
 
     /// The order of the file; none without a basis.
     pub fn order(&self) -> Option<Order> {
-        Order::of(self.state[2])
+        Order::of(self.state[ORDER_AT])
     }
 
     /// s of the file, how many components level 0's module has; 0 without a basis.
     pub fn components(&self) -> usize {
-        usize::from(self.state[3])
+        usize::from(self.state[COMPONENTS_AT])
     }
 
     /// The vectors of a level, in number order; of level 0 the file's elements. None of a level that is not complete.
@@ -287,7 +275,7 @@ impl Engine {
 
     /// How many levels are complete: 0 without a basis, else levels 0 to this − 1.
     pub fn complete(&self) -> usize {
-        usize::from(self.state[4])
+        usize::from(self.state[COMPLETE_AT])
     }
 
     /// How many vectors a level has, of level 0 how many elements; 0 for a level that is not complete.
@@ -372,7 +360,7 @@ fn answer((number, place): (u16, usize)) -> Result<(), Refusal> {
 fn terms(words: &[u16]) -> Vec<Term> {
     words
         .chunks_exact(ROW_WORDS)
-        .take_while(|row| row[0] != 0)
+        .take_while(|row| row[COEFFICIENT_AT] != 0)
         .map(Term::of)
         .collect()
 }

@@ -13,7 +13,7 @@ pub enum Refusal {
         /// the file's line, from 1
         line: usize,
     },
-    /// 2: p is not a prime from 2 to 32,767
+    /// 2: p is not a prime from 2 to 65,535
     BadPrime {
         /// the file's line, from 1
         line: usize,

@@ -1,4 +1,6 @@
-use crate::{calls, sheet, Engine, Order, Pick, Problem, Refusal, Term, Way, VERSION};
+use crate::{
+    calls, layout, sheet, Engine, Order, Pick, Problem, Refusal, Term, Way, HIGHEST_LEVEL, VERSION,
+};
 
 const PRINTED: &[u8] = b"R,7,2,1,1\nT,1,1,1,1,0\nT,1,1,1,0,1\nT,2,1,1,0,2\nT,2,1,1,0,0\nE,4\n";
 /// A tree as deep as its work area allows (tests/common has how it is made).
@@ -144,8 +146,46 @@ fn every_number_is_a_refusal() {
 #[test]
 fn the_library_is_of_this_version() {
     assert_eq!(calls::version(), VERSION);
+    assert_eq!(of_header("VERSION"), Some(usize::from(VERSION)));
+    assert_eq!(of_header("HIGHEST_LEVEL"), Some(HIGHEST_LEVEL));
+}
+
+/// The number that the header has by this name.
+fn of_header(name: &str) -> Option<usize> {
     let header = include_str!("../../../include/tagetessash.h");
-    assert!(header.contains(&format!("#define TAGETESSASH_VERSION {VERSION}\n")));
+    header.lines().find_map(|line| {
+        let mut words = line.strip_prefix("#define TAGETESSASH_")?.split(' ');
+        (words.next()? == name).then(|| words.next()?.parse().ok())?
+    })
+}
+
+/// Each number of the layout is the header's, and the state is as long as what stands in it.
+#[test]
+fn the_layout_is_the_headers() {
+    let mut numbers = 0;
+    for line in include_str!("layout.rs").lines() {
+        if let Some(said) = line.strip_prefix("pub const ").filter(|s| s.contains('=')) {
+            let (name, value) = said.split_once(": usize = ").expect("a number");
+            let value = value.trim_end_matches(';').replace('_', "");
+            assert_eq!(of_header(name), Some(value.parse().unwrap()), "{name}");
+            numbers += 1;
+        }
+    }
+    assert_eq!(numbers, 19);
+    assert_eq!(layout::count_at(HIGHEST_LEVEL + 1), layout::rows_at(0));
+    assert_eq!(layout::rows_at(HIGHEST_LEVEL + 1), layout::STATE_WORDS);
+}
+
+/// the row that docs/BUFFERS.md prints
+#[test]
+fn a_row_unpacked() {
+    let term = Term::new(5, 9, &[1, 2, 3, 4, 5, 6, 7, 8]);
+    assert_eq!(Term::of(&[5, 9, 1800, 1286, 772, 258]), term);
+    let row = [1, 2, 0x00ff, 0, 0, 0xff00];
+    assert_eq!(
+        Term::of(&row),
+        Term::new(1, 2, &[255, 0, 0, 0, 0, 0, 0, 255])
+    );
 }
 
 /// what a state holds, and nothing without a basis

@@ -1,0 +1,43 @@
+//! Lengths and places in the lent buffers, in words, by the header's names; a test compares them with it.
+
+pub const STATE_WORDS: usize = 124_175;
+pub const WORK_WORDS: usize = 3_072;
+pub const TREE_WORK_WORDS: usize = 24_576;
+pub const OUT_WORDS: usize = 3_072;
+pub const SHEET_BYTES: usize = 1_400_000;
+
+pub const VARIABLES: usize = 8;
+
+// a row
+pub const ROW_WORDS: usize = 6;
+pub const COEFFICIENT_AT: usize = 0;
+pub const COMPONENT_AT: usize = 1;
+pub const PACKED_AT: usize = 2;
+
+// the state
+pub const PRIME_AT: usize = 0;
+pub const VARIABLES_AT: usize = 1;
+pub const ORDER_AT: usize = 2;
+pub const COMPONENTS_AT: usize = 3;
+pub const COMPLETE_AT: usize = 4;
+pub const COUNTS_AT: usize = 5;
+pub const COUNTS_WORDS: usize = 129;
+pub const ROWS_AT: usize = 1_295;
+pub const LEVEL_WORDS: usize = 12_288;
+
+/// The word of the state that holds how many vectors a level has; their ends stand behind it.
+pub const fn count_at(level: usize) -> usize {
+    COUNTS_AT + COUNTS_WORDS * level
+}
+
+/// The first word of a level's rows.
+pub const fn rows_at(level: usize) -> usize {
+    ROWS_AT + LEVEL_WORDS * level
+}
+
+/// A row's exponents, x1's first. They are one number, x1's in its top byte, in words of which the lowest stands first.
+pub fn exponents(row: &[u16]) -> [u8; VARIABLES] {
+    let words = row[PACKED_AT..ROW_WORDS].iter().rev();
+    let packed = words.fold(0_u64, |packed, word| packed << u16::BITS | u64::from(*word));
+    packed.to_be_bytes()
+}
