@@ -1,7 +1,7 @@
 //! One call on two sets of buffers: number, place and every word of every buffer.
 
 use crate::proved;
-use common::buffers::{OUT, STATE, TREE_WORK, WORK};
+use common::buffers::{OUT, ROW, STATE, TREE_WORK, WORK};
 use common::report::shown;
 use reference::buffers::{fetch_call, lift_call_within, read_call_within};
 use reference::lifting::Way;
@@ -9,7 +9,7 @@ use reference::random::Random;
 use reference::Limits;
 
 /// The longest cache.
-pub const CACHE: usize = 20_000;
+pub const CACHE: usize = ROW * 2_000;
 /// Words that a longer buffer may have.
 pub const MORE: usize = 40;
 

@@ -152,7 +152,7 @@ impl Lists {
 
     /// How many levels are complete, by the word that says so, and how many vectors a level has.
     fn complete(&self) -> u64 {
-        u64::from(self.compare.ours.state[4]).min(10)
+        u64::from(self.compare.ours.state[buffers::COMPLETE]).min(10)
     }
 
     fn vectors(&self, level: u64) -> u64 {
@@ -251,7 +251,7 @@ impl Lists {
         };
         let cache = match random.below(40) {
             0 => CACHE,
-            1..=3 => 10_000,
+            1..=3 => CACHE / 2,
             _ => ROW * *random.pick(&[0, 0, 1, 2, 3, 5, 7, 12, 20, 60]),
         };
         let cache = cache + random.below(ROW as u64) as usize;
@@ -342,7 +342,7 @@ fn large_primes(lists: &mut Lists, files: u64) -> u64 {
 /// The tree as deep as its work area allows, and one deeper.
 fn deepest() {
     let whole = Lent {
-        cache: 200_000,
+        cache: ROW * 20_000,
         ..WHOLE
     };
     let mut compare = Compare::new(1);
@@ -365,17 +365,17 @@ fn raise(random: &mut Random, basis: &Basis, state: &mut [u16]) -> Vec<(usize, u
     let k = basis.levels.len() - 1;
     let used: usize = basis.levels[k].iter().map(Vec::len).sum();
     let x = leading_variable(random, &basis.levels[k], basis.parameters.n);
-    let rows = (0..used).map(|row| buffers::rows(k) + ROW * row + 2 + x);
-    let most = rows.clone().map(|at| state[at]).max().unwrap_or(0);
-    let by = 255_u16
-        .saturating_sub(most)
-        .saturating_sub(random.below(3) as u16);
-    rows.map(|at| {
-        let old = state[at];
-        state[at] = old + by;
-        (at, old)
-    })
-    .collect()
+    let (word, one) = buffers::exponent_at(x);
+    let words = (0..used).map(|row| buffers::rows(k) + ROW * row + word);
+    let exponents = words.clone().map(|at| (state[at] / one) as u8);
+    let by = (255 - exponents.max().unwrap_or(0)).saturating_sub(random.below(3) as u8);
+    words
+        .map(|at| {
+            let old = state[at];
+            state[at] = old + u16::from(by) * one;
+            (at, old)
+        })
+        .collect()
 }
 
 fn main() {

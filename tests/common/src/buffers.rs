@@ -1,11 +1,24 @@
-//! The buffers of docs/BUFFERS.md: lengths and places by name, in words.
+//! The buffers of docs/BUFFERS.md: lengths and places by name, in words; terms as rows of words.
 
-pub use reference::buffers::ROW;
 use reference::random::Random;
 use std::ops::BitOr;
 
+/// In a row: the coefficient, the component, then the exponents as one number of 64 bits, the lowest word first.
+pub const COEFFICIENT: usize = 0;
+pub const COMPONENT: usize = 1;
+const PACKED: usize = 2;
+const PACKED_WORDS: usize = 4;
+/// The words of a row.
+pub const ROW: usize = PACKED + PACKED_WORDS;
+/// The exponents of a row.
+pub const VARIABLES: usize = 8;
+
+/// In the state: p, the order code, how many levels are complete.
+pub const PRIME: usize = 0;
+pub const ORDER: usize = 2;
+pub const COMPLETE: usize = 4;
 /// Words before the first level's count.
-const HEAD: usize = 5;
+pub const HEAD: usize = 5;
 /// Levels that a state has room for, and vectors and terms that each of them has room for.
 const LEVELS: usize = 10;
 pub const VECTORS: usize = 128;
@@ -22,7 +35,8 @@ pub const OUT: usize = ROW * 512;
 pub const SHEET: usize = 1_400_000;
 
 // as the page has them
-const _: () = assert!(STATE == 206_095 && WORK == 5_120 && TREE_WORK == 40_960 && OUT == 5_120);
+const _: () = assert!(ROW == 6 && rows(0) == 1_295 && LEVEL_ROWS == 12_288 && STATE == 124_175);
+const _: () = assert!(WORK == 3_072 && TREE_WORK == 24_576 && OUT == 3_072);
 
 /// The word that holds how many vectors level k has; the ends of its vectors stand behind it.
 pub const fn count(k: usize) -> usize {
@@ -32,6 +46,34 @@ pub const fn count(k: usize) -> usize {
 /// The first word of level k's rows.
 pub const fn rows(k: usize) -> usize {
     count(LEVELS) + LEVEL_ROWS * k
+}
+
+/// A term's row; x1's exponent comes first.
+#[inline]
+pub fn row(coefficient: u16, component: u16, exponents: [u8; VARIABLES]) -> [u16; ROW] {
+    let packed = u64::from_be_bytes(exponents);
+    let [a, b, c, d] = [0, 16, 32, 48].map(|bits| (packed >> bits) as u16);
+    [coefficient, component, a, b, c, d]
+}
+
+/// A row's exponents as one number, x1's in its top byte.
+#[inline]
+pub fn packed(row: &[u16]) -> u64 {
+    let words: [u16; PACKED_WORDS] = row[PACKED..ROW].try_into().expect("four words");
+    words
+        .iter()
+        .rev()
+        .fold(0, |packed, word| packed << 16 | u64::from(*word))
+}
+
+/// A row's exponents, x1's first.
+pub fn exponents(row: &[u16]) -> [u8; VARIABLES] {
+    packed(row).to_be_bytes()
+}
+
+/// The word of a row that has this exponent, x1's being 0, and what 1 of it is there.
+pub const fn exponent_at(x: usize) -> (usize, u16) {
+    (ROW - 1 - x / 2, [256, 1][x % 2])
 }
 
 /// What lifting needs as work, by the code of the way: 0 division, 1 hybrid, 2 tree.
@@ -58,4 +100,30 @@ where
 {
     let zero = T::default();
     words.iter().fold(zero, |all, word| all | *word) == zero
+}
+
+#[cfg(test)]
+mod tests {
+    use super::{exponent_at, exponents, packed, row, VARIABLES};
+
+    /// the row that the page prints
+    #[test]
+    fn the_printed_row() {
+        let printed = [5, 9, 1800, 1286, 772, 258];
+        assert_eq!(row(5, 9, [1, 2, 3, 4, 5, 6, 7, 8]), printed);
+        assert_eq!(exponents(&printed), [1, 2, 3, 4, 5, 6, 7, 8]);
+        assert_eq!(packed(&printed), 0x0102_0304_0506_0708);
+    }
+
+    #[test]
+    fn one_exponent() {
+        for x in 0..VARIABLES {
+            let mut alone = [0; VARIABLES];
+            alone[x] = 200;
+            let (word, one) = exponent_at(x);
+            let mut changed = row(1, 2, [0; VARIABLES]);
+            changed[word] += 200 * one;
+            assert_eq!(changed, row(1, 2, alone));
+        }
+    }
 }

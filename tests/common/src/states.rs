@@ -1,6 +1,9 @@
 //! Sound states: levels of any vectors that are in range and descend, lifted or not; and their words altered.
 
-use crate::buffers::{count, rows, ROW, VECTORS};
+use crate::buffers::{
+    count, exponent_at, exponents, rows, COEFFICIENT, COMPONENT, HEAD, PRIME, ROW, VARIABLES,
+    VECTORS,
+};
 use reference::buffers::write_state;
 use reference::engine::{Basis, State};
 use reference::monomial::{Exponents, Level, Monomial, Parameters, Term, Vector};
@@ -36,16 +39,9 @@ pub fn write_basis(basis: Basis, state: &mut [u16]) {
 
 /// Whether a row holds this term.
 pub fn row_is(row: &[u16], term: &Term) -> bool {
-    let Monomial {
-        component,
-        exponents,
-    } = term.monomial;
-    u64::from(row[0]) == term.coefficient
-        && u64::from(row[1]) == component
-        && row[2..]
-            .iter()
-            .zip(&exponents)
-            .all(|(a, b)| u64::from(*a) == *b)
+    u64::from(row[COEFFICIENT]) == term.coefficient
+        && u64::from(row[COMPONENT]) == term.monomial.component
+        && exponents(row).map(u64::from) == term.monomial.exponents
 }
 
 /// A variable that the level's leading monomials have, if there is one.
@@ -214,11 +210,15 @@ fn descending(
         .collect()
 }
 
-/// Alters a word, or a whole row; gives what stood there.
+/// Alters a word, an exponent or a whole row; gives what stood there.
 pub fn alter(random: &mut Random, basis: &Basis, state: &mut [u16]) -> Vec<(usize, u16)> {
     let k = random.below(basis.levels.len() as u64) as usize;
     let used: usize = basis.levels[k].iter().map(Vec::len).sum();
     let row = |random: &mut Random| rows(k) + ROW * random.below(used.max(1) as u64) as usize;
+    if random.chance(25) {
+        let at = row(random);
+        return vec![alter_exponent(random, state, at)];
+    }
     if random.chance(10) && used > 1 {
         // the row before again, or two neighbours exchanged: equal or ascending neighbours
         let at = rows(k) + ROW * random.between(1, used as u64 - 1) as usize;
@@ -234,7 +234,7 @@ pub fn alter(random: &mut Random, basis: &Basis, state: &mut [u16]) -> Vec<(usiz
         return before;
     }
     let at = match random.below(100) {
-        0..=9 => random.below(5) as usize,
+        0..=9 => random.below(HEAD as u64) as usize,
         10..=24 => count(k) + random.below(1 + VECTORS as u64) as usize,
         25..=34 => count(k) + 1 + random.below(basis.levels[k].len().max(1) as u64) as usize,
         35..=89 => row(random) + random.below(ROW as u64) as usize,
@@ -247,7 +247,7 @@ pub fn alter(random: &mut Random, basis: &Basis, state: &mut [u16]) -> Vec<(usiz
         2 => old.wrapping_sub(1),
         3 => random.below(4) as u16,
         4 => *random.pick(&[0, 255, 256, 257, 65_535]),
-        5 => state[0].wrapping_sub(random.below(3) as u16),
+        5 => state[PRIME].wrapping_sub(random.below(3) as u16),
         6 => random.below(256) as u16,
         7 => *random.pick(&[64, 65, 128, 129, 512, 513, 2_048, 2_049]),
         8 => state[(at + ROW).min(state.len() - 1)],
@@ -256,4 +256,24 @@ pub fn alter(random: &mut Random, basis: &Basis, state: &mut [u16]) -> Vec<(usiz
         _ => old.wrapping_add(random.below(5) as u16).wrapping_sub(2),
     };
     vec![(at, old)]
+}
+
+/// Alters one exponent of the row at this word, any of the eight: past n every number but 0 is out of range.
+fn alter_exponent(random: &mut Random, state: &mut [u16], at: usize) -> (usize, u16) {
+    let (word, one) = exponent_at(random.below(VARIABLES as u64) as usize);
+    let at = at + word;
+    let old = state[at];
+    let exponent = (old / one) as u8;
+    let altered = match random.below(8) {
+        0 => random.below(256) as u8,
+        1 => exponent.wrapping_add(1),
+        2 => exponent.wrapping_sub(1),
+        3 => random.below(4) as u8,
+        4 => *random.pick(&[0, 1, 254, 255]),
+        5 => (state[at.saturating_sub(ROW)] / one) as u8,
+        6 => exponent ^ (1 << random.below(8)),
+        _ => exponent.wrapping_add(random.below(5) as u8).wrapping_sub(2),
+    };
+    state[at] = old - u16::from(exponent) * one + u16::from(altered) * one;
+    (at, old)
 }

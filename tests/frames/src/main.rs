@@ -4,7 +4,7 @@
 //!     test-frames spoil number|count|row   spoils one answer: the run must find it and exit with 1
 
 use common::arguments::{asked, words};
-use common::buffers::ROW;
+use common::buffers::{row, ROW};
 use common::examples::examples;
 use common::states::row_is;
 use reference::engine::State;
@@ -65,9 +65,10 @@ impl Compare {
         self.heads.clear();
         for monomial in list {
             // the coefficient does not count
-            self.heads.push(random.below(65_536) as u16);
-            self.heads.push(monomial.component as u16);
-            self.heads.extend(monomial.exponents.map(|e| e as u16));
+            let coefficient = random.below(65_536) as u16;
+            let exponents = monomial.exponents.map(|e| e as u8);
+            self.heads
+                .extend(row(coefficient, monomial.component as u16, exponents));
         }
         self.lists += 1;
         self.terms += expected.len() as u64;

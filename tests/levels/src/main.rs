@@ -4,7 +4,7 @@
 //!     test-levels spoil             spoils one answer: the run must find it and exit with 1
 
 use common::arguments::{asked, words};
-use common::buffers::{rows, STATE};
+use common::buffers::{exponent_at, rows, STATE, VARIABLES};
 use common::states::{alter, full_basis, long_basis, random_basis, write_basis, Size};
 use reference::buffers::read_state;
 use reference::engine::{sound, Basis, State};
@@ -12,6 +12,7 @@ use reference::generate::problems::{
     problem_file, random_basis as random_problem, Size as ProblemSize,
 };
 use reference::lifting::Way;
+use reference::monomial::{Monomial, Parameters, Term, UNIT};
 use reference::random::Random;
 use reference::Limits;
 use testing::soundness as proved;
@@ -69,6 +70,37 @@ impl Compare {
     }
 }
 
+/// Each exponent of an element's one term, by itself and at both ends of its range, in each number of variables: past the last variable it must be 0.
+fn each_exponent(compare: &mut Compare, state: &mut [u16]) {
+    for n in 1..=VARIABLES {
+        let parameters = Parameters {
+            p: 7,
+            n: n as u64,
+            order: 3,
+            s: 1,
+        };
+        let monomial = Monomial {
+            component: 1,
+            exponents: UNIT,
+        };
+        let term = Term {
+            coefficient: 1,
+            monomial,
+        };
+        let levels = vec![vec![vec![term]]];
+        write_basis(Basis { parameters, levels }, state);
+        for x in 0..VARIABLES {
+            let (word, one) = exponent_at(x);
+            for exponent in [1, 255] {
+                state[rows(0) + word] = exponent * one;
+                let what = format!("exponent {} is {exponent} of {n} variables", x + 1);
+                assert_eq!(compare.words(state, &what), x < n, "{what}");
+            }
+            state[rows(0) + word] = 0;
+        }
+    }
+}
+
 /// The levels that lifting makes, over a random basis that is accepted.
 fn lifted(random: &mut Random, limits: &Limits) -> Option<Basis> {
     let mut held = State::new();
@@ -98,6 +130,7 @@ fn main() {
     }
     // no state at all
     compare.words(&state, "all zero");
+    each_exponent(&mut compare, &mut state);
     for order in 1..=3 {
         let basis = full_basis(&mut random, order);
         compare.altered(&mut random, &basis, &mut state, 60);

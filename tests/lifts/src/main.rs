@@ -7,7 +7,7 @@
 mod compare;
 
 use common::arguments::{asked, words};
-use common::buffers::{work, STATE};
+use common::buffers::{work, COMPLETE, PRIME, STATE};
 use common::deep::{deep, on_small_stack, DEEPEST};
 use common::examples::examples;
 use common::files::many_monomials;
@@ -362,7 +362,7 @@ fn refusals(bases: &mut Bases) {
             .refused(lengths(2), &Asked { way, ..full }, 12);
     }
     // no sound state: p is no prime, or no level is complete
-    for (at, word) in [(0, 1), (4, 0)] {
+    for (at, word) in [(PRIME, 1), (COMPLETE, 0)] {
         let state = bases.compare.state_mut();
         let before = std::mem::replace(&mut state[at], word);
         for level in [0, 1, 10] {
