@@ -2,7 +2,7 @@
 //!
 //! - [`timing`]: runs in turns, and their medians.
 //! - [`rows`]: numbers and rows, the same in every run.
-//! - [`plain`]: orders, divisibility, images and the prime test in plain Rust.
+//! - [`plain`]: packed terms, orders, divisibility, products, images and the prime test in plain Rust.
 
 pub mod plain;
 pub mod rows;

@@ -1,6 +1,6 @@
 //! Numbers and rows, the same in every run.
 
-use common::buffers::ROW;
+use common::buffers::{row, ROW};
 
 /// A source of numbers, from a seed on: a linear congruence modulo 2^64, of which the upper half is used.
 pub struct Numbers(pub u64);
@@ -16,10 +16,7 @@ impl Numbers {
 
     /// A row of eight variables with exponents up to a bound.
     pub fn row(&mut self, coefficient: u16, component: u16, most: u64) -> [u16; ROW] {
-        std::array::from_fn(|at| match at {
-            0 => coefficient,
-            1 => component,
-            _ => self.below(most + 1) as u16,
-        })
+        let exponents = std::array::from_fn(|_| self.below(most + 1) as u8);
+        row(coefficient, component, exponents)
     }
 }

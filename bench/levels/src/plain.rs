@@ -1,18 +1,20 @@
 //! The soundness test as one would write it in Rust: one pass over each level, images on level 0 made as it goes.
 
-use bench_common::plain::{compare_images, exponents, image, is_prime, ranked, Exponents, Image};
-use common::buffers::{count, rows, LEVEL_ROWS, ROW, TERMS, VECTORS};
+use bench_common::plain::{compare_images, image, is_prime, ranked, Image, Term};
+use common::buffers::{count, rows, HEAD, LEVEL_ROWS, ROW, TERMS, VECTORS};
 use std::cmp::Ordering;
 
-fn row_sound(row: &[u16], p: u16, components: u16, limits: &Exponents) -> bool {
-    (1..p).contains(&row[0])
-        && (1..=components).contains(&row[1])
-        && row[2..ROW].iter().zip(limits).all(|(e, l)| e <= l)
+/// `past` has the bytes past the last variable.
+fn term_sound(term: Term, p: u16, components: u16, past: u64) -> bool {
+    (1..p).contains(&term.coefficient)
+        && (1..=components).contains(&term.component)
+        && term.exponents & past == 0
 }
 
 pub fn sound(state: &[u16]) -> bool {
-    let (p, n, code, s) = (state[0], state[1], state[2], state[3]);
-    let complete = usize::from(state[4]);
+    let head: [u16; HEAD] = state[..HEAD].try_into().expect("five words");
+    let [p, n, code, s, complete] = head;
+    let complete = usize::from(complete);
     if !(1..=10).contains(&complete)
         || !is_prime(p)
         || !(1..=8).contains(&n)
@@ -21,7 +23,7 @@ pub fn sound(state: &[u16]) -> bool {
     {
         return false;
     }
-    let limits: Exponents = std::array::from_fn(|j| if j < usize::from(n) { 255 } else { 0 });
+    let past = u64::MAX.checked_shr(8 * u32::from(n)).unwrap_or(0);
     let mut table = [Image::default(); VECTORS];
     let mut below = 0;
     for k in 0..complete {
@@ -44,10 +46,11 @@ pub fn sound(state: &[u16]) -> bool {
             }
             let mut before: Option<Image> = None;
             for row in rows[ROW * start..ROW * end].chunks_exact(ROW) {
-                if !row_sound(row, p, components, &limits) {
+                let term = Term::of(row);
+                if !term_sound(term, p, components, past) {
                     return false;
                 }
-                let here = image(&table[..below], row[1], *exponents(row));
+                let here = image(&table[..below], term);
                 match &before {
                     None => leads[v] = here,
                     Some(b) => {

@@ -1,7 +1,7 @@
 //! A plain Rust reader: the same tests in the same order, the same words, no allocation.
 
-use bench_common::plain::{self, is_prime};
-use common::buffers::{count, rows, ROW, STATE};
+use bench_common::plain::{compare, is_prime, Term};
+use common::buffers::{count, rows, HEAD, ROW, STATE};
 use std::cmp::Ordering;
 
 const COUNT: usize = count(0);
@@ -38,22 +38,20 @@ fn read_lines(file: &[u8], state: &mut [u16]) -> Result<(), (u16, usize)> {
     }
     let (first, mut rest) = line(file, b'R', 4).ok_or((1, 1))?;
     let q = parameters(&first).map_err(|number| (number, 1))?;
-    state[..5].copy_from_slice(&[q.p, q.n, q.code, q.s, 1]);
-    let mut before: Numbers = [0; 11];
+    state[..HEAD].copy_from_slice(&[q.p, q.n, q.code, q.s, 1]);
+    let mut before = Term::default();
     let mut elements = 0;
     for count in 0.. {
         let place = count + 2;
         match rest.first() {
             Some(b'T') => {
                 let (numbers, behind) = line(rest, b'T', 3 + q.n as usize).ok_or((1, place))?;
-                if let Some(number) = refusal(&q, count, elements, &before, &numbers) {
-                    return Err((number, place));
-                }
+                let term = term(&q, count, elements, before, &numbers).map_err(|n| (n, place))?;
                 elements = numbers[0];
-                state[ROWS + ROW * count..][..ROW].copy_from_slice(&numbers[1..]);
+                state[ROWS + ROW * count..][..ROW].copy_from_slice(&term.row());
                 state[COUNT + elements as usize] = count as u16 + 1;
                 state[COUNT] = elements;
-                before = numbers;
+                before = term;
                 rest = behind;
             }
             Some(b'E') => {
@@ -117,34 +115,38 @@ fn parameters(v: &Numbers) -> Result<Parameters, u16> {
     Ok(Parameters { p, n, code, s })
 }
 
-fn refusal(
+/// The term of a T line, or the number of its refusal.
+fn term(
     q: &Parameters,
     count: usize,
     elements: u16,
-    before: &Numbers,
+    before: Term,
     numbers: &Numbers,
-) -> Option<u16> {
-    let [element, coefficient, component, exponents @ ..] = numbers;
-    let next = *element == elements + 1;
+) -> Result<Term, u16> {
+    let &[element, coefficient, component, ref exponents @ ..] = numbers;
+    let next = element == elements + 1;
     if count >= 2_048 {
-        return Some(8);
+        return Err(8);
     }
-    if !(next || (*element == elements && elements > 0)) || *element > 64 {
-        return Some(5);
+    if !(next || (element == elements && elements > 0)) || element > 64 {
+        return Err(5);
     }
-    if !(1..q.p).contains(coefficient)
-        || !(1..=q.s).contains(component)
+    if !(1..q.p).contains(&coefficient)
+        || !(1..=q.s).contains(&component)
         || exponents.iter().any(|e| *e > 255)
     {
-        return Some(4);
+        return Err(4);
     }
-    if !next && compare(q.code, before, numbers) != Ordering::Greater {
-        return Some(6);
+    let term = Term {
+        exponents: u64::from_be_bytes(exponents.map(|e| e as u8)),
+        component,
+        coefficient,
+    };
+    if !next
+        && compare(q.code, before.exponents, term.exponents).then(before.component.cmp(&component))
+            != Ordering::Greater
+    {
+        return Err(6);
     }
-    None
-}
-
-fn compare(code: u16, a: &Numbers, b: &Numbers) -> Ordering {
-    let ([_, _, c, x @ ..], [_, _, d, y @ ..]) = (a, b);
-    plain::compare(code, x, y).then(c.cmp(d))
+    Ok(term)
 }
