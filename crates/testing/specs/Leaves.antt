@@ -19,7 +19,10 @@ use Rattle.orders.specs.Levels.{images}
 use Rattle.reducers.specs.search.Search.{searched}
 use Rattle.reducers.specs.declared.search.Answer.{Answer}
 use Rattle.reducers.specs.declared.search.Answer.the-variants.{Reducer, LowerOrder}
+use Rattle.vectors.specs.declared.sums.Place.{Place}
+use Rattle.vectors.specs.declared.sums.Place.the-variants.{At, Nowhere}
 use Rattle.vectors.specs.terms.Rows.{written}
+use Rattle.vectors.specs.sums.Places.{seek}
 
 -- the sum of the first n numbers
 unfoldable pub counted : (ℕ → ℕ) → ℕ → ℕ
@@ -58,6 +61,17 @@ filled f d (suc n) = written (filled f d n) n (f n)
 
 abbrev pub products : Words → Words → ℕ → Words
 products s d n = choose (leb (length s / row-length) n) d (choose (ltb (length d / row-length) n) d (filled (product-at s) d n))
+
+-- ## Equality search
+
+abbrev pub place-mark : Place → ℕ
+place-mark (At i) = 1
+place-mark Nowhere = 0
+
+-- how many of the first n rows of s have their monomial among the first r rows of d
+abbrev pub found : Words → ℕ → Words → ℕ → ℕ
+found d r s n = choose (ltb (length d / row-length) r) 0 (choose (ltb (length s / row-length) n) 0
+    (counted (λ i. place-mark (seek (row-at s i .1) (rows d 0 r) 0)) n))
 
 -- ## A state's level
 

@@ -22,6 +22,8 @@ ghost use Rattle.testing.specs.Leaves.{
   product-at as product-at-definition,
   filled,
   products,
+  place-mark,
+  found,
   ready?,
   lower-mark,
   lower,
@@ -35,6 +37,7 @@ use reducers::search::Answer;
 use state::preparing;
 use state::soundness;
 use vectors::sums;
+use vectors::sums::Place;
 use vectors::terms;
 use vectors::terms::Term;
 
@@ -135,6 +138,39 @@ pub extern "C" fn leaves_products(d: &mut [u16], s: &[u16], n: usize)
         return;
     }
     fill_products(d, s, n);
+}
+
+// ## Equality search
+
+fn found_mark(x: Place) -> usize
+    ensures { λ r. ⌜ (r ≡ place-mark x) × (r ≤ 1) ⌝ }
+{
+    match x {
+        Place::At(_) => 1,
+        Place::Nowhere => 0,
+    }
+}
+
+// How many of the first n rows of s have their monomial among the first r rows of d; none where a slice is too short.
+#[no_mangle]
+pub extern "C" fn leaves_found(d: &[u16], r: usize, s: &[u16], n: usize) -> usize
+    ensures { λ x. ⌜ x ≡ found (now (d .entry)) r (now (s .entry)) n ⌝ }
+{
+    if d.len() / words::ROW_LENGTH < r {
+        return 0;
+    }
+    if s.len() / words::ROW_LENGTH < n {
+        return 0;
+    }
+    let mut k: usize = 0;
+    let mut i: usize = 0;
+    while i < n {
+        let t = terms::row(s, i);
+        let m = t.monomial;
+        k += found_mark(sums::find(d, r, m));
+        i += 1;
+    }
+    k
 }
 
 // ## Reducer search

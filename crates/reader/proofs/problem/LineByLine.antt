@@ -14,7 +14,8 @@ use Rattle.definitions.specs.Limits.{document-01}
 use Rattle.definitions.specs.Lists.{_and_, _then_, last, empty?, between}
 use Rattle.definitions.specs.Monomial.{Term, Level, fits?}
 use Rattle.definitions.specs.Result.{Result, done, refused, unless-refused, _>>=_}
-use Rattle.definitions.specs.Problem.{Bytes, Line, Parameters, lines, shaped, prime-in-range?, in-ranges?, parameters-of, r-line, term-of, term-in-range?, below?, last-term, with-term, t-line, e-line, by-shape, body, after-r, first-line, problem}
+use Rattle.definitions.specs.Problem.{Bytes, Line, Parameters, lines, shaped, prime-in-range?, in-ranges?, parameters-of, r-line, term-of, term-in-range?}
+use Rattle.definitions.specs.Problem.{below?, last-term, with-term, t-line, e-line, by-shape, body, after-r, first-line, problem}
 use Rattle.definitions.specs.Layout.{Words, padded}
 use Rattle.definitions.proofs.Tests.{true-is, is-true, and-left, and-right, between-high}
 use Rattle.definitions.proofs.Results.{If-done, If-some}

@@ -31,7 +31,6 @@ search-requires c κs = (
   omega arith,
   omega arith,
   c .before .before .before .before .before .before .before .pre .2,
-  c .before .before .before .before .before .before .before .pre .3,
 )
 
 mark-lower-requires : tie.Need-mark-lower-requires Inv-loop μ-loop

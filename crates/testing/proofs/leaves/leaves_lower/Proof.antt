@@ -89,8 +89,7 @@ count-lower-requires c κs =
     (c .before .before .components-of .ensures) (c .before .before .before .before .before .before .fill-leads .ensures) in (
       omega (arith, c .before .before .before .count-of .ensures, complete-cut S (t .long) (t .sound) (a .k) (t .level) .0),
       omega (arith, c .before .before .components-of .ensures, components-few S (t .long) (t .sound) (a .k) (t .level)),
-      l .0,
-      l .1,
+      l,
       omega (arith, t .enough),
     )
 

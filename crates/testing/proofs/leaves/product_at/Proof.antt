@@ -22,12 +22,12 @@ row-of-requires : tie.Need-row-of-requires
 row-of-requires c κs = search needs
 
 returns : tie.Need-returns
-returns c = let a = c .before .before .before .before .before .before .before .before .args in
+returns c = let a = c .before .before .before .before .before .before .before .args in
     product-is (a .s .now) (a .i) (term-of (c .row-of .result)) (product-of (c .before .product .result))
-    (term-of (c .before .before .before .before .before .row2 .result) .1 .0)
-    (term-of (c .before .before .before .before .before .before .row .result) .1) (c .row-of .ensures) (c .before .product .ensures)
-    (ap (λ t. t .1 .0) (c .before .before .before .before .before .row2 .ensures))
-    (ap (λ t. t .1) (c .before .before .before .before .before .before .row .ensures))
+    (term-of (c .before .before .before .before .row2 .result) .1 .0)
+    (term-of (c .before .before .before .before .before .row .result) .1) (c .row-of .ensures) (c .before .product .ensures)
+    (ap (λ t. t .1 .0) (c .before .before .before .before .row2 .ensures))
+    (ap (λ t. t .1) (c .before .before .before .before .before .row .ensures))
 
 pub product-at-spec : {M : Type 1} → statement M
 product-at-spec =
