@@ -15,7 +15,7 @@ use Rattle.definitions.specs.Result.{Result, done, refused, unfinished, refusal
 use Rattle.definitions.specs.Vectors.{insert}
 use Rattle.definitions.specs.Tree.{held-to, grow, add-result}
 use Rattle.definitions.specs.Layout.{Words, row-at, rows}
-use Rattle.definitions.proofs.Rows.{length-rows, rows-same, rows-first}
+use Rattle.laws.proofs.Rows.{length-rows, rows-same, rows-first}
 use Rattle.vectors.specs.sums.Places.{stored-as, inserted-within}
 use Rattle.vectors.specs.declared.sums.Stored.{Stored}
 use Rattle.vectors.specs.declared.sums.Stored.the-variants.{Rows, Full}

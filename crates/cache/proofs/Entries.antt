@@ -12,12 +12,12 @@ use borrow.Author.Tests.{le-leb, lt-leb}
 use Rattle.definitions.specs.Monomial.{Monomial, Term, Vector, same-monomial?}
 use Rattle.definitions.specs.Tree.{Cache, Subtree, cached, used, finish, finish-by}
 use Rattle.definitions.specs.Layout.{Words, row-at, rows}
-use Rattle.definitions.proofs.Packing.{Eight}
-use Rattle.definitions.proofs.Rows.{length-rows, rows-same}
-use Rattle.definitions.proofs.Products.{same-monomial-says, same-monomial-shows}
+use Rattle.laws.proofs.Packing.{Eight}
+use Rattle.laws.proofs.Rows.{length-rows, rows-same}
+use Rattle.laws.proofs.Products.{same-monomial-says, same-monomial-shows}
 use Rattle.definitions.specs.Places.{row-length}
 use Rattle.vectors.specs.terms.Rows.{written}
-use Rattle.definitions.proofs.Rows.{row-is}
+use Rattle.laws.proofs.Rows.{row-is}
 use Rattle.vectors.proofs.terms.Stored.{written-here, written-other}
 use Rattle.cache.specs.Area.{Keeps, Copied}
 use Rattle.cache.specs.Entries.{cache-skip, cache-of}

@@ -7,7 +7,7 @@ use native.Mathlib.Decide.{ℕ-discrete}
 use lib.ListN.{length, take, drop, getD, set, length-drop, List·getD-append}
 use lib.Seq.{paste, getD-set-same, getD-set-other, getD-append-add, getD-take, getD-drop, length-take-le}
 use Rattle.definitions.specs.Layout.{Words, row-at, rows}
-use Rattle.definitions.proofs.Rows.{rows-same}
+use Rattle.laws.proofs.Rows.{rows-same}
 use Rattle.definitions.specs.Places.{row-length}
 use Rattle.vectors.proofs.terms.Moving.{getD-paste-in, getD-paste-below}
 use Rattle.vectors.proofs.terms.Stored.{same-row}

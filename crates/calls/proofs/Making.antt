@@ -17,8 +17,8 @@ use Rattle.definitions.specs.Calls.{settled, read-reply, lift}
 use Rattle.definitions.specs.Reckoning.{nothing, reckon-all}
 use Rattle.definitions.specs.Layout.{Words, meant, division, long-enough?, Read, read-left, Lift, Lent, read-with, lift-with, fetch-with, Left, lent-call}
 use Rattle.definitions.specs.Layout.{lent-calls}
-use Rattle.definitions.proofs.Steady.{answered?, steady-from}
-use Rattle.definitions.proofs.Bound.{lent-call-steady, lent-calls-steady}
+use Rattle.laws.proofs.Steady.{answered?, steady-from}
+use Rattle.laws.proofs.Bound.{lent-call-steady, lent-calls-steady}
 use Rattle.files.specs.Files.{Well-formed-file}
 use Rattle.demands.specs.Demands as demands
 use Rattle.demands.specs.Demands.{Starts, numbered, left-by, Leaves, Fetches-right, Read-right}

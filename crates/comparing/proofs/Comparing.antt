@@ -11,12 +11,12 @@ use Rattle.definitions.specs.Lists.{between}
 use Rattle.definitions.specs.Monomial.{Exponents, Monomial, Term, Vector, Level, product, vector-of}
 use Rattle.definitions.specs.Order.{Comparison, greater, equal, smaller, or-at-tie, numbers, exponents-by, image-by, image, compare-over}
 use Rattle.definitions.specs.State.{State, sound?, up-to}
-use Rattle.definitions.proofs.Tests.{between-low, between-high}
-use Rattle.definitions.proofs.Members.{All, all-inside}
-use Rattle.definitions.proofs.Comparisons.{Orders, turned, greater≢equal, order-same, order-greater}
-use Rattle.definitions.proofs.Products.{length-product}
-use Rattle.definitions.proofs.Induced.{Has, Leads, shifted, image-has, compare-order}
-use Rattle.definitions.proofs.Sums.{descending-above}
+use Rattle.laws.proofs.Tests.{between-low, between-high}
+use Rattle.laws.proofs.Members.{All, all-inside}
+use Rattle.laws.proofs.Comparisons.{Orders, turned, greater≢equal, order-same, order-greater}
+use Rattle.laws.proofs.Products.{length-product}
+use Rattle.laws.proofs.Induced.{Has, Leads, shifted, image-has, compare-order}
+use Rattle.laws.proofs.Sums.{descending-above}
 use Rattle.comparing.specs.Above.{Above, Member, multiplied, Greatest-of}
 use Rattle.comparing.specs.Comparing.{Eight, swapped, Answers-exactly, A2}
 use Rattle.comparing.proofs.Exactly.{Exactly, exactly-map, exactly-tie, numbers-exactly}

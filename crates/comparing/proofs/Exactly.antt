@@ -3,7 +3,7 @@ use mathlib.Core.Path.{_≡_, refl, sym, ap, subst}
 use mathlib.Core.Logic.{_⊎_, inl, inr, ⊎-elim, _↔_}
 use Prim.Native.Nat.{ℕ, _<_}
 use Rattle.definitions.specs.Order.{Comparison, greater, equal, smaller, or-at-tie, numbers}
-use Rattle.definitions.proofs.Comparisons.{Says, numbers-say, numbers-are, greater≢smaller, greater≢equal, turned}
+use Rattle.laws.proofs.Comparisons.{Says, numbers-say, numbers-are, greater≢smaller, greater≢equal, turned}
 
 equal≢smaller : equal ≡ smaller → ⊥
 equal≢smaller e = greater≢equal (sym (ap turned e))

@@ -10,7 +10,7 @@ use lib.ListN.{length, getD, drop}
 use Rattle.definitions.specs.Lists.{between}
 use Rattle.definitions.specs.Monomial.{Exponents, degree}
 use Rattle.definitions.specs.Order.{Comparison, or-at-tie, numbers, lexicographic, last-differing, degrees, exponents-by}
-use Rattle.definitions.proofs.Tests.{between-low, between-high}
+use Rattle.laws.proofs.Tests.{between-low, between-high}
 use Rattle.comparing.specs.Above.{exponent, First-larger, Last-smaller, By-degree, Exponents-above}
 use Rattle.comparing.proofs.Exactly.{Exactly, exactly-map, exactly-tie, exactly-of, numbers-exactly}
 

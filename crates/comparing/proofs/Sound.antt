@@ -13,10 +13,10 @@ use Rattle.definitions.specs.Order.{compare-over}
 use Rattle.definitions.specs.Vectors.{strictly-descending?}
 use Rattle.definitions.specs.Problem.{Parameters}
 use Rattle.definitions.specs.State.{State, sound?, levels-sound?, vector-sound?, term-sound?, up-to}
-use Rattle.definitions.proofs.Tests.{and-left, and-right}
-use Rattle.definitions.proofs.Members.{All, every-all, all-map}
-use Rattle.definitions.proofs.Sound.{term-says, vector-says, basis-says, level-says, sound-says}
-use Rattle.definitions.proofs.Induced.{Has, Led, Leads}
+use Rattle.laws.proofs.Tests.{and-left, and-right}
+use Rattle.laws.proofs.Members.{All, every-all, all-map}
+use Rattle.laws.proofs.Sound.{term-says, vector-says, basis-says, level-says, sound-says}
+use Rattle.laws.proofs.Induced.{Has, Led, Leads}
 
 -- a vector that has terms, all with eight exponents, descending in the order over the levels below
 pub record Descends (code : ℕ) (below : List Level) (v : Vector) : Type 0 where

@@ -26,8 +26,8 @@ use Rattle.definitions.specs.Result.{Result, done, refused, unfinished, _>>=_}
 use Rattle.definitions.specs.Run.{Strategy, run, accepting-strategy}
 use Rattle.definitions.specs.Lifting.{if-few, accepting-place, at-frame-term, accept-from, accept}
 use Rattle.definitions.specs.Problem.{Parameters}
-use Rattle.definitions.proofs.Modular.{Prime}
-use Rattle.definitions.proofs.Tests.{between-low, between-shown}
+use Rattle.laws.proofs.Modular.{Prime}
+use Rattle.laws.proofs.Tests.{between-low, between-shown}
 use Rattle.demands.specs.Notions.{coefficient, Leads, Divided}
 use Rattle.demands.specs.Exact.{Shows-why}
 use Rattle.demands.proofs.Results.{Ends, gives, refuses, open-yet, ends-turn, ends-refusals, Refusal, limit, nine, refusal-map}

@@ -17,8 +17,8 @@ use Rattle.definitions.specs.Lists.{_and_, between}
 use Rattle.definitions.specs.Monomial.{Monomial, Vector, divides-monomial?, leading, vector-of}
 use Rattle.definitions.specs.Order.{compare-over}
 use Rattle.definitions.specs.Problem.{Parameters}
-use Rattle.definitions.proofs.Modular.{Prime}
-use Rattle.definitions.proofs.Tests.{and-left, and-right, and-both, between-low, between-high, between-shown}
+use Rattle.laws.proofs.Modular.{Prime}
+use Rattle.laws.proofs.Tests.{and-left, and-right, and-both, between-low, between-high, between-shown}
 use Rattle.demands.specs.Notions.{proper-term?, proper?, put-for, Leads, Divided, Led-by, Gröbner-basis}
 use Rattle.demands.proofs.Exponents.{out, over, into, out-into, out-length, out-past, none}
 use Rattle.demands.proofs.Levels.{Mono, TVec, TLevel, mono, term, vec, flat, flats, flat-at, flat-length, lm, leading-vec, Has, has-act, Grounded}

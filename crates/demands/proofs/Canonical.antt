@@ -14,9 +14,9 @@ use Rattle.definitions.specs.Order.{Comparison, greater?, compare-over}
 use Rattle.definitions.specs.Vectors.{strictly-descending?}
 use Rattle.definitions.specs.Problem.{Parameters}
 use Rattle.definitions.specs.State.{term-sound?}
-use Rattle.definitions.proofs.Modular.{Prime}
-use Rattle.definitions.proofs.Tests.{and-both, between-shown}
-use Rattle.definitions.proofs.Sound.{term-shown}
+use Rattle.laws.proofs.Modular.{Prime}
+use Rattle.laws.proofs.Tests.{and-both, between-shown}
+use Rattle.laws.proofs.Sound.{term-shown}
 use Rattle.demands.proofs.Exponents.{out-length, out-past}
 use Rattle.demands.proofs.Comparisons.{Says, less, level, more}
 use Rattle.demands.proofs.Levels.{Mono, TVec, TLevel, mono, term, vec, flats, module-over, Has, Grounded, over-says}

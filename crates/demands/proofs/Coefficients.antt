@@ -8,7 +8,7 @@ use Rattle.theory.specs.Laws.{Scalars}
 use Rattle.theory.specs.Modular.{ModP, one-times}
 use Rattle.theory.proofs.Vec
 use Rattle.definitions.specs.Field.{plus, times, minus, inverse}
-use Rattle.definitions.proofs.Modular.{Prime, times-right, plus-minus}
+use Rattle.laws.proofs.Modular.{Prime, times-right, plus-minus}
 
 -- not zero, and reduced
 abbrev pub Good : ℕ → ℕ → Type 0

@@ -10,10 +10,10 @@ use Rattle.definitions.specs.Problem.{Bytes}
 use Rattle.definitions.specs.State.{up-to}
 use Rattle.definitions.specs.Sheet.{sheet}
 use Rattle.definitions.specs.Layout.{Words, Way, division, Read, Lift, Lent, read-with, lift-with, fetch-with, lent-call, lent-calls}
-use Rattle.definitions.proofs.Steady.{answered?, Steady, steady-once}
-use Rattle.definitions.proofs.Bound.{sheet-steady, lent-calls-steady}
-use Rattle.definitions.proofs.Reading.{basis-state}
-use Rattle.definitions.proofs.RoundTrip.{length-encode}
+use Rattle.laws.proofs.Steady.{answered?, Steady, steady-once}
+use Rattle.laws.proofs.Bound.{sheet-steady, lent-calls-steady}
+use Rattle.laws.proofs.Reading.{basis-state}
+use Rattle.laws.proofs.RoundTrip.{length-encode}
 use Rattle.ending.specs.Well.{Bytewise}
 use Rattle.ending.proofs.Calls.{lent-calls-end}
 use Rattle.ending.proofs.Sheets.{sheet-ends}

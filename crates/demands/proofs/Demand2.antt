@@ -12,9 +12,9 @@ use Rattle.definitions.specs.Result.{Result, refused, _>>=_}
 use Rattle.definitions.specs.Problem.{Bytes, Parameters, problem}
 use Rattle.definitions.specs.State.{State, sound?}
 use Rattle.definitions.specs.Calls.{accepted, read}
-use Rattle.definitions.proofs.Results.{if-done-says}
-use Rattle.definitions.proofs.Sound.{sound-says}
-use Rattle.definitions.proofs.Reading.{basis-state, problem-sound}
+use Rattle.laws.proofs.Results.{if-done-says}
+use Rattle.laws.proofs.Sound.{sound-says}
+use Rattle.laws.proofs.Reading.{basis-state, problem-sound}
 use Rattle.files.specs.Files.{Well-formed-file}
 use Rattle.files.specs.Answers.{Refused-right}
 use Rattle.demands.specs.Notions.{put-for, Leads, Gröbner-basis}

@@ -23,7 +23,7 @@ use Rattle.theory.specs.Reckon.{reckon}
 use Rattle.definitions.specs.Limits.{Limits}
 use Rattle.definitions.specs.Monomial.{Vector, leading-term}
 use Rattle.definitions.specs.Problem.{Parameters}
-use Rattle.definitions.proofs.Modular.{Prime}
+use Rattle.laws.proofs.Modular.{Prime}
 use Rattle.demands.specs.Notions.{coefficient, put-for, Combination, Syzygy}
 use Rattle.demands.specs.Exact.{Vector-right, Level-right}
 use Rattle.demands.proofs.Levels.{Mono, TVec, TLevel, mono, monos, monos-length, vec, flat, flats, flat-at, flat-length, cons?, head, lm, module-over}

@@ -9,7 +9,7 @@ use lib.ListN.{length, drop, replicate, length-replicate}
 use Rattle.theory.specs.Orders.{ExpM, deg}
 use Rattle.definitions.specs.Lists.{sum, every}
 use Rattle.definitions.specs.Monomial.{Exponents, product, quotient, lcm, divides?, fits?, same-exponents?}
-use Rattle.definitions.proofs.Tests.{and-left, and-right, and-both}
+use Rattle.laws.proofs.Tests.{and-left, and-right, and-both}
 
 abbrev pub E : ℕ → Type 0
 E n = ExpM n .E

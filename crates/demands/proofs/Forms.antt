@@ -18,10 +18,10 @@ use Rattle.definitions.specs.State.{State, has-level?, up-to, vector-sound?, le
 use Rattle.definitions.specs.Calls.{Reply, refuse, settled, lift, fetch, eleven?, pick-code?, lifts?, fetches?, read-reply, lift-reply, fetch-reply}
 use Rattle.definitions.specs.Layout.{Words, zeros, padded, rows-of, state-words, encode, meant, Way, division, lifting-by, work-words, out-words, long-enough?}
 use Rattle.definitions.specs.Layout.{read-left, read-call, Lift, lift-left, lift-call, Fetch, fetch-left, fetch-call}
-use Rattle.definitions.proofs.Tests.{and-left, and-right, between-low, between-high, every-at}
-use Rattle.definitions.proofs.Sound.{Sound-vector, vector-says, level-says}
-use Rattle.definitions.proofs.Refusals.{encode-empty}
-use Rattle.definitions.proofs.Rows.{length-rows-of}
+use Rattle.laws.proofs.Tests.{and-left, and-right, between-low, between-high, every-at}
+use Rattle.laws.proofs.Sound.{Sound-vector, vector-says, level-says}
+use Rattle.laws.proofs.Refusals.{encode-empty}
+use Rattle.laws.proofs.Rows.{length-rows-of}
 use Rattle.definitions.specs.Places.{row-length}
 use Rattle.demands.specs.Demands
 use Rattle.demands.specs.Demands.{sensible?, out-long-enough?, no-basis, limit-met, Refused-reading, ill-formed, not-accepted}

@@ -10,7 +10,7 @@ use Rattle.theory.specs.Laws.{Tri, below, same, above}
 use Rattle.theory.specs.Induced.{nat-tri}
 use Rattle.definitions.specs.Monomial.{Exponents, Monomial, Level, product, divides?, divides-monomial?, leading, leading-monomials, vector-of}
 use Rattle.definitions.specs.Frame.{generators, minimal, with-component, frame-from, frame}
-use Rattle.definitions.proofs.Tests.{between-low, between-high, between-shown}
+use Rattle.laws.proofs.Tests.{between-low, between-high, between-shown}
 use Rattle.demands.specs.Notions.{Member}
 use Rattle.demands.specs.Frames.{Leading-syzygy, Before, Before-all, Ascending, Is-frame}
 use Rattle.demands.proofs.Comparisons.{order}

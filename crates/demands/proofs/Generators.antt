@@ -13,7 +13,7 @@ use Rattle.definitions.specs.Lists.{any, those, sum}
 use Rattle.definitions.specs.Monomial.{Exponents, Monomial, product, quotient, lcm, divides?, same-exponents?, divides-monomial?}
 use Rattle.definitions.specs.Order.{Comparison, greater, equal, smaller, exponents-by}
 use Rattle.definitions.specs.Frame.{into-ascending, generators, properly-divides?, minimal}
-use Rattle.definitions.proofs.Tests.{and-left, and-right, and-both}
+use Rattle.laws.proofs.Tests.{and-left, and-right, and-both}
 use Rattle.demands.specs.Notions.{Member}
 use Rattle.demands.proofs.Exponents.{same-is, same-refl, divides-refl}
 use Rattle.demands.proofs.Comparisons.{Says, less, level, more, order}

@@ -17,12 +17,12 @@ use Rattle.definitions.specs.Problem.{Bytes, Parameters, problem}
 use Rattle.definitions.specs.State.{State, empty, has-level?, up-to, sound?}
 use Rattle.definitions.specs.Calls.{accepted, read, lift}
 use Rattle.definitions.specs.Reckoning.{Reckoning, nothing, basis-of, reckoned-level}
-use Rattle.definitions.proofs.Tests.{between-low}
-use Rattle.definitions.proofs.Results.{If-done}
-use Rattle.definitions.proofs.Sound.{sound-says}
-use Rattle.definitions.proofs.Numbers
-use Rattle.definitions.proofs.Numbers.{Numbered, read-number?, read-number}
-use Rattle.definitions.proofs.Reading.{basis-state, problem-sound}
+use Rattle.laws.proofs.Tests.{between-low}
+use Rattle.laws.proofs.Results.{If-done}
+use Rattle.laws.proofs.Sound.{sound-says}
+use Rattle.laws.proofs.Numbers
+use Rattle.laws.proofs.Numbers.{Numbered, read-number?, read-number}
+use Rattle.laws.proofs.Reading.{basis-state, problem-sound}
 use Rattle.demands.specs.Notions.{Gröbner-basis}
 use Rattle.demands.specs.Demands
 use Rattle.demands.specs.Exact.{Level-right, Exact, Reckons}

@@ -18,7 +18,7 @@ use Rattle.definitions.specs.State.{State}
 use Rattle.definitions.specs.Calls.{Reply, refuse, settled, lift}
 use Rattle.definitions.specs.Sheet.{decimal, printed, letter-Z, x-lines}
 use Rattle.definitions.specs.Layout.{Words, padded, state-words, work-words, division, long-enough?, encode, Read}
-use Rattle.definitions.proofs.Tests.{and-both}
+use Rattle.laws.proofs.Tests.{and-both}
 use Rattle.definitions.proofs.Text.{text}
 use Rattle.definitions.proofs.Instances.{xyz, xy, f₁, g₁}
 use Rattle.definitions.proofs.Views.{limited}

@@ -17,9 +17,9 @@ use Rattle.definitions.specs.Result.{_>>=_}
 use Rattle.definitions.specs.Lifting.{Lifting, lift-one, lift-all, if-few, lift-level}
 use Rattle.definitions.specs.Problem.{Parameters}
 use Rattle.definitions.specs.State.{vector-sound?, levels-sound?, terms-of}
-use Rattle.definitions.proofs.Modular.{Prime}
-use Rattle.definitions.proofs.Tests.{and-both}
-use Rattle.definitions.proofs.Sound.{vector-shown, level-shown}
+use Rattle.laws.proofs.Modular.{Prime}
+use Rattle.laws.proofs.Tests.{and-both}
+use Rattle.laws.proofs.Sound.{vector-shown, level-shown}
 use Rattle.demands.proofs.Results.{Gives, refuses, ends-both}
 use Rattle.demands.proofs.Levels.{Mono, TVec, TLevel, vec, vec-length, flat, flats, flat-length, cons?, lm}
 use Rattle.demands.proofs.Setting.{Setting, S}

@@ -17,7 +17,7 @@ use Rattle.definitions.specs.Field
 use Rattle.definitions.specs.Monomial
 use Rattle.definitions.specs.Monomial.{Monomial, Vector, leading, vector-of}
 use Rattle.definitions.specs.Problem.{Parameters}
-use Rattle.definitions.proofs.Modular.{Prime}
+use Rattle.laws.proofs.Modular.{Prime}
 use Rattle.demands.specs.Notions.{multiples, put-for, coefficient, Combination, Divided, Led-by, Gröbner-basis, All-led, leading-vectors}
 use Rattle.demands.specs.Notions.{Leading-generated}
 use Rattle.demands.proofs.Exponents.{E, out, product-out}

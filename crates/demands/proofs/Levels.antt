@@ -15,7 +15,7 @@ use Rattle.theory.proofs.Orders.{free-lt-is}
 use Rattle.definitions.specs.Monomial
 use Rattle.definitions.specs.Monomial.{Monomial, Term, Vector, same-exponents?, same-monomial?, leading}
 use Rattle.definitions.specs.Order.{numbers, image, image-by, compare-over}
-use Rattle.definitions.proofs.Tests.{and-left, and-right, and-both}
+use Rattle.laws.proofs.Tests.{and-left, and-right, and-both}
 use Rattle.demands.proofs.Exponents.{E, out, into, product-out, out-injective, same-is, same-refl}
 use Rattle.demands.proofs.Comparisons.{Says, says-map, says-tie, numbers-says, order, exponents-says}
 

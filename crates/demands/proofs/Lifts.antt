@@ -14,10 +14,10 @@ use Rattle.definitions.specs.Lifting.{Lifting}
 use Rattle.definitions.specs.Problem.{Parameters}
 use Rattle.definitions.specs.State.{State, has-level?, up-to, levels-sound?, sound?}
 use Rattle.definitions.specs.Calls.{lift, eleven?}
-use Rattle.definitions.proofs.Tests.{between-low, between-high}
-use Rattle.definitions.proofs.Sound.{sound-says, sound-shown, level-says}
-use Rattle.definitions.proofs.Numbers
-use Rattle.definitions.proofs.Numbers.{Numbered, limit-number?, read-number?, lift-level-number}
+use Rattle.laws.proofs.Tests.{between-low, between-high}
+use Rattle.laws.proofs.Sound.{sound-says, sound-shown, level-says}
+use Rattle.laws.proofs.Numbers
+use Rattle.laws.proofs.Numbers.{Numbered, limit-number?, read-number?, lift-level-number}
 use Rattle.demands.specs.Demands.{sensible?}
 use Rattle.demands.proofs.Results.{Gives, gives, refuses, open-yet}
 use Rattle.demands.proofs.Over.{vector-room, sound-prime, sound-eight, Lift-right, over}

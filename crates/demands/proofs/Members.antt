@@ -11,7 +11,7 @@ use lib.ListN.{length, drop}
 use Rattle.definitions.specs.Lists.{any, those, sum}
 use Rattle.definitions.specs.Monomial.{Exponents, Monomial, divides?, divides-monomial?}
 use Rattle.definitions.specs.Order.{Comparison, smaller, exponents-by}
-use Rattle.definitions.proofs.Tests.{and-left, and-right, and-both}
+use Rattle.laws.proofs.Tests.{and-left, and-right, and-both}
 use Rattle.demands.specs.Notions.{Member}
 use Rattle.demands.proofs.Exponents.{out, into, out-into, none}
 use Rattle.demands.proofs.Comparisons.{Says, less, level, more, says-less, order, exponents-says}

@@ -18,8 +18,8 @@ use Rattle.theory.proofs.Coef.{coef-same}
 use Rattle.definitions.specs.Field
 use Rattle.definitions.specs.Monomial.{Monomial, same-exponents?, same-monomial?}
 use Rattle.definitions.specs.Order.{Comparison, smaller, compare-over}
-use Rattle.definitions.proofs.Modular.{Prime}
-use Rattle.definitions.proofs.Tests.{and-left, and-right}
+use Rattle.laws.proofs.Modular.{Prime}
+use Rattle.laws.proofs.Tests.{and-left, and-right}
 use Rattle.demands.specs.Notions.{multiples, put-for, coefficient, Equal, Leads}
 use Rattle.demands.proofs.Exponents.{E, out, same-is, product-out}
 use Rattle.demands.proofs.Comparisons.{Says, less, level, more, says-less}

@@ -21,9 +21,9 @@ use Rattle.definitions.specs.Field.{prime?}
 use Rattle.definitions.specs.State.{State, levels-sound?, sound?}
 use Rattle.definitions.specs.Calls.{accepted}
 use Rattle.definitions.specs.Reckoning.{reckoned-vector, reckoned-level}
-use Rattle.definitions.proofs.Modular.{Prime, prime-says}
-use Rattle.definitions.proofs.Tests.{and-left, and-right, between-high}
-use Rattle.definitions.proofs.Sound.{sound-says}
+use Rattle.laws.proofs.Modular.{Prime, prime-says}
+use Rattle.laws.proofs.Tests.{and-left, and-right, between-high}
+use Rattle.laws.proofs.Sound.{sound-says}
 use Rattle.demands.specs.Notions.{Gröbner-basis, Leading-generated, Member}
 use Rattle.demands.specs.Picks.{All-pick, run-by}
 use Rattle.demands.specs.Exact.{Level-right}

@@ -4,7 +4,7 @@ use native.Mathlib.Omega.{arith}
 use lib.Dec.{T, leb, leb→le}
 use lib.ListN.{length, getD}
 use Rattle.definitions.specs.Limits.{Limits}
-use Rattle.definitions.proofs.Tests.{every-at}
+use Rattle.laws.proofs.Tests.{every-at}
 use Rattle.files.specs.Files.{Wide, Roomy}
 use Rattle.files.specs.Answers.{Reader-right}
 use Rattle.files.proofs.Reader.{reader-right}

@@ -19,8 +19,8 @@ use Rattle.theory.proofs.Vec
 use Rattle.definitions.specs.Field.{times, inverse}
 use Rattle.definitions.specs.Monomial.{Monomial, Vector, quotient, divides?, divides-monomial?, leading-term}
 use Rattle.definitions.specs.Reducer.{Answer, reducer, lower-order, lower-order?, heads, answer, answer-from}
-use Rattle.definitions.proofs.Modular.{Prime}
-use Rattle.definitions.proofs.Tests.{and-left, and-right, and-both}
+use Rattle.laws.proofs.Modular.{Prime}
+use Rattle.laws.proofs.Tests.{and-left, and-right, and-both}
 use Rattle.demands.proofs.Exponents.{E, out, over, quotient-out, divides-out, multiple-out}
 use Rattle.demands.proofs.Levels.{Mono, TVec, TLevel, mono, vec, flat, cons?, head, lm, module-over, Has, Grounded}
 use Rattle.demands.proofs.Coefficients.{times-one-right}

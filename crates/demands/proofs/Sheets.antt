@@ -16,9 +16,9 @@ use Rattle.definitions.specs.Problem.{Bytes, Parameters, problem}
 use Rattle.definitions.specs.State.{State, up-to, sound?}
 use Rattle.definitions.specs.Calls.{accepted, read, lift}
 use Rattle.definitions.specs.Sheet.{sheet, sheet-of, levels-from, level-then, if-more, level-lines, printed, letter-X, x-lines, variables-of}
-use Rattle.definitions.proofs.Tests.{and-left, and-right, between-shown}
-use Rattle.definitions.proofs.Sound.{sound-says}
-use Rattle.definitions.proofs.Reading.{basis-state}
+use Rattle.laws.proofs.Tests.{and-left, and-right, between-shown}
+use Rattle.laws.proofs.Sound.{sound-says}
+use Rattle.laws.proofs.Reading.{basis-state}
 use Rattle.files.specs.Files.{Well-formed-file}
 use Rattle.files.specs.Answers.{Answered}
 use Rattle.demands.specs.Demands

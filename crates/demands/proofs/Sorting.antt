@@ -16,7 +16,7 @@ use Rattle.definitions.specs.Field.{plus, times}
 use Rattle.definitions.specs.Monomial.{Monomial, Vector}
 use Rattle.definitions.specs.Order.{Comparison, greater, equal, smaller, compare-over}
 use Rattle.definitions.specs.Vectors.{unless-zero, insert, inserted, descending}
-use Rattle.definitions.proofs.Modular.{Prime}
+use Rattle.laws.proofs.Modular.{Prime}
 use Rattle.demands.proofs.Comparisons.{Says, less, level, more}
 use Rattle.demands.proofs.Levels.{Mono, TVec, TLevel, mono, term, vec, flats, module-over, Has, Grounded, over-says}
 use Rattle.demands.proofs.Coefficients.{Good, good-plus}

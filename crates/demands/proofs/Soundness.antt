@@ -19,9 +19,9 @@ use Rattle.definitions.specs.Vectors.{strictly-descending?}
 use Rattle.definitions.specs.Stage.{highest}
 use Rattle.definitions.specs.Problem.{Parameters}
 use Rattle.definitions.specs.State.{term-sound?, vector-sound?, levels-sound?}
-use Rattle.definitions.proofs.Modular.{Prime}
-use Rattle.definitions.proofs.Tests.{and-left, and-right, between-low, between-high}
-use Rattle.definitions.proofs.Sound.{Sound-term, term-says, Sound-vector, vector-says, basis-says, level-says}
+use Rattle.laws.proofs.Modular.{Prime}
+use Rattle.laws.proofs.Tests.{and-left, and-right, between-low, between-high}
+use Rattle.laws.proofs.Sound.{Sound-term, term-says, Sound-vector, vector-says, basis-says, level-says}
 use Rattle.demands.proofs.Exponents.{out, into, into-out, out-into}
 use Rattle.demands.proofs.Comparisons.{Says, less, level, more}
 use Rattle.demands.proofs.Levels.{Mono, TVec, TLevel, mono, term, vec, flat, flats, flat-length, cons?, head, lm, module-over, Has, Grounded, over-says}

@@ -15,7 +15,7 @@ use Rattle.theory.specs.Stage.{term-at, Real, Framed}
 use Rattle.definitions.specs.Lists.{any}
 use Rattle.definitions.specs.Monomial.{Exponents, Monomial, product, quotient, lcm, divides-monomial?, leading, leading-monomials, vector-of}
 use Rattle.definitions.specs.Frame.{into-ascending, generators, properly-divides?, minimal, frame-of, frame-from, frame}
-use Rattle.definitions.proofs.Tests.{between-low, between-high, between-shown}
+use Rattle.laws.proofs.Tests.{between-low, between-high, between-shown}
 use Rattle.demands.specs.Notions.{Member}
 use Rattle.demands.specs.Frames.{times-leading, Leading-syzygy, Is-frame}
 use Rattle.demands.proofs.Exponents.{E, out, over, product-out, out-length, colon, colon-out}

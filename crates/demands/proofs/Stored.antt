@@ -21,11 +21,11 @@ use Rattle.definitions.specs.Reckoning.{Reckoning, nothing, succeeds, fails, re
 use Rattle.definitions.specs.Layout.{Words, zeros, state-words, encode, meant, decode, holds-state?, state-after, rows-after, levels-at, all-words-sound?}
 use Rattle.definitions.specs.Layout.{Way, division, lifting-by, long-enough?, work-words, out-words, Read, read-left, Lift}
 use Rattle.definitions.specs.Layout.{Lent, read-with, lift-with, fetch-with, Left, lent-call}
-use Rattle.definitions.proofs.Tests.{false-is, and-left, and-right, and-both}
-use Rattle.definitions.proofs.Sound.{sound-says}
-use Rattle.definitions.proofs.Numbers.{read-number?}
-use Rattle.definitions.proofs.Refusals.{keeps?, encode-empty}
-use Rattle.definitions.proofs.RoundTrip.{meant-encode, length-encode}
+use Rattle.laws.proofs.Tests.{false-is, and-left, and-right, and-both}
+use Rattle.laws.proofs.Sound.{sound-says}
+use Rattle.laws.proofs.Numbers.{read-number?}
+use Rattle.laws.proofs.Refusals.{keeps?, encode-empty}
+use Rattle.laws.proofs.RoundTrip.{meant-encode, length-encode}
 use Rattle.demands.specs.Demands.{sensible?, as-call, Reads, Fetch-right}
 use Rattle.demands.proofs.Results.{Ends, gives, refuses, open-yet, Holds, holds, holds-then}
 use Rattle.demands.proofs.Results

@@ -20,7 +20,7 @@ use Rattle.definitions.specs.Reducer.{lower-order?, answer}
 use Rattle.definitions.specs.Vectors.{unless-zero, behind, combined, appended, or-last, store}
 use Rattle.definitions.specs.Stage.{Reduction}
 use Rattle.definitions.specs.Run.{dropped?, unless-dropped, if-fits, multiple, add-term, add-products}
-use Rattle.definitions.proofs.Modular.{Prime}
+use Rattle.laws.proofs.Modular.{Prime}
 use Rattle.demands.proofs.Results.{Ends, gives, refuses, ends-then, ends-map}
 use Rattle.demands.proofs.Exponents.{E, out, product-out}
 use Rattle.demands.proofs.Levels.{Mono, TVec, TLevel, module-over, mono, term, vec, vec-append, same-mono, mono-same}

@@ -20,8 +20,8 @@ use Rattle.definitions.specs.Packed.{low-bytes}
 use Rattle.definitions.specs.Layout.{row-at, rows, Words, state-words, encode, division, hybrid, long-enough?, Read, Lift, Fetch, fetch-with, Left}
 use Rattle.definitions.proofs.Text.{text}
 use Rattle.definitions.proofs.Instances.{xy, f₁, g₁}
-use Rattle.definitions.proofs.Steady.{steady-once}
-use Rattle.definitions.proofs.Bound.{read-steady}
+use Rattle.laws.proofs.Steady.{steady-once}
+use Rattle.laws.proofs.Bound.{read-steady}
 use Rattle.demands.specs.Demands
 use Rattle.demands.specs.Demands.{sensible?, level-of, Fetch-right, Read-form, accepted-as, Refused-reading, ill-formed, not-accepted, no-basis}
 use Rattle.demands.specs.Demands.{limit-met, Lift-form, lifted-as}

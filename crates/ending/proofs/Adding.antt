@@ -14,11 +14,11 @@ use Rattle.definitions.specs.Monomial.{Exponents, Monomial, Term, Vector, fits?
 use Rattle.definitions.specs.Vectors.{unless-zero, behind, combined, appended, or-last, store}
 use Rattle.definitions.specs.Stage.{Reduction}
 use Rattle.definitions.specs.Run.{multiple, dropped?, unless-dropped, if-fits, add-term, add-products}
-use Rattle.definitions.proofs.Tests.{and-both}
-use Rattle.definitions.proofs.Members.{All, every-all, all-every, all-map, all-append}
-use Rattle.definitions.proofs.Products.{length-product, same-monomial-shows}
-use Rattle.definitions.proofs.Induced.{Shaped}
-use Rattle.definitions.proofs.Results.{If-done, if-done-map, if-done-bind}
+use Rattle.laws.proofs.Tests.{and-both}
+use Rattle.laws.proofs.Members.{All, every-all, all-every, all-map, all-append}
+use Rattle.laws.proofs.Products.{length-product, same-monomial-shows}
+use Rattle.laws.proofs.Induced.{Shaped}
+use Rattle.laws.proofs.Results.{If-done, if-done-map, if-done-bind}
 use Rattle.ending.specs.Good.{good-monomial?}
 use Rattle.ending.specs.Spent.{total, total-products}
 use Rattle.ending.proofs.Values.{Fresh, Good, Thinned, kept, left, thinned-same, thinned-good, thinned-total}

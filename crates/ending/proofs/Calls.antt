@@ -16,11 +16,11 @@ use Rattle.definitions.specs.State.{State, has-level?, up-to, sound?}
 use Rattle.definitions.specs.Calls.{Call, reading, lifting, fetching, refuse, settled, accepted, read, lift, lifts?, read-reply, lift-reply, call, calls}
 use Rattle.definitions.specs.Layout.{Words, Lent, read-with, lift-with, fetch-with, division, lifting-by, long-enough?, meant, read-left, lift-left}
 use Rattle.definitions.specs.Layout.{lent-call, lent-calls}
-use Rattle.definitions.proofs.Modular.{Prime}
-use Rattle.definitions.proofs.Reading.{basis-state, problem-sound}
-use Rattle.definitions.proofs.Finished.{problem-finished}
-use Rattle.definitions.proofs.Steady.{Ends, steady-fixed, answered?, bind-ends, bind-fixed-ends, then-fixed, then-ends, then-fixed-ends}
-use Rattle.definitions.proofs.Bound.{accepted-steady, call-steady, calls-steady, lent-call-steady, lent-calls-steady}
+use Rattle.laws.proofs.Modular.{Prime}
+use Rattle.laws.proofs.Reading.{basis-state, problem-sound}
+use Rattle.laws.proofs.Finished.{problem-finished}
+use Rattle.laws.proofs.Steady.{Ends, steady-fixed, answered?, bind-ends, bind-fixed-ends, then-fixed, then-ends, then-fixed-ends}
+use Rattle.laws.proofs.Bound.{accepted-steady, call-steady, calls-steady, lent-call-steady, lent-calls-steady}
 use Rattle.ending.specs.Well.{Descending-levels, Bytewise}
 use Rattle.ending.proofs.Soundness.{drop-descending, sound-prime, sound-levels}
 use Rattle.ending.proofs.Levels.{lift-level-ends, accept-ends}

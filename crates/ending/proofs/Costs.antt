@@ -10,12 +10,12 @@ use Rattle.definitions.specs.Lists.{rest}
 use Rattle.definitions.specs.Monomial.{Exponents, Monomial, Term, Vector, Level, product, fits?, vector-of}
 use Rattle.definitions.specs.Order.{Comparison, greater}
 use Rattle.definitions.specs.Reducer.{Answer, reducer, lower-order, heads, answer}
-use Rattle.definitions.proofs.Tests.{true-is, false-is}
-use Rattle.definitions.proofs.Members.{All, all-map, all-map₂, all-at}
-use Rattle.definitions.proofs.Products.{length-product}
-use Rattle.definitions.proofs.Induced.{Has, shifted, Module-order}
-use Rattle.definitions.proofs.Reducers.{Alike, answer-alike, Reducing, answer-reducing, Leading, reducing-leads}
-use Rattle.definitions.proofs.Sums.{descending-above}
+use Rattle.laws.proofs.Tests.{true-is, false-is}
+use Rattle.laws.proofs.Members.{All, all-map, all-map₂, all-at}
+use Rattle.laws.proofs.Products.{length-product}
+use Rattle.laws.proofs.Induced.{Has, shifted, Module-order}
+use Rattle.laws.proofs.Reducers.{Alike, answer-alike, Reducing, answer-reducing, Leading, reducing-leads}
+use Rattle.laws.proofs.Sums.{descending-above}
 use Rattle.ending.specs.Spent.{all-monomials, total-products, worth, cost, many}
 use Rattle.ending.specs.Well.{Proper, Descending}
 use Rattle.ending.proofs.Ranks.{Listed, all-monomials-listed, rank, rank-bound, rank-below}

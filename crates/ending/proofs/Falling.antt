@@ -17,11 +17,11 @@ use Rattle.definitions.specs.Result.{Result, done, _>>=_}
 use Rattle.definitions.specs.Vectors.{store}
 use Rattle.definitions.specs.Stage.{Reduction, Stage}
 use Rattle.definitions.specs.Run.{Run, Strategy, Step, on, end, multiple, add-term, add-products, start, reduced, without-reducer, by-answer, by-pick, step}
-use Rattle.definitions.proofs.Members.{All, all-map}
-use Rattle.definitions.proofs.Modular.{Prime}
-use Rattle.definitions.proofs.Induced.{Shaped}
-use Rattle.definitions.proofs.Reducers.{Reducing, answer-reducing, Leading, reducing-some, reducing-leads}
-use Rattle.definitions.proofs.Results.{If-done, if-done-says, if-done-map, if-done-always, if-done-both, if-done-bind}
+use Rattle.laws.proofs.Members.{All, all-map}
+use Rattle.laws.proofs.Modular.{Prime}
+use Rattle.laws.proofs.Induced.{Shaped}
+use Rattle.laws.proofs.Reducers.{Reducing, answer-reducing, Leading, reducing-some, reducing-leads}
+use Rattle.laws.proofs.Results.{If-done, if-done-says, if-done-map, if-done-always, if-done-both, if-done-bind}
 use Rattle.ending.specs.Good.{good?}
 use Rattle.ending.specs.Spent.{total, total-products, cost, many, spent}
 use Rattle.ending.specs.Well.{Proper, Descending, Well, Picks}

@@ -16,12 +16,12 @@ use Rattle.definitions.specs.Reducer.{answer, lower-order?}
 use Rattle.definitions.specs.Vectors.{unless-zero, behind, combined, or-last, store}
 use Rattle.definitions.specs.Stage.{Reduction}
 use Rattle.definitions.specs.Run.{multiple, dropped?, unless-dropped, if-fits, add-term}
-use Rattle.definitions.proofs.Tests.{true-is, false-is}
-use Rattle.definitions.proofs.Members.{all-inside}
-use Rattle.definitions.proofs.Products.{same-monomial-says, same-monomial-shows}
-use Rattle.definitions.proofs.Modular.{Prime}
-use Rattle.definitions.proofs.Reducers.{answer-alike, lower-order-alike, Reducing, Leading, reducing-leads, reducing-cancels}
-use Rattle.definitions.proofs.Results.{If-done}
+use Rattle.laws.proofs.Tests.{true-is, false-is}
+use Rattle.laws.proofs.Members.{all-inside}
+use Rattle.laws.proofs.Products.{same-monomial-says, same-monomial-shows}
+use Rattle.laws.proofs.Modular.{Prime}
+use Rattle.laws.proofs.Reducers.{answer-alike, lower-order-alike, Reducing, Leading, reducing-leads, reducing-cancels}
+use Rattle.laws.proofs.Results.{If-done}
 use Rattle.ending.specs.Well.{Proper}
 use Rattle.ending.proofs.Values.{Good, good-at, good-eight}
 

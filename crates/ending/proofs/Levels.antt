@@ -13,14 +13,14 @@ use Rattle.definitions.specs.Run.{Strategy, run, division-strategy, hybrid-stra
 use Rattle.definitions.specs.Tree.{Cache}
 use Rattle.definitions.specs.Lifting.{Lifting, by-division, by-hybrid, by-tree, lift-one, Lifted, with-vector, lift-all, if-few, limited-frame}
 use Rattle.definitions.specs.Lifting.{lift-level, at-frame-term, accept-from, accept}
-use Rattle.definitions.proofs.Members.{All}
-use Rattle.definitions.proofs.Modular.{Prime}
-use Rattle.definitions.proofs.Induced.{Shaped, Led}
-use Rattle.definitions.proofs.Frames.{frame-shaped, leading-monomials-eight}
-use Rattle.definitions.proofs.Results.{If-done}
-use Rattle.definitions.proofs.Finished.{tree-finished, limited-frame-finished, with-vector-finished}
-use Rattle.definitions.proofs.Steady.{Ends, steady-fixed, result-steady, bind-ends, bind-ends-any, bind-fixed-ends}
-use Rattle.definitions.proofs.Bound.{run-steady, lift-one-steady, later-steady, lift-all-steady, accept-from-steady}
+use Rattle.laws.proofs.Members.{All}
+use Rattle.laws.proofs.Modular.{Prime}
+use Rattle.laws.proofs.Induced.{Shaped, Led}
+use Rattle.laws.proofs.Frames.{frame-shaped, leading-monomials-eight}
+use Rattle.laws.proofs.Results.{If-done}
+use Rattle.laws.proofs.Finished.{tree-finished, limited-frame-finished, with-vector-finished}
+use Rattle.laws.proofs.Steady.{Ends, steady-fixed, result-steady, bind-ends, bind-ends-any, bind-fixed-ends}
+use Rattle.laws.proofs.Bound.{run-steady, lift-one-steady, later-steady, lift-all-steady, accept-from-steady}
 use Rattle.ending.specs.Well.{Descending-levels, Well}
 use Rattle.ending.proofs.Picking.{picks-by-code}
 use Rattle.ending.proofs.Runs.{run-ends}

@@ -15,14 +15,14 @@ use Rattle.definitions.specs.Vectors.{descending, store}
 use Rattle.definitions.specs.Stage.{Reduction, Stage}
 use Rattle.definitions.specs.Run.{Run, Strategy, Step, on, end, dropped?, unless-dropped, if-fits, multiple, add-term, add-products, start, reduced}
 use Rattle.definitions.specs.Run.{without-reducer, by-answer, by-pick, step, continued, runs, run}
-use Rattle.definitions.proofs.Members.{All, all-map, all-inside, all-without}
-use Rattle.definitions.proofs.Modular.{Prime}
-use Rattle.definitions.proofs.Coefficients.{times-nonzero, minus-nonzero, plus-nonzero, one-nonzero}
-use Rattle.definitions.proofs.Comparisons.{Orders}
-use Rattle.definitions.proofs.Induced.{Has, Shaped}
-use Rattle.definitions.proofs.Reducers.{Reducing, answer-reducing, answer-number, reducing-some, reducing-leads, reducing-nonzero}
-use Rattle.definitions.proofs.Results.{If-done, if-done-bind}
-use Rattle.definitions.proofs.Sums.{Joins, inserted-all, store-all, inserted-descends}
+use Rattle.laws.proofs.Members.{All, all-map, all-inside, all-without}
+use Rattle.laws.proofs.Modular.{Prime}
+use Rattle.laws.proofs.Coefficients.{times-nonzero, minus-nonzero, plus-nonzero, one-nonzero}
+use Rattle.laws.proofs.Comparisons.{Orders}
+use Rattle.laws.proofs.Induced.{Has, Shaped}
+use Rattle.laws.proofs.Reducers.{Reducing, answer-reducing, answer-number, reducing-some, reducing-leads, reducing-nonzero}
+use Rattle.laws.proofs.Results.{If-done, if-done-bind}
+use Rattle.laws.proofs.Sums.{Joins, inserted-all, store-all, inserted-descends}
 use Rattle.ending.specs.Well.{Proper, Descending, Well, Picks}
 use Rattle.ending.proofs.Adding.{product-shaped}
 use Rattle.ending.proofs.Costs.{descending-of}

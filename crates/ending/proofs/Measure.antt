@@ -11,9 +11,9 @@ use Rattle.definitions.specs.Result.{done}
 use Rattle.definitions.specs.Vectors.{store}
 use Rattle.definitions.specs.Stage.{Reduction}
 use Rattle.definitions.specs.Run.{add-term, add-products}
-use Rattle.definitions.proofs.Members.{All}
-use Rattle.definitions.proofs.Induced.{Shaped}
-use Rattle.definitions.proofs.Results.{if-done-says}
+use Rattle.laws.proofs.Members.{All}
+use Rattle.laws.proofs.Induced.{Shaped}
+use Rattle.laws.proofs.Results.{if-done-says}
 use Rattle.ending.specs.Good.{good-monomial?, good?}
 use Rattle.ending.specs.Spent.{total, total-products, cost, many, spent}
 use Rattle.ending.proofs.Values.{Good, good-says, good-shows, thinned-good, without-thinned, without-total}

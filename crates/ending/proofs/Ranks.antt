@@ -9,11 +9,11 @@ use lib.Dec.{T, leb, leb→le}
 use lib.ListN.{length}
 use Rattle.definitions.specs.Monomial.{Exponents, Monomial, Vector, Level, fits?}
 use Rattle.definitions.specs.Order.{Comparison, greater, greater?}
-use Rattle.definitions.proofs.Tests.{and-left, and-right}
-use Rattle.definitions.proofs.Members.{All, all-map, all-append}
-use Rattle.definitions.proofs.Comparisons.{order-same, order-greater, greater-says, greater-shows, greater≢equal}
-use Rattle.definitions.proofs.Orders.{Long}
-use Rattle.definitions.proofs.Induced.{Has, Module-order}
+use Rattle.laws.proofs.Tests.{and-left, and-right}
+use Rattle.laws.proofs.Members.{All, all-map, all-append}
+use Rattle.laws.proofs.Comparisons.{order-same, order-greater, greater-says, greater-shows, greater≢equal}
+use Rattle.laws.proofs.Orders.{Long}
+use Rattle.laws.proofs.Induced.{Has, Module-order}
 use Rattle.ending.specs.Spent.{with-first, exponents-to, all-exponents, all-of, all-monomials, many}
 
 -- ## Counting

@@ -8,10 +8,10 @@ use Rattle.definitions.specs.Monomial.{Monomial}
 use Rattle.definitions.specs.Result.{Result, done, refused, unfinished, finished?}
 use Rattle.definitions.specs.Stage.{Stage}
 use Rattle.definitions.specs.Run.{Run, Strategy, Step, on, end, step, continued, start, runs, run}
-use Rattle.definitions.proofs.Results.{if-done-shows}
-use Rattle.definitions.proofs.Finished.{step-finished, start-finished}
-use Rattle.definitions.proofs.Steady.{Ends, steady-fixed, bind-ends}
-use Rattle.definitions.proofs.Bound.{runs-steady}
+use Rattle.laws.proofs.Results.{if-done-shows}
+use Rattle.laws.proofs.Finished.{step-finished, start-finished}
+use Rattle.laws.proofs.Steady.{Ends, steady-fixed, bind-ends}
+use Rattle.laws.proofs.Bound.{runs-steady}
 use Rattle.ending.specs.Good.{good?}
 use Rattle.ending.specs.Spent.{spent}
 use Rattle.ending.specs.Well.{Well, Picks}

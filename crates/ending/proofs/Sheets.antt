@@ -18,13 +18,13 @@ use Rattle.definitions.specs.Problem.{Bytes, problem}
 use Rattle.definitions.specs.State.{State, up-to, sound?}
 use Rattle.definitions.specs.Calls.{accepted, read, lift}
 use Rattle.definitions.specs.Sheet.{level-lines, if-more, level-then, levels-from, variables-of, sheet-of, sheet}
-use Rattle.definitions.proofs.Members.{All, all-append}
-use Rattle.definitions.proofs.Modular.{Prime}
-use Rattle.definitions.proofs.Induced.{Shaped, compare-order}
-use Rattle.definitions.proofs.Results.{If-done, if-done-bind, if-done-always}
-use Rattle.definitions.proofs.Reading.{basis-state, problem-sound}
-use Rattle.definitions.proofs.Steady.{Ends, answered?, ends-after, then-fixed-ends}
-use Rattle.definitions.proofs.Bound.{read-steady, lift-steady, level-then-steady, levels-from-steady, sheet-of-steady}
+use Rattle.laws.proofs.Members.{All, all-append}
+use Rattle.laws.proofs.Modular.{Prime}
+use Rattle.laws.proofs.Induced.{Shaped, compare-order}
+use Rattle.laws.proofs.Results.{If-done, if-done-bind, if-done-always}
+use Rattle.laws.proofs.Reading.{basis-state, problem-sound}
+use Rattle.laws.proofs.Steady.{Ends, answered?, ends-after, then-fixed-ends}
+use Rattle.laws.proofs.Bound.{read-steady, lift-steady, level-then-steady, levels-from-steady, sheet-of-steady}
 use Rattle.ending.specs.Well.{Descending, Descending-levels, Bytewise}
 use Rattle.ending.proofs.Picking.{picks-by-code}
 use Rattle.ending.proofs.Soundness.{levels-lead, drop-descending, descending-well, sound-prime, sound-levels}

@@ -12,12 +12,12 @@ use Rattle.definitions.specs.Stage.{highest, stage-over}
 use Rattle.definitions.specs.Problem.{Parameters}
 use Rattle.definitions.specs.State.{State, term-sound?, vector-sound?, levels-sound?, sound?}
 use Rattle.definitions.specs.Field.{prime?}
-use Rattle.definitions.proofs.Tests.{and-right, between-low, between-high}
-use Rattle.definitions.proofs.Members.{All, every-all, all-map}
-use Rattle.definitions.proofs.Sound.{term-says, vector-says, basis-says, level-says, sound-says}
-use Rattle.definitions.proofs.Modular.{Prime, prime-says}
-use Rattle.definitions.proofs.Coefficients.{range-nonzero}
-use Rattle.definitions.proofs.Induced.{Led, Leads, compare-order}
+use Rattle.laws.proofs.Tests.{and-right, between-low, between-high}
+use Rattle.laws.proofs.Members.{All, every-all, all-map}
+use Rattle.laws.proofs.Sound.{term-says, vector-says, basis-says, level-says, sound-says}
+use Rattle.laws.proofs.Modular.{Prime, prime-says}
+use Rattle.laws.proofs.Coefficients.{range-nonzero}
+use Rattle.laws.proofs.Induced.{Led, Leads, compare-order}
 use Rattle.ending.specs.Well.{Proper, Descending, Descending-levels, Well}
 
 -- ## From descending levels

@@ -9,9 +9,9 @@ use lib.Dec.{T, T-not, not-T, eqb, leb, eqb→eq, leb→le}
 use lib.ListN.{length, getD}
 use Rattle.definitions.specs.Lists.{_and_, without}
 use Rattle.definitions.specs.Monomial.{Monomial, Term, Vector, fits?, same-monomial?, no-term}
-use Rattle.definitions.proofs.Tests.{and-left, and-right, and-both}
-use Rattle.definitions.proofs.Members.{All, every-all, all-every, all-map, all-inside}
-use Rattle.definitions.proofs.Products.{same-monomial-says, same-monomial-shows}
+use Rattle.laws.proofs.Tests.{and-left, and-right, and-both}
+use Rattle.laws.proofs.Members.{All, every-all, all-every, all-map, all-inside}
+use Rattle.laws.proofs.Products.{same-monomial-says, same-monomial-shows}
 use Rattle.ending.specs.Good.{good-monomial?, fresh?, good?}
 use Rattle.ending.specs.Spent.{total}
 

@@ -13,9 +13,9 @@ use Rattle.definitions.specs.Order.{Comparison, compare-over}
 use Rattle.definitions.specs.Reducer.{heads}
 use Rattle.definitions.specs.Vectors.{strictly-descending?}
 use Rattle.definitions.specs.Stage.{Stage}
-use Rattle.definitions.proofs.Modular.{Prime}
-use Rattle.definitions.proofs.Members.{All}
-use Rattle.definitions.proofs.Induced.{Shaped, Module-order}
+use Rattle.laws.proofs.Modular.{Prime}
+use Rattle.laws.proofs.Members.{All}
+use Rattle.laws.proofs.Induced.{Shaped, Module-order}
 
 -- a term with eight exponents, its component counted from 1, its coefficient not zero modulo p
 pub record Proper (p : ℕ) (t : Term) : Type 0 where

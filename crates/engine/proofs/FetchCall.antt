@@ -13,7 +13,7 @@ use Rattle.definitions.specs.Stage.{highest}
 use Rattle.definitions.specs.State.{State, empty, sound?, has-level?, up-to}
 use Rattle.definitions.specs.Calls.{refuse, fetch as fetch-definition}
 use Rattle.definitions.specs.Layout.{Words, Fetch, rows-of, padded, level-at, levels-at, decode, holds-state?, meant, fetch-left, fetch-call}
-use Rattle.definitions.proofs.Tests.{true-is}
+use Rattle.laws.proofs.Tests.{true-is}
 use Rattle.definitions.specs.Places.{most-levels, state-length, vector-length}
 use Rattle.state.specs.soundness.Places.{count-at}
 use Rattle.state.proofs.preparing.Complete.{highest-is, meant-is, complete-count, length-levels, holds-sound}

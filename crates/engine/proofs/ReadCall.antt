@@ -16,7 +16,7 @@ use Rattle.definitions.specs.Problem.{Bytes, Parameters, problem}
 use Rattle.definitions.specs.State.{State}
 use Rattle.definitions.specs.Calls.{refuse, settled, accepted, read}
 use Rattle.definitions.specs.Layout.{Words, Read, rows-of, padded, encode, decode, meant, read-left, read-call}
-use Rattle.definitions.proofs.Refusals.{encode-empty}
+use Rattle.laws.proofs.Refusals.{encode-empty}
 use Rattle.definitions.specs.Places.{state-length, value-length}
 use Rattle.files.specs.Answers.{Answered}
 use Rattle.files.proofs.Reader.{document-reader}

@@ -4,7 +4,7 @@ use Prim.Native.Nat.{ℕ, zero, suc, _-_, _*_, _/_, _%_, _<_, _≤_}
 use native.Mathlib.Omega.{arith}
 use native.Mathlib.Nat.{mul-assoc, mod-lt, mod-eq-of-lt, mul-one, one-mul}
 use Rattle.definitions.specs.Field.{times, inverse-by, inverse}
-use Rattle.definitions.proofs.Modular.{times-left, times-right}
+use Rattle.laws.proofs.Modular.{times-left, times-right}
 
 pub times-assoc : (p a b c : ℕ) → times p (times p a b) c ≡ times p a (times p b c)
 times-assoc p a b c = times-left p (a * b) c ∙ ap (λ z. z % p) (mul-assoc a b c) ∙ sym (times-right p a (b * c))

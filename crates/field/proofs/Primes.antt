@@ -8,8 +8,8 @@ use native.Mathlib.Omega.{arith}
 use native.Mathlib.Decide.{ℕ-discrete}
 use lib.Dec.{T, ltb, ltb→lt, nltb→le}
 use Rattle.definitions.specs.Field.{prime?}
-use Rattle.definitions.proofs.Modular.{Prime, prime-says, prime-shows}
-use Rattle.definitions.proofs.Tests.{true-is}
+use Rattle.laws.proofs.Modular.{Prime, prime-says, prime-shows}
+use Rattle.laws.proofs.Tests.{true-is}
 
 -- no number of 2 .. d − 1 divides p
 abbrev pub Clear : ℕ → ℕ → Type 0

@@ -18,8 +18,8 @@ use Rattle.definitions.specs.Problem.{term-of, next?, in-sequence?, term-in-ran
 use Rattle.definitions.specs.Problem.{after-r, first-line, problem}
 use Rattle.definitions.specs.State.{terms-of}
 use Rattle.definitions.specs.Sheet.{printed, term-fields}
-use Rattle.definitions.proofs.Tests.{and-left, and-right, and-both}
-use Rattle.definitions.proofs.Results.{If-some}
+use Rattle.laws.proofs.Tests.{and-left, and-right, and-both}
+use Rattle.laws.proofs.Results.{If-some}
 use Rattle.files.specs.Files.{elements-lines, end-line, first-line-of, Well-formed-parameters, Wide}
 use Rattle.files.specs.Reasons.{So-far, Says, In-sequence, In-range, Below, Bad-term, too-many, out-of-sequence, out-of-range, not-below, Bad-later}
 use Rattle.files.specs.Reasons.{absent, no-shape, bad-term, bad-count}

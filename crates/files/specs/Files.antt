@@ -9,8 +9,8 @@ use Rattle.definitions.specs.Order.{greater, compare-over}
 use Rattle.definitions.specs.Problem.{Bytes, Parameters, letter-R, letter-T, letter-E, lines}
 use Rattle.definitions.specs.State.{terms-of}
 use Rattle.definitions.specs.Sheet.{printed, term-fields}
-use Rattle.definitions.proofs.Modular.{Prime}
-use Rattle.definitions.proofs.Members.{All}
+use Rattle.laws.proofs.Modular.{Prime}
+use Rattle.laws.proofs.Members.{All}
 
 -- ## The file
 

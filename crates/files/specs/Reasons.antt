@@ -12,8 +12,8 @@ use Rattle.definitions.specs.Order.{greater, compare-over}
 use Rattle.definitions.specs.Problem.{Bytes, Line, Parameters, letter-R, letter-T, letter-E, lines, last-term}
 use Rattle.definitions.specs.State.{terms-of}
 use Rattle.definitions.specs.Sheet.{printed, term-fields}
-use Rattle.definitions.proofs.Modular.{Prime}
-use Rattle.definitions.proofs.Members.{All}
+use Rattle.laws.proofs.Modular.{Prime}
+use Rattle.laws.proofs.Members.{All}
 use Rattle.files.specs.Files.{elements-lines, end-line, first-line-of, Well-formed-parameters, Well-formed-element}
 
 -- the elements of the lines so far are in order

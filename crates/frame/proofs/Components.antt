@@ -8,9 +8,9 @@ use lib.ListN.{length, getD}
 use Rattle.definitions.specs.Monomial.{Exponents, Monomial, Vector, no-term}
 use Rattle.definitions.specs.Frame.{generators, minimal, with-component, frame-of, frame-from, frame}
 use Rattle.definitions.specs.Layout.{Words, rows}
-use Rattle.definitions.proofs.Rows.{length-rows}
+use Rattle.laws.proofs.Rows.{length-rows}
 use Rattle.definitions.specs.Places.{row-length, component-offset}
-use Rattle.definitions.proofs.Rows.{row-is}
+use Rattle.laws.proofs.Rows.{row-is}
 use Rattle.vectors.proofs.sums.Rowwise.{at-row}
 use Rattle.frame.specs.Generators.{monomials-of}
 

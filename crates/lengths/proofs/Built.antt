@@ -17,7 +17,7 @@ use Rattle.definitions.specs.Stage.{highest}
 use Rattle.definitions.specs.Problem.{Parameters}
 use Rattle.definitions.specs.State.{levels-sound?}
 use Rattle.definitions.specs.Reckoning.{reckoned-level, reckoned-levels}
-use Rattle.definitions.proofs.Modular.{Prime}
+use Rattle.laws.proofs.Modular.{Prime}
 use Rattle.demands.specs.Notions.{Member, Gröbner-basis}
 use Rattle.demands.specs.Exact.{Level-right, Reckons}
 use Rattle.demands.proofs.Results.{Holds, holds, nothing, holds-then, holds-map}

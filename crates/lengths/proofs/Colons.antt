@@ -8,7 +8,7 @@ use lib.Dec.{T, leb, eqb, le→leb, eqb→eq}
 use lib.ListN.{take, drop}
 use Rattle.definitions.specs.Monomial.{Exponents, quotient, lcm, divides?}
 use Rattle.definitions.specs.Order.{Comparison, smaller, or-at-tie, numbers, lexicographic}
-use Rattle.definitions.proofs.Tests.{and-left, and-right, and-both}
+use Rattle.laws.proofs.Tests.{and-left, and-right, and-both}
 use Rattle.demands.proofs.Comparisons.{Says, less, level, more, numbers-says}
 use Rattle.lengths.specs.Notions.{zero?}
 

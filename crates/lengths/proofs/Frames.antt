@@ -11,9 +11,9 @@ use Rattle.definitions.specs.Lists.{any, every}
 use Rattle.definitions.specs.Monomial.{Exponents, Monomial, Level, quotient, lcm, divides?, divides-monomial?, leading, leading-monomials}
 use Rattle.definitions.specs.Order.{smaller, lexicographic}
 use Rattle.definitions.specs.Frame.{into-ascending, generators, properly-divides?, minimal, frame-of, frame-from, frame}
-use Rattle.definitions.proofs.Tests.{and-left, and-right}
-use Rattle.definitions.proofs.Members.{All, every-all, all-map, all-map₂}
-use Rattle.definitions.proofs.Products.{length-quotient, length-lcm}
+use Rattle.laws.proofs.Tests.{and-left, and-right}
+use Rattle.laws.proofs.Members.{All, every-all, all-map, all-map₂}
+use Rattle.laws.proofs.Products.{length-quotient, length-lcm}
 use Rattle.demands.specs.Notions.{Member}
 use Rattle.demands.specs.Frames.{Before, Before-all, Ascending, Is-frame}
 use Rattle.demands.proofs.Members.{member-either, those-says, divides-monomial}

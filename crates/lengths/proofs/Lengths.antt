@@ -17,9 +17,9 @@ use Rattle.definitions.specs.Problem.{Bytes, Parameters}
 use Rattle.definitions.specs.State.{State, empty, levels-sound?, sound?}
 use Rattle.definitions.specs.Layout.{Words, meant, Lent, Left, lent-calls}
 use Rattle.definitions.specs.Reckoning.{Reckoning, nothing, reckon-all, reckoned-level, reckoned-levels}
-use Rattle.definitions.proofs.Tests.{and-left, and-right, between-high}
-use Rattle.definitions.proofs.Sound.{Sound, sound-says}
-use Rattle.definitions.proofs.Reading.{basis-state}
+use Rattle.laws.proofs.Tests.{and-left, and-right, between-high}
+use Rattle.laws.proofs.Sound.{Sound, sound-says}
+use Rattle.laws.proofs.Reading.{basis-state}
 use Rattle.files.specs.Files.{Well-formed-file}
 use Rattle.demands.specs.Notions.{Gröbner-basis}
 use Rattle.demands.specs.Exact.{Exact, Reckons}

@@ -13,8 +13,8 @@ use Rattle.definitions.specs.Frame.{frame}
 use Rattle.definitions.specs.Stage.{highest}
 use Rattle.definitions.specs.Problem.{Parameters, in-ranges?}
 use Rattle.definitions.specs.State.{vector-sound?, term-sound?, levels-sound?}
-use Rattle.definitions.proofs.Tests.{and-left, and-right, and-both, between-low}
-use Rattle.definitions.proofs.Sound.{Sound-term, Sound-vector, term-says, vector-says, basis-says}
+use Rattle.laws.proofs.Tests.{and-left, and-right, and-both, between-low}
+use Rattle.laws.proofs.Sound.{Sound-term, Sound-vector, term-says, vector-says, basis-says}
 use Rattle.demands.specs.Notions.{Member}
 use Rattle.demands.specs.Exact.{Level-right}
 use Rattle.demands.specs.Demands.{level-of}

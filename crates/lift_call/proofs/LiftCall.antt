@@ -16,8 +16,8 @@ use Rattle.definitions.specs.State.{State, empty, sound?, has-level?, up-to}
 use Rattle.definitions.specs.Calls.{refuse, settled, pick-code?, lift}
 use Rattle.definitions.specs.Layout.{Words, Way, division, hybrid, tree, Lift, lifting-by, work-words, levels-at, encode, decode, holds-state?, meant}
 use Rattle.definitions.specs.Layout.{lift-left, lift-call}
-use Rattle.definitions.proofs.Tests.{true-is, is-true, between-low, between-high}
-use Rattle.definitions.proofs.Numbers.{limit-number?}
+use Rattle.laws.proofs.Tests.{true-is, is-true, between-low, between-high}
+use Rattle.laws.proofs.Numbers.{limit-number?}
 use Rattle.definitions.specs.Places.{most-levels, state-length}
 use Rattle.demands.proofs.Lifts.{Lifted-to, one-more, limit-met, still-lifting, lifted-to}
 use Rattle.vectors.specs.terms.Rows.{cleared}

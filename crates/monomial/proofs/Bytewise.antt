@@ -15,7 +15,7 @@ use Rattle.monomial.specs.Values.{lane-bytes}
 use Rattle.definitions.specs.Lists.{_and_}
 use Rattle.definitions.specs.Monomial.{Exponents, unit, same-exponents?, degree}
 use Rattle.definitions.specs.Packed.{low-bytes, four, unpack, pack, pack-from, long-bound}
-use Rattle.definitions.proofs.Packing.{Bytes, unpack-is, Small, none, more}
+use Rattle.laws.proofs.Packing.{Bytes, unpack-is, Small, none, more}
 use Rattle.monomial.proofs.Lanes.{lows, highs, sums}
 use Rattle.monomial.proofs.Dividing.{regrouped, ended}
 

@@ -10,7 +10,7 @@ use Rattle.monomial.specs.Values.{lane-bytes, lane-marks}
 use Rattle.definitions.specs.Lists.{_and_}
 use Rattle.definitions.specs.Monomial.{divides?}
 use Rattle.definitions.specs.Packed.{four, unpack}
-use Rattle.definitions.proofs.Packing.{Bytes}
+use Rattle.laws.proofs.Packing.{Bytes}
 use Rattle.monomial.proofs.Lanes.{and4, lows, highs}
 
 -- a lane's mark

@@ -14,7 +14,7 @@ use Rattle.definitions.specs.Monomial as definition
 use Rattle.definitions.specs.Monomial.{divides?, product, quotient, fits?}
 use Rattle.definitions.specs.Packed.{four, unpack, long-bound}
 use Rattle.monomial.specs.Values.{formed, lane-bytes, lane-marks}
-use Rattle.definitions.proofs.Packing.{Bytes, unpack-is}
+use Rattle.laws.proofs.Packing.{Bytes, unpack-is}
 use Rattle.monomial.proofs.Lanes.{and4, lows, highs, sums}
 use Rattle.monomial.proofs.Dividing.{regrouped, ended}
 

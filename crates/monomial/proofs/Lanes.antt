@@ -7,7 +7,7 @@ use lib.Pow.{low}
 use Rattle.definitions.specs.Places.{most-exponent}
 use Rattle.monomial.specs.Values.{lane-bytes}
 use Rattle.definitions.specs.Packed.{four}
-use Rattle.definitions.proofs.Packing.{Bytes}
+use Rattle.laws.proofs.Packing.{Bytes}
 
 pub and4 : (a b c d p q r s : ℕ) → b < 65536 → c < 65536 → d < 65536 → q < 65536 → r < 65536 → s < 65536
     → bitAnd (four a b c d) (four p q r s) ≡ four (bitAnd a p) (bitAnd b q) (bitAnd c r) (bitAnd d s)

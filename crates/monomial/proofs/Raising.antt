@@ -11,7 +11,7 @@ use Rattle.definitions.specs.Places.{most-exponent}
 use Rattle.definitions.specs.Monomial.{Exponents, lcm}
 use Rattle.definitions.specs.Packed.{low-bytes, four, unpack}
 use Rattle.monomial.specs.Values.{even-lanes, lane-bytes, lane-marks}
-use Rattle.definitions.proofs.Packing.{Bytes, unpack-is}
+use Rattle.laws.proofs.Packing.{Bytes, unpack-is}
 use Rattle.monomial.proofs.Lanes.{and4, lows, sums}
 use Rattle.monomial.proofs.Dividing.{mark, gaps, gap-marks}
 

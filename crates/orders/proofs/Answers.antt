@@ -14,10 +14,10 @@ use Rattle.definitions.specs.Monomial.{Exponents, Level, degree}
 use Rattle.definitions.specs.Order as definition-order
 use Rattle.definitions.specs.Order.{greater, equal, smaller, or-at-tie, numbers, lexicographic, last-differing, degrees, exponents-by, compare-over}
 use Rattle.definitions.specs.State.{State, sound?, up-to}
-use Rattle.definitions.proofs.Comparisons.{turned, tie-turns, numbers-turn}
-use Rattle.definitions.proofs.Sound.{sound-says}
+use Rattle.laws.proofs.Comparisons.{turned, tie-turns, numbers-turn}
+use Rattle.laws.proofs.Sound.{sound-says}
 use Rattle.comparing.specs.Above.{Exponents-above, Above}
-use Rattle.definitions.proofs.Packing.{unpack-long}
+use Rattle.laws.proofs.Packing.{unpack-long}
 use Rattle.comparing.specs.Comparing.{Eight}
 use Rattle.comparing.proofs.Exactly.{Exactly}
 use Rattle.comparing.proofs.Exponents.{exponents-exactly}

@@ -13,7 +13,7 @@ use borrow.Author.Tests.{ne-eqb}
 use Rattle.definitions.specs.Monomial.{Exponents}
 use Rattle.definitions.specs.Order.{Comparison, greater, equal, smaller, or-at-tie, numbers, lexicographic, last-differing, degrees, exponents-by}
 use Rattle.definitions.specs.Layout.{Words}
-use Rattle.definitions.proofs.Comparisons.{Says, numbers-are}
+use Rattle.laws.proofs.Comparisons.{Says, numbers-are}
 use Rattle.orders.specs.Images.{decided?, exponents-raw}
 
 -- ## From the first: what is still to be compared decides

@@ -13,10 +13,10 @@ use Rattle.definitions.specs.Problem.{Parameters}
 use Rattle.definitions.specs.State.{levels-sound?, vector-sound?, term-sound?}
 use Rattle.definitions.specs.Monomial.{Exponents, Monomial, Term, Vector, Level, product, leading, vector-of}
 use Rattle.definitions.specs.Order.{Comparison, greater, equal, smaller, or-at-tie, numbers, exponents-by, image-by, image, compare-over}
-use Rattle.definitions.proofs.Tests.{and-left, and-right, between-low}
-use Rattle.definitions.proofs.Sound.{term-says, vector-says, basis-says, level-says}
-use Rattle.definitions.proofs.Products.{product-assoc}
-use Rattle.definitions.proofs.Comparisons.{numbers-are}
+use Rattle.laws.proofs.Tests.{and-left, and-right, between-low}
+use Rattle.laws.proofs.Sound.{term-says, vector-says, basis-says, level-says}
+use Rattle.laws.proofs.Products.{product-assoc}
+use Rattle.laws.proofs.Comparisons.{numbers-are}
 use Rattle.orders.specs.Images.{Key, Table, compare-keys, looked-up, key-by, key, table-order}
 use Rattle.orders.specs.Levels.{Tie, compare-ties, rank, leading-keys, ranked, table-over, images}
 use Rattle.orders.proofs.Ranks.{Stands, rank-compares, above-lowest, below-any}

@@ -9,8 +9,8 @@ use lib.ListN.{length}
 use Rattle.definitions.specs.Monomial.{Exponents}
 use Rattle.definitions.specs.Order.{Comparison, greater, equal, smaller, or-at-tie, numbers, lexicographic, last-differing}
 use Rattle.definitions.specs.Packed.{unpack, pack-from}
-use Rattle.definitions.proofs.Comparisons.{Says, numbers-say, numbers-are}
-use Rattle.definitions.proofs.Packing.{Bytes, unpack-is, Small, more}
+use Rattle.laws.proofs.Comparisons.{Says, numbers-say, numbers-are}
+use Rattle.laws.proofs.Packing.{Bytes, unpack-is, Small, more}
 use Rattle.monomial.proofs.Bytewise.{bytes-small, bytes-packed, e1, e2, e3, e4, e5, e6, e7, e8}
 
 -- ## Lexicographic: the order of the numbers

@@ -6,7 +6,7 @@ use mathlib.Core.List.{List, [], _∷_}
 use Prim.Native.Nat.{ℕ, _<_, _≤_}
 use native.Mathlib.Omega.{arith}
 use Rattle.definitions.specs.Order.{Comparison, greater, equal, smaller, or-at-tie, numbers}
-use Rattle.definitions.proofs.Comparisons.{Says, numbers-say, numbers-are}
+use Rattle.laws.proofs.Comparisons.{Says, numbers-say, numbers-are}
 use Rattle.orders.specs.Images.{Key}
 use Rattle.orders.specs.Levels.{Tie, compare-ties, smaller?, counted, lower, rank}
 

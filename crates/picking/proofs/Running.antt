@@ -13,7 +13,7 @@ use Rattle.definitions.specs.Monomial.{Monomial, Term, Vector, Level, no-term}
 use Rattle.definitions.specs.Order.{Comparison, greater, equal, smaller, or-at-tie, numbers, image, compare-over}
 use Rattle.definitions.specs.Run.{Best, better, greatest-from, greatest}
 use Rattle.definitions.specs.State.{State, sound?, up-to}
-use Rattle.definitions.proofs.Members.{All, every-all, all-map}
+use Rattle.laws.proofs.Members.{All, every-all, all-map}
 use Rattle.comparing.specs.Above.{Above, Member, Greatest-of}
 use Rattle.comparing.specs.Comparing.{Eight, Answers-exactly}
 use Rattle.picking.specs.Running.{Running, running-at, against, if-greater, running-from, greatest-beside, monomials, A3}

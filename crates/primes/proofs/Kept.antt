@@ -24,9 +24,9 @@ use Rattle.definitions.specs.Layout.{cache-after}
 use Rattle.definitions.specs.Layout.{Read, read-left, read-call, Lift, lift-left, lift-call, Fetch, fetch-left, fetch-call, Lent, read-with, lift-with}
 use Rattle.definitions.specs.Layout.{fetch-with, Left}
 use Rattle.definitions.specs.Layout.{lent-call, lent-calls}
-use Rattle.definitions.proofs.Tests.{and-left, and-right, between-low, between-high}
-use Rattle.definitions.proofs.Results.{If-done}
-use Rattle.definitions.proofs.Sound.{term-says, vector-says, basis-says, level-says, sound-says}
+use Rattle.laws.proofs.Tests.{and-left, and-right, between-low, between-high}
+use Rattle.laws.proofs.Results.{If-done}
+use Rattle.laws.proofs.Sound.{term-says, vector-says, basis-says, level-says, sound-says}
 use Rattle.demands.specs.Notions.{Member}
 use Rattle.primes.specs.Primes.{with-prime-bound, prime-of, Files-within, Kept}
 use Rattle.primes.proofs.Trees.{lift-same}

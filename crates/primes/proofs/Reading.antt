@@ -17,8 +17,8 @@ use Rattle.definitions.specs.Problem.{by-shape, body, after-r, first-line, prob
 use Rattle.definitions.specs.Lifting.{accept}
 use Rattle.definitions.specs.State.{State}
 use Rattle.definitions.specs.Calls.{accepted, read}
-use Rattle.definitions.proofs.Tests.{true-is}
-use Rattle.definitions.proofs.Results.{If-done}
+use Rattle.laws.proofs.Tests.{true-is}
+use Rattle.laws.proofs.Results.{If-done}
 use Rattle.primes.specs.Primes.{with-prime-bound, named, first-named, prime-of}
 use Rattle.primes.proofs.Trees.{accept-same}
 

@@ -7,7 +7,7 @@ use native.Mathlib.Nat.{div-add-mod, mul-mod-right, mul-comm, mul-le-mul, le-ref
 use native.Mathlib.Omega.{arith}
 use lib.Dec.{T, ltb, ltb→lt, nltb→le}
 use Rattle.definitions.specs.Field.{prime?}
-use Rattle.definitions.proofs.Modular.{Prime, prime-says, prime-shows}
+use Rattle.laws.proofs.Modular.{Prime, prime-says, prime-shows}
 use Rattle.primes.specs.Primes.{Prime-test}
 
 -- no number of 2 to p − 1 divides p, as products

@@ -13,7 +13,7 @@ use Rattle.definitions.specs.Lists.{_and_, _then_, choose}
 use Rattle.definitions.specs.Problem.{Bytes}
 use Rattle.definitions.specs.Layout.{Words, padded, zeros}
 use Rattle.definitions.specs.Sheet.{sheet}
-use Rattle.definitions.proofs.Steady.{answered?}
+use Rattle.laws.proofs.Steady.{answered?}
 use Rattle.definitions.specs.Places.{state-length, value-length, sheet-length}
 use Rattle.demands.proofs.Results.{some-is}
 use Rattle.io.specs.Counts.{Counts}

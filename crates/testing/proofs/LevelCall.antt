@@ -13,9 +13,9 @@ use Rattle.definitions.specs.Lists.{_and_, choose}
 use Rattle.definitions.specs.Monomial.{Vector, Level}
 use Rattle.definitions.specs.Result.{Result, done, refused, refusal}
 use Rattle.definitions.specs.Layout.{Words, Way, lifting-by, work-words, rows, levels-at}
-use Rattle.definitions.proofs.Tests.{and-left, and-right}
-use Rattle.definitions.proofs.Numbers as numbers
-use Rattle.definitions.proofs.Numbers.{limit-number?, Numbered, lift-level-number}
+use Rattle.laws.proofs.Tests.{and-left, and-right}
+use Rattle.laws.proofs.Numbers as numbers
+use Rattle.laws.proofs.Numbers.{limit-number?, Numbered, lift-level-number}
 use Rattle.definitions.specs.Places.{most-rows, most-terms, most-tree-terms, state-length, grown-length}
 use Rattle.runs.specs.frame_terms.Vectors.{lifted-vectors}
 use Rattle.level.specs.by_runs.Stages.{Within, limits-with, leveled-of, Stored-as}

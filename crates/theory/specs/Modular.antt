@@ -7,7 +7,7 @@ use native.Mathlib.Nat.{add-comm, add-assoc, mul-comm, mul-assoc, mul-zero, mod-
 use native.Mathlib.Omega.{arith}
 use lib.Dec.{T, eqb, eqb→eq, eqb-refl, T-not}
 use Rattle.definitions.specs.Field.{plus, times, minus, inverse}
-use Rattle.definitions.proofs.Modular.{Prime, times-left, times-right, inverse-times, plus-minus}
+use Rattle.laws.proofs.Modular.{Prime, times-left, times-right, inverse-times, plus-minus}
 use Rattle.theory.specs.Laws.{Scalars}
 
 pub distributes : (a b c : ℕ) → a * (b + c) ≡ a * b + a * c

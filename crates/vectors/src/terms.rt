@@ -8,7 +8,7 @@ ghost use lib.Seq.{paste};
 ghost use Rattle.definitions.specs.Monomial.{same-monomial?};
 ghost use Rattle.definitions.specs.Packed.{unpack};
 ghost use Rattle.definitions.specs.Layout.{row-at, row-of};
-ghost use Rattle.definitions.proofs.Packing.{Eight};
+ghost use Rattle.laws.proofs.Packing.{Eight};
 ghost use Rattle.definitions.specs.Places.{row-length};
 ghost use Rattle.monomial.specs.Values.{monomial-of};
 ghost use Rattle.vectors.specs.terms.Rows.{term-of, written, closed, opened, cleared};

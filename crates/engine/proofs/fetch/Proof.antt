@@ -2,7 +2,7 @@ use borrow.Author.Needs.{needs}
 use native.Mathlib.Omega.{arith}
 use mathlib.Core.Path.{sym, _∙_}
 use Rattle.engine.proofs.FetchCall.{short-state, short-out, no-state}
-use Rattle.definitions.proofs.Tests.{is-true}
+use Rattle.laws.proofs.Tests.{is-true}
 use Rattle.engine.proofs.fetch.Statement.{statement}
 use Rattle.engine.proofs.fetch.Tie as tie
 

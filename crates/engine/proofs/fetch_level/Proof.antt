@@ -2,7 +2,7 @@ use borrow.Author.Needs.{needs}
 use mathlib.Core.Path.{sym, _∙_}
 use Rattle.engine.proofs.FetchCall.{fetched, no-such-vector}
 use Rattle.state.specs.soundness.Places.{count-at}
-use Rattle.definitions.proofs.Tests.{true-is, is-true, between-low, between-high, between-shown}
+use Rattle.laws.proofs.Tests.{true-is, is-true, between-low, between-high, between-shown}
 use Rattle.definitions.specs.Lists.{between}
 use Rattle.definitions.specs.Places.{most-levels}
 use Rattle.engine.proofs.fetch_level.Statement.{statement}

@@ -2,7 +2,7 @@ use borrow.Author.Needs.{needs}
 use native.Mathlib.Omega.{arith}
 use mathlib.Core.Path.{sym, _∙_}
 use Rattle.engine.proofs.FetchCall.{not-complete, no-such-level}
-use Rattle.definitions.proofs.Tests.{is-true, between-low, between-high}
+use Rattle.laws.proofs.Tests.{is-true, between-low, between-high}
 use Rattle.definitions.specs.Places.{most-levels}
 use Rattle.engine.proofs.fetch_sound.Statement.{statement}
 use Rattle.engine.proofs.fetch_sound.Tie as tie

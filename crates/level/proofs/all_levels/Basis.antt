@@ -13,9 +13,9 @@ use Rattle.definitions.specs.Stage.{highest}
 use Rattle.definitions.specs.Lifting.{accept}
 use Rattle.definitions.specs.Calls.{accepted, read}
 use Rattle.definitions.specs.Layout.{Words, encode, decode, level-at, holds-state?}
-use Rattle.definitions.proofs.Results.{if-done-says}
-use Rattle.definitions.proofs.Reading.{problem-sound, basis-state}
-use Rattle.definitions.proofs.RoundTrip.{decode-encode, holds-encode, length-encode}
+use Rattle.laws.proofs.Results.{if-done-says}
+use Rattle.laws.proofs.Reading.{problem-sound, basis-state}
+use Rattle.laws.proofs.RoundTrip.{decode-encode, holds-encode, length-encode}
 use Rattle.definitions.specs.Places.{state-length}
 use Rattle.state.proofs.soundness.StateTests.{holds-said}
 use Rattle.state.proofs.preparing.Complete.{highest-is}

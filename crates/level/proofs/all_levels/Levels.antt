@@ -17,10 +17,10 @@ use Rattle.definitions.specs.State.{State, sound?, up-to}
 use Rattle.definitions.specs.Stage.{highest}
 use Rattle.definitions.specs.Calls.{lift}
 use Rattle.definitions.specs.Layout.{Words, decode, level-at, levels-at}
-use Rattle.definitions.proofs.Numbers as numbers
-use Rattle.definitions.proofs.Numbers.{limit-number?, Numbered, lift-number}
-use Rattle.definitions.proofs.Steady.{steady-from}
-use Rattle.definitions.proofs.Bound.{lift-steady}
+use Rattle.laws.proofs.Numbers as numbers
+use Rattle.laws.proofs.Numbers.{limit-number?, Numbered, lift-number}
+use Rattle.laws.proofs.Steady.{steady-from}
+use Rattle.laws.proofs.Bound.{lift-steady}
 use Rattle.definitions.specs.Places.{most-levels, all-levels}
 use Rattle.demands.proofs.Lifts.{Lifted-to, one-more, limit-met, still-lifting, lifted-to, height-up-to}
 use Rattle.state.proofs.preparing.Complete.{length-levels, holds-sound}

@@ -18,12 +18,12 @@ use Rattle.definitions.specs.Run.{by-code}
 use Rattle.definitions.specs.Lifting.{Lifting, by-division, by-hybrid, limited-frame, lift-all, lift-level}
 use Rattle.definitions.specs.Calls.{lift}
 use Rattle.definitions.specs.Layout.{Words, rows, encode, decode, vectors-at, level-at, levels-at, all-words-sound?, holds-state?}
-use Rattle.definitions.proofs.Tests.{and-left, and-right, and-both, between-high, between-shown}
-use Rattle.definitions.proofs.Sound.{level-says, vector-says}
-use Rattle.definitions.proofs.Modular.{prime-says}
-use Rattle.definitions.proofs.Numbers as numbers
-use Rattle.definitions.proofs.Numbers.{limit-number?, Numbered, lift-level-number}
-use Rattle.definitions.proofs.Rows.{length-rows}
+use Rattle.laws.proofs.Tests.{and-left, and-right, and-both, between-high, between-shown}
+use Rattle.laws.proofs.Sound.{level-says, vector-says}
+use Rattle.laws.proofs.Modular.{prime-says}
+use Rattle.laws.proofs.Numbers as numbers
+use Rattle.laws.proofs.Numbers.{limit-number?, Numbered, lift-level-number}
+use Rattle.laws.proofs.Rows.{length-rows}
 use Rattle.definitions.specs.Places.{most-rows, most-terms, most-levels, all-levels, state-length, ends-length, lifted-length}
 use Rattle.demands.proofs.Results.{Gives, gives, refuses, open-yet}
 use Rattle.demands.proofs.Over.{Lift-right, over}

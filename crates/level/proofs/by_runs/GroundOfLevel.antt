@@ -15,8 +15,8 @@ use Rattle.definitions.specs.Order.{Comparison, compare-over}
 use Rattle.definitions.specs.Reducer.{heads}
 use Rattle.definitions.specs.State.{levels-sound?}
 use Rattle.definitions.specs.Layout.{Words, vectors-at, level-at, levels-at, decode}
-use Rattle.definitions.proofs.Tests.{and-right}
-use Rattle.definitions.proofs.Sound.{sound-says, level-says}
+use Rattle.laws.proofs.Tests.{and-right}
+use Rattle.laws.proofs.Sound.{sound-says, level-says}
 use Rattle.definitions.specs.Places.{most-vectors, count-offset, ends-offset, tables-spans, tables-ends, tables-below, tables-above}
 use Rattle.ending.specs.Well.{Well}
 use Rattle.ending.proofs.Soundness.{sound-well}

@@ -6,7 +6,7 @@ use native.Mathlib.Omega.{arith}
 use lib.ListN.{length, getD, take}
 use lib.Seq.{paste, length-paste, getD-take, getD-drop, length-take-le, ext-getD}
 use Rattle.definitions.specs.Layout.{Words}
-use Rattle.definitions.proofs.Rows.{rows-same}
+use Rattle.laws.proofs.Rows.{rows-same}
 use Rattle.definitions.specs.Places.{most-vectors, row-length, image-length, component-offset, rank-offset, exponents-offset, heads-length, images-length}
 use Rattle.definitions.specs.Places.{spans-length, tables-spans, tables-ends}
 use Rattle.definitions.specs.Places.{tables-below, tables-above, tables-length, ends-length}

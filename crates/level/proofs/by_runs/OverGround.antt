@@ -15,7 +15,7 @@ use Rattle.definitions.specs.Run.{by-code}
 use Rattle.definitions.specs.Frame.{frame}
 use Rattle.definitions.specs.Lifting.{limited-frame, if-few, lift-all, accept-from}
 use Rattle.definitions.specs.Layout.{Words, rows, rows-of, padded, level-at}
-use Rattle.definitions.proofs.Rows.{length-rows, rows-spelled}
+use Rattle.laws.proofs.Rows.{length-rows, rows-spelled}
 use Rattle.definitions.specs.Places.{most-vectors, most-terms, value-length}
 use Rattle.ending.specs.Well.{Well}
 use Rattle.orders.specs.Images.{table-of, table-order}

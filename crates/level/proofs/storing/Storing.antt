@@ -8,7 +8,7 @@ use lib.ListN.{length, getD, drop, set, length-set}
 use lib.Seq.{getD-drop}
 use Rattle.definitions.specs.Limits.{document-01}
 use Rattle.definitions.specs.Layout.{Words, rows, encode, decode, all-words-sound?}
-use Rattle.definitions.proofs.Rows.{rows-same}
+use Rattle.laws.proofs.Rows.{rows-same}
 use Rattle.definitions.specs.Places.{all-levels, row-length, state-length, count-offset, ends-length}
 use Rattle.vectors.proofs.terms.Stored.{same-row}
 use Rattle.reducers.specs.tables.Cuts.{start-of}

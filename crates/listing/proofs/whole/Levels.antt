@@ -19,9 +19,9 @@ use Rattle.definitions.specs.Problem.{Bytes}
 use Rattle.definitions.specs.State.{State, up-to}
 use Rattle.definitions.specs.Layout.{Words, decode, level-at, levels-at, ends-at, holds-state?, words-sound?, all-words-sound?, ascending?}
 use Rattle.definitions.specs.Sheet.{printed, letter-X, x-lines, level-lines, if-more, level-then, levels-from}
-use Rattle.definitions.proofs.Tests.{and-left, and-right}
-use Rattle.definitions.proofs.Numbers as numbers
-use Rattle.definitions.proofs.Numbers.{limit-number?, Numbered, lift-level-number}
+use Rattle.laws.proofs.Tests.{and-left, and-right}
+use Rattle.laws.proofs.Numbers as numbers
+use Rattle.laws.proofs.Numbers.{limit-number?, Numbered, lift-level-number}
 use Rattle.definitions.specs.Places.{most-vectors, most-rows, most-levels, state-length}
 use Rattle.state.specs.soundness.Places.{count-at, ends-from}
 use Rattle.state.proofs.preparing.Complete.{words-below, length-levels}

@@ -13,8 +13,8 @@ use Rattle.definitions.specs.Problem.{Bytes, Parameters, problem}
 use Rattle.definitions.specs.Calls.{accepted}
 use Rattle.definitions.specs.Layout.{Words, decode, level-at}
 use Rattle.definitions.specs.Sheet.{printed, w-lines, levels-from, variables-of, sheet-of, sheet}
-use Rattle.definitions.proofs.Steady.{answered?, steady-from}
-use Rattle.definitions.proofs.Bound.{accept-steady, levels-from-steady}
+use Rattle.laws.proofs.Steady.{answered?, steady-from}
+use Rattle.laws.proofs.Bound.{accept-steady, levels-from-steady}
 use Rattle.definitions.specs.Places.{most-levels, state-length}
 use Rattle.files.specs.Answers.{Answered}
 use Rattle.files.proofs.Reader.{document-reader}

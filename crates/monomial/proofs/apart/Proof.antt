@@ -1,5 +1,5 @@
 use native.Mathlib.Omega.{arith}
-use Rattle.definitions.proofs.Packing.{bytes-of}
+use Rattle.laws.proofs.Packing.{bytes-of}
 use Rattle.monomial.proofs.Bytewise.{widened-packed}
 use borrow.Author.Needs.{needs}
 use Rattle.monomial.proofs.apart.Statement.{statement}

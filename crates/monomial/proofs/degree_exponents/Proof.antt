@@ -2,7 +2,7 @@ use Prim.Native.Nat.{_/_, _+_}
 use native.Mathlib.Omega.{arith}
 use lib.Bits.{bitAnd, and-le-r}
 use Rattle.monomial.specs.Values.{lane-bytes}
-use Rattle.definitions.proofs.Packing.{bytes-of}
+use Rattle.laws.proofs.Packing.{bytes-of}
 use Rattle.monomial.proofs.Bytewise.{degree-packed, halved-fits, added-fits}
 use Rattle.monomial.proofs.degree_exponents.Statement.{statement}
 use Rattle.monomial.proofs.degree_exponents.Tie as tie

@@ -2,7 +2,7 @@ use Prim.Native.Nat.{_/_}
 use native.Mathlib.Omega.{arith}
 use lib.Bits.{and-le-r}
 use Rattle.monomial.specs.Values.{lane-bytes}
-use Rattle.definitions.proofs.Packing.{bytes-of}
+use Rattle.laws.proofs.Packing.{bytes-of}
 use Rattle.monomial.proofs.Dividing.{divides-lanes, enough}
 use Rattle.monomial.proofs.divides_exponents.Statement.{statement}
 use Rattle.monomial.proofs.divides_exponents.Tie as tie

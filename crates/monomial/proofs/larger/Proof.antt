@@ -3,7 +3,7 @@ use native.Mathlib.Omega.{arith}
 use mathlib.Core.Path.{subst, sym}
 use lib.Bits.{bitAnd, and-le-r}
 use Rattle.monomial.specs.Values.{lane-bytes, lane-marks}
-use Rattle.definitions.proofs.Packing.{bytes-of}
+use Rattle.laws.proofs.Packing.{bytes-of}
 use Rattle.monomial.proofs.Dividing.{enough}
 use Rattle.monomial.proofs.Raising.{raised-word, lcm-small}
 use borrow.Author.Needs.{needs}

@@ -1,5 +1,5 @@
 use native.Mathlib.Omega.{arith}
-use Rattle.definitions.proofs.Packing.{bytes-of}
+use Rattle.laws.proofs.Packing.{bytes-of}
 use Rattle.monomial.proofs.Raising.{lcm-word}
 use borrow.Author.Needs.{needs}
 use Rattle.monomial.proofs.lcm_exponents.Statement.{statement}

@@ -3,7 +3,7 @@ use Prim.Native.Nat.{_/_, _+_}
 use native.Mathlib.Omega.{arith}
 use lib.Bits.{bitAnd, and-le-r}
 use Rattle.monomial.specs.Values.{lane-bytes, lane-marks}
-use Rattle.definitions.proofs.Packing.{bytes-of}
+use Rattle.laws.proofs.Packing.{bytes-of}
 use Rattle.monomial.proofs.Forming.{fits-lanes, product-lanes}
 use Rattle.monomial.proofs.product_exponents.Statement.{statement}
 use Rattle.monomial.proofs.product_exponents.Tie as tie

@@ -1,5 +1,5 @@
 use native.Mathlib.Omega.{arith}
-use Rattle.definitions.proofs.Packing.{bytes-of}
+use Rattle.laws.proofs.Packing.{bytes-of}
 use Rattle.monomial.proofs.Forming.{quotient-below, quotient-word}
 use Rattle.monomial.proofs.quotient_exponents.Statement.{statement}
 use Rattle.monomial.proofs.quotient_exponents.Tie as tie

@@ -1,5 +1,5 @@
 use native.Mathlib.Omega.{arith}
-use Rattle.definitions.proofs.Packing.{bytes-of}
+use Rattle.laws.proofs.Packing.{bytes-of}
 use Rattle.monomial.proofs.Bytewise.{same-packed}
 use Rattle.monomial.proofs.same_exponents.Statement.{statement}
 use Rattle.monomial.proofs.same_exponents.Tie as tie

@@ -4,7 +4,7 @@ use Prim.Native.Nat.{_+_, _*_}
 use lib.ListN.{getD}
 use Rattle.definitions.specs.Packed.{unpack}
 use Rattle.definitions.specs.Places.{row-length, component-offset}
-use Rattle.definitions.proofs.Rows.{row-is}
+use Rattle.laws.proofs.Rows.{row-is}
 use Rattle.orders.specs.Images.{table-of, key}
 use Rattle.orders.proofs.image_of_row.Statement.{statement}
 use Rattle.orders.proofs.image_of_row.Tie as tie

@@ -1,7 +1,7 @@
 use native.Mathlib.Omega.{arith}
 use mathlib.Core.Path.{sym}
 use Rattle.definitions.specs.Order.{greater, equal, smaller}
-use Rattle.definitions.proofs.Comparisons.{numbers-are}
+use Rattle.laws.proofs.Comparisons.{numbers-are}
 use Rattle.orders.proofs.long_numbers.Statement.{statement}
 use Rattle.orders.proofs.long_numbers.Tie as tie
 

@@ -1,6 +1,6 @@
 use native.Mathlib.Omega.{arith}
 use mathlib.Core.Path.{_∙_}
-use Rattle.definitions.proofs.Packing.{bytes-of}
+use Rattle.laws.proofs.Packing.{bytes-of}
 use Rattle.orders.proofs.PackedOrder.{lexicographic-packed}
 use borrow.Author.Needs.{needs}
 use Rattle.orders.proofs.packed_lexicographic.Statement.{statement}

@@ -4,7 +4,7 @@ use mathlib.Core.Path.{_≡_, refl, sym, _∙_, subst}
 use Prim.Native.Nat.{_+_, _-_, _<_, _≤_}
 use Rattle.definitions.specs.Monomial.{product}
 use Rattle.definitions.specs.Packed.{unpack}
-use Rattle.definitions.proofs.Packing.{unpack-long, unpack-at}
+use Rattle.laws.proofs.Packing.{unpack-long, unpack-at}
 use Rattle.lists.specs.Filling.{Filled, filled-more, filled-list}
 use Rattle.monomial.proofs.Places.{getD-product, length-product}
 use Rattle.orders.specs.Images.{exponents-raw}

@@ -1,6 +1,6 @@
 use Prim.Native.Nat.{ℕ, _/_, _%_, _<_}
 use native.Mathlib.Omega.{arith}
-use Rattle.definitions.proofs.Packing.{bytes-of}
+use Rattle.laws.proofs.Packing.{bytes-of}
 use Rattle.orders.proofs.PackedOrder.{swapped-packed, swap-room}
 use borrow.Author.Needs.{needs}
 use Rattle.orders.proofs.swapped.Statement.{statement}

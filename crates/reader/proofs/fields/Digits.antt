@@ -9,7 +9,7 @@ use lib.Dec.{leb}
 use borrow.Author.Tests.{le-leb, lt-leb, ne-eqb}
 use Rattle.definitions.specs.Lists.{_and_, _then_, every, empty?}
 use Rattle.definitions.specs.Problem.{Bytes, digit?, value-from, written?, number}
-use Rattle.definitions.proofs.Tests.{is-true, between-low, between-high}
+use Rattle.laws.proofs.Tests.{is-true, between-low, between-high}
 use Rattle.reader.specs.fields.Scanning.{digits, past-digits, digit-by, digit-or-ten, number-first, kept, number-on, number-zero}
 
 -- ## One byte

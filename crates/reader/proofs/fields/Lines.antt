@@ -11,8 +11,8 @@ use lib.ListN.{length}
 use borrow.Author.Tests.{eq-eqb, ne-eqb}
 use Rattle.definitions.specs.Lists.{_and_, _then_, every, empty?}
 use Rattle.definitions.specs.Problem.{Bytes, Line, newline, comma, onto, split, ended, lines, digit?, number, all-numbers, letter?, shaped-fields, shaped}
-use Rattle.definitions.proofs.Tests.{is-true, between-low}
-use Rattle.definitions.proofs.Results.{If-some, if-some-then, if-some-always}
+use Rattle.laws.proofs.Tests.{is-true, between-low}
+use Rattle.laws.proofs.Results.{If-some, if-some-then, if-some-always}
 use Rattle.reader.specs.fields.Scanning.{behind, shaped-of, shaped-first, digits, past-digits, number-first, kept, field-first, numbers-first}
 use Rattle.reader.proofs.fields.Digits.{digits-on, digits-none, past-on, past-none, number-unwritten}
 

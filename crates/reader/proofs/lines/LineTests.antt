@@ -14,8 +14,8 @@ use Rattle.definitions.specs.Monomial.{Exponents, fits?}
 use Rattle.definitions.specs.Order.{Comparison, greater, equal, smaller, or-at-tie, numbers, exponents-by, greater?}
 use Rattle.definitions.specs.Problem.{Parameters, term-in-range?}
 use Rattle.definitions.specs.Layout.{Words}
-use Rattle.definitions.proofs.Tests.{is-true, and-left, and-right}
-use Rattle.definitions.proofs.Comparisons.{Says, numbers-say}
+use Rattle.laws.proofs.Tests.{is-true, and-left, and-right}
+use Rattle.laws.proofs.Comparisons.{Says, numbers-say}
 use Rattle.definitions.specs.Places.{most-exponent, most-elements}
 use Rattle.reader.specs.lines.Tests.{term-in, begins?, goes-on?, follows?, above?}
 

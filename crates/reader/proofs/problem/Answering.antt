@@ -10,9 +10,9 @@ use Rattle.definitions.specs.Monomial.{Vector, Level}
 use Rattle.definitions.specs.Result.{Result, done, refused, unfinished, finished?, _>>=_}
 use Rattle.definitions.specs.Problem.{Bytes, Parameters, lines, body, problem}
 use Rattle.definitions.specs.Layout.{Words}
-use Rattle.definitions.proofs.Tests.{between-low, between-high}
-use Rattle.definitions.proofs.Numbers.{Numbered, gives, refuses, stops, open-yet, line-number?, problem-number}
-use Rattle.definitions.proofs.Finished.{problem-finished}
+use Rattle.laws.proofs.Tests.{between-low, between-high}
+use Rattle.laws.proofs.Numbers.{Numbered, gives, refuses, stops, open-yet, line-number?, problem-number}
+use Rattle.laws.proofs.Finished.{problem-finished}
 use Rattle.definitions.specs.Places.{file-length}
 use Rattle.vectors.specs.terms.Rows.{cleared}
 use Rattle.reader.specs.lines.Steps.{r-first}

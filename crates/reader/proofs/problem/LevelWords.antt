@@ -23,8 +23,8 @@ use Rattle.definitions.specs.Limits.{document-01}
 use Rattle.definitions.specs.Monomial.{Level}
 use Rattle.definitions.specs.Problem.{Parameters}
 use Rattle.definitions.specs.Layout.{Words, row-of, rows-of, padded, ends-from, joined, header-of, all-rows}
-use Rattle.definitions.proofs.RoundTrip.{length-padded}
-use Rattle.definitions.proofs.Rows.{length-row}
+use Rattle.laws.proofs.RoundTrip.{length-padded}
+use Rattle.laws.proofs.Rows.{length-row}
 use Rattle.definitions.specs.Places.{most-vectors, most-rows, row-length, header-length, counts-length, ends-start, rows-start, level-length, state-length}
 use Rattle.reader.specs.lines.Tests.{term-in}
 use Rattle.reader.specs.problem.Reading.{words-read, state-read, stored, begun}

@@ -17,8 +17,8 @@ use Rattle.definitions.specs.Result.{Result, done, refused, unless-refused, _>>
 use Rattle.definitions.specs.Problem.{Bytes, Line, Parameters, lines, shaped, prime-in-range?, in-ranges?, parameters-of, r-line, term-of, term-in-range?}
 use Rattle.definitions.specs.Problem.{below?, last-term, with-term, t-line, e-line, by-shape, body, after-r, first-line, problem}
 use Rattle.definitions.specs.Layout.{Words, padded}
-use Rattle.definitions.proofs.Tests.{true-is, is-true, and-left, and-right, between-high}
-use Rattle.definitions.proofs.Results.{If-done, If-some}
+use Rattle.laws.proofs.Tests.{true-is, is-true, and-left, and-right, between-high}
+use Rattle.laws.proofs.Results.{If-done, If-some}
 use Rattle.definitions.specs.Places.{most-exponent, most-variables, most-components, most-elements, most-rows, file-length}
 use Rattle.reader.specs.fields.Scanning.{behind, shaped-of, shaped-first, in-sixteen}
 use Rattle.reader.proofs.fields.Lines.{first-of, lines-none, letter-differs, shaped-count}

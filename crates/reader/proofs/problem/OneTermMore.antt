@@ -14,7 +14,7 @@ use Rattle.definitions.specs.Monomial.{Term, Vector, Level}
 use Rattle.definitions.specs.Problem.{last-term, extend, with-term}
 use Rattle.definitions.specs.State.{terms-of}
 use Rattle.definitions.specs.Layout.{row-of, rows-of, ends-from, joined}
-use Rattle.definitions.proofs.Rows.{rows-of-append}
+use Rattle.laws.proofs.Rows.{rows-of-append}
 use Rattle.definitions.specs.Places.{most-elements}
 use Rattle.reader.specs.lines.Tests.{begins?, goes-on?, follows?}
 

@@ -12,7 +12,7 @@ use Rattle.definitions.specs.Problem.{Bytes, Parameters, lines, with-term, body
 use Rattle.definitions.specs.State.{terms-of}
 use Rattle.definitions.specs.Result.{Result, done, refused, _>>=_}
 use Rattle.definitions.specs.Layout.{Words, row-of, rows-of, ends-from, joined}
-use Rattle.definitions.proofs.Rows.{length-row}
+use Rattle.laws.proofs.Rows.{length-row}
 use Rattle.definitions.specs.Places.{most-elements, most-rows, row-length, state-length}
 use Rattle.reader.specs.lines.Tests.{term-in, begins?, follows?}
 use Rattle.reader.specs.lines.Steps.{Said, line-first}

@@ -12,7 +12,7 @@ use Rattle.definitions.specs.Lists.{_and_, choose}
 use Rattle.definitions.specs.Monomial.{Monomial, Term, Vector, divides?, divides-monomial?, no-term}
 use Rattle.definitions.specs.Packed.{unpack}
 use Rattle.definitions.specs.Layout.{Words, long-at, row-at, rows}
-use Rattle.definitions.proofs.Rows.{row-is, getD-rows, length-rows}
+use Rattle.laws.proofs.Rows.{row-is, getD-rows, length-rows}
 use Rattle.definitions.specs.Places.{row-length, component-offset, exponents-offset}
 use Rattle.reducers.specs.search.Search.{Spanned, span-at, first-from, first-dividing}
 

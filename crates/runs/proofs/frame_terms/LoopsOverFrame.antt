@@ -12,9 +12,9 @@ use Rattle.definitions.specs.Stage.{Stage}
 use Rattle.definitions.specs.Run.{Strategy, run, accepting-strategy}
 use Rattle.definitions.specs.Lifting.{Lifted, with-vector, lift-all, accepting-place, at-frame-term, accept-from}
 use Rattle.definitions.specs.Layout.{Words, rows, row-at}
-use Rattle.definitions.proofs.Rows.{length-rows}
-use Rattle.definitions.proofs.Steady.{Steady, steady-from, bind-fixed}
-use Rattle.definitions.proofs.Bound.{run-steady}
+use Rattle.laws.proofs.Rows.{length-rows}
+use Rattle.laws.proofs.Steady.{Steady, steady-from, bind-fixed}
+use Rattle.laws.proofs.Bound.{run-steady}
 use Rattle.vectors.proofs.sums.Rowwise.{at-row}
 use Rattle.runs.specs.frame_terms.Vectors.{frame-terms, lifts, lifted-one}
 

@@ -12,10 +12,10 @@ use Rattle.definitions.specs.Result.{done, refusal}
 use Rattle.definitions.specs.Stage.{Stage}
 use Rattle.definitions.specs.Lifting.{Lifted, with-vector, add-vector}
 use Rattle.definitions.specs.Layout.{Words, rows, row-at, vectors-at}
-use Rattle.definitions.proofs.Rows.{rows-same}
+use Rattle.laws.proofs.Rows.{rows-same}
 use Rattle.definitions.specs.Places.{most-vectors, row-length, component-offset, ends-length}
 use borrow.Author.Tests.{le-leb, lt-leb}
-use Rattle.definitions.proofs.Rows.{row-is}
+use Rattle.laws.proofs.Rows.{row-is}
 use Rattle.vectors.proofs.terms.Stored.{same-row}
 use Rattle.vectors.proofs.terms.Moving.{getD-paste-in, getD-paste-below}
 use Rattle.runs.specs.declared.reduction.Ground.{Ground}

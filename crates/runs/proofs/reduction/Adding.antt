@@ -17,7 +17,7 @@ use Rattle.definitions.specs.Vectors.{combined, behind, unless-zero, or-last, a
 use Rattle.definitions.specs.Stage.{Reduction}
 use Rattle.definitions.specs.Run.{dropped?, unless-dropped, if-fits, add-term, add-products, multiple}
 use Rattle.definitions.specs.Layout.{Words, row-at, rows}
-use Rattle.definitions.proofs.Rows.{length-rows, rows-first}
+use Rattle.laws.proofs.Rows.{length-rows, rows-first}
 use Rattle.reducers.specs.search.Search.{searched, formed-term}
 use Rattle.reducers.specs.declared.search.Answer.the-variants.{Reducer, LowerOrder}
 use Rattle.reducers.proofs.search.Answers.{searched-lower, searched-reducer}

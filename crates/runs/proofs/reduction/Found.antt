@@ -14,9 +14,9 @@ use Rattle.definitions.specs.Run.{greatest}
 use Rattle.definitions.specs.State.{State, sound?, up-to}
 use Rattle.definitions.specs.Packed.{low-bytes}
 use Rattle.definitions.specs.Layout.{Words, row-at, rows}
-use Rattle.definitions.proofs.Tests.{and-both}
-use Rattle.definitions.proofs.Rows.{rows-first}
-use Rattle.definitions.proofs.Sound.{sound-says}
+use Rattle.laws.proofs.Tests.{and-both}
+use Rattle.laws.proofs.Rows.{rows-first}
+use Rattle.laws.proofs.Sound.{sound-says}
 use Rattle.comparing.specs.Above.{Greatest-of}
 use Rattle.picking.specs.Running.{monomials}
 use Rattle.picking.proofs.Running.{a3}

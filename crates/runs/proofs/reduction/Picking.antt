@@ -11,8 +11,8 @@ use Rattle.definitions.specs.Monomial.{Monomial, Vector}
 use Rattle.definitions.specs.Order.{Comparison, greater, equal, smaller, greater?}
 use Rattle.definitions.specs.Run.{Best, better, greatest-from, greatest, newest, oldest, by-code}
 use Rattle.definitions.specs.Layout.{Words, row-at, rows}
-use Rattle.definitions.proofs.Rows.{rows-first, length-rows}
-use Rattle.definitions.proofs.Comparisons.{turned}
+use Rattle.laws.proofs.Rows.{rows-first, length-rows}
+use Rattle.laws.proofs.Comparisons.{turned}
 use Rattle.orders.specs.Images.{Key, Table, key, compare-keys, table-order}
 use Rattle.orders.proofs.Answers.{keys-swap}
 use Rattle.vectors.specs.sums.Places.{renewed-from}

@@ -11,7 +11,7 @@ use Rattle.definitions.specs.Monomial.{Monomial, Term, Vector}
 use Rattle.definitions.specs.Order.{Comparison, greater, equal, smaller}
 use Rattle.definitions.specs.Vectors.{unless-zero, insert, inserted, descending}
 use Rattle.definitions.specs.Layout.{Words, rows}
-use Rattle.definitions.proofs.Rows.{length-rows}
+use Rattle.laws.proofs.Rows.{length-rows}
 
 module _ (order : Monomial → Monomial → Comparison) (p : ℕ) where
   unless-zero-length : (t : Term) (v : Vector) → length (unless-zero t v) ≤ suc (length v)

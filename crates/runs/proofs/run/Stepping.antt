@@ -18,7 +18,7 @@ use Rattle.definitions.specs.Run.{Run, Strategy, Step, on, add-products, reduce
 use Rattle.definitions.specs.Layout.{Words, rows}
 use Rattle.vectors.proofs.terms.Stored.{rows-closed}
 use Rattle.ending.proofs.Picking.{picks-by-code}
-use Rattle.definitions.proofs.Rows.{length-rows}
+use Rattle.laws.proofs.Rows.{length-rows}
 use Rattle.definitions.specs.Places.{row-length}
 use Rattle.runs.specs.declared.reduction.Ground.{Ground}
 use Rattle.runs.specs.run.Stages.{run-of, reduced-by, without-step, without-words, step-of, Room, Rooms}

@@ -13,7 +13,7 @@ use Rattle.definitions.specs.Order.{compare-over}
 use Rattle.definitions.specs.Stage.{highest}
 use Rattle.definitions.specs.State.{State, empty, sound?, up-to}
 use Rattle.definitions.specs.Layout.{Words, level-at, levels-at, decode, words-sound?, all-words-sound?, holds-state?, meant}
-use Rattle.definitions.proofs.Tests.{and-left, and-right}
+use Rattle.laws.proofs.Tests.{and-left, and-right}
 use Rattle.definitions.specs.Places.{all-levels, state-length}
 use Rattle.orders.specs.Images.{table-of, table-order}
 use Rattle.orders.proofs.Induced.{All-led, no-levels, table-order-is, sound-led}

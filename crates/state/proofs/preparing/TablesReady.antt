@@ -8,7 +8,7 @@ use Rattle.definitions.specs.Limits.{document-01}
 use Rattle.definitions.specs.Lists.{_and_, between}
 use Rattle.definitions.specs.Reducer.{heads}
 use Rattle.definitions.specs.Layout.{Words, rows, holds-state?}
-use Rattle.definitions.proofs.Tests.{and-right, between-high}
+use Rattle.laws.proofs.Tests.{and-right, between-high}
 use Rattle.definitions.specs.Places.{most-vectors, state-length, count-offset, ends-offset, rows-offset}
 use Rattle.reducers.specs.search.Search.{Spanned}
 use Rattle.reducers.specs.tables.Cuts.{cut-level}

@@ -7,7 +7,7 @@ use native.Mathlib.Decide.{ℕ-discrete}
 use lib.Dec.{T}
 use Rattle.definitions.specs.Limits.{document-01}
 use Rattle.definitions.specs.Layout.{Words, levels-at}
-use Rattle.definitions.proofs.Tests.{and-left, and-right, and-both, false-is}
+use Rattle.laws.proofs.Tests.{and-left, and-right, and-both, false-is}
 use Rattle.orders.specs.Levels.{images}
 use Rattle.state.specs.soundness.Holding.{level-test?, levels-hold?}
 

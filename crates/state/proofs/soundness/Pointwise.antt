@@ -12,7 +12,7 @@ use Rattle.definitions.specs.Lists.{_and_, every}
 use Rattle.definitions.specs.Monomial.{Monomial, Term, Vector}
 use Rattle.definitions.specs.Order.{Comparison, greater?}
 use Rattle.definitions.specs.Vectors.{strictly-descending?}
-use Rattle.definitions.proofs.Tests.{and-left, and-right, and-both, true-is, false-is}
+use Rattle.laws.proofs.Tests.{and-left, and-right, and-both, true-is, false-is}
 use Rattle.state.specs.soundness.Holding.{all-hold?}
 
 -- two tests that hold together are one

@@ -16,10 +16,10 @@ use Rattle.definitions.specs.Packed.{unpack, pack}
 use Rattle.definitions.specs.Problem.{Parameters}
 use Rattle.definitions.specs.State.{term-sound?}
 use Rattle.definitions.specs.Layout.{Words, long-at, row-at}
-use Rattle.definitions.proofs.Tests.{and-left, and-right, and-both, is-true, every-at}
-use Rattle.definitions.proofs.Sound.{term-says, term-shown}
-use Rattle.definitions.proofs.Packing.{Eight, unpack-eight, unpack-at, unpack-long, packed-eight}
-use Rattle.definitions.proofs.Rows.{row-is}
+use Rattle.laws.proofs.Tests.{and-left, and-right, and-both, is-true, every-at}
+use Rattle.laws.proofs.Sound.{term-says, term-shown}
+use Rattle.laws.proofs.Packing.{Eight, unpack-eight, unpack-at, unpack-long, packed-eight}
+use Rattle.laws.proofs.Rows.{row-is}
 use Rattle.definitions.specs.Places.{most-exponent, row-length, component-offset, exponents-offset}
 use Rattle.state.specs.soundness.Holding.{limit-at, exponent-limits, bounds-of, row-holds?}
 use Rattle.state.proofs.soundness.Pointwise.{every-all}

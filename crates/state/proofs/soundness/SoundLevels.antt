@@ -6,7 +6,7 @@ use lib.ListN.{length, getD}
 use Rattle.definitions.specs.Limits.{document-01}
 use Rattle.definitions.specs.Field.{prime?}
 use Rattle.definitions.specs.Layout.{Words, levels-at, holds-state?}
-use Rattle.definitions.proofs.Tests.{and-right}
+use Rattle.laws.proofs.Tests.{and-right}
 use Rattle.definitions.specs.Places.{most-vectors, all-levels, state-length}
 use Rattle.orders.specs.Levels.{images}
 use Rattle.reducers.specs.tables.Cuts.{Cut}

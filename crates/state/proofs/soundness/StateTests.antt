@@ -14,8 +14,8 @@ use Rattle.definitions.specs.Problem.{Parameters, prime-in-range?, in-ranges?}
 use Rattle.definitions.specs.State.{vector-sound?, levels-sound?, terms-of, sound?}
 use Rattle.definitions.specs.Layout.{Words, ends-at, level-at, levels-at, decode, ascending?, words-sound?, all-words-sound?}
 use Rattle.definitions.specs.Layout.{holds-state?}
-use Rattle.definitions.proofs.Tests.{and-left, and-right, and-both, between-low, between-high, between-shown}
-use Rattle.definitions.proofs.Sound.{basis-says, basis-shown, level-says, level-shown, sound-says, sound-shown}
+use Rattle.laws.proofs.Tests.{and-left, and-right, and-both, between-low, between-high, between-shown}
+use Rattle.laws.proofs.Sound.{basis-says, basis-shown, level-says, level-shown, sound-says, sound-shown}
 use Rattle.definitions.specs.Places.{most-elements, most-vectors, most-rows, most-terms, all-levels, state-length, count-offset}
 use Rattle.orders.specs.Images.{table-order}
 use Rattle.orders.specs.Levels.{images}

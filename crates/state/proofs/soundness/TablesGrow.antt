@@ -12,7 +12,7 @@ use Rattle.definitions.specs.Lists.{_and_, between}
 use Rattle.definitions.specs.Monomial.{Monomial}
 use Rattle.definitions.specs.Order.{Comparison}
 use Rattle.definitions.specs.Layout.{Words, ends-at}
-use Rattle.definitions.proofs.Tests.{and-left, and-right, between-high}
+use Rattle.laws.proofs.Tests.{and-left, and-right, between-high}
 use Rattle.definitions.specs.Places.{most-exponent, most-elements, most-vectors, most-rows, most-terms, all-levels, image-length, rank-offset}
 use Rattle.definitions.specs.Places.{exponents-offset, state-length, count-offset, ends-offset, rows-offset}
 use Rattle.orders.specs.Images.{Table, entry-at, table-of, table-order, Tabled}

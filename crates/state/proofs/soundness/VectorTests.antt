@@ -14,9 +14,9 @@ use Rattle.definitions.specs.Order.{Comparison, greater?, compare-over}
 use Rattle.definitions.specs.Problem.{Parameters}
 use Rattle.definitions.specs.State.{term-sound?, vector-sound?, terms-of}
 use Rattle.definitions.specs.Layout.{Words, row-at, rows, vectors-at, ascending?}
-use Rattle.definitions.proofs.Tests.{and-left, and-right, and-both, every-at}
-use Rattle.definitions.proofs.Sound.{Sound-vector, vector-says, vector-shown}
-use Rattle.definitions.proofs.Rows.{length-rows, getD-rows}
+use Rattle.laws.proofs.Tests.{and-left, and-right, and-both, every-at}
+use Rattle.laws.proofs.Sound.{Sound-vector, vector-says, vector-shown}
+use Rattle.laws.proofs.Rows.{length-rows, getD-rows}
 use Rattle.definitions.specs.Places.{most-rows}
 use Rattle.state.specs.declared.soundness.Bounds.{Bounds}
 use Rattle.state.specs.soundness.Holding.{bounds-of, row-holds?, follows?, all-hold?, vector-holds?, vectors-hold?}

@@ -9,7 +9,7 @@ use Rattle.definitions.specs.Limits.{document-01}
 use Rattle.definitions.specs.Monomial.{Level}
 use Rattle.definitions.specs.State.{empty}
 use Rattle.definitions.specs.Layout.{Words, rows, levels-at, all-words-sound?, encode}
-use Rattle.definitions.proofs.Rows.{length-rows}
+use Rattle.laws.proofs.Rows.{length-rows}
 use Rattle.definitions.specs.Places.{most-vectors, most-rows, all-levels, header-length, rows-start, state-length}
 use Rattle.vectors.specs.terms.Rows.{cleared}
 use Rattle.state.specs.soundness.Places.{parameters-at}

@@ -11,8 +11,8 @@ use Rattle.definitions.specs.Limits.{document-01}
 use Rattle.definitions.specs.Lists.{_and_}
 use Rattle.definitions.specs.Monomial.{Vector}
 use Rattle.definitions.specs.Layout.{Words, rows, rows-of, vectors-at, ascending?, levels-at, all-words-sound?}
-use Rattle.definitions.proofs.Tests.{and-left, and-right, and-both}
-use Rattle.definitions.proofs.Rows.{Eights, length-rows-of, rows-spelled}
+use Rattle.laws.proofs.Tests.{and-left, and-right, and-both}
+use Rattle.laws.proofs.Rows.{Eights, length-rows-of, rows-spelled}
 use Rattle.definitions.specs.Places.{most-vectors, most-rows, all-levels, row-length, header-length}
 use Rattle.definitions.specs.Places.{state-length, count-offset, rows-offset}
 use Rattle.vectors.proofs.terms.Moving.{getD-paste-in, getD-paste-below}

@@ -7,8 +7,8 @@ use lib.ListN.{length, take, drop, getD, length-append}
 use lib.Seq.{paste, take-paste, drop-paste, drop-drop, take-all, getD-drop}
 use Rattle.definitions.specs.Monomial.{Term, Vector}
 use Rattle.definitions.specs.Layout.{Words, long-at, row-at, rows, row-of, rows-of}
-use Rattle.definitions.proofs.Packing.{Eight, unpack-eight}
-use Rattle.definitions.proofs.Rows.{Eights, row-is, no-terms, one-more, length-rows, length-rows-of, rows-of-append, rows-last, length-row}
+use Rattle.laws.proofs.Packing.{Eight, unpack-eight}
+use Rattle.laws.proofs.Rows.{Eights, row-is, no-terms, one-more, length-rows, length-rows-of, rows-of-append, rows-last, length-row}
 use Rattle.definitions.specs.Places.{row-length, exponents-offset, count-offset}
 use Rattle.vectors.specs.terms.Rows.{written}
 use Rattle.reducers.specs.tables.Cuts.{start-of}

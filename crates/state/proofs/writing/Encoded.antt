@@ -11,7 +11,7 @@ use Rattle.definitions.specs.Limits.{document-01}
 use Rattle.definitions.specs.Monomial.{Level}
 use Rattle.definitions.specs.Layout.{Words, rows-of, padded, joined, counts-of, all-counts, all-rows, encode, decode, ends-at, level-at, levels-at}
 use Rattle.definitions.specs.Layout.{words-sound?, all-words-sound?}
-use Rattle.definitions.proofs.RoundTrip.{length-padded}
+use Rattle.laws.proofs.RoundTrip.{length-padded}
 use Rattle.definitions.specs.Places.{most-vectors, all-levels, row-length, header-length, counts-length, rows-start, level-length, state-length, count-offset}
 use Rattle.definitions.specs.Places.{rows-offset}
 use Rattle.words.specs.Slices.{Sixteen-bits}
@@ -139,7 +139,7 @@ module _ (s z : Words) (long : state-length ≤ length s) (same-long : length z 
   counts-blocks (suc h) l t f =
       let y : suc h * counts-length ≡ h * counts-length + counts-length = omega arith in
       ap (λ n. take n (drop header-length z)) y ∙ take-add (h * counts-length) counts-length (drop header-length z)
-      ∙ (λ i. counts-blocks h (omega arith) (Rattle.definitions.proofs.Tests.and-right (words-sound? document-01 s h)
+      ∙ (λ i. counts-blocks h (omega arith) (Rattle.laws.proofs.Tests.and-right (words-sound? document-01 s h)
       (all-words-sound? document-01 s h) t) (λ j m. f j (omega arith)) i
       ++ (ap (take counts-length) (drop-drop (h * counts-length) header-length z)
       ∙ counts-block s z long same-long known h l (all-sound-at s (suc h) t h (omega arith)) (f h (omega arith))) i)
@@ -152,7 +152,7 @@ module _ (s z : Words) (long : state-length ≤ length s) (same-long : length z 
   rows-blocks (suc h) l t f =
       let y : suc h * level-length ≡ h * level-length + level-length = omega arith in
       ap (λ n. take n (drop rows-start z)) y ∙ take-add (h * level-length) level-length (drop rows-start z)
-      ∙ (λ i. rows-blocks h (omega arith) (Rattle.definitions.proofs.Tests.and-right (words-sound? document-01 s h)
+      ∙ (λ i. rows-blocks h (omega arith) (Rattle.laws.proofs.Tests.and-right (words-sound? document-01 s h)
       (all-words-sound? document-01 s h) t) (λ j m. f j (omega arith)) i
       ++ (ap (take level-length) (drop-drop (h * level-length) rows-start z)
       ∙ rows-block s z long same-long known h l (all-sound-at s (suc h) t h (omega arith)) (f h (omega arith))) i)

@@ -14,7 +14,7 @@ use Rattle.definitions.specs.Order.{Comparison}
 use Rattle.definitions.specs.State.{sound?}
 use Rattle.definitions.specs.Layout.{Words, rows, rows-of, padded, vectors-at, ascending?, ends-at, level-at, levels-at, decode, words-sound?, all-words-sound?}
 use Rattle.definitions.specs.Layout.{holds-state?}
-use Rattle.definitions.proofs.Tests.{and-left, and-right}
+use Rattle.laws.proofs.Tests.{and-left, and-right}
 use Rattle.definitions.specs.Places.{most-vectors, most-rows, most-terms, all-levels, row-length, state-length, rows-offset}
 use Rattle.orders.specs.Images.{table-order}
 use Rattle.orders.specs.Levels.{images}

@@ -10,8 +10,8 @@ use Rattle.definitions.specs.Limits.{document-01}
 use Rattle.definitions.specs.Lists.{_and_}
 use Rattle.definitions.specs.Layout.{Words, row-at, vectors-at, ascending?, ends-at, level-at, levels-at, decode, words-sound?}
 use Rattle.definitions.specs.Layout.{all-words-sound?}
-use Rattle.definitions.proofs.Tests.{and-left, and-right, and-both}
-use Rattle.definitions.proofs.Rows.{rows-same}
+use Rattle.laws.proofs.Tests.{and-left, and-right, and-both}
+use Rattle.laws.proofs.Rows.{rows-same}
 use Rattle.definitions.specs.Places.{most-vectors, most-rows, all-levels, row-length, header-length, rows-start, level-length}
 use Rattle.definitions.specs.Places.{state-length, count-offset, rows-offset}
 use Rattle.vectors.proofs.terms.Stored.{same-row}

@@ -13,9 +13,9 @@ use Rattle.definitions.specs.Packed.{unpack, pack}
 use Rattle.definitions.specs.Layout as layout
 use Rattle.definitions.specs.Layout.{Words, words-of, long-at, row-at, rows, row-of, rows-of, joined, vectors-at, ends-at, level-at, ascending?}
 use Rattle.definitions.specs.Layout.{words-sound?, all-words-sound?}
-use Rattle.definitions.proofs.Tests.{and-left, and-right}
-use Rattle.definitions.proofs.Packing.{pack-unpack, words-of-four, four-below}
-use Rattle.definitions.proofs.Rows.{row-is, length-rows, rows-of-append}
+use Rattle.laws.proofs.Tests.{and-left, and-right}
+use Rattle.laws.proofs.Packing.{pack-unpack, words-of-four, four-below}
+use Rattle.laws.proofs.Rows.{row-is, length-rows, rows-of-append}
 use Rattle.definitions.specs.Places.{most-vectors, most-rows, all-levels, row-length, component-offset, exponents-offset, level-length, state-length}
 use Rattle.definitions.specs.Places.{count-offset, rows-offset}
 use Rattle.words.specs.Slices.{Sixteen-bits}

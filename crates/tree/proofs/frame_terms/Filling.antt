@@ -12,7 +12,7 @@ use Rattle.definitions.specs.Stage.{Stage}
 use Rattle.definitions.specs.Tree as definition
 use Rattle.definitions.specs.Tree.{Cache, Lift-term, add-result, if-vector-product-fits, lift-vector-product, lift-vector}
 use Rattle.definitions.specs.Layout.{Words, row-at, rows}
-use Rattle.definitions.proofs.Rows.{rows-first}
+use Rattle.laws.proofs.Rows.{rows-first}
 use Rattle.definitions.specs.Places.{row-length}
 use Rattle.vectors.specs.declared.sums.Stored.{Stored}
 use Rattle.vectors.specs.declared.sums.Stored.the-variants.{Rows as Stored-rows, Full}

@@ -13,7 +13,7 @@ use Rattle.definitions.specs.Stage.{Stage}
 use Rattle.definitions.specs.Tree.{Cache, Sum, tree}
 use Rattle.definitions.specs.Lifting.{Lifted, with-vector, lift-all}
 use Rattle.definitions.specs.Layout.{Words, row-at, rows, vectors-at}
-use Rattle.definitions.proofs.Rows.{length-rows}
+use Rattle.laws.proofs.Rows.{length-rows}
 use Rattle.definitions.specs.Places.{most-vectors, row-length, ends-length}
 use Rattle.vectors.proofs.terms.Stored.{same-row}
 use Rattle.vectors.proofs.terms.Moving.{getD-paste-in, getD-paste-below, getD-paste-above}

@@ -18,8 +18,8 @@ use Rattle.definitions.specs.Stage.{Stage}
 use Rattle.definitions.specs.Tree as definition
 use Rattle.definitions.specs.Tree.{Cache, Lift-term, finish, cached, if-product-fits, lift-product, lift-list, lift-term, open-subtree, or-open, lift-by}
 use Rattle.definitions.specs.Layout.{Words, row-at, rows}
-use Rattle.definitions.proofs.Packing.{Eight}
-use Rattle.definitions.proofs.Rows.{length-rows, rows-first}
+use Rattle.laws.proofs.Packing.{Eight}
+use Rattle.laws.proofs.Rows.{length-rows, rows-first}
 use Rattle.definitions.specs.Places.{row-length}
 use Rattle.vectors.specs.terms.Rows.{written}
 use Rattle.vectors.proofs.terms.Stored.{written-here, written-other}

@@ -12,8 +12,8 @@ use Rattle.definitions.specs.Lists.{without}
 use Rattle.definitions.specs.Monomial.{Term, Vector}
 use Rattle.definitions.specs.Packed.{four, unpack}
 use Rattle.definitions.specs.Layout.{Words, row-at, rows, row-of}
-use Rattle.definitions.proofs.Packing.{Eight}
-use Rattle.definitions.proofs.Rows.{row-spelled, length-row, length-rows, getD-rows, rows-same, rows-last}
+use Rattle.laws.proofs.Packing.{Eight}
+use Rattle.laws.proofs.Rows.{row-spelled, length-row, length-rows, getD-rows, rows-same, rows-last}
 use Rattle.definitions.specs.Places.{row-length, component-offset, exponents-offset}
 use Rattle.vectors.specs.terms.Rows.{written, closed, opened, let-in}
 use Rattle.vectors.proofs.terms.Moving.{getD-paste-in, getD-paste-below, getD-paste-above, length-opened}

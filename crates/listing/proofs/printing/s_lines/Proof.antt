@@ -3,7 +3,7 @@ use mathlib.Core.Path.{_≡_, refl, sym, ap, _∙_}
 use mathlib.Core.List.{_∷_, _++_}
 use Prim.Native.Nat.{_+_, _-_, _*_, _≤_}
 use lib.ListN.{length}
-use Rattle.definitions.proofs.Rows.{rows-last}
+use Rattle.laws.proofs.Rows.{rows-last}
 use Rattle.vectors.specs.terms.Rows.{term-of}
 use Rattle.definitions.specs.Layout.{row-at, rows}
 use Rattle.definitions.specs.Sheet.{printed, term-fields, letter-S, s-lines}

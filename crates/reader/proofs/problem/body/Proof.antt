@@ -15,7 +15,7 @@ use Rattle.reader.proofs.problem.OneTermMore.{follows-says}
 use Rattle.reader.specs.declared.lines.Step.{Step}
 use Rattle.reader.specs.lines.Steps.{line-first, step-as}
 use Rattle.reader.specs.lines.Tests.{term-in, begins?}
-use Rattle.definitions.proofs.Results.{if-done-says}
+use Rattle.laws.proofs.Results.{if-done-says}
 use Rattle.definitions.specs.Problem.{with-term}
 use Rattle.definitions.specs.Result.{done}
 use Rattle.definitions.specs.Places.{most-rows}

@@ -8,7 +8,7 @@ use Rattle.reader.specs.problem.Reading.{body-words}
 use Rattle.reader.specs.declared.lines.Start.{Start}
 use Rattle.reader.specs.lines.Steps.{r-first, start-as}
 use Rattle.words.specs.parameters.Values.{parameters-of}
-use Rattle.definitions.proofs.Results.{if-done-says}
+use Rattle.laws.proofs.Results.{if-done-says}
 use Rattle.definitions.specs.Problem.{Bytes, Parameters}
 use Rattle.definitions.specs.Result.{done}
 use Rattle.reader.proofs.problem.Answering.{read-too-long, read-barred, read-on, begun-zeros, length-begun}

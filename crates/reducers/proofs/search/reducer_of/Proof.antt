@@ -5,7 +5,7 @@ use Prim.Native.Nat.{_+_, _-_, _<_}
 use lib.ListN.{getD}
 use Rattle.reducers.proofs.search.Answers.{searched-lower, searched-reducer, Is-reducer}
 use Rattle.definitions.specs.Layout.{row-at, rows}
-use Rattle.definitions.proofs.Rows.{getD-rows, length-rows}
+use Rattle.laws.proofs.Rows.{getD-rows, length-rows}
 use Rattle.definitions.specs.Monomial.{no-term, quotient, divides?}
 use Rattle.vectors.specs.terms.Rows.{term-of}
 use Rattle.definitions.specs.Reducer.{reducer}

@@ -5,10 +5,10 @@ use Prim.Native.Nat.{_+_, _<_}
 use lib.ListN.{length}
 use Rattle.reducers.proofs.search.Answers.{found-inside, searched-none, searched-one}
 use Rattle.definitions.specs.Layout.{row-at, rows}
-use Rattle.definitions.proofs.Rows.{getD-rows, length-rows}
+use Rattle.laws.proofs.Rows.{getD-rows, length-rows}
 use Rattle.definitions.specs.Monomial.{no-term, Term}
 use Rattle.monomial.specs.Values.{monomial-of}
-use Rattle.definitions.proofs.Rows.{row-is}
+use Rattle.laws.proofs.Rows.{row-is}
 use Rattle.reducers.specs.declared.search.Answer.the-variants.{Reducer}
 use Rattle.reducers.proofs.search.search.Statement.{statement}
 use Rattle.reducers.proofs.search.search.Tie as tie

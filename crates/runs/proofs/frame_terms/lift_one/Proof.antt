@@ -10,7 +10,7 @@ use Rattle.runs.specs.run.Stages.{stage-of, strategy-of, outcome-of, End
 use Rattle.runs.specs.reduction.Grounds.{above-in}
 use Rattle.orders.specs.Images.{table-of, table-order}
 use Rattle.vectors.specs.terms.Rows.{term-of}
-use Rattle.definitions.proofs.Rows.{length-rows}
+use Rattle.laws.proofs.Rows.{length-rows}
 use Rattle.definitions.specs.Layout.{rows, row-at}
 use Rattle.definitions.specs.Lifting.{with-vector}
 use Rattle.definitions.specs.Run.{run}

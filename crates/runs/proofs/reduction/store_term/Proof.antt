@@ -3,7 +3,7 @@ use native.Mathlib.Omega.{arith}
 use mathlib.Core.Path.{sym, ap, _∙_}
 use Rattle.runs.proofs.reduction.Adding.{store-within}
 use Rattle.definitions.specs.Layout.{rows}
-use Rattle.definitions.proofs.Rows.{length-rows}
+use Rattle.laws.proofs.Rows.{length-rows}
 use Rattle.vectors.specs.terms.Rows.{term-of}
 use Rattle.vectors.specs.sums.Places.{stored-as}
 use Rattle.runs.proofs.reduction.store_term.Statement.{statement}

@@ -5,7 +5,7 @@ use lib.ListN.{getD}
 use Rattle.vectors.specs.terms.Rows.{term-of}
 use Rattle.vectors.proofs.sums.Rowwise.{at-row}
 use Rattle.reducers.specs.search.Search.{answered}
-use Rattle.definitions.proofs.Rows.{length-rows}
+use Rattle.laws.proofs.Rows.{length-rows}
 use Rattle.definitions.specs.Packed.{unpack}
 use Rattle.definitions.specs.Reducer.{answer, reducer, lower-order}
 use Rattle.definitions.specs.Monomial.{no-term}

@@ -12,7 +12,7 @@ use Rattle.orders.specs.Images.{table-of, table-order}
 use Rattle.state.specs.soundness.Places.{rows-from}
 use Rattle.state.specs.soundness.Holding.{vectors-hold?}
 use mathlib.Core.Bool.{true}
-use Rattle.definitions.proofs.Tests.{is-true, between-high}
+use Rattle.laws.proofs.Tests.{is-true, between-high}
 use Rattle.definitions.specs.Places.{count-offset, rows-offset}
 use Rattle.state.proofs.soundness.VectorByVector.{whole-part, length-part}
 use Rattle.state.proofs.soundness.level_holds.Statement.{statement}

@@ -4,7 +4,7 @@ use Prim.Native.Nat.{_-_, _≤_}
 use lib.ListN.{length}
 use lib.Dec.{T}
 use borrow.Author.Tests.{not-true, not-false}
-use Rattle.definitions.proofs.Tests.{is-true, true-is}
+use Rattle.laws.proofs.Tests.{is-true, true-is}
 use Rattle.definitions.specs.Limits.{document-01}
 use Rattle.definitions.specs.Layout.{levels-at}
 use Rattle.orders.specs.Images.{table-of, Tabled}

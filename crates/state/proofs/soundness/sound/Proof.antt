@@ -6,7 +6,7 @@ use lib.ListN.{getD}
 use lib.Dec.{T}
 use borrow.Author.Tests.{not-true, not-false}
 use Rattle.definitions.specs.Lists.{_and_}
-use Rattle.definitions.proofs.Tests.{is-true, false-is, and-left, and-right, and-both}
+use Rattle.laws.proofs.Tests.{is-true, false-is, and-left, and-right, and-both}
 use Rattle.definitions.specs.Limits.{document-01}
 use Rattle.definitions.specs.Problem.{Parameters, prime-in-range?, in-ranges?}
 use Rattle.definitions.specs.Layout.{holds-state?}

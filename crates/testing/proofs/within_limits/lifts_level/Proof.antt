@@ -3,7 +3,7 @@ use native.Mathlib.Omega.{arith}
 use mathlib.Core.Path.{_≡_, sym, _∙_, subst}
 use Prim.Native.Nat.{_-_}
 use native.Mathlib.Nat.{not-suc-le-zero}
-use Rattle.definitions.proofs.Tests.{is-true}
+use Rattle.laws.proofs.Tests.{is-true}
 use Rattle.testing.specs.Lifts.{bounds-by}
 use Rattle.lift_call.specs.Lifts.{complete-number}
 use Rattle.ways.specs.any_way.Ways.{way-of}

@@ -12,7 +12,7 @@ use Rattle.definitions.specs.Run.{multiple}
 use Rattle.definitions.specs.Layout.{row-at, rows}
 use Rattle.definitions.specs.Stage.{Stage}
 use Rattle.definitions.specs.Tree.{Lift-term, finish, lift-term as term-definition, lift-list as list-definition}
-use Rattle.definitions.proofs.Rows.{length-rows}
+use Rattle.laws.proofs.Rows.{length-rows}
 use Rattle.definitions.specs.Places.{most-exponent, row-length}
 use Rattle.monomial.specs.Values.{monomial-of}
 use Rattle.orders.specs.Images.{table-of, table-order}

@@ -3,7 +3,7 @@ use Prim.Native.Nat.{_+_, _*_}
 use lib.ListN.{getD}
 use Rattle.definitions.specs.Packed.{unpack}
 use Rattle.definitions.specs.Places.{row-length, component-offset}
-use Rattle.definitions.proofs.Rows.{row-is}
+use Rattle.laws.proofs.Rows.{row-is}
 use borrow.Author.Needs.{needs}
 use Rattle.vectors.proofs.terms.row.Statement.{statement}
 use Rattle.vectors.proofs.terms.row.Tie as tie

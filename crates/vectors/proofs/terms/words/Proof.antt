@@ -1,7 +1,7 @@
 use mathlib.Core.Path.{sym}
 use mathlib.Core.List.{_∷_}
 use native.Mathlib.Omega.{arith}
-use Rattle.definitions.proofs.Packing.{pack-unpack, unpack-eight}
+use Rattle.laws.proofs.Packing.{pack-unpack, unpack-eight}
 use Rattle.definitions.specs.Layout.{words-of}
 use borrow.Author.Needs.{needs}
 use Rattle.vectors.proofs.terms.words.Statement.{statement}

@@ -8,20 +8,20 @@ use Prim.Native.Nat.{ℕ, suc, _+_, _≤_}
 use native.Mathlib.Omega.{arith}
 use lib.Dec.{T, leb, ltb, eqb, ltb→lt, eqb→eq, eqb-refl, T-not}
 use lib.ListN.{length, getD}
 use Rattle.definitions.specs.Limits.{Limits}
 use Rattle.definitions.specs.Lists.{_and_, _then_, between, empty?}
 use Rattle.definitions.specs.Monomial.{Term, Level}
 use Rattle.definitions.specs.Result.{Result, done, unless-refused, _>>=_}
 use Rattle.definitions.specs.Problem.{Bytes, Line, Parameters, number, all-numbers, letter?, shaped-fields, shaped, split, comma, lines}
 use Rattle.definitions.specs.Problem.{letter-R, letter-T, letter-E}
 use Rattle.definitions.specs.Problem.{prime-in-range?, in-ranges?, parameters-of, r-line, term-of, next?, in-sequence?, term-in-range?}
 use Rattle.definitions.specs.Problem.{descends?, with-term, t-line, e-line, by-shape, body, after-r, first-line}
 use Rattle.definitions.specs.Problem.{problem}
 use Rattle.definitions.specs.State.{State, levels-sound?, sound?}
-use Rattle.definitions.proofs.Tests.{and-left, and-right, between-high}
-use Rattle.definitions.proofs.Results.{If-done, if-done-bind, guard-done, If-some, if-some-then, if-some-always}
-use Rattle.definitions.proofs.Sound.{sound-shown}
-use Rattle.definitions.proofs.Elements.{Elements, term-of-sound, with-term-elements, basis-sound}
+use Rattle.laws.proofs.Tests.{and-left, and-right, between-high}
+use Rattle.laws.proofs.Results.{If-done, if-done-bind, guard-done, If-some, if-some-then, if-some-always}
+use Rattle.laws.proofs.Sound.{sound-shown}
+use Rattle.laws.proofs.Elements.{Elements, term-of-sound, with-term-elements, basis-sound}
 
 -- ## Lines
 

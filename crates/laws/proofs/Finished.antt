@@ -5,26 +5,26 @@ use mathlib.Core.List.{List, [], _∷_}
 use Prim.Native.Nat.{ℕ, zero, suc, _+_, _-_}
 use lib.Dec.{T, leb, ltb, eqb}
 use lib.ListN.{length, getD}
 use Rattle.definitions.specs.Limits.{Limits}
 use Rattle.definitions.specs.Lists.{_and_, empty?, rest}
 use Rattle.definitions.specs.Field.{times, minus}
 use Rattle.definitions.specs.Monomial.{Exponents, Monomial, Term, Vector, Level, no-term, fits?, leading-monomials, vector-of}
 use Rattle.definitions.specs.Order.{Comparison}
 use Rattle.definitions.specs.Reducer.{Answer, reducer, lower-order, answer}
 use Rattle.definitions.specs.Frame.{frame}
 use Rattle.definitions.specs.Result.{Result, done, unless-refused, refusal, finished?, _>>=_}
 use Rattle.definitions.specs.Vectors.{insert, combined, appended, or-last, store}
 use Rattle.definitions.specs.Stage.{Reduction, Stage}
 use Rattle.definitions.specs.Run.{Run, Strategy, on, dropped?, unless-dropped, if-fits, multiple, add-term, add-products, start}
 use Rattle.definitions.specs.Run.{without-reducer, by-answer, by-pick, step}
 use Rattle.definitions.specs.Tree.{Cache, Subtree, Sum, Lift-term, Lift-list, cached, finish, held-to, grow, add-result, add-subtree}
 use Rattle.definitions.specs.Tree.{if-product-fits, lift-product, lift-list}
 use Rattle.definitions.specs.Tree.{open-subtree, or-open, lift-by, lift-term, if-vector-product-fits, lift-vector-product, lift-vector, tree}
 use Rattle.definitions.specs.Lifting.{Lifted, add-vector, with-vector, if-few, limited-frame}
 use Rattle.definitions.specs.Problem.{Bytes, Line, Parameters, lines, shaped, letter-R, letter-T, letter-E, prime-in-range?, in-ranges?}
 use Rattle.definitions.specs.Problem.{parameters-of, r-line, term-of, next?, in-sequence?, term-in-range?, descends?, with-term, t-line, e-line}
 use Rattle.definitions.specs.Problem.{by-shape, body, after-r, first-line, problem}
-use Rattle.definitions.proofs.Results.{bind-finished, unless-refused-finished}
+use Rattle.laws.proofs.Results.{bind-finished, unless-refused-finished}
 
 -- ## A step
 

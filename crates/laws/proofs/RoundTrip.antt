@@ -42,10 +42,10 @@ use Rattle.definitions.specs.Layout.{
   holds-state?,
   meant,
 }
-use Rattle.definitions.proofs.Tests.{and-left, and-right, and-both}
-use Rattle.definitions.proofs.Rows.{Eights, no-terms, one-more, length-rows-of, rows-of-append, drop-behind, rows-spelled}
-use Rattle.definitions.proofs.Sound.{term-says, vector-says, basis-says, level-says, sound-says}
+use Rattle.laws.proofs.Tests.{and-left, and-right, and-both}
+use Rattle.laws.proofs.Rows.{Eights, no-terms, one-more, length-rows-of, rows-of-append, drop-behind, rows-spelled}
+use Rattle.laws.proofs.Sound.{term-says, vector-says, basis-says, level-says, sound-says}
 use Rattle.definitions.specs.Places.{most-exponent, row-length, header-length}
 
 -- ## What soundness says of a level's size and exponents
 

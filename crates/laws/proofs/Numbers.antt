@@ -7,29 +7,29 @@ use Prim.Native.Nat.{ℕ, zero, suc, _+_, _-_, _≤_}
 use native.Mathlib.Omega.{arith}
 use lib.Dec.{T, leb, ltb, eqb, eqb→eq}
 use lib.ListN.{length, getD}
 use Rattle.definitions.specs.Limits.{Limits}
 use Rattle.definitions.specs.Lists.{_and_, rest, empty?, between}
 use Rattle.definitions.specs.Field.{times, minus}
 use Rattle.definitions.specs.Monomial.{Exponents, Monomial, Term, Vector, Level, fits?, no-term, vector-of, leading-monomials}
 use Rattle.definitions.specs.Order.{Comparison}
 use Rattle.definitions.specs.Reducer.{Answer, reducer, lower-order, answer}
 use Rattle.definitions.specs.Frame.{frame}
 use Rattle.definitions.specs.Result.{Result, done, refused, unfinished, _>>=_, refusal, at-level, unless-refused}
 use Rattle.definitions.specs.Vectors.{insert, combined, appended, or-last, store}
 use Rattle.definitions.specs.Stage.{Reduction, Stage, highest, stage-over}
 use Rattle.definitions.specs.Run
 use Rattle.definitions.specs.Run.{Strategy, Step, on, end, dropped?, unless-dropped, if-fits, multiple, add-products, start, reduced, without-reducer}
 use Rattle.definitions.specs.Run.{by-answer, by-pick, continued, runs, run, hybrid-strategy, division-strategy, accepting-strategy}
 use Rattle.definitions.specs.Tree.{Cache, Sum, cached, held-to, add-result, Lift-term, Lift-list, if-product-fits, lift-list, open-subtree, or-open}
 use Rattle.definitions.specs.Tree.{lift-by, lift-term, if-vector-product-fits, lift-vector, tree}
 use Rattle.definitions.specs.Lifting.{Lifting, by-division, by-hybrid, by-tree, lift-one, Lifted, add-vector, lift-all, if-few, limited-frame, lift-level}
 use Rattle.definitions.specs.Lifting.{at-frame-term, accept-from, accept}
 use Rattle.definitions.specs.Problem.{Bytes, Line, Parameters, shaped, letter-R, letter-T, letter-E, prime-in-range?, in-ranges?, parameters-of, r-line}
 use Rattle.definitions.specs.Problem.{term-of, in-sequence?, term-in-range?, descends?, t-line, e-line, by-shape, body, after-r, first-line, lines}
 use Rattle.definitions.specs.Problem.{problem}
 use Rattle.definitions.specs.State.{State, up-to}
 use Rattle.definitions.specs.Calls.{read, lift}
-use Rattle.definitions.proofs.Tests.{between-low, between-high, between-shown}
+use Rattle.laws.proofs.Tests.{between-low, between-high, between-shown}
 
 -- a refusal's number passes the test; only 9 leaves a value
 pub data Numbered {A : Type 0} (ok : ℕ → Bool) : Result A → Type 0 where

@@ -5,24 +5,24 @@ use mathlib.Core.Option.{Option, none, some}
 use mathlib.Core.List.{List, [], _∷_, _++_}
 use Prim.Native.Nat.{ℕ, zero, suc, _-_}
 use lib.Dec.{T}
 use Rattle.definitions.specs.Limits.{Limits}
 use Rattle.definitions.specs.Lists.{_then_, choose, empty?}
 use Rattle.definitions.specs.Monomial.{Monomial, Level}
 use Rattle.definitions.specs.Result.{Result, done, refused, unfinished, finished?, at-level, _>>=_}
 use Rattle.definitions.specs.Stage.{Stage, highest, stage-over}
 use Rattle.definitions.specs.Run.{Run, Strategy, Step, on, end, start, step, continued, runs, run, division-strategy, hybrid-strategy}
 use Rattle.definitions.specs.Run.{accepting-strategy}
 use Rattle.definitions.specs.Tree.{Cache, Sum}
 use Rattle.definitions.specs.Lifting.{Lifting, by-division, by-hybrid, by-tree, lift-one, Lifted, with-vector, lift-all, limited-frame}
 use Rattle.definitions.specs.Lifting.{lift-level, at-frame-term, accept-from, accept}
 use Rattle.definitions.specs.Problem.{Bytes, Parameters, problem}
 use Rattle.definitions.specs.State.{State, up-to}
 use Rattle.definitions.specs.Calls.{Call, reading, lifting, fetching, refuse, settled, accepted, read, lift, eleven?, lifts?, read-reply}
 use Rattle.definitions.specs.Calls.{lift-reply, call, calls}
 use Rattle.definitions.specs.Layout.{Words, Lent, read-with, lift-with, fetch-with, division, lifting-by, long-enough?, meant, read-left}
 use Rattle.definitions.specs.Layout.{lift-left, lent-call, lent-calls}
 use Rattle.definitions.specs.Sheet.{level-lines, if-more, level-then, levels-from, variables-of, sheet-of, sheet}
-use Rattle.definitions.proofs.Steady.{Steady, steady-fixed, steady-after, answered?, bind-steady, bind-fixed, then-steady, then-fixed, result-steady}
+use Rattle.laws.proofs.Steady.{Steady, steady-fixed, steady-after, answered?, bind-steady, bind-fixed, then-steady, then-fixed, result-steady}
 
 -- ## Runs
 

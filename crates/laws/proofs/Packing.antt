@@ -6,11 +6,11 @@ use native.Mathlib.Omega.{arith}
 use lib.Dec.{T, leb, leb→le, le→leb}
 use lib.ListN.{length, getD}
 use lib.Arith.{digits-div, digits-mod}
 use Rattle.definitions.specs.Monomial.{Exponents, fits?}
 use Rattle.definitions.specs.Packed.{low-bytes, unpack, pack, pack-from, four, long-bound}
 use Rattle.definitions.specs.Layout.{words-of}
 use Rattle.definitions.specs.Places.{most-exponent}
-use Rattle.definitions.proofs.Tests.{and-left, and-right, and-both}
+use Rattle.laws.proofs.Tests.{and-left, and-right, and-both}
 
 -- eight exponents in range
 pub record Eight (e : Exponents) : Type 0 where

@@ -5,14 +5,14 @@ use mathlib.Core.List.{List, [], _∷_}
 use Prim.Native.Nat.{ℕ, suc, _-_, _≤_}
 use lib.Dec.{T, leb, eqb, leb→le, le→leb, eqb→eq}
 use lib.ListN.{length, drop}
 use Rattle.definitions.specs.Limits.{Limits}
 use Rattle.definitions.specs.Lists.{_and_, every, between}
 use Rattle.definitions.specs.Monomial.{Exponents, Term, Vector, Level, fits?}
 use Rattle.definitions.specs.Order.{compare-over}
 use Rattle.definitions.specs.Vectors.{strictly-descending?}
 use Rattle.definitions.specs.Problem.{Parameters, in-ranges?, prime-in-range?}
 use Rattle.definitions.specs.State.{State, sound?, levels-sound?, vector-sound?, term-sound?, exponents-sound?, terms-of}
-use Rattle.definitions.proofs.Tests.{and-left, and-right, and-both, between-low, between-high, between-shown}
+use Rattle.laws.proofs.Tests.{and-left, and-right, and-both, between-low, between-high, between-shown}
 
 abbrev Past : ℕ → Exponents → Bool
 Past n e = every (λ x. eqb x 0) (drop n e)

@@ -7,19 +7,19 @@ use Prim.Native.Nat.{ℕ, zero, _+_, _-_, _≤_}
 use native.Mathlib.Omega.{arith}
 use lib.Dec.{T, leb, eqb, leb→le, eqb→eq}
 use lib.ListN.{length, replicate, length-replicate, replicate-append-replicate}
 use Rattle.definitions.specs.Limits.{Limits}
 use Rattle.definitions.specs.Lists.{_and_, _then_, choose, between}
 use Rattle.definitions.specs.Monomial.{Vector}
 use Rattle.definitions.specs.Result.{Result}
 use Rattle.definitions.specs.Lifting.{Lifting}
 use Rattle.definitions.specs.Problem.{Bytes}
 use Rattle.definitions.specs.State.{State, empty}
 use Rattle.definitions.specs.Calls.{Reply, refuse, settled, read, lift, fetch, eleven?, lifts?, fetches?, read-reply, lift-reply, fetch-reply}
 use Rattle.definitions.specs.Layout.{Words, padded, zeros, rows-place, state-words, encode, state-after, rows-after, cache-after, meant, Way, division}
 use Rattle.definitions.specs.Layout.{lifting-by, work-words, out-words, long-enough?, Read, read-left, read-call, Lift, lift-left, lift-call, fetch-call}
-use Rattle.definitions.proofs.Tests.{and-left}
-use Rattle.definitions.proofs.Numbers.{Numbered, gives, refuses, stops, open-yet, limit-number?, read-number?, numbered-more, read-number, lift-number}
+use Rattle.laws.proofs.Tests.{and-left}
+use Rattle.laws.proofs.Numbers.{Numbered, gives, refuses, stops, open-yet, limit-number?, read-number?, numbered-more, read-number, lift-number}
 use Rattle.definitions.specs.Places.{header-length}
 
 -- the numbers after which nothing has changed
 abbrev pub keeps? : ℕ → Bool
