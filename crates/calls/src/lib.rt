@@ -1,6 +1,6 @@
 // The three calls, and the sheet as one, for programs in other languages: include/tagetessash.h declares them.
 // Exists for: `tagetessash_read`, `tagetessash_lift`, `tagetessash_fetch`, `tagetessash_sheet`; `Making.all-calls`.
-// Knows: crates engine, lift_call and sheet.
+// Knows: crates read_call, fetch_call, lift_call and sheet.
 // A slice is a pointer and a length.
 ghost use mathlib.Core.Path.{_≡_};
 ghost use Prim.Native.Nat.{ℕ};
@@ -20,7 +20,7 @@ pub extern "C" fn tagetessash_read(
     ensures { λ x. ⌜ Read-says x (now (place .exit)) (now (state .exit)) (now (work .exit)) (now (file .entry)) (now (state .entry))
         (now (work .entry)) ⌝ }
 {
-    let r = engine::read(file, state, work);
+    let r = read_call::read(file, state, work);
     *place = r.place;
     r.number
 }
@@ -56,7 +56,7 @@ pub extern "C" fn tagetessash_fetch(
 ) -> u16
     ensures { λ x. ⌜ Fetch-says x (now (place .exit)) (now (out .exit)) level vector (now (state .entry)) (now (out .entry)) ⌝ }
 {
-    let r = engine::fetch(state, out, level, vector);
+    let r = fetch_call::fetch(state, out, level, vector);
     *place = r.place;
     r.number
 }

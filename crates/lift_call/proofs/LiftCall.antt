@@ -26,7 +26,7 @@ use Rattle.state.proofs.preparing.Complete.{meant-is, length-levels, holds-soun
 use Rattle.level.specs.by_runs.Stages.{Base}
 use Rattle.level.specs.all_levels.Level.{Liftable, stored, told, Lifted-by}
 use Rattle.level.proofs.all_levels.Lifting.{emptied}
-use Rattle.engine.proofs.ReadCall.{zeroed}
+use Rattle.read_call.proofs.ReadCall.{zeroed}
 use Rattle.lift_call.specs.Lifts.{own-pick?, complete-number, left-by}
 
 -- ## What is settled

@@ -8,7 +8,7 @@ use Rattle.definitions.specs.Lists.{choose, between}
 use Rattle.definitions.specs.Layout.{Words, Way, division, hybrid, tree, Lift, holds-state?}
 use Rattle.definitions.specs.Places.{most-levels}
 use Rattle.vectors.specs.terms.Rows.{cleared}
-use Rattle.engine.specs.declared.Reply.{Reply}
+use Rattle.fetch_call.specs.declared.Reply.{Reply}
 
 -- not 12: "for the hybrid way pick code outside 1..3"
 abbrev pub own-pick? : Way → Bool

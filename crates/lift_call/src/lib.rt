@@ -12,7 +12,7 @@ ghost use Rattle.definitions.specs.Places.{state-length};
 ghost use Rattle.ways.specs.any_way.Ways.{way-of};
 ghost use Rattle.lift_call.specs.Codes.{coded-way};
 ghost use Rattle.lift_call.specs.Lifts.{own-pick?, complete-number, lift-reply, left-by};
-use engine::Reply;
+use fetch_call::Reply;
 use state::soundness;
 use vectors::terms;
 use ways::any_way;
@@ -62,7 +62,7 @@ pub fn complete(state: &[u16], k: usize, way: Way) -> u16
     ensures { λ r. ⌜ r ≡ complete-number (now (state .entry)) k (way-of way) ⌝ }
 {
     if soundness::sound(state) {
-        if engine::level_number(k) {
+        if fetch_call::level_number(k) {
             let height = words::place(state[4]);
             if height < k {
                 return 11;

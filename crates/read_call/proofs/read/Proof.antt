@@ -1,9 +1,9 @@
 use borrow.Author.Needs.{needs}
 use native.Mathlib.Omega.{arith}
-use Rattle.engine.proofs.ReadCall.{read-short-state, read-short-work, read-long}
-use Rattle.engine.specs.Replies.{read-reply}
-use Rattle.engine.proofs.read.Statement.{statement}
-use Rattle.engine.proofs.read.Tie as tie
+use Rattle.read_call.proofs.ReadCall.{read-short-state, read-short-work, read-long}
+use Rattle.read_call.specs.Replies.{read-reply}
+use Rattle.read_call.proofs.read.Statement.{statement}
+use Rattle.read_call.proofs.read.Tie as tie
 
 returns : tie.Need-returns
 returns c = let a = c .before .before .before .before .args in read-short-state (a .file .now) (a .state .now) (a .work .now) (omega arith)

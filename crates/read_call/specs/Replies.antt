@@ -5,15 +5,12 @@ use lib.ListN.{length}
 use Rattle.definitions.specs.Limits.{document-01}
 use Rattle.definitions.specs.Result.{Result, done, refused, unfinished, _>>=_}
 use Rattle.definitions.specs.State.{State, empty}
-use Rattle.definitions.specs.Layout.{Words, Read, Fetch, rows-of, padded, encode, decode}
+use Rattle.definitions.specs.Layout.{Words, Read, rows-of, padded, encode, decode}
 use Rattle.level.specs.by_runs.Stages.{accepted-over}
-use Rattle.engine.specs.declared.Reply.{Reply}
+use Rattle.fetch_call.specs.declared.Reply.{Reply}
 
 abbrev pub read-reply : Reply → Words → Words → Read
 read-reply r state work = (r .number, r .place, state, work)
-
-abbrev pub fetch-reply : Reply → Words → Fetch
-fetch-reply r out = (r .number, r .place, out)
 
 -- a settled result in buffers of these sizes: "the state is empty and each buffer lent for writing is zeroed", 9's value in front
 abbrev pub settled-words : ℕ → ℕ → Result State → Read

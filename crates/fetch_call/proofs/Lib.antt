@@ -1,2 +1,1 @@
 pub mod FetchCall
-pub mod ReadCall

@@ -1,11 +1,11 @@
 use borrow.Author.Needs.{needs}
 use native.Mathlib.Omega.{arith}
 use mathlib.Core.Path.{sym, _∙_}
-use Rattle.engine.proofs.FetchCall.{not-complete, no-such-level}
+use Rattle.fetch_call.proofs.FetchCall.{not-complete, no-such-level}
 use Rattle.laws.proofs.Tests.{is-true, between-low, between-high}
 use Rattle.definitions.specs.Places.{most-levels}
-use Rattle.engine.proofs.fetch_sound.Statement.{statement}
-use Rattle.engine.proofs.fetch_sound.Tie as tie
+use Rattle.fetch_call.proofs.fetch_sound.Statement.{statement}
+use Rattle.fetch_call.proofs.fetch_sound.Tie as tie
 
 level-number-requires : tie.Need-level-number-requires
 level-number-requires c κs = search needs

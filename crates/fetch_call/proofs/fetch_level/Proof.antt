@@ -1,12 +1,12 @@
 use borrow.Author.Needs.{needs}
 use mathlib.Core.Path.{sym, _∙_}
-use Rattle.engine.proofs.FetchCall.{fetched, no-such-vector}
+use Rattle.fetch_call.proofs.FetchCall.{fetched, no-such-vector}
 use Rattle.state.specs.soundness.Places.{count-at}
 use Rattle.laws.proofs.Tests.{true-is, is-true, between-low, between-high, between-shown}
 use Rattle.definitions.specs.Lists.{between}
 use Rattle.definitions.specs.Places.{most-levels}
-use Rattle.engine.proofs.fetch_level.Statement.{statement}
-use Rattle.engine.proofs.fetch_level.Tie as tie
+use Rattle.fetch_call.proofs.fetch_level.Statement.{statement}
+use Rattle.fetch_call.proofs.fetch_level.Tie as tie
 
 vector-number-requires : tie.Need-vector-number-requires
 vector-number-requires c κs = search needs

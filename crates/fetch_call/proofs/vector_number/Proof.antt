@@ -5,8 +5,8 @@ use Rattle.state.specs.soundness.Places.{count-at}
 use Rattle.definitions.specs.Lists.{_and_}
 use lib.Dec.{leb}
 use borrow.Author.Tests.{le-leb, lt-leb}
-use Rattle.engine.proofs.vector_number.Statement.{statement}
-use Rattle.engine.proofs.vector_number.Tie as tie
+use Rattle.fetch_call.proofs.vector_number.Statement.{statement}
+use Rattle.fetch_call.proofs.vector_number.Tie as tie
 
 returns : tie.Need-returns
 returns c = sym (ap (λ b. b and leb (c .before .before .args .v) (count-at (c .before .before .args .state .now) (c .before .before .args .k)))

@@ -2,10 +2,10 @@ use borrow.Author.Needs.{needs}
 use native.Mathlib.Omega.{arith}
 use mathlib.Core.Path.{sym, ap, _∙_, subst}
 use lib.ListN.{length}
-use Rattle.engine.proofs.ReadCall.{accept-yes, accept-refused, accept-stopped, accept-over}
+use Rattle.read_call.proofs.ReadCall.{accept-yes, accept-refused, accept-stopped, accept-over}
 use Rattle.level.specs.by_runs.Stages.{accepted-with, Shown}
-use Rattle.engine.proofs.accept.Statement.{statement}
-use Rattle.engine.proofs.accept.Tie as tie
+use Rattle.read_call.proofs.accept.Statement.{statement}
+use Rattle.read_call.proofs.accept.Tie as tie
 
 accept-level-requires : tie.Need-accept-level-requires
 accept-level-requires c κs = search needs

@@ -3,12 +3,12 @@ use native.Mathlib.Omega.{arith}
 use mathlib.Core.Path.{_≡_, refl, sym, ap, _∙_}
 use lib.ListN.{length}
 use Rattle.level.proofs.all_levels.Basis.{based, whole-is}
-use Rattle.engine.proofs.ReadCall.{read-accepted, read-over, file-refused}
-use Rattle.engine.specs.Replies.{read-reply}
+use Rattle.read_call.proofs.ReadCall.{read-accepted, read-over, file-refused}
+use Rattle.read_call.specs.Replies.{read-reply}
 use Rattle.reader.proofs.problem.Answering.{zero-is-read}
 use Rattle.reader.specs.problem.Reading.{read-as, words-read}
-use Rattle.engine.proofs.read_file.Statement.{statement}
-use Rattle.engine.proofs.read_file.Tie as tie
+use Rattle.read_call.proofs.read_file.Statement.{statement}
+use Rattle.read_call.proofs.read_file.Tie as tie
 
 read-requires : tie.Need-read-requires
 read-requires c κs = search needs

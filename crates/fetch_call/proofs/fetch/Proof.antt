@@ -1,10 +1,10 @@
 use borrow.Author.Needs.{needs}
 use native.Mathlib.Omega.{arith}
 use mathlib.Core.Path.{sym, _∙_}
-use Rattle.engine.proofs.FetchCall.{short-state, short-out, no-state}
+use Rattle.fetch_call.proofs.FetchCall.{short-state, short-out, no-state}
 use Rattle.laws.proofs.Tests.{is-true}
-use Rattle.engine.proofs.fetch.Statement.{statement}
-use Rattle.engine.proofs.fetch.Tie as tie
+use Rattle.fetch_call.proofs.fetch.Statement.{statement}
+use Rattle.fetch_call.proofs.fetch.Tie as tie
 
 returns : tie.Need-returns
 returns c = let a = c .before .before .before .args in short-state (a .state .now) (a .out .now) (a .k) (a .v) (omega arith)

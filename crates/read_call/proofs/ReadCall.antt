@@ -27,7 +27,7 @@ use Rattle.runs.specs.declared.frame_terms.Accepted.{Accepted}
 use Rattle.runs.specs.declared.frame_terms.Accepted.the-variants.{Yes, Refused, Stopped}
 use Rattle.level.specs.by_runs.Stages.{accepted-over, accepted-with}
 use Rattle.level.proofs.all_levels.Basis.{length-is, accepted-is}
-use Rattle.engine.specs.Replies.{settled-words, accepted-words}
+use Rattle.read_call.specs.Replies.{settled-words, accepted-words}
 
 -- ## Acceptance
 

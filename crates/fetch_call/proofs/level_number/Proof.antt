@@ -4,8 +4,8 @@ use Rattle.definitions.specs.Lists.{_and_}
 use Rattle.definitions.specs.Places.{most-levels}
 use lib.Dec.{leb}
 use borrow.Author.Tests.{le-leb, lt-leb}
-use Rattle.engine.proofs.level_number.Statement.{statement}
-use Rattle.engine.proofs.level_number.Tie as tie
+use Rattle.fetch_call.proofs.level_number.Statement.{statement}
+use Rattle.fetch_call.proofs.level_number.Tie as tie
 
 returns : tie.Need-returns
 returns c = sym (ap (λ b. b and leb (c .before .args .k) most-levels) (lt-leb 1 (c .before .args .k) (omega arith)))
