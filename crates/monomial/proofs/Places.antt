@@ -1,11 +1,11 @@
--- What stands at each place of a product, a quotient, a lcm.
+-- What stands at each place of a product.
 use mathlib.Core.Path.{_≡_, refl, ap}
 use mathlib.Core.List.{[], _∷_}
-use Prim.Native.Nat.{ℕ, zero, suc, _+_, _-_, _<_, max}
+use Prim.Native.Nat.{ℕ, zero, suc, _+_, _<_}
 use native.Mathlib.Nat.{not-suc-le-zero, le-of-suc-le-suc}
 use native.Mathlib.Omega.{arith}
 use lib.ListN.{length, getD}
-use Rattle.definitions.specs.Monomial.{Exponents, product, quotient, lcm}
+use Rattle.definitions.specs.Monomial.{Exponents, product}
 
 -- two lists joined place by place
 abbrev Joined : (ℕ → ℕ → ℕ) → (Exponents → Exponents → Exponents) → Type 0
@@ -17,18 +17,6 @@ getD-product (x ∷ a) [] k e h = absurd (omega arith)
 getD-product (x ∷ a) (y ∷ b) zero e h = refl
 getD-product (x ∷ a) (y ∷ b) (suc k) e h = getD-product a b k (omega arith) (le-of-suc-le-suc h)
 
-pub getD-quotient : Joined _-_ quotient
-getD-quotient [] b k e h = absurd (not-suc-le-zero h)
-getD-quotient (x ∷ a) [] k e h = absurd (omega arith)
-getD-quotient (x ∷ a) (y ∷ b) zero e h = refl
-getD-quotient (x ∷ a) (y ∷ b) (suc k) e h = getD-quotient a b k (omega arith) (le-of-suc-le-suc h)
-
-pub getD-lcm : Joined max lcm
-getD-lcm [] b k e h = absurd (not-suc-le-zero h)
-getD-lcm (x ∷ a) [] k e h = absurd (omega arith)
-getD-lcm (x ∷ a) (y ∷ b) zero e h = refl
-getD-lcm (x ∷ a) (y ∷ b) (suc k) e h = getD-lcm a b k (omega arith) (le-of-suc-le-suc h)
-
 abbrev Long : (Exponents → Exponents → Exponents) → Type 0
 Long g = (a b : Exponents) → length b ≡ length a → length (g a b) ≡ length a
 
@@ -36,13 +24,3 @@ pub length-product : Long product
 length-product [] b e = refl
 length-product (x ∷ a) [] e = absurd (omega arith)
 length-product (x ∷ a) (y ∷ b) e = ap suc (length-product a b (omega arith))
-
-pub length-quotient : Long quotient
-length-quotient [] b e = refl
-length-quotient (x ∷ a) [] e = absurd (omega arith)
-length-quotient (x ∷ a) (y ∷ b) e = ap suc (length-quotient a b (omega arith))
-
-pub length-lcm : Long lcm
-length-lcm [] b e = refl
-length-lcm (x ∷ a) [] e = absurd (omega arith)
-length-lcm (x ∷ a) (y ∷ b) e = ap suc (length-lcm a b (omega arith))

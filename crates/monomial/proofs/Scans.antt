@@ -10,45 +10,16 @@ use lib.ListN.{length, getD, drop, drop-of-length-le}
 use lib.Seq.{drop-cons}
 use borrow.Author.Tests.{ltb-true, ltb-false, le-leb, lt-leb, eq-eqb, ne-eqb}
 use Rattle.definitions.specs.Lists.{_and_}
-use Rattle.definitions.specs.Monomial.{Exponents, divides?, same-exponents?, fits?, degree}
+use Rattle.definitions.specs.Monomial.{Exponents, fits?, degree}
 use Rattle.lists.specs.Marking.{Marked, unmarked, marked-at}
 
--- ## Divisibility
+-- ## Above
 
 not-above : (x y : ℕ) → ltb y x ≡ false → leb x y ≡ true
 not-above x y e = le-leb x y (ltb-false y x e)
 
 above : (x y : ℕ) → ltb y x ≡ true → leb x y ≡ false
 above x y e = lt-leb x y (ltb-true y x e)
-
-pub divides-all : (a b : Exponents) → length b ≡ length a → ((k : ℕ) → k < length a → ltb (getD b k 0) (getD a k 0) ≡ false) → divides? a b ≡ true
-divides-all [] b e h = refl
-divides-all (x ∷ a) [] e h = absurd (omega arith)
-divides-all (x ∷ a) (y ∷ b) e h = (λ i. not-above x y (h 0 (omega arith)) i and divides? a b)
-    ∙ divides-all a b (omega arith) (λ k l. h (suc k) (omega arith))
-
-pub divides-not : (a b : Exponents) (k : ℕ) → length b ≡ length a → k < length a → ltb (getD b k 0) (getD a k 0) ≡ true → divides? a b ≡ false
-divides-not [] b k e h t = absurd (not-suc-le-zero h)
-divides-not (x ∷ a) [] k e h t = absurd (omega arith)
-divides-not (x ∷ a) (y ∷ b) zero e h t = λ i. above x y t i and divides? a b
-divides-not (x ∷ a) (y ∷ b) (suc k) e h t = go (leb x y) (divides-not a b k (omega arith) (le-of-suc-le-suc h) t)
-  where
-    go : (c : Bool) → divides? a b ≡ false → (c and divides? a b) ≡ false
-    go true f = f
-    go false f = refl
-
--- what the mark of a loop over eight places says
-pub divides-marked : (a b : Exponents) (mark : ℕ) → length a ≡ 8 → length b ≡ 8 → Marked (λ k. ltb (getD b k 0) (getD a k 0)) 8 mark → eqb mark 0
-    ≡ divides? a b
-divides-marked a b mark la lb m = go mark m
-  where
-    f : ℕ → Bool
-    f k = ltb (getD b k 0) (getD a k 0)
-
-    go : (mark : ℕ) → Marked f 8 mark → eqb mark 0 ≡ divides? a b
-    go zero m = sym (divides-all a b (lb ∙ sym la) (λ k h. unmarked f 8 0 m refl k (omega arith)))
-    go (suc n) m = let s = marked-at f 8 (suc n) m (λ e. omega arith) in eqb·suc-zero n
-        ∙ sym (divides-not a b (s .0) (lb ∙ sym la) (omega (arith, s .1)) (s .2))
 
 -- ## Fitting
 
@@ -74,27 +45,6 @@ fits-marked limit e mark l m = go mark m
     go : (mark : ℕ) → Marked f 8 mark → eqb mark 0 ≡ fits? limit e
     go zero m = sym (fits-all limit e (λ k h. unmarked f 8 0 m refl k (omega arith)))
     go (suc n) m = let s = marked-at f 8 (suc n) m (λ e. omega arith) in eqb·suc-zero n ∙ sym (fits-not limit e (s .0) (omega (arith, s .1)) (s .2))
-
--- ## Equality: what is still to be compared decides
-
-pub same-on : (a b : Exponents) (j : ℕ) → j < length a → j < length b → getD a j 0 ≡ getD b j 0 → same-exponents? (drop j a) (drop j b)
-    ≡ same-exponents? (drop (j + 1) a) (drop (j + 1) b)
-same-on a b j h k e =
-    let s : j + 1 ≡ suc j = omega arith in
-    (λ i. same-exponents? (drop-cons a j 0 h i) (drop-cons b j 0 k i))
-    ∙ (λ i. equal i and same-exponents? (drop (suc j) a) (drop (suc j) b))
-    ∙ sym (ap (λ n. same-exponents? (drop n a) (drop n b)) s)
-  where
-    equal : eqb (getD a j 0) (getD b j 0) ≡ true
-    equal = eq-eqb (getD a j 0) (getD b j 0) e
-
-pub same-not : (a b : Exponents) (j : ℕ) → j < length a → j < length b → (getD a j 0 ≡ getD b j 0 → ⊥) → same-exponents? (drop j a) (drop j b) ≡ false
-same-not a b j h k ne =
-    (λ i. same-exponents? (drop-cons a j 0 h i) (drop-cons b j 0 k i))
-    ∙ (λ i. ne-eqb (getD a j 0) (getD b j 0) ne i and same-exponents? (drop (suc j) a) (drop (suc j) b))
-
-pub same-end : (a b : Exponents) (j : ℕ) → length a ≤ j → length b ≤ j → same-exponents? (drop j a) (drop j b) ≡ true
-same-end a b j h k = λ i. same-exponents? (drop-of-length-le a h i) (drop-of-length-le b k i)
 
 -- ## Degrees
 
