@@ -1,8 +1,8 @@
 -- Equality, degree and each exponent of a packed number; eight exponents put together.
-use mathlib.Core.Path.{_≡_, refl, sym, ap, _∙_}
+use mathlib.Core.Path.{_≡_, refl, sym, ap, _∙_, subst}
 use mathlib.Core.Bool.{Bool, true, false}
 use mathlib.Core.List.{[], _∷_}
-use Prim.Native.Nat.{ℕ, zero, suc, _+_, _*_, _/_, _%_, _<_, _≤_}
+use Prim.Native.Nat.{ℕ, zero, suc, _+_, _*_, _/_, _%_, _<_}
 use native.Mathlib.Omega.{arith}
 use lib.Dec.{eqb}
 use lib.Bits.{bitAnd}
@@ -11,11 +11,11 @@ use mir.Syntax.{w64}
 use lib.ListN.{length, getD}
 use lib.Seq.{ext-getD}
 use borrow.Author.Tests.{eq-eqb, ne-eqb, eqb-true, eqb-false}
-use Rattle.monomial.specs.Values.{lane-bytes}
+use Rattle.monomial.specs.Values.{pair-lanes, lane-sum, lane-bytes}
 use Rattle.definitions.specs.Lists.{_and_}
 use Rattle.definitions.specs.Monomial.{Exponents, unit, same-exponents?, degree}
 use Rattle.definitions.specs.Packed.{low-bytes, four, unpack, pack, pack-from, long-bound}
-use Rattle.laws.proofs.Packing.{Bytes, unpack-is, Small, none, more}
+use Rattle.laws.proofs.Packing.{Bytes, unpack-is, Small, none, more, long-of, words-of-four}
 use Rattle.monomial.proofs.Lanes.{lows, highs, sums}
 use Rattle.monomial.proofs.Dividing.{regrouped, ended}
 
@@ -57,35 +57,71 @@ same-packed x y a b =
 
 -- ## Degrees
 
--- lanes added up by halves
-abbrev pub halved : ℕ → ℕ
-halved n = n / 4294967296 + n % 4294967296
+pub lane-sum-four : (p q r s : ℕ) → p < 65536 → q < 65536 → r < 65536 → s < 65536 → lane-sum (four p q r s) ≡ p + q + r + s
+lane-sum-four p q r s hp hq hr hs = ap (λ l. getD l 3 0 + getD l 2 0 + getD l 1 0 + getD l 0 0) (words-of-four p q r s hp hq hr hs)
 
-abbrev pub added : ℕ → ℕ
-added n = halved n / 65536 + halved n % 65536
+-- each lane with the one below it
+abbrev pub with-next : ℕ → ℕ
+with-next n = n + n % 281474976710656 * 65536
 
-halves : (p q r s : ℕ) → p < 511 → q < 511 → r < 511 → s < 511 → halved (four p q r s) ≡ (p + r) * 65536 + (q + s)
-halves p q r s hp hq hr hs = omega arith
+-- .. with the two below that
+abbrev pub with-third : ℕ → ℕ
+with-third n = n + n % 4294967296 * 4294967296
 
-lane-sum : (p q r s : ℕ) → p < 511 → q < 511 → r < 511 → s < 511 → added (four p q r s) ≡ p + r + (q + s)
-lane-sum p q r s hp hq hr hs = ap (λ n. n / 65536 + n % 65536) (halves p q r s hp hq hr hs) ∙ omega arith
+lanes-two : (p q r s : ℕ) → p + q + r + s < 65536 → with-next (four p q r s) ≡ four (p + q) (q + r) (r + s) s
+lanes-two p q r s h = omega arith
 
-pub degree-packed : (x : ℕ) → Bytes x → added (bitAnd (x / 256) lane-bytes + bitAnd x lane-bytes) ≡ degree (unpack x)
-degree-packed x a =
-    (λ i. added (highs x a i + lows x a i))
-    ∙ ap added (sums (a .d1) (a .d3) (a .d5) (a .d7) (a .d2) (a .d4) (a .d6) (a .d8))
-    ∙ lane-sum (a .d1 + a .d2) (a .d3 + a .d4) (a .d5 + a .d6) (a .d7 + a .d8) (omega arith) (omega arith) (omega arith) (omega arith)
-    ∙ omega arith
-    ∙ sym (ap degree (a .spelled))
+lanes-all : (p q r s : ℕ) → p + q + r + s < 65536 → with-third (four (p + q) (q + r) (r + s) s) ≡ four (p + q + r + s) (q + r + s) (r + s) s
+lanes-all p q r s h = omega arith
 
-pub halved-fits : (n : ℕ) → n ≤ 143554428589179390 → Fits w64 (halved n)
-halved-fits n h = omega arith
+lanes-top : (p q r s : ℕ) → p + q + r + s < 65536 → four (p + q + r + s) (q + r + s) (r + s) s / 281474976710656 ≡ p + q + r + s
+lanes-top p q r s h = omega arith
 
-pub added-fits : (n : ℕ) → n ≤ 143554428589179390 → Fits w64 (added n)
-added-fits n h = go (halved n) (omega arith)
-  where
-    go : (t : ℕ) → t < long-bound → Fits w64 (t / 65536 + t % 65536)
-    go t l = omega arith
+module _ (s : ℕ) (b : s < long-bound) (h : lane-sum s < 65536) where
+  next-is : with-next s ≡ four (s / 281474976710656 + s / 4294967296 % 65536) (s / 4294967296 % 65536 + s / 65536 % 65536)
+      (s / 65536 % 65536 + s % 65536) (s % 65536)
+  next-is =
+      ap with-next (sym (long-of s b)) ∙ lanes-two (s / 281474976710656) (s / 4294967296 % 65536) (s / 65536 % 65536) (s % 65536) h
+
+  third-is : with-third (with-next s) ≡ four (lane-sum s) (s / 4294967296 % 65536 + s / 65536 % 65536 + s % 65536)
+      (s / 65536 % 65536 + s % 65536) (s % 65536)
+  third-is = ap with-third next-is ∙ lanes-all (s / 281474976710656) (s / 4294967296 % 65536) (s / 65536 % 65536) (s % 65536) h
+
+  pub next-fits : Fits w64 (with-next s)
+  next-fits = subst (λ n. Fits w64 n) (sym next-is)
+      (room (s / 281474976710656) (s / 4294967296 % 65536) (s / 65536 % 65536) (s % 65536) h)
+    where
+      room : (p q r s : ℕ) → p + q + r + s < 65536 → Fits w64 (four (p + q) (q + r) (r + s) s)
+      room p q r s h = omega arith
+
+  pub third-fits : Fits w64 (with-third (with-next s))
+  third-fits = subst (λ n. Fits w64 n) (sym third-is)
+      (room (s / 281474976710656) (s / 4294967296 % 65536) (s / 65536 % 65536) (s % 65536) h)
+    where
+      room : (p q r s : ℕ) → p + q + r + s < 65536 → Fits w64 (four (p + q + r + s) (q + r + s) (r + s) s)
+      room p q r s h = omega arith
+
+  pub lanes-added : with-third (with-next s) / 281474976710656 ≡ lane-sum s
+  lanes-added = ap (λ n. n / 281474976710656) third-is
+      ∙ lanes-top (s / 281474976710656) (s / 4294967296 % 65536) (s / 65536 % 65536) (s % 65536) h
+
+module _ (x : ℕ) (a : Bytes x) where
+  pub paired-lanes : bitAnd (x / 256) lane-bytes + bitAnd x lane-bytes ≡ pair-lanes (unpack x)
+  paired-lanes =
+      (λ i. highs x a i + lows x a i)
+      ∙ sums (a .d1) (a .d3) (a .d5) (a .d7) (a .d2) (a .d4) (a .d6) (a .d8)
+      ∙ sym (ap pair-lanes (a .spelled))
+
+  pub degree-packed : lane-sum (pair-lanes (unpack x)) ≡ degree (unpack x)
+  degree-packed =
+      ap (λ e. lane-sum (pair-lanes e)) (a .spelled)
+      ∙ lane-sum-four (a .d1 + a .d2) (a .d3 + a .d4) (a .d5 + a .d6) (a .d7 + a .d8) (omega arith) (omega arith) (omega arith)
+      (omega arith)
+      ∙ omega arith
+      ∙ sym (ap degree (a .spelled))
+
+  pub degree-room : degree (unpack x) < 65536
+  degree-room = subst (λ n. n < 65536) (sym (ap degree (a .spelled))) (omega arith)
 
 -- ## Each byte
 

@@ -1,85 +1,19 @@
--- Products, and 13's test by the marks of four lanes at a time; quotients.
-use mathlib.Core.Path.{_≡_, refl, sym, ap, ap₂, _∙_}
+-- Products, where each exponent has room; quotients.
+use mathlib.Core.Path.{_≡_, refl, sym, _∙_}
 use mathlib.Core.Bool.{Bool, true, false}
 use mathlib.Core.Option.{Option, none, some}
-use Prim.Native.Nat.{ℕ, _+_, _-_, _*_, _/_, _%_, _<_, _≤_}
+use Prim.Native.Nat.{ℕ, _+_, _-_, _*_, _%_, _<_, _≤_}
 use native.Mathlib.Omega.{arith}
 use native.Mathlib.Nat.{mod-eq-of-lt}
-use lib.Dec.{leb, eqb}
-use lib.Bits.{bitAnd, and-high}
-use borrow.Author.Tests.{leb-true, leb-false, eq-eqb, ne-eqb, eqb-true, eqb-false}
+use lib.Dec.{leb}
+use borrow.Author.Tests.{leb-true}
 use Rattle.definitions.specs.Places.{most-exponent}
 use Rattle.definitions.specs.Lists.{_and_, choose}
 use Rattle.definitions.specs.Monomial as definition
 use Rattle.definitions.specs.Monomial.{divides?, product, quotient, fits?}
 use Rattle.definitions.specs.Packed.{four, unpack, long-bound}
-use Rattle.monomial.specs.Values.{formed, lane-bytes, lane-marks}
+use Rattle.monomial.specs.Values.{formed}
 use Rattle.laws.proofs.Packing.{Bytes, unpack-is}
-use Rattle.monomial.proofs.Lanes.{and4, lows, highs, sums}
-use Rattle.monomial.proofs.Dividing.{regrouped, ended}
-
--- the mark of a lane that passed most-exponent
-abbrev over : Bool → ℕ
-over true = 0
-over false = 256
-
-sum-mark : (x y : ℕ) → x < 256 → y < 256 → bitAnd (x + y) 256 ≡ over (leb (x + y) most-exponent)
-sum-mark x y hx hy = and-high (x + y) 1 8 ∙ go (leb (x + y) most-exponent) refl
-  where
-    go : (b : Bool) → leb (x + y) most-exponent ≡ b → (x + y) / 256 % 2 * 256 ≡ over b
-    go true e = let l : x + y ≤ most-exponent = leb-true (x + y) most-exponent e in omega arith
-    go false e = let l : most-exponent < x + y = leb-false (x + y) most-exponent e in omega arith
-
-sum-marks : (a b c d p q r s : ℕ) → a < 256 → b < 256 → c < 256 → d < 256 → p < 256 → q < 256 → r < 256 → s < 256
-    → bitAnd (four a b c d + four p q r s) lane-marks ≡ four (over (leb (a + p) most-exponent)) (over (leb (b + q) most-exponent))
-    (over (leb (c + r) most-exponent)) (over (leb (d + s) most-exponent))
-sum-marks a b c d p q r s ha hb hc hd hp hq hr hs =
-    ap (λ n. bitAnd n lane-marks) (sums a b c d p q r s)
-    ∙ and4 (a + p) (b + q) (c + r) (d + s) 256 256 256 256 (omega arith) (omega arith) (omega arith) (omega arith) (omega arith) (omega arith)
-    ∙ (λ i. four (sum-mark a p ha hp i) (sum-mark b q hb hq i) (sum-mark c r hc hr i) (sum-mark d s hd hs i))
-
-zero-two : (h l : ℕ) → eqb (h * 65536 + l) 0 ≡ (eqb h 0 and eqb l 0)
-zero-two h l = go (eqb h 0) (eqb l 0) refl refl
-  where
-    go : (b c : Bool) → eqb h 0 ≡ b → eqb l 0 ≡ c → eqb (h * 65536 + l) 0 ≡ (b and c)
-    go true true e f = eq-eqb (h * 65536 + l) 0 (omega (arith, eqb-true h 0 e, eqb-true l 0 f))
-    go true false e f = ne-eqb (h * 65536 + l) 0 (λ z. eqb-false l 0 f (omega arith))
-    go false c e f = ne-eqb (h * 65536 + l) 0 (λ z. eqb-false h 0 e (omega arith))
-
-neither : (p q : Bool) → eqb (over p + over q) 0 ≡ (p and q)
-neither true true = refl
-neither true false = refl
-neither false true = refl
-neither false false = refl
-
-unmarked : (p q r s t u v w : Bool)
-    → eqb (four (over p) (over r) (over t) (over v) + four (over q) (over s) (over u) (over w)) 0
-    ≡ (p and (q and (r and (s and (t and (u and (v and (w and true))))))))
-unmarked p q r s t u v w =
-    ap (λ n. eqb n 0) (sums (over p) (over r) (over t) (over v) (over q) (over s) (over u) (over w))
-    ∙ zero-two (((over p + over q) * 65536 + (over r + over s)) * 65536 + (over t + over u)) (over v + over w)
-    ∙ (λ i. zero-two ((over p + over q) * 65536 + (over r + over s)) (over t + over u) i and neither v w i)
-    ∙ (λ i. (zero-two (over p + over q) (over r + over s) i and neither t u i) and (v and ended w i))
-    ∙ (λ i. ((neither p q i and neither r s i) and (t and u)) and (v and (w and true)))
-    ∙ regrouped ((p and q) and (r and s)) (t and u) (v and (w and true))
-    ∙ regrouped (p and q) (r and s) ((t and u) and (v and (w and true)))
-    ∙ regrouped p q ((r and s) and ((t and u) and (v and (w and true))))
-    ∙ (λ i. p and (q and regrouped r s ((t and u) and (v and (w and true))) i))
-    ∙ (λ i. p and (q and (r and (s and regrouped t u (v and (w and true)) i))))
-
-pub fits-lanes : (x y : ℕ) → Bytes x → Bytes y
-    → eqb (bitAnd (bitAnd (x / 256) lane-bytes + bitAnd (y / 256) lane-bytes) lane-marks
-    + bitAnd (bitAnd x lane-bytes + bitAnd y lane-bytes) lane-marks) 0
-    ≡ fits? most-exponent (product (unpack x) (unpack y))
-fits-lanes x y a b =
-    ap₂ (λ m n. eqb (m + n) 0)
-    ((λ i. bitAnd (highs x a i + highs y b i) lane-marks)
-    ∙ sum-marks (a .d1) (a .d3) (a .d5) (a .d7) (b .d1) (b .d3) (b .d5) (b .d7) (a .s1) (a .s3) (a .s5) (a .s7) (b .s1) (b .s3) (b .s5) (b .s7))
-    ((λ i. bitAnd (lows x a i + lows y b i) lane-marks)
-    ∙ sum-marks (a .d2) (a .d4) (a .d6) (a .d8) (b .d2) (b .d4) (b .d6) (b .d8) (a .s2) (a .s4) (a .s6) (a .s8) (b .s2) (b .s4) (b .s6) (b .s8))
-    ∙ unmarked (leb (a .d1 + b .d1) most-exponent) (leb (a .d2 + b .d2) most-exponent) (leb (a .d3 + b .d3) most-exponent) (leb (a .d4 + b .d4) most-exponent)
-    (leb (a .d5 + b .d5) most-exponent) (leb (a .d6 + b .d6) most-exponent) (leb (a .d7 + b .d7) most-exponent) (leb (a .d8 + b .d8) most-exponent)
-    ∙ sym (λ i. fits? most-exponent (product (a .spelled i) (b .spelled i)))
 
 -- ## What a conjunction of eight says
 

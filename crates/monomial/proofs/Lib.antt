@@ -5,3 +5,4 @@ pub mod Dividing
 pub mod Forming
 pub mod Raising
 pub mod Bytewise
+pub mod Carries

@@ -4,7 +4,7 @@
 // Sums and differences are formed in lanes of sixteen bits: the bytes of x2, x4, x6, x8, and, shifted down, those of x1, x3, x5, x7.
 ghost use mathlib.Core.Path.{_≡_};
 ghost use mathlib.Core.Bool.{true};
-ghost use Prim.Native.Nat.{_≤_, _<_};
+ghost use Prim.Native.Nat.{_+_, _%_, _≤_, _<_};
 ghost use Rattle.definitions.specs.Monomial.{
   divides?,
   divides-monomial?,
@@ -13,9 +13,12 @@ ghost use Rattle.definitions.specs.Monomial.{
   quotient as quotient-definition,
   lcm as lcm-definition,
   degree as degree-definition,
+  product as product-definition,
+  fits?,
 };
-ghost use Rattle.definitions.specs.Packed.{unpack};
-ghost use Rattle.monomial.specs.Values.{monomial-of, unit, product-of, formed, even-lanes, lane-bytes};
+ghost use Rattle.definitions.specs.Packed.{unpack, long-bound};
+ghost use Rattle.definitions.specs.Places.{most-exponent};
+ghost use Rattle.monomial.specs.Values.{monomial-of, unit, product-of, formed, even-lanes, pair-lanes, lane-sum, lane-bytes};
 
 pub struct Monomial {
     pub exponents: u64,
@@ -32,6 +35,9 @@ pub struct Product {
 const LOW: u64 = 0x00ff_00ff_00ff_00ff;
 
 const MARK: u64 = 0x0100_0100_0100_0100;
+
+// The lowest bit of each byte but the lowest.
+const CARRIES: u64 = 0x0101_0101_0101_0100;
 
 // ## Exponents alone
 
@@ -74,25 +80,48 @@ fn lcm_exponents(x: u64, y: u64) -> u64
     larger(x >> 8, y >> 8) * 256 + larger(x, y)
 }
 
-// The lanes are added up by halves.
+// Four lanes added up in the top one, where their sum has room: two by two, then all.
+pub fn added_lanes(s: u64) -> u64
+    requires { ⌜ lane-sum s < 65536 ⌝ }
+    ensures { λ r. ⌜ r ≡ lane-sum s ⌝ }
+{
+    let t = s + s % 0x0001_0000_0000_0000 * 65536;
+    (t + t % 0x0001_0000_0000 * 0x0001_0000_0000) / 0x0001_0000_0000_0000
+}
+
+// The exponents two by two in four lanes.
+pub fn paired(x: u64) -> u64
+    ensures { λ r. ⌜ r ≡ pair-lanes (unpack x) ⌝ }
+{
+    ((x >> 8) & LOW) + (x & LOW)
+}
+
 pub fn degree_exponents(x: u64) -> u64
     ensures { λ r. ⌜ r ≡ degree-definition (unpack x) ⌝ }
 {
-    let s = ((x >> 8) & LOW) + (x & LOW);
-    let t = s / 0x0001_0000_0000 + s % 0x0001_0000_0000;
-    t / 65536 + t % 65536
+    added_lanes(paired(x))
 }
 
-// The product's exponents; where one is above 255 it marks its lane, and the product does not fit.
+// Whether nothing was carried from one exponent into the next, nor out of the first: s is the sum of q and e, and where something is carried into a byte
+// its lowest bit shows it.
+fn uncarried(q: u64, e: u64, s: u64) -> bool
+    requires { ⌜ s ≡ (q + e) % long-bound ⌝ }
+    ensures { λ r. ⌜ r ≡ fits? most-exponent (product-definition (unpack q) (unpack e)) ⌝ }
+{
+    if s < q {
+        return false;
+    }
+    (q ^ e ^ s) & CARRIES == 0
+}
+
+// The product's exponents; where one is above 255 the product does not fit.
 fn product_exponents(q: u64, e: u64, component: u16) -> Product
     ensures { λ r. ⌜ product-of r ≡ formed (unpack q) (unpack e, component) ⌝ }
 {
-    let o = ((q >> 8) & LOW) + ((e >> 8) & LOW);
-    let l = (q & LOW) + (e & LOW);
-    let m = (o & MARK) + (l & MARK);
     let s = std::num::wrapping_add_u64(q, e);
+    let fits = uncarried(q, e, s);
     Product {
-        fits: m == 0,
+        fits,
         monomial: Monomial {
             exponents: s,
             component,

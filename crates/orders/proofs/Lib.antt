@@ -4,4 +4,5 @@ pub mod Ranks
 pub mod Induced
 pub mod CodeParts
 pub mod PackedOrder
+pub mod RowImages
 pub mod Answers

@@ -9,6 +9,7 @@ use Rattle.definitions.specs.Lists.{choose}
 use Rattle.definitions.specs.Monomial.{Exponents, Monomial, product}
 use Rattle.definitions.specs.Order as definition
 use Rattle.definitions.specs.Order.{greater, equal, smaller, or-at-tie, numbers, lexicographic, last-differing, exponents-by}
+use Rattle.definitions.specs.Packed.{unpack}
 use Rattle.definitions.specs.Layout.{Words}
 use Rattle.definitions.specs.Places.{image-length, rank-offset, exponents-offset}
 use Rattle.orders.specs.declared.Comparison.{Comparison}
@@ -77,6 +78,10 @@ Bounded s a = (j : ℕ) → j < 8 → getD s (a + j) 0 ≤ 65280
 
 abbrev pub Tabled : ℕ → Words → Type 0
 Tabled r s = (i : ℕ) → i < r → Bounded s (i * image-length + exponents-offset)
+
+-- the image of a row with exponents e, whose component's exponents begin at word b of the table
+abbrev pub row-image : ℕ → Words → ℕ → Exponents
+row-image e t b = product (unpack e) (exponents-raw t b)
 
 -- ## What decides, one after the other
 

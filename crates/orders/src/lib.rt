@@ -4,8 +4,8 @@
 // An image is a monomial of level 0 whose exponents may pass 255: level k's are at most 255 · (k + 1), so 16 bits hold them.
 ghost use mathlib.Core.Path.{_≡_};
 ghost use mathlib.Core.List.{[], reverse};
-ghost use Prim.Native.Nat.{_+_, _*_, _≤_};
-ghost use lib.ListN.{length};
+ghost use Prim.Native.Nat.{_+_, _*_, _≤_, _<_};
+ghost use lib.ListN.{length, getD};
 ghost use Rattle.definitions.specs.Monomial.{degree, product};
 ghost use Rattle.definitions.specs.Order.{
   numbers as numbers-definition,
@@ -16,7 +16,7 @@ ghost use Rattle.definitions.specs.Order.{
 };
 ghost use Rattle.definitions.specs.Packed.{unpack};
 ghost use Rattle.definitions.specs.Layout.{row-at};
-ghost use Rattle.definitions.specs.Places.{row-length, image-length};
+ghost use Rattle.definitions.specs.Places.{row-length, image-length, rank-offset, exponents-offset};
 ghost use Rattle.monomial.specs.Values.{monomial-of};
 ghost use Rattle.orders.specs.Images.{
   comparison-of,
@@ -30,6 +30,7 @@ ghost use Rattle.orders.specs.Images.{
   compare-keys,
   degrees-by,
   places-by,
+  row-image,
 };
 use monomial::Monomial;
 
@@ -182,27 +183,34 @@ fn packed_last_differing(x: u64, y: u64) -> Comparison
     long_numbers(swapped(y), swapped(x))
 }
 
-// The order code decides.
+// What the degrees decide, where the order code looks at them.
+fn packed_degrees(code: u16, x: u64, y: u64) -> Comparison
+    ensures { λ r. ⌜ comparison-of r ≡ degrees-by code (degree (unpack x)) (degree (unpack y)) ⌝ }
+{
+    match code {
+        1 => Comparison::Equal,
+        _ => long_numbers(monomial::degree_exponents(x), monomial::degree_exponents(y)),
+    }
+}
+
+fn packed_places(code: u16, x: u64, y: u64) -> Comparison
+    ensures { λ r. ⌜ comparison-of r ≡ places-by code (unpack x) (unpack y) ⌝ }
+{
+    match code {
+        1 | 2 => packed_lexicographic(x, y),
+        _ => packed_last_differing(x, y),
+    }
+}
+
+// The order code decides. In two parts, each called at one place only, so that they become part of the loop around them.
 pub fn compare_exponents(code: u16, x: u64, y: u64) -> Comparison
     ensures { λ r. ⌜ comparison-of r ≡ exponents-by code (unpack x) (unpack y) ⌝ }
 {
-    match code {
-        1 => packed_lexicographic(x, y),
-        2 => {
-            let d = long_numbers(monomial::degree_exponents(x), monomial::degree_exponents(y));
-            if decided(d) {
-                return d;
-            }
-            packed_lexicographic(x, y)
-        }
-        _ => {
-            let d = long_numbers(monomial::degree_exponents(x), monomial::degree_exponents(y));
-            if decided(d) {
-                return d;
-            }
-            packed_last_differing(x, y)
-        }
+    let d = packed_degrees(code, x, y);
+    if decided(d) {
+        return d;
     }
+    packed_places(code, x, y)
 }
 
 // On level 0: exponents first, then the larger component.
@@ -353,6 +361,170 @@ pub fn image_of_row(s: &[u16], i: usize, table: &[u16], r: usize) -> Image
     image_of(table, r, m)
 }
 
+// ## An image against that of a row: of the row's only as much is formed as decides
+
+// An exponent of a row and the table's.
+fn joined(d: u64, w: u16) -> u16
+    requires { ⌜ (d < 256) × (w ≤ 65280) ⌝ }
+    ensures { λ r. ⌜ r ≡ d + w ⌝ }
+{
+    d as u16 + w
+}
+
+// The row's exponents move up by a byte at each step.
+fn row_lexicographic(
+    x: [u16; words::EXPONENTS_LENGTH],
+    e: u64,
+    table: &[u16],
+    to: usize,
+) -> Comparison
+    requires { ⌜ (to + 8 ≤ length (now table)) × Bounded (now table) to ⌝ }
+    ensures { λ r. ⌜ comparison-of r ≡ lexicographic-definition x (row-image e (now (table .entry)) to) ⌝ }
+{
+    let mut f = e;
+    let mut j = 0;
+    while j < words::EXPONENTS_LENGTH {
+        let y = joined(f / 0x0100_0000_0000_0000, table[to + j]);
+        if y < x[j] {
+            return Comparison::Greater;
+        }
+        if x[j] < y {
+            return Comparison::Smaller;
+        }
+        f = f % 0x0100_0000_0000_0000 * 256;
+        j += 1;
+    }
+    Comparison::Equal
+}
+
+// .. and down.
+fn row_last_differing(
+    x: [u16; words::EXPONENTS_LENGTH],
+    e: u64,
+    table: &[u16],
+    to: usize,
+) -> Comparison
+    requires { ⌜ (to + 8 ≤ length (now table)) × Bounded (now table) to ⌝ }
+    ensures { λ r. ⌜ comparison-of r ≡ last-differing-definition x (row-image e (now (table .entry)) to) ⌝ }
+{
+    let mut f = e;
+    let mut j = words::EXPONENTS_LENGTH;
+    while 0 < j {
+        j -= 1;
+        let z = joined(f % 256, table[to + j]);
+        if x[j] < z {
+            return Comparison::Greater;
+        }
+        if z < x[j] {
+            return Comparison::Smaller;
+        }
+        f = f / 256;
+    }
+    Comparison::Equal
+}
+
+// In lanes of sixteen bits, where the table's exponents are below 4,096.
+fn row_total(e: u64, table: &[u16], to: usize) -> u32
+    requires { ⌜ (to + 8 ≤ length (now table)) × Bounded (now table) to ⌝ }
+    ensures { λ r. ⌜ r ≡ degree (row-image e (now (table .entry)) to) ⌝ }
+{
+    let l = words::long(table, to);
+    let h = words::long(table, to + 4);
+    if (l | h) & 0xf000_f000_f000_f000 == 0 {
+        return monomial::added_lanes(monomial::paired(e) + l + h) as u32;
+    }
+    total(shifted(e, table, to))
+}
+
+fn row_degrees(code: u16, total: u32, e: u64, table: &[u16], to: usize) -> Comparison
+    requires { ⌜ (to + 8 ≤ length (now table)) × Bounded (now table) to ⌝ }
+    ensures { λ r. ⌜ comparison-of r ≡ degrees-by code total (degree (row-image e (now (table .entry)) to)) ⌝ }
+{
+    match code {
+        1 => Comparison::Equal,
+        _ => numbers(total, row_total(e, table, to)),
+    }
+}
+
+// Each of the two walks is called at one place only, so that it becomes part of the loop around it.
+fn row_places(
+    code: u16,
+    x: [u16; words::EXPONENTS_LENGTH],
+    e: u64,
+    table: &[u16],
+    to: usize,
+) -> Comparison
+    requires { ⌜ (to + 8 ≤ length (now table)) × Bounded (now table) to ⌝ }
+    ensures { λ r. ⌜ comparison-of r ≡ places-by code x (row-image e (now (table .entry)) to) ⌝ }
+{
+    match code {
+        1 | 2 => row_lexicographic(x, e, table, to),
+        _ => row_last_differing(x, e, table, to),
+    }
+}
+
+fn row_by_code(
+    code: u16,
+    x: [u16; words::EXPONENTS_LENGTH],
+    total: u32,
+    e: u64,
+    table: &[u16],
+    to: usize,
+) -> Comparison
+    requires { ⌜ (to + 8 ≤ length (now table)) × Bounded (now table) to × (total ≡ degree x) ⌝ }
+    ensures { λ r. ⌜ comparison-of r ≡ exponents-by code x (row-image e (now (table .entry)) to) ⌝ }
+{
+    let d = row_degrees(code, total, e, table, to);
+    if decided(d) {
+        return d;
+    }
+    row_places(code, x, e, table, to)
+}
+
+// A row's exponents and component; the component's row in the table begins at word to.
+fn against_tabled(
+    code: u16,
+    a: Image,
+    total: u32,
+    e: u64,
+    component: u16,
+    table: &[u16],
+    to: usize,
+) -> Comparison
+    requires { ⌜ (to + image-length ≤ length (now table)) × Bounded (now table) (to + exponents-offset) × (total ≡ degree (a .exponents)) ⌝ }
+    ensures { λ c. ⌜ comparison-of c ≡ compare-keys code (key-of a) (
+      row-image e (now (table .entry)) (to + exponents-offset),
+      (getD (now (table .entry)) (to + rank-offset) 0, component),
+    ) ⌝ }
+{
+    let x = a.exponents;
+    let d = row_by_code(code, x, total, e, table, to + words::EXPONENTS_OFFSET);
+    if decided(d) {
+        return d;
+    }
+    let t = numbers(
+        words::wider(a.rank),
+        words::wider(table[to + words::RANK_OFFSET]),
+    );
+    if decided(t) {
+        return t;
+    }
+    numbers(words::wider(a.component), words::wider(component))
+}
+
+// Where the table lacks the component: the row's image is the row itself. By `compare_images`: called here too, `against_image` would no longer become part
+// of the loop around it.
+fn against_own(code: u16, a: Image, e: u64, component: u16) -> Comparison
+    ensures { λ c. ⌜ comparison-of c ≡ compare-keys code (key-of a) (unpack e, (0, component)) ⌝ }
+{
+    let b = Image {
+        exponents: monomial::widened(e),
+        rank: 0,
+        component,
+    };
+    compare_images(code, a, b)
+}
+
 // An image with its total degree against the image of row i.
 pub fn against_row(
     code: u16,
@@ -367,6 +539,23 @@ pub fn against_row(
         × (total ≡ degree (a .exponents)) ⌝ }
     ensures { λ c. ⌜ comparison-of c ≡ compare-keys code (key-of a) (key (table-of r (now (table .entry))) (row-at (now (s .entry)) i .1)) ⌝ }
 {
-    let b = image_of_row(s, i, table, r);
-    against_image(code, a, total, b)
+    let at = i * words::ROW_LENGTH;
+    let component = s[at + words::COMPONENT_OFFSET];
+    let c = words::place(component);
+    let e = words::long(s, at + words::EXPONENTS_OFFSET);
+    if c == 0 {
+        return against_own(code, a, e, component);
+    }
+    if r < c {
+        return against_own(code, a, e, component);
+    }
+    against_tabled(
+        code,
+        a,
+        total,
+        e,
+        component,
+        table,
+        c * words::IMAGE_LENGTH - words::IMAGE_LENGTH,
+    )
 }

@@ -72,7 +72,8 @@ loop-again c =
       omega (arith, c .found-mark .ensures .1),
       omega arith,
       counted-step (λ j. place-mark (seek (row-at (a .s .now) j .1) v 0)) (l .i) (l .k) (c .found-mark .result) (l .inv .2)
-          (c .found-mark .ensures .0 ∙ ap place-mark (c .before .find .ensures) ∙ ap (λ t. place-mark (seek (t .1) v 0)) (c .before .before .before .row .ensures)),
+          (c .found-mark .ensures .0 ∙ ap place-mark (c .before .find .ensures)
+          ∙ ap (λ t. place-mark (seek (t .1) v 0)) (c .before .before .before .row .ensures)),
     )
 
 returns-3 : tie.Need-returns-3 Inv-loop μ-loop
