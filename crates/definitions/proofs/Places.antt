@@ -10,7 +10,7 @@ use Rattle.definitions.specs.Places.{most-tree-terms, most-levels, all-l
 use Rattle.definitions.specs.Places.{exponents-offset, rank-offset, counts-length}
 use Rattle.definitions.specs.Places.{rows-start, level-length, state-length, count-offset, ends-offset, rows-offset, value-length, tree-length}
 use Rattle.definitions.specs.Places.{vector-length, heads-length, images-length, spans-length, tables-spans, tables-ends, tables-below, tables-above}
-use Rattle.definitions.specs.Places.{tables-length}
+use Rattle.definitions.specs.Places.{most-image, tables-length}
 use Rattle.definitions.specs.Places.{ends-length, lifted-length, grown-length, file-length, read-length, s-line-length, pair-line-length, s-lines-length}
 use Rattle.definitions.specs.Places.{level-lines-length, all-lines-length, sheet-length}
 
@@ -23,8 +23,8 @@ limits-are : (exponents-length ≡ document-01 .variables) × (most-exponent ≡
     × (most-rows ≡ document-01 .t-lines) × (most-rows ≡ level-rows document-01) × (most-terms ≡ document-01 .working)
     × (most-terms ≡ document-01 .vector)
     × (most-tree-terms ≡ document-01 .tree) × (most-levels ≡ document-01 .levels) × (all-levels ≡ suc (document-01 .levels))
-    × (file-length ≡ document-01 .file) × (read-length ≡ suc file-length)
-limits-are = (refl, refl, refl, refl, refl, refl, refl, refl, refl, refl, refl, refl, refl, refl, refl, refl)
+    × (file-length ≡ document-01 .file) × (read-length ≡ suc file-length) × (most-image ≡ all-levels * most-exponent)
+limits-are = (refl, refl, refl, refl, refl, refl, refl, refl, refl, refl, refl, refl, refl, refl, refl, refl, refl)
 
 -- of rows
 row-is : (row-length ≡ exponents-offset + packed-length) × (image-length ≡ exponents-offset + exponents-length) × (exponents-offset ≡ suc component-offset)

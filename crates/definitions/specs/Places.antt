@@ -45,6 +45,10 @@ most-levels = 9
 abbrev pub all-levels : ℕ
 all-levels = 10
 
+-- the largest exponent of an image in a table of images: each level below adds most-exponent at the most
+abbrev pub most-image : ℕ
+most-image = 2_550
+
 -- ## Rows
 
 -- the words of a number that holds eight exponents

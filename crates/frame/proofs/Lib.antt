@@ -1,4 +1,3 @@
-pub mod Multiples
 pub mod Ascending
 pub mod Minimal
 pub mod Components

@@ -72,15 +72,14 @@ fn word(out: &mut [u8], at: usize, v: u16) -> usize
 }
 
 // The first n exponents.
-fn exponents(out: &mut [u8], at: usize, e: [u8; words::EXPONENTS_LENGTH], n: usize) -> usize
+fn exponents(out: &mut [u8], at: usize, e: [u16; words::EXPONENTS_LENGTH], n: usize) -> usize
     requires { ⌜ (n ≤ 8) × (at + n * 6 ≤ length (now out)) ⌝ }
     ensures { λ r. ⌜ Printed (now (out .entry)) (now (out .exit)) at r (listed (take n e)) × (r ≤ at + n * 6) ⌝ }
 {
     let mut a = at;
     let mut j = 0;
     while j < n {
-        let x = words::wide(e[j]);
-        a = word(out, a, x);
+        a = word(out, a, e[j]);
         j += 1;
     }
     a
@@ -92,7 +91,7 @@ fn term(out: &mut [u8], at: usize, t: Term, n: usize) -> usize
     ensures { λ r. ⌜ Printed (now (out .entry)) (now (out .exit)) at r (listed (term-fields n (term-of t))) × (r ≤ at + 60) ⌝ }
 {
     let m = t.monomial;
-    let e = monomial::apart(m.exponents);
+    let e = monomial::widened(m.exponents);
     let a = word(out, at, t.coefficient);
     let b = word(out, a, m.component);
     exponents(out, b, e, n)

@@ -146,23 +146,7 @@ pub fn packed(e: [u8; words::EXPONENTS_LENGTH]) -> u64
     h * 0x0001_0000_0000 + l
 }
 
-// The exponents as they are printed.
-pub fn apart(x: u64) -> [u8; words::EXPONENTS_LENGTH]
-    ensures { λ r. ⌜ r ≡ unpack x ⌝ }
-{
-    [
-        (x / 0x0100_0000_0000_0000) as u8,
-        (x / 0x0001_0000_0000_0000 % 256) as u8,
-        (x / 0x0100_0000_0000 % 256) as u8,
-        (x / 0x0001_0000_0000 % 256) as u8,
-        (x / 0x0100_0000 % 256) as u8,
-        (x / 0x0001_0000 % 256) as u8,
-        (x / 0x0100 % 256) as u8,
-        (x % 256) as u8,
-    ]
-}
-
-// .. in sixteen bits each, as images are formed of them.
+// The exponents as they are printed, and as images are formed of them.
 pub fn widened(x: u64) -> [u16; words::EXPONENTS_LENGTH]
     ensures { λ r. ⌜ r ≡ unpack x ⌝ }
 {
@@ -212,12 +196,12 @@ impl Monomial {
         same_exponents(self.exponents, other.exponents)
     }
 
-    // self / other, where other divides self.
+    // self / other; where an exponent of other is larger, 0 is left. By the lcm, which other divides.
     pub fn quotient(self, other: Monomial) -> u64
-        requires { ⌜ divides? (monomial-of other .0) (monomial-of self .0) ≡ true ⌝ }
         ensures { λ r. ⌜ unpack r ≡ quotient-definition (monomial-of self .0) (monomial-of other .0) ⌝ }
     {
-        quotient_exponents(self.exponents, other.exponents)
+        let e = lcm_exponents(self.exponents, other.exponents);
+        quotient_exponents(e, other.exponents)
     }
 
     pub fn lcm(self, other: Monomial) -> Monomial

@@ -3,18 +3,16 @@ use mathlib.Core.Path.{_≡_, refl, sym, ap, _∙_, subst}
 use mathlib.Core.List.{[], _∷_}
 use Prim.Native.Nat.{ℕ, zero, suc, _+_, _-_, _*_, _/_, _%_, _<_, _≤_}
 use native.Mathlib.Omega.{arith}
-use native.Mathlib.Nat.{mod-eq-of-lt}
-use lib.Bits.{bitAnd, bitOr, and-high, and-le-l, and-le-r, or-lt, or-block, or-add-and}
 use lib.ListN.{length, getD}
 use Rattle.definitions.specs.Monomial.{product, degree}
 use Rattle.definitions.specs.Layout.{Words, long-at, row-at}
 use Rattle.definitions.specs.Packed.{unpack, four, long-bound}
-use Rattle.definitions.specs.Places.{row-length, image-length, component-offset, exponents-offset}
+use Rattle.definitions.specs.Places.{most-image, row-length, image-length, component-offset, exponents-offset}
 use Rattle.laws.proofs.Packing.{Bytes, bytes-of, unpack-is, unpack-long}
 use Rattle.laws.proofs.Rows.{row-is}
 use Rattle.monomial.specs.Values.{pair-lanes, lane-sum}
 use Rattle.monomial.proofs.Places.{getD-product, length-product}
-use Rattle.monomial.proofs.Lanes.{and4, sums}
+use Rattle.monomial.proofs.Lanes.{sums}
 use Rattle.monomial.proofs.Bytewise.{lane-sum-four, e1, e8}
 use Rattle.orders.specs.Images.{Key, Bounded, exponents-raw, row-image, table-of, key}
 use Rattle.orders.proofs.Comparing.{getD-raw}
@@ -115,60 +113,11 @@ behind-on e i j f h p l a k m q r =
 
 -- ## The degree, in lanes
 
-or4 : (a b c d p q r s : ℕ) → b < 65536 → c < 65536 → d < 65536 → q < 65536 → r < 65536 → s < 65536
-    → bitOr (four a b c d) (four p q r s) ≡ four (bitOr a p) (bitOr b q) (bitOr c r) (bitOr d s)
-or4 a b c d p q r s hb hc hd hq hr hs =
-    or-block 16 ((a * 65536 + b) * 65536 + c) ((p * 65536 + q) * 65536 + r) d s hd hs
-    ∙ ap (λ n. n * 65536 + bitOr d s)
-    (or-block 16 (a * 65536 + b) (p * 65536 + q) c r hc hr ∙ ap (λ n. n * 65536 + bitOr c r) (or-block 16 a p b q hb hq))
-
--- what twelve bits can hold is below this
-abbrev pub twelve-bits : ℕ
-twelve-bits = 16 * 256
-
--- the four top bits of a word and of another are clear
-pub record Low (x y : ℕ) : Type 0 where
-  pub left : x < twelve-bits
-  pub right : y < twelve-bits
-
-top-clear : (n : ℕ) → n < 65536 → n / twelve-bits % 16 * twelve-bits ≡ 0 → n < twelve-bits
-top-clear n b t =
-    let q : n / twelve-bits < 16 = omega arith in
-    let w : n / twelve-bits * twelve-bits ≡ 0 = ap (λ k. k * twelve-bits) (sym (mod-eq-of-lt q)) ∙ t in
-    omega (arith, w)
-
-low : (x y : ℕ) → x < 65536 → y < 65536 → bitAnd (bitOr x y) 61440 ≡ 0 → Low x y
-low x y hx hy e =
-    let m : bitOr x y < twelve-bits = top-clear (bitOr x y) (or-lt 16 x y hx hy) (sym (and-high (bitOr x y) 4 12) ∙ e) in
-    let s : bitOr x y + bitAnd x y ≡ x + y = or-add-and x y in
-    record {
-      left = omega (arith, and-le-r x y, s, m);
-      right = omega (arith, and-le-l x y, s, m);
-    }
-
--- the four top bits of each lane
-abbrev pub lane-tops : ℕ
-lane-tops = 17_294_086_455_919_964_160
-
-module _ (a b c d p q r s : ℕ) (ha : a < 65536) (hb : b < 65536) (hc : c < 65536) (hd : d < 65536) (hp : p < 65536) (hq : q < 65536) (hr : r < 65536)
-    (hs : s < 65536) (z : bitAnd (bitOr (four a b c d) (four p q r s)) lane-tops ≡ 0) where
-  tops : four (bitAnd (bitOr a p) 61440) (bitAnd (bitOr b q) 61440) (bitAnd (bitOr c r) 61440) (bitAnd (bitOr d s) 61440) ≡ 0
-  tops =
-      sym (ap (λ n. bitAnd n lane-tops) (or4 a b c d p q r s hb hc hd hq hr hs)
-      ∙ and4 (bitOr a p) (bitOr b q) (bitOr c r) (bitOr d s) 61440 61440 61440 61440 (or-lt 16 b q hb hq) (or-lt 16 c r hc hr) (or-lt 16 d s hd hs)
-      (omega arith) (omega arith) (omega arith)) ∙ z
-
-  lane-1 : Low a p
-  lane-1 = low a p ha hp (omega (arith, tops))
-
-  lane-2 : Low b q
-  lane-2 = low b q hb hq (omega (arith, tops))
-
-  lane-3 : Low c r
-  lane-3 = low c r hc hr (omega (arith, tops))
-
-  lane-4 : Low d s
-  lane-4 = low d s hd hs (omega (arith, tops))
+-- eight exponents of eight bits
+pub degree-small : (x : ℕ) → x < long-bound → degree (unpack x) ≤ 8 * 255
+degree-small x h =
+    let b = bytes-of x h in
+    subst (λ e. degree e ≤ 8 * 255) (sym (b .spelled)) (omega (arith, b .s1, b .s2, b .s3, b .s4, b .s5, b .s6, b .s7, b .s8))
 
 -- the words of a table's entry, from word b on
 entry-words : (t : Words) (b : ℕ) → long-at t (b + 4) ≡ four (getD t (b + 7) 0) (getD t (b + 6) 0) (getD t (b + 5) 0) (getD t (b + 4) 0)
@@ -178,48 +127,9 @@ entry-words t b =
     let z : b + 4 + 1 ≡ b + 5 = omega arith in
     λ i. four (getD t (x i) 0) (getD t (y i) 0) (getD t (z i) 0) (getD t (b + 4) 0)
 
-module _ (e : ℕ) (a : Bytes e) (t : Words) (b : ℕ) (k : Bounded t b) (z : bitAnd (bitOr (long-at t b) (long-at t (b + 4))) lane-tops ≡ 0) where
-  word : (j : ℕ) → j < 8 → getD t (b + j) 0 < 65536
-  word j h = omega (arith, k j h)
-
-  word-0 : getD t b 0 < 65536
-  word-0 = let q : b + 0 ≡ b = omega arith in subst (λ n. getD t n 0 < 65536) q (word 0 (omega arith))
-
-  w1 : getD t (b + 1) 0 < 65536
-  w1 = word 1 (omega arith)
-
-  w2 : getD t (b + 2) 0 < 65536
-  w2 = word 2 (omega arith)
-
-  w3 : getD t (b + 3) 0 < 65536
-  w3 = word 3 (omega arith)
-
-  w4 : getD t (b + 4) 0 < 65536
-  w4 = word 4 (omega arith)
-
-  w5 : getD t (b + 5) 0 < 65536
-  w5 = word 5 (omega arith)
-
-  w6 : getD t (b + 6) 0 < 65536
-  w6 = word 6 (omega arith)
-
-  w7 : getD t (b + 7) 0 < 65536
-  w7 = word 7 (omega arith)
-
-  clear : bitAnd (bitOr (long-at t b) (four (getD t (b + 7) 0) (getD t (b + 6) 0) (getD t (b + 5) 0) (getD t (b + 4) 0))) lane-tops ≡ 0
-  clear = ap (λ n. bitAnd (bitOr (long-at t b) n) lane-tops) (sym (entry-words t b)) ∙ z
-
-  l1 : Low (getD t (b + 3) 0) (getD t (b + 7) 0)
-  l1 = lane-1 _ _ _ _ _ _ _ _ w3 w2 w1 word-0 w7 w6 w5 w4 clear
-
-  l2 : Low (getD t (b + 2) 0) (getD t (b + 6) 0)
-  l2 = lane-2 _ _ _ _ _ _ _ _ w3 w2 w1 word-0 w7 w6 w5 w4 clear
-
-  l3 : Low (getD t (b + 1) 0) (getD t (b + 5) 0)
-  l3 = lane-3 _ _ _ _ _ _ _ _ w3 w2 w1 word-0 w7 w6 w5 w4 clear
-
-  l4 : Low (getD t b 0) (getD t (b + 4) 0)
-  l4 = lane-4 _ _ _ _ _ _ _ _ w3 w2 w1 word-0 w7 w6 w5 w4 clear
+module _ (e : ℕ) (a : Bytes e) (t : Words) (b : ℕ) (k : Bounded t b) where
+  first : getD t b 0 ≤ most-image
+  first = let q : b + 0 ≡ b = omega arith in subst (λ n. getD t n 0 ≤ most-image) q (k 0 (omega arith))
 
   abbrev s1 : ℕ
   s1 = a .d1 + a .d2 + getD t (b + 3) 0 + getD t (b + 7) 0
@@ -242,16 +152,16 @@ module _ (e : ℕ) (a : Bytes e) (t : Words) (b : ℕ) (k : Bounded t b) (z : bi
       (getD t (b + 7) 0) (getD t (b + 6) 0) (getD t (b + 5) 0) (getD t (b + 4) 0)
 
   r1 : s1 < 16384
-  r1 = omega (arith, l1 .left, l1 .right, a .s1, a .s2)
+  r1 = omega (arith, k 3 (omega arith), k 7 (omega arith), a .s1, a .s2)
 
   r2 : s2 < 16384
-  r2 = omega (arith, l2 .left, l2 .right, a .s3, a .s4)
+  r2 = omega (arith, k 2 (omega arith), k 6 (omega arith), a .s3, a .s4)
 
   r3 : s3 < 16384
-  r3 = omega (arith, l3 .left, l3 .right, a .s5, a .s6)
+  r3 = omega (arith, k 1 (omega arith), k 5 (omega arith), a .s5, a .s6)
 
   r4 : s4 < 16384
-  r4 = omega (arith, l4 .left, l4 .right, a .s7, a .s8)
+  r4 = omega (arith, first, k 4 (omega arith), a .s7, a .s8)
 
   lanes-sum : lane-sum (pair-lanes (unpack e) + long-at t b + long-at t (b + 4)) ≡ s1 + s2 + s3 + s4
   lanes-sum = ap lane-sum row-lanes ∙ lane-sum-four s1 s2 s3 s4 (wider s1 r1) (wider s2 r2) (wider s3 r3) (wider s4 r4)
@@ -276,21 +186,18 @@ module _ (e : ℕ) (a : Bytes e) (t : Words) (b : ℕ) (k : Bounded t b) (z : bi
 
 -- .. from what the code has: x the row's exponents two by two, l and h the table's
 module _ (e : ℕ) (a : Bytes e) (t : Words) (b : ℕ) (k : Bounded t b) (x l h : ℕ) (ex : x ≡ pair-lanes (unpack e)) (el : l ≡ long-at t b)
-    (eh : h ≡ long-at t (b + 4)) (z : bitAnd (bitOr l h) lane-tops ≡ 0) where
+    (eh : h ≡ long-at t (b + 4)) where
   sum-is : x + l + h ≡ pair-lanes (unpack e) + long-at t b + long-at t (b + 4)
   sum-is = λ i. ex i + el i + eh i
 
-  clear-is : bitAnd (bitOr (long-at t b) (long-at t (b + 4))) lane-tops ≡ 0
-  clear-is = (λ i. bitAnd (bitOr (sym el i) (sym eh i)) lane-tops) ∙ z
-
   pub row-fits : x + l + h < long-bound
-  row-fits = subst (λ n. n < long-bound) (sym sum-is) (below e a t b k clear-is)
+  row-fits = subst (λ n. n < long-bound) (sym sum-is) (below e a t b k)
 
   pub row-room : lane-sum (x + l + h) < 65536
-  row-room = subst (λ n. lane-sum n < 65536) (sym sum-is) (roomy e a t b k clear-is)
+  row-room = subst (λ n. lane-sum n < 65536) (sym sum-is) (roomy e a t b k)
 
   pub row-degree : lane-sum (x + l + h) ≡ degree (row-image e t b)
-  row-degree = ap lane-sum sum-is ∙ totals e a t b k clear-is
+  row-degree = ap lane-sum sum-is ∙ totals e a t b k
 
 -- ## The key of a row
 

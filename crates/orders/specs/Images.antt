@@ -11,7 +11,7 @@ use Rattle.definitions.specs.Order as definition
 use Rattle.definitions.specs.Order.{greater, equal, smaller, or-at-tie, numbers, lexicographic, last-differing, exponents-by}
 use Rattle.definitions.specs.Packed.{unpack}
 use Rattle.definitions.specs.Layout.{Words}
-use Rattle.definitions.specs.Places.{image-length, rank-offset, exponents-offset}
+use Rattle.definitions.specs.Places.{most-image, image-length, rank-offset, exponents-offset}
 use Rattle.orders.specs.declared.Comparison.{Comparison}
 use Rattle.orders.specs.declared.Comparison.the-variants.{Greater, Equal, Smaller}
 use Rattle.orders.specs.declared.Image.{Image}
@@ -72,9 +72,9 @@ unfoldable pub table-of : ℕ → Words → Table
 table-of zero s = []
 table-of (suc r) s = table-of r s ++ entry-at s r ∷ []
 
--- the sum with an exponent of eight bits fits sixteen bits
+-- so that an image's exponents, and their sum, fit sixteen bits
 abbrev pub Bounded : Words → ℕ → Type 0
-Bounded s a = (j : ℕ) → j < 8 → getD s (a + j) 0 ≤ 65280
+Bounded s a = (j : ℕ) → j < 8 → getD s (a + j) 0 ≤ most-image
 
 abbrev pub Tabled : ℕ → Words → Type 0
 Tabled r s = (i : ℕ) → i < r → Bounded s (i * image-length + exponents-offset)

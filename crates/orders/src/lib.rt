@@ -16,7 +16,7 @@ ghost use Rattle.definitions.specs.Order.{
 };
 ghost use Rattle.definitions.specs.Packed.{unpack};
 ghost use Rattle.definitions.specs.Layout.{row-at};
-ghost use Rattle.definitions.specs.Places.{row-length, image-length, rank-offset, exponents-offset};
+ghost use Rattle.definitions.specs.Places.{most-image, row-length, image-length, rank-offset, exponents-offset};
 ghost use Rattle.monomial.specs.Values.{monomial-of};
 ghost use Rattle.orders.specs.Images.{
   comparison-of,
@@ -365,7 +365,7 @@ pub fn image_of_row(s: &[u16], i: usize, table: &[u16], r: usize) -> Image
 
 // An exponent of a row and the table's.
 fn joined(d: u64, w: u16) -> u16
-    requires { ⌜ (d < 256) × (w ≤ 65280) ⌝ }
+    requires { ⌜ (d < 256) × (w ≤ most-image) ⌝ }
     ensures { λ r. ⌜ r ≡ d + w ⌝ }
 {
     d as u16 + w
@@ -423,17 +423,38 @@ fn row_last_differing(
     Comparison::Equal
 }
 
-// In lanes of sixteen bits, where the table's exponents are below 4,096.
+// In lanes of sixteen bits.
 fn row_total(e: u64, table: &[u16], to: usize) -> u32
     requires { ⌜ (to + 8 ≤ length (now table)) × Bounded (now table) to ⌝ }
     ensures { λ r. ⌜ r ≡ degree (row-image e (now (table .entry)) to) ⌝ }
 {
     let l = words::long(table, to);
     let h = words::long(table, to + 4);
-    if (l | h) & 0xf000_f000_f000_f000 == 0 {
-        return monomial::added_lanes(monomial::paired(e) + l + h) as u32;
+    monomial::added_lanes(monomial::paired(e) + l + h) as u32
+}
+
+fn own_total(e: u64) -> u32
+    ensures { λ r. ⌜ r ≡ degree (unpack e) ⌝ }
+{
+    monomial::degree_exponents(e) as u32
+}
+
+// The total degree of row i's image.
+pub fn row_degree(s: &[u16], i: usize, table: &[u16], r: usize) -> u32
+    requires { ⌜ (i * row-length + row-length ≤ length (now s)) × (r * image-length ≤ length (now table)) × Tabled r (now table) ⌝ }
+    ensures { λ d. ⌜ d ≡ degree (key (table-of r (now (table .entry))) (row-at (now (s .entry)) i .1) .0) ⌝ }
+{
+    let at = i * words::ROW_LENGTH;
+    let c = words::place(s[at + words::COMPONENT_OFFSET]);
+    let e = words::long(s, at + words::EXPONENTS_OFFSET);
+    if c == 0 {
+        return own_total(e);
     }
-    total(shifted(e, table, to))
+    if r < c {
+        return own_total(e);
+    }
+    let to = c * words::IMAGE_LENGTH - words::IMAGE_LENGTH;
+    row_total(e, table, to + words::EXPONENTS_OFFSET)
 }
 
 fn row_degrees(code: u16, total: u32, e: u64, table: &[u16], to: usize) -> Comparison

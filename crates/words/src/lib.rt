@@ -249,13 +249,6 @@ pub fn wider(x: u16) -> u32
     x as u32
 }
 
-// An exponent as a word.
-pub fn wide(x: u8) -> u16
-    ensures { λ r. ⌜ (r ≡ x) × (r < 256) ⌝ }
-{
-    x as u16
-}
-
 // A word as a part of a number of 64 bits.
 fn part(x: u16) -> u64
     ensures { λ r. ⌜ (r ≡ x) × (r < 65536) ⌝ }

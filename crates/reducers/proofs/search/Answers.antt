@@ -5,12 +5,12 @@ use mathlib.Core.Option.{Option, none, some}
 use mathlib.Core.List.{[], _∷_}
 use Prim.Native.Nat.{ℕ, zero, suc, _+_, _-_, _<_, _≤_}
 use native.Mathlib.Omega.{arith}
-use lib.Dec.{T, ltb, eqb}
+use lib.Dec.{T, ltb}
 use lib.ListN.{length, getD}
 use borrow.Author.Tests.{ltb-true, ltb-false, lt-ltb, le-ltb}
-use Rattle.definitions.specs.Lists.{_and_, choose}
+use Rattle.definitions.specs.Lists.{choose}
 use Rattle.definitions.specs.Field.{times}
-use Rattle.definitions.specs.Monomial.{Monomial, Term, Vector, divides?, divides-monomial?, quotient, no-term}
+use Rattle.definitions.specs.Monomial.{Monomial, Term, Vector, divides-monomial?, quotient, no-term}
 use Rattle.definitions.specs.Reducer.{Answer, reducer, lower-order, answer-from}
 use Rattle.reducers.specs.declared.search.Answer as code
 use Rattle.reducers.specs.declared.search.Answer.the-variants.{Reducer, LowerOrder}
@@ -111,38 +111,11 @@ searched-lower p v t e = go (ltb (first-dividing (t .1) v 0) (length v)) refl e
     go true q f = absurd (subst (λ x. T (found? x)) (sym f) tt)
     go false q f = let n : length v ≤ j = ltb-false j (length v) q in answer-none p v t j refl (omega (arith, first-within p v t))
 
-later : (p q : Bool) → (p and q) ≡ true → q ≡ true
-later true q e = e
-later false q e = absurd (let z : _≡_ {A = ℕ} 0 1 = cc in omega arith)
-
-first-above : (m : Monomial) (v : Vector) (i : ℕ) → i ≤ first-dividing m v i
-first-above m [] i = omega arith
-first-above m (h ∷ v) i = go (divides-monomial? (h .1) m) (first-above m v (suc i))
-  where
-    go : (b : Bool) → suc i ≤ first-dividing m v (suc i) → i ≤ elim b [ true ↦ i | false ↦ first-dividing m v (suc i) ]
-    go true l = omega arith
-    go false l = omega arith
-
--- the head that was found divides
-first-divides : (m : Monomial) (v : Vector) (i j : ℕ) → i + j ≡ first-dividing m v i → j < length v → divides? (getD v j no-term .1 .0) (m .0) ≡ true
-first-divides m [] i j e l = absurd (omega arith)
-first-divides m (h ∷ v) i j e l = go (divides-monomial? (h .1) m) refl j (first-divides m v (suc i)) e l
-  where
-    go : (b : Bool) → divides-monomial? (h .1) m ≡ b → (j : ℕ)
-        → ((k : ℕ) → suc i + k ≡ first-dividing m v (suc i) → k < length v → divides? (getD v k no-term .1 .0) (m .0) ≡ true)
-        → i + j ≡ elim b [ true ↦ i | false ↦ first-dividing m v (suc i) ] → j < suc (length v)
-        → divides? (getD (h ∷ v) j no-term .1 .0) (m .0) ≡ true
-    go true q zero f e l = later (eqb (h .1 .1) (m .1)) (divides? (h .1 .0) (m .0)) q
-    go true q (suc j) f e l = absurd (omega arith)
-    go false q zero f e l = absurd (omega (arith, first-above m v (suc i)))
-    go false q (suc j) f e l = f j (omega arith) (omega arith)
-
 -- element j, whose row has the coefficient h
 pub record Is-reducer (p : ℕ) (v : Vector) (t : Term) (j h : ℕ) : Type 0 where
   pub from : 1 ≤ j
   pub inside : j - 1 < length v
   pub head : h ≡ getD v (j - 1) no-term .0
-  pub divides : divides? (getD v (j - 1) no-term .1 .0) (t .1 .0) ≡ true
   pub answers : reducer j (times p (t .0) h) (quotient (t .1 .0) (getD v (j - 1) no-term .1 .0)) ≡ answer-from p 1 v t
 
 pub searched-reducer : (p : ℕ) (v : Vector) (t : Term) (j h : ℕ) → Reducer j h ≡ searched v (t .1) → Is-reducer p v t j h
@@ -163,7 +136,6 @@ searched-reducer p v t j h e = go (ltb k (length v)) refl e
           from = omega arith;
           inside = omega arith;
           head = y ∙ ap (λ i. getD v i no-term .0) (sym z);
-          divides = ap (λ i. divides? (getD v i no-term .1 .0) (t .1 .0)) z ∙ first-divides (t .1) v 0 k (omega arith) n;
           answers = (λ i. reducer (w i) (times p (t .0) (y i)) (quotient (t .1 .0) (getD v (z i) no-term .1 .0)))
               ∙ answer-one p v t k refl (λ m. omega arith);
         }

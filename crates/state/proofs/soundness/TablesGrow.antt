@@ -13,7 +13,7 @@ use Rattle.definitions.specs.Monomial.{Monomial}
 use Rattle.definitions.specs.Order.{Comparison}
 use Rattle.definitions.specs.Layout.{Words, ends-at}
 use Rattle.laws.proofs.Tests.{and-left, and-right, between-high}
-use Rattle.definitions.specs.Places.{most-exponent, most-elements, most-vectors, most-rows, most-terms, all-levels, image-length, rank-offset}
+use Rattle.definitions.specs.Places.{most-image, most-exponent, most-elements, most-vectors, most-rows, most-terms, all-levels, image-length, rank-offset}
 use Rattle.definitions.specs.Places.{exponents-offset, state-length, count-offset, ends-offset, rows-offset}
 use Rattle.orders.specs.Images.{Table, entry-at, table-of, table-order, Tabled}
 use Rattle.orders.specs.Levels.{table-over}
@@ -158,5 +158,5 @@ advanced s k n r d old below above en er room long e made raised = record {
 
 pub copied-tabled : (s : Words) (k n : ℕ) (d old below : Words) → n ≡ count-below s k → n * image-length ≤ length d → n * image-length ≤ length old → below
     ≡ paste d 0 old (n * image-length) → Tabled (count-below s k) old → Tabled n below
-copied-tabled s k n d old below en room long e t = subst (Capped 65280 n) (sym e)
-    (copied-cap d old n room long 65280 (subst (λ m. Capped 65280 m old) (sym en) t))
+copied-tabled s k n d old below en room long e t = subst (Capped most-image n) (sym e)
+    (copied-cap d old n room long most-image (subst (λ m. Capped most-image m old) (sym en) t))

@@ -1,11 +1,9 @@
 use native.Mathlib.Omega.{arith}
-use mathlib.Core.Path.{_≡_, refl, ap, _∙_}
-use mathlib.Core.List.{_∷_, _++_}
+use mathlib.Core.Path.{_≡_, refl, ap}
 use Prim.Native.Nat.{_+_, _-_, _*_, _≤_}
-use lib.ListN.{length, take, getD}
+use lib.ListN.{length, take}
 use Rattle.listing.specs.printing.Lines.{Printed, listed}
 use Rattle.listing.proofs.printing.Spelling.{nothing, after, spelled, listed-more}
-use Rattle.definitions.specs.Sheet.{decimal}
 use Rattle.listing.proofs.printing.exponents.Statement.{statement}
 use Rattle.listing.proofs.printing.exponents.Tie as tie
 
@@ -18,11 +16,8 @@ abbrev μ-loop : tie.MeasureT-loop
 loop-holds : tie.Need-loop-holds Inv-loop μ-loop
 loop-holds c = (omega arith, refl, nothing _ _, omega arith)
 
-array-read-wide : tie.Need-array-read-wide Inv-loop μ-loop
-array-read-wide c = omega arith
-
-wide-requires : tie.Need-wide-requires Inv-loop μ-loop
-wide-requires c κs = omega arith
+array-read-word : tie.Need-array-read-word Inv-loop μ-loop
+array-read-word c = omega arith
 
 word-requires : tie.Need-word-requires Inv-loop μ-loop
 word-requires c κs = omega arith
@@ -35,12 +30,11 @@ loop-less c = omega arith
 
 loop-again : tie.Need-loop-again Inv-loop μ-loop
 loop-again c =
-    let L = c .before .before .before .before .before .before .loop in
-    let a = c .before .before .before .before .before .before .before .before .args in
-    let x : c .before .before .before .before .wide .result ≡ getD (a .t3) (L .j) 0 = c .before .before .before .before .wide .ensures .0 in (
+    let L = c .before .before .before .before .loop in
+    let a = c .before .before .before .before .before .before .args in (
       omega arith,
       omega arith,
-      spelled (ap (λ z. listed (take (L .j) (a .t3)) ++ 44 ∷ decimal z) x ∙ listed-more (a .t3) (L .j) (omega arith))
+      spelled (listed-more (a .t3) (L .j) (omega arith))
           (after (L .inv .2) (c .before .before .word .ensures .0)),
       omega (arith, L .inv .3, c .before .before .word .ensures .1),
     )
@@ -62,8 +56,7 @@ exponents-spec =
     Inv-loop
     μ-loop
     loop-holds
-    array-read-wide
-    wide-requires
+    array-read-word
     word-requires
     add-j
     loop-less

@@ -7,8 +7,8 @@ use Rattle.listing.proofs.printing.Spelling.{after, spelled}
 use Rattle.listing.proofs.printing.term.Statement.{statement}
 use Rattle.listing.proofs.printing.term.Tie as tie
 
-apart-requires : tie.Need-apart-requires
-apart-requires c κs = search needs
+widened-requires : tie.Need-widened-requires
+widened-requires c κs = search needs
 
 word-requires : tie.Need-word-requires
 word-requires c κs = omega (arith, c .before .before .before .before .pre .1)
@@ -47,12 +47,12 @@ returns c =
     let n =
     let at-8 = c .before .before .before .before .before .before .before .before in
     (at-8 .before .before .before .before .before .before .before) .args .n in
-    let apart-there =
+    let widened-there =
     let at-8 = c .before .before .before .before .before .before .before .before in
-    (at-8 .before .before .before .before) .apart in (
+    (at-8 .before .before .before .before) .widened in (
       after (word-there .ensures .0)
           (after (c .before .before .before .before .before .before .word2 .ensures .0)
-          (spelled (ap (λ e. listed (take n e)) (apart-there .ensures)) (c .before .before .exponents .ensures .0))),
+          (spelled (ap (λ e. listed (take n e)) (widened-there .ensures)) (c .before .before .exponents .ensures .0))),
       omega (
         arith,
         asked .0,
@@ -64,4 +64,4 @@ returns c =
 
 pub term-spec : {M : Type 1} → statement M
 term-spec =
-    tie.close (tie.spec apart-requires word-requires word-requires-2 exponents-requires same-length returns)
+    tie.close (tie.spec widened-requires word-requires word-requires-2 exponents-requires same-length returns)

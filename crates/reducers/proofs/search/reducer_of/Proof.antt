@@ -6,7 +6,7 @@ use lib.ListN.{getD}
 use Rattle.reducers.proofs.search.Answers.{searched-lower, searched-reducer, Is-reducer}
 use Rattle.definitions.specs.Layout.{row-at, rows}
 use Rattle.laws.proofs.Rows.{getD-rows, length-rows}
-use Rattle.definitions.specs.Monomial.{no-term, quotient, divides?}
+use Rattle.definitions.specs.Monomial.{no-term, quotient}
 use Rattle.vectors.specs.terms.Rows.{term-of}
 use Rattle.definitions.specs.Reducer.{reducer}
 use Rattle.reducers.proofs.search.reducer_of.Statement.{statement}
@@ -52,20 +52,7 @@ times-requires : tie.Need-times-requires
 times-requires c κs = search needs
 
 quotient-requires : tie.Need-quotient-requires
-quotient-requires c κs =
-    let at-6 = c .before .before .before .before .before .before in
-    let a = at-6 .before .before .before .before .args in
-    let z = a .heads .now in
-    let v = rows z 0 (a .r) in
-    let f = c .before .before .before .before .found .given in
-    let j = f .0 .0 in
-    let h = f .0 .1 .0 in
-    let i : Is-reducer (a .p) v (term-of (a .t)) j h = searched-reducer (a .p) v (term-of (a .t)) j h (sym (f .1) ∙ at-6 .search .ensures) in
-    let l : j - 1 < a .r = omega (arith, i .inside, length-rows z 0 (a .r)) in
-    let q : 0 + (j - 1) ≡ j - 1 = omega arith in
-    let w : term-of (c .before .before .row .result) ≡ getD v (j - 1) no-term = c .before .before .row .ensures
-    ∙ sym (getD-rows z 0 (a .r) (j - 1) no-term l ∙ ap (row-at z) q) in
-    ap (λ u. divides? (u .1 .0) (term-of (a .t) .1 .0)) w ∙ i .divides
+quotient-requires c κs = search needs
 
 returns-2 : tie.Need-returns-2
 returns-2 c =
