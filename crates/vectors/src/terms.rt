@@ -5,7 +5,7 @@ ghost use mathlib.Core.Path.{_≡_};
 ghost use Prim.Native.Nat.{_+_, _-_, _*_, _≤_, _<_};
 ghost use lib.ListN.{length, set};
 ghost use lib.Seq.{paste};
-ghost use Rattle.definitions.specs.Monomial.{same-monomial?};
+ghost use Rattle.definitions.specs.Monomial.{same-exponents?, same-monomial?};
 ghost use Rattle.definitions.specs.Packed.{unpack};
 ghost use Rattle.definitions.specs.Layout.{row-at, row-of};
 ghost use Rattle.laws.proofs.Packing.{Eight};
@@ -80,7 +80,17 @@ pub fn set_coefficient(s: &mut [u16], i: usize, c: u16)
     s[i * words::ROW_LENGTH] = c;
 }
 
-// Whether row i has the monomial: its exponents decide mostly, and are one number.
+// Whether row i has these exponents: they are one number.
+pub fn with_exponents(s: &[u16], i: usize, x: u64) -> bool
+    requires { ⌜ i * row-length + row-length ≤ length (now s) ⌝ }
+    ensures { λ r. ⌜ r ≡ same-exponents? (unpack x) (row-at (now (s .entry)) i .1 .0) ⌝ }
+{
+    let t = row(s, i);
+    let m = t.monomial;
+    monomial::same_exponents(x, m.exponents)
+}
+
+// Whether row i has the monomial: its exponents decide mostly.
 pub fn same_row(s: &[u16], i: usize, m: Monomial) -> bool
     requires { ⌜ i * row-length + row-length ≤ length (now s) ⌝ }
     ensures { λ r. ⌜ r ≡ same-monomial? (monomial-of m) (row-at (now (s .entry)) i .1) ⌝ }

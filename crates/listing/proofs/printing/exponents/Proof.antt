@@ -16,6 +16,9 @@ abbrev μ-loop : tie.MeasureT-loop
 loop-holds : tie.Need-loop-holds Inv-loop μ-loop
 loop-holds c = (omega arith, refl, nothing _ _, omega arith)
 
+mul-word : tie.Need-mul-word Inv-loop μ-loop
+mul-word c = omega arith
+
 array-read-word : tie.Need-array-read-word Inv-loop μ-loop
 array-read-word c = omega arith
 
@@ -30,8 +33,8 @@ loop-less c = omega arith
 
 loop-again : tie.Need-loop-again Inv-loop μ-loop
 loop-again c =
-    let L = c .before .before .before .before .loop in
-    let a = c .before .before .before .before .before .before .args in (
+    let L = c .before .before .before .before .before .loop in
+    let a = c .before .before .before .before .before .before .before .args in (
       omega arith,
       omega arith,
       spelled (listed-more (a .t3) (L .j) (omega arith))
@@ -56,6 +59,7 @@ exponents-spec =
     Inv-loop
     μ-loop
     loop-holds
+    mul-word
     array-read-word
     word-requires
     add-j
