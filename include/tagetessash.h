@@ -11,7 +11,7 @@
  *
  * Each of the three calls returns a number, 0 or a refusal's, and writes its place (see below). After
  *     11, 12, 16            no buffer is changed
- *     1 to 9, 13 to 15      every buffer lent for writing is zero throughout, the state with it; but 9 leaves a value in the work area
+ *     1 to 9, 13 to 15, 18  every buffer lent for writing is zero throughout, the state with it; but 9 leaves a value in the work area
  *     0                     the work area, the cache and what is unused of the state and of out are zero
  */
 #ifndef TAGETESSASH_H
@@ -27,9 +27,10 @@ extern "C" {
 /* Grows with every change of a function here, of the state's layout, of which vectors a level has or of what the sheet prints.
  *     1    an exponent has a word of its own, a row ten words
  *     2    the exponents are packed, a row has six words; what the accessors below give and what the sheet prints is as it was
- * Version 1's buffers are long enough for version 2: a program that was compiled with that header is refused nothing and reads other words. Only the version
- * tells it. */
-#define TAGETESSASH_VERSION 2
+ *     3    the state has degrees behind its rows, a D line is read, 18 is answered; all that a state of version 2 holds stands where it stood
+ * Version 1's buffers are long enough for version 3: a program that was compiled with that header is refused nothing and reads other words. Only the version
+ * tells it. One of version 2 lends a state that is too short: where it does not ask for the version, every call answers 16. */
+#define TAGETESSASH_VERSION 3
 
 /* How many bytes of stack a call finds enough, from where it is called, so that a thread of this size and what its own functions need is safe. Of the stack
  * alone the library can not tell you that it is too small: the process dies. All calls but the tree's have arrays of fixed length and do not call themselves:
@@ -40,16 +41,17 @@ extern "C" {
 #define TAGETESSASH_TREE_STACK_BYTES 4194304
 
 /* How many words a buffer has at the least; a shorter one is refused with 16, a longer one may be lent. The file and the cache may have any length. */
-#define TAGETESSASH_STATE_WORDS 124175
+#define TAGETESSASH_STATE_WORDS 125471
 #define TAGETESSASH_WORK_WORDS 3072       /* to read, and to lift by division or hybrid */
 #define TAGETESSASH_TREE_WORK_WORDS 24576 /* to lift by the tree */
 #define TAGETESSASH_OUT_WORDS 3072
 #define TAGETESSASH_SHEET_BYTES 1400000   /* the sheet's out has bytes */
 
-/* The most that there can be. A longer file is refused with 1, T lines for more terms of level 0 with 8, more terms of a vector or of the tree's work area with
- * 14, more vectors or terms of a level above 0 with 15. */
+/* The most that there can be. A longer file is refused with 1, more variables or components with 3, T lines for more terms of level 0 with 8, more terms of a
+ * vector or of the tree's work area with 14, more vectors or terms of a level above 0 with 15. */
 #define TAGETESSASH_FILE_BYTES 65536
 #define TAGETESSASH_VARIABLES 8
+#define TAGETESSASH_COMPONENTS 16
 #define TAGETESSASH_HIGHEST_LEVEL 9
 #define TAGETESSASH_LEVEL_VECTORS 128
 #define TAGETESSASH_LEVEL_TERMS 2048
@@ -77,6 +79,8 @@ extern "C" {
 #define TAGETESSASH_COUNTS_WORDS 129  /* .. so many words behind it the next level's */
 #define TAGETESSASH_ROWS_AT 1295      /* the rows of level 0, vector after vector; .. */
 #define TAGETESSASH_LEVEL_WORDS 12288 /* .. so many words behind them the next level's */
+#define TAGETESSASH_DEGREES_AT 124175 /* the degrees of the components, the first one's first */
+#define TAGETESSASH_CARRIED_AT 124191 /* the degrees that level 0's elements carry; TAGETESSASH_LEVEL_VECTORS words behind them the next level's */
 
 /* By which way a level is lifted. All three give the same vectors wherever they are not refused; 13 to 15 may come by one and not by another. */
 enum {
@@ -105,6 +109,7 @@ enum {
     TAGETESSASH_NOT_DESCENDING = 6, /* term not below the one before it in its element */
     TAGETESSASH_BAD_COUNT = 7,      /* E's count is 0 or not the number of T lines */
     TAGETESSASH_TOO_MANY_TERMS = 8, /* a 2,049th T line */
+    TAGETESSASH_BAD_DEGREE = 18,    /* a component's degree is above 255 */
 
     /* no Groebner basis: the place is the number of a frame term whose division stops, and the work area holds the value where it stops, in rows */
     TAGETESSASH_NO_BASIS = 9,
@@ -237,6 +242,24 @@ static inline const uint16_t *tagetessash_rows(const uint16_t *state, size_t lev
         : NULL;
 }
 
+/* Degrees. A component has the degree that the file's D line says, 0 without one. A vector has that of its leading monomial's image in level 0's module: the
+ * sum of the monomial's exponents, plus the degree of its component (level 0) or of the vector of the level below that its component stands for. Every element
+ * and vector carries it in the state; a state where one does not is no accepted basis (11). */
+
+/* the degree of component 1 to s; 0 for a component that there is not */
+static inline uint16_t tagetessash_component_degree(const uint16_t *state, size_t component)
+{
+    return component != 0 && component <= tagetessash_components(state) ? state[TAGETESSASH_DEGREES_AT + component - 1] : 0;
+}
+
+/* the degree that a vector carries, of level 0 an element; 0 for a vector that there is not */
+static inline uint16_t tagetessash_degree(const uint16_t *state, size_t level, size_t vector)
+{
+    return vector != 0 && vector <= tagetessash_count(state, level)
+        ? state[TAGETESSASH_CARRIED_AT + TAGETESSASH_LEVEL_VECTORS * level + vector - 1]
+        : 0;
+}
+
 /* What a number means, in words. */
 static inline const char *tagetessash_meaning(uint16_t number)
 {
@@ -257,6 +280,7 @@ static inline const char *tagetessash_meaning(uint16_t number)
     case TAGETESSASH_TERM_LIMIT: return "a working value, a vector or the tree's work area is full";
     case TAGETESSASH_LEVEL_LIMIT: return "a level has too many frame terms or too many terms";
     case TAGETESSASH_SHORT_BUFFER: return "a buffer is too short";
+    case TAGETESSASH_BAD_DEGREE: return "a component's degree is above 255";
     default: return "no number of a call";
     }
 }
@@ -264,7 +288,7 @@ static inline const char *tagetessash_meaning(uint16_t number)
 /* What a number's place counts; null for numbers whose place is 0. */
 static inline const char *tagetessash_place_name(uint16_t number)
 {
-    if (number >= TAGETESSASH_BAD_LINE && number <= TAGETESSASH_TOO_MANY_TERMS)
+    if ((number >= TAGETESSASH_BAD_LINE && number <= TAGETESSASH_TOO_MANY_TERMS) || number == TAGETESSASH_BAD_DEGREE)
         return "line";
     if (number == TAGETESSASH_NO_BASIS)
         return "frame term";

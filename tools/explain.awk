@@ -10,7 +10,9 @@ FILENAME == ARGV[1] { line[++lines] = $0; next }
 /^W,/ { value[++terms] = $0 }
 END {
     if (lines > 0) { split(line[1], ring, ","); p = ring[2]; n = ring[3]; code = ring[4]; s = ring[5] }
-    if (number <= 8 && place > 0) print name ":" place ": " shown(line[place]) hint()
+    # the first T line
+    first_t = line[2] ~ /^D/ ? 3 : 2
+    if ((number <= 8 || number == 18) && place > 0) print name ":" place ": " shown(line[place]) hint()
     if (number == 9) not_a_basis()
 }
 
@@ -39,17 +41,20 @@ function shape(text,    fields, count, want, i) {
     if (text ~ /;/) return "it has ; for ,"
     if (text ~ /[ \t]/) return "it has a blank"
     if (text ~ /[-+]/) return "it has a sign; for -c write p - c"
-    if (text ~ /^[rte],/) return "its letter is a small one"
-    if (text !~ /^[RTE],/) return "it begins with none of R, T, E and a comma"
+    if (text ~ /^[rdte],/) return "its letter is a small one"
+    if (text !~ /^[RDTE],/) return "it begins with none of R, D, T, E and a comma"
     if (place == 1 && text !~ /^R/) return "the first line is R,p,n,order,s"
     if (place > 1 && text ~ /^R/) return "R stands on the first line alone"
     for (i = 2; i < place; i++) if (line[i] ~ /^E/) return "it stands after E; E,count is the last line"
-    if (text !~ /^[RTE](,[0-9]+)+$/) return "a field is no number"
+    if (place > 2 && text ~ /^D/) return "D stands on the second line alone"
+    if (text !~ /^[RDTE](,[0-9]+)+$/) return "a field is no number"
     if (text ~ /,0[0-9]/) return "a number has a leading zero"
     count = split(text, fields, ",") - 1
     for (i = 2; i <= count + 1; i++) if (length(fields[i]) > 5 || fields[i] + 0 > 65535) return "a number is above 65,535"
-    want = text ~ /^R/ ? 4 : text ~ /^E/ ? 1 : n + 3
-    if (count != want) return "it has " count " numbers, and " want (want == 1 ? " is" : " are") " wanted" (text ~ /^T/ ? " for " n " variables" : "")
+    want = text ~ /^R/ ? 4 : text ~ /^D/ ? s + 0 : text ~ /^E/ ? 1 : n + 3
+    if (count != want)
+        return "it has " count (count == 1 ? " number" : " numbers") ", and " want (want == 1 ? " is" : " are") " wanted" \
+            (text ~ /^T/ ? " for " n " variables" : text ~ /^D/ ? ", a degree for each component" : "")
     return ""
 }
 
@@ -64,15 +69,19 @@ function range(text,    fields, before, i, count, better) {
         if (fields[4] + 0 < 1 || fields[4] + 0 > s + 0) return "component " fields[4] " is not 1 to " s
         return "an exponent is above 255"
     }
+    if (number == 18) {
+        for (i = 2; i in fields; i++) if (fields[i] + 0 > 255) return "component " i - 1 " has degree " fields[i]
+        return ""
+    }
     split(line[place - 1], before, ",")
-    if (number == 5) return fields[2] + 0 > 64 ? "64 elements are the most" : "element " fields[2] " after " (place == 2 ? "none" : "element " before[2])
+    if (number == 5) return fields[2] + 0 > 64 ? "64 elements are the most" : "element " fields[2] " after " (place == first_t ? "none" : "element " before[2])
     if (number == 6) {
         for (i = 1; i <= 3; i++) if (compare(i, fields, before) < 0) better = better (better == "" ? "" : " or ") i
         if (better == "") return "line " place - 1 " has the same monomial: add the two up"
         return "it is above line " place - 1 ", " shown(line[place - 1]) "; it would be below it by order code " better ", the first line says " code
     }
     if (number == 7) {
-        for (i = 2; i < place; i++) count++
+        for (i = first_t; i < place; i++) count++
         return "there are " count + 0 " T lines"
     }
     return ""
@@ -90,7 +99,7 @@ function compare(code, a, b,    x, degree) {
 # Frame term PLACE, the two elements that it comes from, and the value. For each i the frame has the minimal generators of (LM f_1 .. LM f_(i-1)) : LM f_i,
 # numbered by ascending lexicographic monomial.
 function not_a_basis(    t, f, elements, e, i, j, k, x, m, found, count, first, text) {
-    for (t = 2; t < lines; t++) {
+    for (t = first_t; t < lines; t++) {
         split(line[t], f, ",")
         if (f[2] != elements) {
             elements = f[2]

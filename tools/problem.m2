@@ -3,8 +3,10 @@
 --     an Ideal   gens gb of it
 --     a Module   gens gb of its presentation: the relations among its generators, so that the module itself is resolved
 -- and standard error says which was taken. Options, as in problem(G, Rank => 3):
---     Rank => s      the rank of the free module, else that of the matrix's target
---     Sort => true   elements with leading terms in one component ascend lexicographically by these; components ascend
+--     Rank => s            the rank of the free module, else that of the matrix's target
+--     Sort => true         elements with leading terms in one component ascend lexicographically by these; components ascend
+--     Degrees => {0, 1}    the degrees of the components, else those of the matrix's target
+-- Degrees are shifted so that the least is 0, and written (the D line) where they are not all the same then; standard error tells the shift.
 -- What a problem file can not say is an error: a file without it would be another problem. docs/GUIDE.md has examples.
 
 -- The order's code; an error in every ring but polynomial rings over ZZ/p with one of the three orders.
@@ -31,6 +33,23 @@ problemCode = R -> (
     if code === null then error("the ring's order is " | kept | "; it must be Lex, GLex or GRevLex (all degrees 1), with Position => Up last");
     code + 1)
 
+-- The degrees of s components of F, or those that were asked for, shifted so that the least is 0, and the shift. They change no vector, so that those that are
+-- all the same need no line.
+problemDegrees = (F, s, asked) -> (
+    d := if asked === null then take(degrees F, s) else apply(asked, x -> {x});
+    if #d != s and asked =!= null then error("there are " | toString (#d) | " degrees, and the free module has rank " | toString s);
+    if #unique d <= 1 then return (toList (s : 0), 0);
+    if #d != s then error("the target has degrees for " | toString (#d) | " components, not for " | toString s | "; say them all, as in Degrees => {0,1,1}");
+    if asked === null and degreeLength ring F != 1 then
+        error("the ring is multigraded: a degree has " | toString degreeLength ring F | " integers, and a D line takes one; say them, as in Degrees => {0,1}");
+    if asked === null and any(degrees ring F, x -> x != {1}) then
+        error("variables have degrees " | toString flatten degrees ring F | ", and a D line goes with variables of degree 1; say one, as in Degrees => {0,1}");
+    d = flatten d;
+    least := min d;
+    for i from 0 to s - 1 do if d#i - least > 255 then
+        error("component " | toString (i + 1) | " has degree " | toString (d#i - least) | " where the least is 0; 255 is the largest");
+    (apply(d, x -> x - least), -least))
+
 problem = arguments -> (
     arguments = if instance(arguments, Sequence) then toList arguments else {arguments};
     G := arguments#0;
@@ -47,10 +66,12 @@ problem = arguments -> (
     rows := numRows g;
     s := rows;
     sorted := false;
+    asked := null;
     for a in drop(arguments, 1) do
         if instance(a, Option) and toString a#0 == "Rank" and instance(a#1, ZZ) then s = a#1
         else if instance(a, Option) and toString a#0 == "Sort" and instance(a#1, Boolean) then sorted = a#1
-        else error "the options are Rank => a number and Sort => true or false";
+        else if instance(a, Option) and toString a#0 == "Degrees" and instance(a#1, List) and all(a#1, x -> instance(x, ZZ)) then asked = a#1
+        else error "the options are Rank => a number, Sort => true or false, and Degrees => a list of integers";
     used := 1 + max({-1} | apply(select(rows, i -> g^{i} != 0), i -> i));
     if s < used then error("component " | toString used | " occurs; the rank can not be " | toString s);
     if s > 16 then error("the free module has rank " | toString s | "; 16 is the most");
@@ -71,8 +92,12 @@ problem = arguments -> (
         if highest > 255 then error("generator " | toString (j + 1) | " has exponent " | toString highest | "; 255 is the largest"));
     count := sum(elements, x -> #x);
     if count > 2048 then error("there are " | toString count | " terms; 2048 are the most");
+    (d, shift) := problemDegrees(target g, s, asked);
     line := x -> concatenate(between(",", apply(x, toString)), "\n");
-    stderr << "-- problem: " << took << ", " << #elements << (if #elements == 1 then " element" else " elements") << endl;
+    stderr << "-- problem: " << took << ", " << #elements << (if #elements == 1 then " element" else " elements");
+    if max d > 0 then stderr << ", components of degrees " << toString d << (if shift == 0 then "" else ", shifted by " | toString shift);
+    stderr << endl;
     concatenate({line {"R", p, numgens R, code, s}}
+        | (if max d > 0 then {line({"D"} | d)} else {})
         | flatten apply(#elements, j -> apply(elements#j, t -> line({"T", j + 1} | t)))
         | {line {"E", count}}))

@@ -1,8 +1,10 @@
-/* Resolves a problem file by all three ways, or by one: how many vectors and terms each level has, the vectors if asked, and whether the ways agree.
+/* Resolves a problem file by all three ways, or by one: how many vectors and terms each level has, the vectors and degrees if asked, and whether the ways
+ * agree.
  *
- *     resolve [-v] [-w WAY] [-c TERMS] FILE
+ *     resolve [-v] [-d] [-w WAY] [-c TERMS] FILE
  *
  *     -v          prints the vectors too, as the sheet does, after the first way that lifts a level
+ *     -d          prints the degrees too, of the components and of each level's vectors in their sequence
  *     -w WAY      division, greatest, newest, oldest (hybrid by that term) or tree; without it division, greatest and tree
  *     -c TERMS    the tree's cache has so many terms, 4,096 without it
  *
@@ -100,6 +102,21 @@ static void say_level(const uint16_t *state, size_t level)
         tagetessash_level_terms(state, level));
 }
 
+static void say_degrees(const uint16_t *state, size_t level)
+{
+    size_t i;
+    if (level == 0) {
+        printf("    degrees of the components:");
+        for (i = 1; i <= tagetessash_components(state); i++)
+            printf(" %d", tagetessash_component_degree(state, i));
+        printf("\n");
+    }
+    printf("    degrees:");
+    for (i = 1; i <= tagetessash_count(state, level); i++)
+        printf(" %d", tagetessash_degree(state, level, i));
+    printf("\n");
+}
+
 static void say_term(const tagetessash_term *term, size_t variables)
 {
     size_t x;
@@ -153,7 +170,7 @@ static void say_vectors(const uint16_t *state, size_t level, const fetched *all)
 
 static int usage(void)
 {
-    fprintf(stderr, "resolve [-v] [-w division|greatest|newest|oldest|tree] [-c TERMS] FILE\n");
+    fprintf(stderr, "resolve [-v] [-d] [-w division|greatest|newest|oldest|tree] [-c TERMS] FILE\n");
     return 2;
 }
 
@@ -164,11 +181,13 @@ int main(int arguments, char **argument)
     uint8_t *file;
     uint16_t *state, *out, *cache, number;
     fetched first[LEVELS];
-    int agree = 1, whole = 1, read = 1, vectors = 0, a;
+    int agree = 1, whole = 1, read = 1, vectors = 0, degrees = 0, a;
 
     for (a = 1; a < arguments; a++) {
         if (strcmp(argument[a], "-v") == 0)
             vectors = 1;
+        else if (strcmp(argument[a], "-d") == 0)
+            degrees = 1;
         else if (strcmp(argument[a], "-w") == 0 && a + 1 < arguments) {
             a++;
             for (only = 0; only < WAYS && strcmp(ways[only].name, argument[a]) != 0; only++)
@@ -221,6 +240,8 @@ int main(int arguments, char **argument)
             break;
         }
         say_level(state, 0);
+        if (degrees)
+            say_degrees(state, 0);
         for (level = 1; level <= TAGETESSASH_HIGHEST_LEVEL; level++) {
             fetched now;
             number = tagetessash_lift(
@@ -231,6 +252,8 @@ int main(int arguments, char **argument)
                 break;
             }
             say_level(state, level);
+            if (degrees)
+                say_degrees(state, level);
             now = fetch_level(state, out, level);
             if (!first[level].there) {
                 first[level] = now;

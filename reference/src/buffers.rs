@@ -30,6 +30,7 @@ pub struct Layout {
     levels: usize,
     ends: usize,
     rows: usize,
+    components: usize,
 }
 
 impl Layout {
@@ -39,6 +40,7 @@ impl Layout {
             levels: limits.levels as usize + 1,
             ends: limits.elements.max(limits.vectors) as usize,
             rows: limits.t_lines.max(limits.level_terms) as usize,
+            components: limits.components as usize,
         }
     }
 
@@ -57,9 +59,19 @@ impl Layout {
         HEAD + (self.ends + 1) * self.levels + ROW * self.rows * k
     }
 
+    /// The word that holds the degree of component 1.
+    pub fn first_degree(&self) -> usize {
+        self.first_row(self.levels)
+    }
+
+    /// The word that holds the degree that the first vector of level k carries.
+    pub fn first_carried(&self, k: usize) -> usize {
+        self.first_degree() + self.components + self.ends * k
+    }
+
     /// The length of the state.
     pub fn words(&self) -> usize {
-        self.first_row(self.levels)
+        self.first_carried(self.levels)
     }
 }
 
@@ -186,6 +198,10 @@ fn read_basis(limits: &Limits, state: &[u16]) -> Option<Basis> {
     let levels = (0..complete)
         .map(|k| read_level(&layout, state, k))
         .collect::<Option<Vec<Level>>>()?;
+    // where there are more components than words for them the state is not sound
+    let components = usize::from(state[3]).min(layout.components);
+    let carried =
+        (0..complete).map(|k| numbers(&state[layout.first_carried(k)..][..levels[k].len()]));
     Some(Basis {
         parameters: Parameters {
             p: u64::from(state[0]),
@@ -193,8 +209,14 @@ fn read_basis(limits: &Limits, state: &[u16]) -> Option<Basis> {
             order: u64::from(state[2]),
             s: u64::from(state[3]),
         },
+        degrees: numbers(&state[layout.first_degree()..][..components]),
+        carried: carried.collect(),
         levels,
     })
+}
+
+fn numbers(words: &[u16]) -> Vec<u64> {
+    words.iter().map(|word| u64::from(*word)).collect()
 }
 
 fn read_level(layout: &Layout, state: &[u16], k: usize) -> Option<Level> {
@@ -264,6 +286,18 @@ pub fn write_state(limits: &Limits, held: &State, state: &mut [u16]) {
             end += vector.len();
             state[layout.first_end(k) + v] = to_word(end as u64);
         }
+    }
+    // "the degrees of components 1 to s .., zeros behind them"
+    write_numbers(&basis.degrees, &mut state[layout.first_degree()..]);
+    // "for each vector of level k the degree that it carries"
+    for (k, carried) in basis.carried.iter().enumerate() {
+        write_numbers(carried, &mut state[layout.first_carried(k)..]);
+    }
+}
+
+fn write_numbers(numbers: &[u64], words: &mut [u16]) {
+    for (word, number) in words.iter_mut().zip(numbers) {
+        *word = to_word(*number);
     }
 }
 

@@ -1,9 +1,10 @@
 //! The state and the three calls.
 
 use crate::field::is_prime;
+use crate::frame::{frame, NUMBERING};
 use crate::lifting::{accept, lift_level, Pick, Stop, Usage, Way};
-use crate::limits::Limits;
-use crate::monomial::{Level, Parameters, Term, Vector};
+use crate::limits::{Limits, MOST_DEGREE};
+use crate::monomial::{degree, leading_monomial, Level, Parameters, Term, Vector};
 use crate::order::{Modules, Order};
 use crate::reader::{read_problem, Problem};
 use std::cmp::Ordering;
@@ -14,8 +15,40 @@ use std::cmp::Ordering;
 pub struct Basis {
     /// the numbers of the R line
     pub parameters: Parameters,
+    /// the degrees of components 1 to s
+    pub degrees: Vec<u64>,
     /// levels 0 to h
     pub levels: Vec<Level>,
+    /// for each level the degrees that its elements or vectors carry
+    pub carried: Vec<Vec<u64>>,
+}
+
+impl Basis {
+    /// A basis whose elements and vectors carry their own degrees. No element or vector may be
+    /// empty, and each component has to be there.
+    pub fn new(parameters: Parameters, degrees: Vec<u64>, levels: Vec<Level>) -> Basis {
+        let mut basis = Basis {
+            parameters,
+            degrees,
+            levels,
+            carried: Vec::new(),
+        };
+        basis.carried = (0..basis.levels.len())
+            .map(|k| own_degrees(&basis, k))
+            .collect();
+        basis
+    }
+}
+
+/// The degrees of level k's elements or vectors: "the degree of its leading term's image", which
+/// is found by walking down to level 0, whatever the levels between carry.
+pub fn own_degrees(basis: &Basis, k: usize) -> Vec<u64> {
+    let modules = Modules::new(basis.parameters.file_order(), &basis.levels[..k]);
+    let of_vector = |vector: &Vector| {
+        let image = modules.image_below_all(k, leading_monomial(vector));
+        degree(&image.exponents) + basis.degrees[image.component as usize - 1]
+    };
+    basis.levels[k].iter().map(of_vector).collect()
 }
 
 /// What the engine keeps between calls.
@@ -87,6 +120,7 @@ impl State {
     pub fn read(&mut self, limits: &Limits, file: &[u8], budget: Option<u64>) -> Outcome {
         let Problem {
             parameters,
+            degrees,
             elements,
         } = match read_problem(limits, file) {
             Ok(problem) => problem,
@@ -99,8 +133,15 @@ impl State {
         let mut answer = Answer::new(0, 0, usage);
         match result {
             Ok(()) => {
+                // "Each element and vector carries its degree in its record from the reading on"
+                let carried = elements.iter().map(|element| {
+                    let leading = leading_monomial(element);
+                    degree(&leading.exponents) + degrees[leading.component as usize - 1]
+                });
                 self.basis = Some(Basis {
                     parameters,
+                    carried: vec![carried.collect()],
+                    degrees,
                     levels: vec![elements],
                 });
                 return Outcome::Answered(answer);
@@ -146,12 +187,15 @@ impl State {
         let below = &basis.levels[..level as usize];
         let (result, usage) =
             lift_level(limits, &basis.parameters, below, way, cache_terms, budget);
+        let carried = lifted_degrees(basis, level as usize);
         match (result, &mut self.basis) {
             (Err(Stop::GaveUp), _) => Outcome::GaveUp(usage),
             // "Lifting a complete level again drops the levels above it."
             (Ok(vectors), Some(basis)) => {
                 basis.levels.truncate(level as usize);
                 basis.levels.push(vectors);
+                basis.carried.truncate(level as usize);
+                basis.carried.push(carried);
                 Outcome::Answered(Answer::new(0, 0, usage))
             }
             (Err(Stop::Refused(number)), _) => {
@@ -190,12 +234,28 @@ impl State {
     }
 }
 
-/// Whether a state's numbers are in their ranges and its elements and vectors not empty and
-/// strictly descending. One that is not "counts as no accepted basis (11)".
+/// The degrees that the vectors of level k are to carry: each the degree of its frame term m plus
+/// what element or vector i of the level below carries, for the frame term m·e_i.
+fn lifted_degrees(basis: &Basis, k: usize) -> Vec<u64> {
+    frame(&basis.levels[k - 1], NUMBERING)
+        .iter()
+        .map(|term| degree(&term.exponents) + basis.carried[k - 1][term.component as usize - 1])
+        .collect()
+}
+
+/// Whether a state's numbers are in their ranges and its elements and vectors not empty, strictly
+/// descending and with the degree that they carry. One that is not "counts as no accepted basis
+/// (11)".
 pub fn sound(limits: &Limits, basis: &Basis) -> bool {
     sound_parameters(limits, &basis.parameters)
+        && basis.degrees.len() as u64 == basis.parameters.s
+        && basis.degrees.iter().all(|degree| *degree <= MOST_DEGREE)
         && (1..=limits.levels + 1).contains(&(basis.levels.len() as u64))
+        && basis.carried.len() == basis.levels.len()
         && (0..basis.levels.len()).all(|k| sound_level(limits, basis, k))
+        // "at every level the carried degree is the degree of its leading term's image; a state
+        // where it is not counts as no accepted basis (11)"
+        && (0..basis.levels.len()).all(|k| basis.carried[k] == own_degrees(basis, k))
 }
 
 fn sound_parameters(limits: &Limits, parameters: &Parameters) -> bool {

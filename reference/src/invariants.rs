@@ -1,25 +1,18 @@
 //! The Hilbert function and the minimal Betti numbers, from the levels of a state.
 //!
 //! Column 0 is the file's free module, column k + 1 has a generator for each vector of level k.
-//! The degree of a generator is that of its leading term's image on level 0.
+//! The degree of a generator is that of its leading term's image on level 0; a component has its
+//! own.
 
-use crate::engine::Basis;
+use crate::engine::{own_degrees, Basis};
 use crate::field::Field;
-use crate::monomial::{degree, leading_monomial, UNIT};
-use crate::order::Modules;
+use crate::monomial::UNIT;
 use std::collections::BTreeMap;
 
 /// The degrees of the generators of each column.
 pub fn generator_degrees(basis: &Basis) -> Vec<Vec<u64>> {
-    let mut columns = vec![vec![0; basis.parameters.s as usize]];
-    for (k, level) in basis.levels.iter().enumerate() {
-        let modules = Modules::new(basis.parameters.file_order(), &basis.levels[..k]);
-        let degrees = level.iter().map(|vector| {
-            let image = modules.image_below_all(k, leading_monomial(vector));
-            degree(&image.exponents)
-        });
-        columns.push(degrees.collect());
-    }
+    let mut columns = vec![basis.degrees.clone()];
+    columns.extend((0..basis.levels.len()).map(|k| own_degrees(basis, k)));
     columns
 }
 

@@ -38,6 +38,9 @@ pub struct Limits {
     pub tree: u64,
 }
 
+/// "A line `D,d1,..,ds`, each 0 to 255" (request A5). It is no limit that a test can make smaller.
+pub const MOST_DEGREE: u64 = 255;
+
 /// The names of the limits, in the order of the struct.
 pub const LIMIT_NAMES: [&str; 14] = [
     "prime_bound",

@@ -28,10 +28,12 @@ reference calls [--budget N]
         fetch K V
     Prints for each call `number place vector`, where the number is 0 if the call succeeded and
     the vector is the fetched one or the value that 9 leaves: terms c:component:e1.e2...e8 joined
-    by `;`, or `-` if there is none. Then come two lines:
+    by `;`, or `-` if there is none. Then come three lines:
         levels N LEVEL ..       the N levels held at the end, level 0 first
         reckoned N LEVEL ..     the levels by the plain reckoning of the list
-    A LEVEL is its vectors joined by `/`, or `-` if it has none. Without a basis N is 0.
+        degrees N DEGREES ..    the components' degrees, then those that each level held carries
+    A LEVEL is its vectors joined by `/`, DEGREES are joined by `.`; either is `-` if there is
+    none. Without a basis N is 0 and nothing follows it.
     With a budget it gives up, with exit code 3 and nothing printed, when the calls together
     would form more than N products, or when a level's reckoning takes more than 100 N steps.
     Limits: prime_bound variables components elements exponent t_lines file field vectors

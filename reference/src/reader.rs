@@ -1,7 +1,7 @@
 //! The problem file.
 
 use crate::field::is_prime;
-use crate::limits::Limits;
+use crate::limits::{Limits, MOST_DEGREE};
 use crate::monomial::{Level, Monomial, Parameters, Term, UNIT};
 use crate::order::{Modules, Order};
 use std::cmp::Ordering;
@@ -20,11 +20,24 @@ pub struct Refusal {
 pub struct Problem {
     /// the numbers of the R line
     pub parameters: Parameters,
+    /// the degrees of components 1 to s, those of the D line; "files without D keep zeros"
+    pub degrees: Vec<u64>,
     /// the elements of the T lines
     pub elements: Level,
 }
 
-/// Reads a file; a refusal has a number from 1 to 8 and the line as its place.
+impl Problem {
+    /// That of a file without a D line.
+    pub fn new(parameters: Parameters, elements: Level) -> Problem {
+        Problem {
+            parameters,
+            degrees: vec![0; parameters.s as usize],
+            elements,
+        }
+    }
+}
+
+/// Reads a file; a refusal has a number from 1 to 8, or 18, and the line as its place.
 pub fn read_problem(limits: &Limits, file: &[u8]) -> Result<Problem, Refusal> {
     // "file too long (line 0, tested first)"
     if file.len() as u64 > limits.file {
@@ -39,19 +52,25 @@ pub fn read_problem(limits: &Limits, file: &[u8]) -> Result<Problem, Refusal> {
         number: 0,
     };
     let parameters = read_parameters(limits, &lines.next()?)?;
-    let mut elements: Level = Vec::new();
+    let mut problem = Problem::new(parameters, Level::new());
     let mut t_lines = 0;
     loop {
         let line = lines.next()?;
         match line.letter {
+            // "Line 2 is a D line only if it has D's shape: the letter and exactly s numbers"
+            b'D' if line.number == 2 && line.numbers.len() as u64 == parameters.s => {
+                problem.degrees = read_degrees(line)?;
+            }
             b'T' => {
                 t_lines += 1;
-                read_term(limits, &parameters, &mut elements, t_lines, &line)?;
+                read_term(limits, &parameters, &mut problem.elements, t_lines, &line)?;
             }
             b'E' => {
                 read_end(t_lines, &line)?;
                 break;
             }
+            // "One that has not, a second D line and one after a T line are what any line is that
+            // is neither T nor E: 1."
             _ => return Err(line.refused(1)),
         }
     }
@@ -59,10 +78,7 @@ pub fn read_problem(limits: &Limits, file: &[u8]) -> Result<Problem, Refusal> {
     if !lines.rest.is_empty() {
         return Err(lines.missing());
     }
-    Ok(Problem {
-        parameters,
-        elements,
-    })
+    Ok(problem)
 }
 
 /// `R,p,n,order,s`: "the order is 1, then 2, 3 for R".
@@ -82,6 +98,14 @@ fn read_parameters(limits: &Limits, line: &Line) -> Result<Parameters, Refusal> 
         return Err(line.refused(3));
     }
     Ok(Parameters { p, n, order, s })
+}
+
+/// `D,d1,..,ds`: "18 when a component's degree is above 255, tested after the line's shape".
+fn read_degrees(line: Line) -> Result<Vec<u64>, Refusal> {
+    if line.numbers.iter().any(|degree| *degree > MOST_DEGREE) {
+        return Err(line.refused(18));
+    }
+    Ok(line.numbers)
 }
 
 /// `T,element,coefficient,component,e1,..,en`: "1, 8, 5, 4, 6 for T".

@@ -1,6 +1,6 @@
 //! Lists of calls as text, and what they answer.
 
-use crate::engine::{Answer, Outcome, State};
+use crate::engine::{Answer, Basis, Outcome, State};
 use crate::lifting::{Usage, Way};
 use crate::limits::{Limits, LIMIT_NAMES};
 use crate::monomial::{Level, Monomial, Term, Vector, UNIT};
@@ -50,6 +50,8 @@ pub struct Run {
     pub levels: Vec<Level>,
     /// the levels by the plain reckoning of the list
     pub reckoned: Vec<Level>,
+    /// the state after the list
+    pub state: State,
     /// what all the calls took together
     pub usage: Usage,
 }
@@ -83,6 +85,7 @@ impl Script {
             answers,
             levels: state.levels().to_vec(),
             reckoned: reckoning.levels(steps).ok()?,
+            state,
             usage,
         })
     }
@@ -129,7 +132,7 @@ impl Script {
 }
 
 impl Run {
-    /// One line for each call, then the levels held and the levels reckoned.
+    /// One line for each call, then the levels held, the levels reckoned and the degrees held.
     pub fn text(&self) -> String {
         let mut text = String::new();
         for answer in &self.answers {
@@ -138,6 +141,8 @@ impl Run {
         }
         text.push_str(&format!("levels {}\n", levels_text(&self.levels)));
         text.push_str(&format!("reckoned {}\n", levels_text(&self.reckoned)));
+        let degrees = degrees_text(self.state.basis.as_ref());
+        text.push_str(&format!("degrees {degrees}\n"));
         text
     }
 }
@@ -252,6 +257,20 @@ pub fn levels_text(levels: &[Level]) -> String {
         let vectors = level.iter().map(|vector| vector_text(vector)).collect();
         text.push(' ');
         text.push_str(&or_dash(vectors, "/"));
+    }
+    text
+}
+
+/// How many levels there are, then the components' degrees, then for each level the degrees that
+/// its elements or vectors carry: joined by `.`, or `-` if there is none. Without a basis `0`.
+pub fn degrees_text(basis: Option<&Basis>) -> String {
+    let Some(basis) = basis else {
+        return "0".to_string();
+    };
+    let mut text = basis.carried.len().to_string();
+    for degrees in std::iter::once(&basis.degrees).chain(&basis.carried) {
+        text.push(' ');
+        text.push_str(&or_dash(degrees.iter().map(u64::to_string).collect(), "."));
     }
     text
 }

@@ -124,11 +124,15 @@ fn power_products(n: usize, d: u64) -> Vec<Exponents> {
     all
 }
 
-/// The dimension in degree d by counting the monomials that no leading monomial divides.
+/// The dimension in degree d by counting the monomials that no leading monomial divides, each
+/// component with its own degree.
 fn standard_monomials(problem: &Problem, d: u64) -> i128 {
     let mut count = 0;
-    for exponents in power_products(problem.parameters.n as usize, d) {
-        for component in 1..=problem.parameters.s {
+    for (component, degree) in (1..).zip(&problem.degrees) {
+        let Some(left) = d.checked_sub(*degree) else {
+            continue;
+        };
+        for exponents in power_products(problem.parameters.n as usize, left) {
             let below = problem.elements.iter().any(|element| {
                 let leading = &element[0].monomial;
                 leading.component == component && divides(&leading.exponents, &exponents)
@@ -151,7 +155,8 @@ fn small_bases_by_all_ways() {
         whole += 1;
         deep += u64::from(state.levels().len() > 3);
         let basis = state.basis.as_ref().expect("a basis");
-        for d in 0..=6 {
+        let least = problem.degrees.iter().min().expect("a component");
+        for d in *least..=least + 6 {
             assert_eq!(hilbert(basis, d), standard_monomials(&problem, d));
         }
     }
@@ -167,7 +172,8 @@ fn medium_bases_by_all_ways() {
         if let Some(state) = compare_all_ways(&problem, &all_ways()) {
             whole += 1;
             let basis = state.basis.as_ref().expect("a basis");
-            for d in 0..=3 {
+            let least = problem.degrees.iter().min().expect("a component");
+            for d in *least..=least + 3 {
                 assert_eq!(hilbert(basis, d), standard_monomials(&problem, d));
             }
         }
@@ -289,10 +295,7 @@ fn nine_leaves_a_combination_without_reducer_in_front() {
         if let (Some(one), Some(two)) = (complete(problem.elements.clone()), complete(longer)) {
             for d in 0..=5 {
                 let dimension = |elements| {
-                    let problem = Problem {
-                        parameters: problem.parameters,
-                        elements,
-                    };
+                    let problem = Problem::new(problem.parameters, elements);
                     standard_monomials(&problem, d)
                 };
                 assert_eq!(dimension(one.clone()), dimension(two.clone()));

@@ -8,8 +8,9 @@ use reference::engine::{sound, Basis, State};
 use reference::field::is_prime;
 use reference::generate::cases::calls_case;
 use reference::generate::scripts::{random_lengths, random_way, Reach};
+use reference::generate::states::carry;
 use reference::lifting::Way;
-use reference::monomial::{Level, Parameters, Term};
+use reference::monomial::{Level, Monomial, Parameters, Term};
 use reference::random::Random;
 use reference::script::{make_call, Call, Script};
 use reference::Limits;
@@ -27,7 +28,7 @@ const PRINTED: [&str; 6] = [
 fn lengths_of_document_01() {
     let limits = Limits::document_01();
     assert_eq!(ROW, 6);
-    assert_eq!(state_words(&limits), 124_175);
+    assert_eq!(state_words(&limits), 125_471);
     assert_eq!(work_words(&limits, None), 3_072);
     assert_eq!(work_words(&limits, Some(Way::Division)), 3_072);
     assert_eq!(work_words(&limits, Some(Way::Hybrid(1))), 3_072);
@@ -38,13 +39,15 @@ fn lengths_of_document_01() {
         assert_eq!(layout.count(k), 5 + 129 * k);
         assert_eq!(layout.first_end(k), 6 + 129 * k);
         assert_eq!(layout.first_row(k), 1_295 + 12_288 * k);
+        assert_eq!(layout.first_carried(k), 124_191 + 128 * k);
     }
+    assert_eq!(layout.first_degree(), 124_175);
 }
 
 #[test]
 fn the_printed_example_word_by_word() {
     let limits = Limits::document_01();
-    let mut state = vec![9; 124_180];
+    let mut state = vec![9; 125_476];
     let mut work = vec![9; 24_577];
     let mut cache = vec![9; 47];
     let mut out = vec![9; 3_073];
@@ -52,7 +55,7 @@ fn the_printed_example_word_by_word() {
         read_call(&limits, &file(&PRINTED), &mut state, &mut work),
         (0, 0)
     );
-    let mut expected = vec![0; 124_180];
+    let mut expected = vec![0; 125_476];
     expected[..8].copy_from_slice(&[7, 2, 1, 1, 1, 2, 2, 4]);
     let elements = [
         [1, 1, 0, 0, 0, 256],
@@ -61,6 +64,8 @@ fn the_printed_example_word_by_word() {
         [1, 1, 0, 0, 0, 0],
     ];
     expected[1_295..1_319].copy_from_slice(&elements.concat());
+    // x and y²
+    expected[124_191..124_193].copy_from_slice(&[1, 2]);
     assert!(state == expected);
     assert!(work.iter().all(|word| *word == 0));
     work.fill(9);
@@ -78,6 +83,8 @@ fn the_printed_example_word_by_word() {
         [1, 2, 0, 0, 0, 1],
     ];
     expected[13_583..13_607].copy_from_slice(&vector.concat());
+    // x·e_2
+    expected[124_319] = 3;
     assert!(state == expected);
     assert!(work.iter().chain(&cache).all(|word| *word == 0));
     assert_eq!(fetch_call(&limits, &state, 1, 1, &mut out), (0, 0));
@@ -95,7 +102,7 @@ fn the_printed_example_word_by_word() {
 #[test]
 fn nine_leaves_its_value_in_work() {
     let limits = Limits::document_01();
-    let mut state = vec![9; 124_175];
+    let mut state = vec![9; 125_471];
     let mut work = vec![9; 3_072];
     let lines = [
         "R,7,2,1,1",
@@ -145,11 +152,11 @@ fn nine_leaves_its_value_in_work() {
 #[test]
 fn sixteen_comes_first_and_changes_nothing() {
     let limits = Limits::document_01();
-    let mut good = vec![0; 124_175];
+    let mut good = vec![0; 125_471];
     let mut work = vec![0; 24_576];
     read_call(&limits, &file(&PRINTED), &mut good, &mut work);
     // a bad file, a level that is not complete, wrong numbers: 16 all the same
-    for (state_length, work_length) in [(124_174, 24_576), (124_175, 3_071), (0, 0)] {
+    for (state_length, work_length) in [(125_470, 24_576), (125_471, 3_071), (0, 0)] {
         let mut state = good[..state_length].to_vec();
         let mut work = vec![5; work_length];
         let before = (state.clone(), work.clone());
@@ -176,7 +183,7 @@ fn sixteen_comes_first_and_changes_nothing() {
     let mut out = vec![5; 3_071];
     assert_eq!(fetch_call(&limits, &state, 1, 1, &mut out), (16, 0));
     assert_eq!(
-        fetch_call(&limits, &state[..124_174], 1, 1, &mut vec![0; 3_072]),
+        fetch_call(&limits, &state[..125_470], 1, 1, &mut vec![0; 3_072]),
         (16, 0)
     );
     assert!(out.iter().all(|word| *word == 5));
@@ -221,6 +228,27 @@ fn words_of(limits: &Limits, held: &State, length: usize) -> Vec<u16> {
                 row += ROW;
             }
         }
+    }
+    let mut at = 5 + (ends + 1) * levels + ROW * rows * levels;
+    for (i, degree) in basis.degrees.iter().enumerate() {
+        words[at + i] = *degree as u16;
+    }
+    at += limits.components as usize;
+    // by the level below, not by images: each level's degrees are those before it in the words
+    let mut below = basis.degrees.clone();
+    for level in &basis.levels {
+        let own = level.iter().map(|vector| {
+            let Monomial {
+                component,
+                exponents,
+            } = vector[0].monomial;
+            exponents.iter().sum::<u64>() + below[component as usize - 1]
+        });
+        below = own.collect();
+        for (v, degree) in below.iter().enumerate() {
+            words[at + v] = *degree as u16;
+        }
+        at += ends;
     }
     words
 }
@@ -380,6 +408,11 @@ fn sound_words(limits: &Limits, words: &[u16]) -> bool {
     {
         return false;
     }
+    let degrees = 5 + (ends + 1) * levels + ROW * rows * levels;
+    let carried = |k: usize, v: usize| word(degrees + limits.components as usize + ends * k + v);
+    if (0..s as usize).any(|i| word(degrees + i) > 255) {
+        return false;
+    }
     let mut below = s;
     // leading monomials of each level's vectors, as (component, exponents)
     let mut leads: Vec<Vec<(u64, Vec<u64>)>> = Vec::new();
@@ -425,6 +458,15 @@ fn sound_words(limits: &Limits, words: &[u16]) -> bool {
                 }
                 before = Some(rank);
                 if own.len() == v {
+                    // what it carries: by what the level below carries
+                    let component = word(row + 1) as usize - 1;
+                    let under = match k {
+                        0 => word(degrees + component),
+                        _ => carried(k - 1, component),
+                    };
+                    if carried(k, v) != exponents.iter().sum::<u64>() + under {
+                        return false;
+                    }
                     own.push((word(row + 1), exponents));
                 }
             }
@@ -541,6 +583,7 @@ fn garbage_states() {
     limits.elements = 4;
     limits.levels = 3;
     limits.vector = 5;
+    let mut sound_ones = 0;
     for _ in 0..20_000 {
         let most = *random.pick(&[2, 3, 5, 8, 300, 65_535]);
         let mut words: Vec<u16> = (0..state_words(&limits))
@@ -554,8 +597,12 @@ fn garbage_states() {
             words[3] = 2;
             words[4] = random.between(1, 3) as u16;
         }
-        check_any_state(&mut random, &limits, &words);
+        if random.chance(80) {
+            carry(&limits, &mut words);
+        }
+        sound_ones += u64::from(check_any_state(&mut random, &limits, &words));
     }
+    assert!(sound_ones > 30, "{sound_ones}");
 }
 
 #[test]
@@ -586,7 +633,9 @@ fn altered_states() {
             named.extend(layout.count(k)..=layout.count(k) + level.len());
             let rows: usize = level.iter().map(Vec::len).sum();
             named.extend(layout.first_row(k)..layout.first_row(k) + ROW * rows);
+            named.extend(layout.first_carried(k)..layout.first_carried(k) + level.len());
         }
+        named.extend(layout.first_degree()..layout.first_degree() + basis.degrees.len());
         let mut is_named = vec![false; words.len()];
         for at in &named {
             is_named[*at] = true;
@@ -613,6 +662,10 @@ fn altered_states() {
                     *word = random.bits() as u16;
                 }
             }
+            // degrees as the altered rows have them, so that these are looked at for themselves
+            if random.chance(60) {
+                carry(&limits, &mut altered);
+            }
             if check_any_state(&mut random, &limits, &altered) {
                 sound_ones += 1;
             } else {
@@ -630,7 +683,7 @@ fn altered_states() {
 fn garbage_states_of_full_length() {
     let mut random = Random::new(44);
     let limits = Limits::document_01();
-    let mut good = vec![0; 124_175];
+    let mut good = vec![0; 125_471];
     let mut work = vec![0; 24_576];
     let lines = [
         "R,7,3,1,1",
@@ -650,12 +703,14 @@ fn garbage_states_of_full_length() {
         let mut words = if random.chance(50) {
             good.clone()
         } else {
-            garbage(&mut random, 124_175)
+            garbage(&mut random, 125_471)
         };
         for _ in 0..random.below(4) {
-            let at = match random.below(3) {
+            let at = match random.below(5) {
                 0 => random.below(5),
                 1 => random.below(1_295),
+                2 => 124_175 + random.below(16),
+                3 => 124_191 + 128 * random.below(10) + random.below(4),
                 _ => 1_295 + 12_288 * random.below(10) + random.below(36),
             };
             words[at as usize] = random.bits() as u16;
@@ -667,10 +722,8 @@ fn garbage_states_of_full_length() {
 /// A state whose levels are these, over the prime 7.
 fn state_of(n: u64, order: u64, s: u64, levels: &[Level]) -> State {
     let parameters = Parameters { p: 7, n, order, s };
-    let levels = levels.to_vec();
-    State {
-        basis: Some(Basis { parameters, levels }),
-    }
+    let basis = Basis::new(parameters, vec![0; s as usize], levels.to_vec());
+    State { basis: Some(basis) }
 }
 
 /// Limits under which a state is short enough for thousands of them.
@@ -709,14 +762,16 @@ fn the_worked_row() {
     let memory = row[2..].iter().flat_map(|word| word.to_le_bytes());
     assert!(memory.eq(number.to_le_bytes()));
     let limits = Limits::document_01();
-    let mut state = vec![9; 124_175];
+    let mut state = vec![9; 125_471];
     let mut work = vec![9; 3_072];
     let lines = ["R,7,8,1,16", "T,1,5,9,1,2,3,4,5,6,7,8", "E,1"];
     let accepted = read_call(&limits, &file(&lines), &mut state, &mut work);
     assert_eq!(accepted, (0, 0));
     assert_eq!(state[..7], [7, 8, 1, 16, 1, 1, 1]);
     assert_eq!(state[1_295..1_301], row);
-    assert!(state[1_301..].iter().all(|word| *word == 0));
+    assert_eq!(state[124_191], 36);
+    assert!(state[1_301..124_191].iter().all(|word| *word == 0));
+    assert!(state[124_192..].iter().all(|word| *word == 0));
     // as a vector of level 1, over nine elements
     let elements = vec![vec![self::term(1, 1, &[])]; 9];
     let held = state_of(8, 1, 1, &[elements, vec![vec![term]]]);
@@ -827,6 +882,7 @@ fn a_byte_past_n_is_eleven() {
                     let (at, one) = place_of(x);
                     let mut words = good.clone();
                     words[layout.first_row(level) + ROW * row + at] += one * byte;
+                    carry(&limits, &mut words);
                     // a level that is not complete is not looked at
                     let mut shorter = words.clone();
                     shorter[4] = 1;
@@ -889,6 +945,7 @@ fn the_order_decides_among_rows_in_range() {
                     words[at..at + 2].copy_from_slice(&[4, 1]);
                     words[at + 2..at + ROW].copy_from_slice(numbers);
                 }
+                carry(&limits, &mut words);
                 assert_eq!(sound_words(&limits, &words), lifted(&limits, &words).0 == 0);
                 lifted(&limits, &words)
             };
@@ -916,6 +973,7 @@ fn the_order_decides_among_rows_in_range() {
                 words[at + word] += one * random.between(0, most) as u16;
             }
         }
+        carry(&limits, &mut words);
         let sound_here = sound_words(&limits, &words);
         let number = if sound_here { 0 } else { 11 };
         assert_eq!(lifted(&limits, &words), (number, 0));

@@ -23,7 +23,7 @@ fn check_every_step(script: &Script, run: &Run) {
         match answer.number {
             11 | 12 => assert_eq!(state, before),
             0 => {}
-            1..=9 | 13..=15 => assert!(state.basis.is_none()),
+            1..=9 | 13..=15 | 18 => assert!(state.basis.is_none()),
             other => panic!("number {other}"),
         }
         if matches!(answer.number, 0 | 11 | 12) {
@@ -42,7 +42,7 @@ fn check_every_step(script: &Script, run: &Run) {
 
 #[test]
 fn demand_3_tiny_lists() {
-    let mut seen = [0; 17];
+    let mut seen = [0; 19];
     let mut places = [0; 4];
     for case in 0..2_500 {
         let (script, run) = calls_case(21, case, &Reach::tiny());
@@ -63,7 +63,7 @@ fn demand_3_tiny_lists() {
             }
         }
     }
-    for number in [0, 1, 2, 3, 4, 5, 6, 7, 8, 9, 11, 12, 13, 14, 15] {
+    for number in [0, 1, 2, 3, 4, 5, 6, 7, 8, 9, 11, 12, 13, 14, 15, 18] {
         assert!(seen[number] > 0, "refusal {number} is never met");
     }
     assert!(places.iter().all(|count| *count > 10), "{places:?}");
@@ -87,7 +87,7 @@ fn texts_round_trip() {
             let text = vector_text(&answer.vector);
             assert_eq!(parse_vector(&text).as_ref(), Some(&answer.vector));
         }
-        assert_eq!(run.text().lines().count(), script.calls.len() + 2);
+        assert_eq!(run.text().lines().count(), script.calls.len() + 3);
     }
 }
 
@@ -113,14 +113,14 @@ fn a_script_in_full() {
     let basis = "1:1:1.0.0.0.0.0.0.0;1:1:0.1.0.0.0.0.0.0/1:1:0.2.0.0.0.0.0.0;1:1:0.0.0.0.0.0.0.0";
     let expected = format!(
         "0 0 -\n0 0 -\n0 0 {vector}\n12 0 -\n0 0 -\nlevels 3 {basis} {vector} -\n\
-         reckoned 3 {basis} {vector} -\n"
+         reckoned 3 {basis} {vector} -\ndegrees 3 0 1.2 3 -\n"
     );
     assert_eq!(run.text(), expected);
     let empty = Script::parse("read -\n")
         .expect("a script")
         .run(None)
         .expect("no budget");
-    assert_eq!(empty.text(), "1 1 -\nlevels 0\nreckoned 0\n");
+    assert_eq!(empty.text(), "1 1 -\nlevels 0\nreckoned 0\ndegrees 0\n");
 }
 
 #[test]

@@ -52,6 +52,7 @@ fn check_sheet(file: &[u8], printed: &[u8]) -> u64 {
     match number {
         1 => assert!(place <= file_lines + 1),
         2 | 3 => assert_eq!(place, 1),
+        18 => assert_eq!(place, 2),
         4..=8 => assert!((2..=file_lines).contains(&place)),
         9 => assert!((1..=128).contains(&place)),
         13..=15 => assert!(place == level || (level, place) == (1, 0)),
@@ -94,7 +95,7 @@ fn every_truncation_and_every_changed_byte() {
 
 #[test]
 fn all_kinds_of_generated_files() {
-    let mut seen = [0; 17];
+    let mut seen = [0; 19];
     for kind in FILE_KINDS {
         for case in 0..1_500 {
             let case = file_case(kind, 32, case).expect("a kind");
@@ -106,7 +107,7 @@ fn all_kinds_of_generated_files() {
             }
         }
     }
-    for number in [0, 1, 2, 3, 4, 5, 6, 7, 8, 9, 13, 14, 15] {
+    for number in [0, 1, 2, 3, 4, 5, 6, 7, 8, 9, 13, 14, 15, 18] {
         assert!(seen[number] > 0, "refusal {number} is never met");
     }
     assert!(file_case("no such kind", 1, 1).is_none());
@@ -118,7 +119,7 @@ fn any_bytes_at_all() {
     let limits = Limits::document_01();
     for _ in 0..20_000 {
         let length = random.below(60);
-        let letters = b"RTE0123456789,,,,\n\n\n \r";
+        let letters = b"RDTE0123456789,,,,\n\n\n \r";
         let file: Vec<u8> = (0..length)
             .map(|_| {
                 if random.chance(97) {
@@ -149,6 +150,9 @@ fn files_of_exact_length() {
             ["Z,1,0"]
         );
         let file = exact_t_lines_file(&mut random, 2_049);
-        assert_eq!(sheet_lines(&file), ["X,8,2050"]);
+        let place = file.iter().filter(|byte| **byte == 10).count() - 1;
+        assert_eq!(sheet_lines(&file), [format!("X,8,{place}")]);
+        let with_degrees = file.split(|byte| *byte == 10).nth(1).expect("a line")[0] == b'D';
+        assert_eq!(place, 2_050 + usize::from(with_degrees));
     }
 }

@@ -69,10 +69,7 @@ fn reckoned(file: &[u8]) -> Basis {
     for h in 1..=9 {
         let levels = reckon_levels(&problem, h, None).expect("there is no budget");
         if levels[h].is_empty() {
-            return Basis {
-                parameters: problem.parameters,
-                levels,
-            };
+            return Basis::new(problem.parameters, problem.degrees, levels);
         }
     }
     panic!("level 9 is not empty");

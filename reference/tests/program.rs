@@ -53,7 +53,7 @@ fn sheets() {
 #[test]
 fn calls() {
     let text = "limits levels=1\nread -\nlift 1 division\nfetch 10 1\n";
-    let expected = "1 1 -\n11 0 -\n11 0 -\nlevels 0\nreckoned 0\n";
+    let expected = "1 1 -\n11 0 -\n11 0 -\nlevels 0\nreckoned 0\ndegrees 0\n";
     assert_eq!(printed(&["calls"], text.as_bytes()), expected);
     assert_eq!(run(&["calls"], b"red -\n").status.code(), Some(2));
 }
@@ -87,7 +87,7 @@ fn generated_cases_agree_with_the_program() {
 fn help() {
     let help = printed(&["help"], b"");
     for word in [
-        "sheet", "calls", "generate", "levels", "reckoned", "--budget",
+        "sheet", "calls", "generate", "levels", "reckoned", "degrees", "--budget",
     ] {
         assert!(help.contains(word));
     }

@@ -1,5 +1,5 @@
 /* What the header says beyond the answers that resolve prints: its numbers, packed rows, null with length 0, buffers one word too short, wrong numbers, altered
- * states, levels dropped, the accessors, the sheet. */
+ * states, levels dropped, degrees, the accessors, the sheet. */
 #include <stdio.h>
 #include <stdlib.h>
 #include <string.h>
@@ -23,7 +23,9 @@ HOLDS(packed_exponents, TAGETESSASH_VARIABLES * TAGETESSASH_EXPONENT_BITS == TAG
 HOLDS(a_levels_counts, TAGETESSASH_COUNTS_WORDS == 1 + TAGETESSASH_LEVEL_VECTORS);
 HOLDS(a_levels_rows, TAGETESSASH_LEVEL_WORDS == TAGETESSASH_LEVEL_TERMS * TAGETESSASH_ROW_WORDS);
 HOLDS(rows_behind_counts, TAGETESSASH_ROWS_AT == TAGETESSASH_COUNTS_AT + LEVELS * TAGETESSASH_COUNTS_WORDS);
-HOLDS(the_state, TAGETESSASH_STATE_WORDS == TAGETESSASH_ROWS_AT + LEVELS * TAGETESSASH_LEVEL_WORDS);
+HOLDS(degrees_behind_rows, TAGETESSASH_DEGREES_AT == TAGETESSASH_ROWS_AT + LEVELS * TAGETESSASH_LEVEL_WORDS);
+HOLDS(carried_behind_degrees, TAGETESSASH_CARRIED_AT == TAGETESSASH_DEGREES_AT + TAGETESSASH_COMPONENTS);
+HOLDS(the_state, TAGETESSASH_STATE_WORDS == TAGETESSASH_CARRIED_AT + LEVELS * TAGETESSASH_LEVEL_VECTORS);
 HOLDS(the_work_area, TAGETESSASH_WORK_WORDS == TAGETESSASH_VECTOR_TERMS * TAGETESSASH_ROW_WORDS);
 HOLDS(the_trees_work_area, TAGETESSASH_TREE_WORK_WORDS == TAGETESSASH_TREE_TERMS * TAGETESSASH_ROW_WORDS);
 HOLDS(a_fetched_vector, TAGETESSASH_OUT_WORDS == TAGETESSASH_VECTOR_TERMS * TAGETESSASH_ROW_WORDS);
@@ -114,11 +116,142 @@ static void past_the_last_variable(void)
             CHECK(read_text(text) == TAGETESSASH_DONE && tagetessash_packed(tagetessash_rows(state, 0, 1)) == 0);
             state[TAGETESSASH_ROWS_AT + TAGETESSASH_PACKED_AT + bit / TAGETESSASH_WORD_BITS] = (uint16_t)(1u << bit % TAGETESSASH_WORD_BITS);
             CHECK(tagetessash_exponent(tagetessash_rows(state, 0, 1), i) == 1);
+            /* its degree is that of the altered term, so that nothing but the place of the exponent can be wrong */
+            state[TAGETESSASH_CARRIED_AT] = 1;
             if (i < n)
                 CHECK(lift(1, TAGETESSASH_DIVISION, 0) == TAGETESSASH_DONE && tagetessash_exponent(tagetessash_rows(state, 0, 1), i) == 1);
             else
                 REFUSED(lift(1, TAGETESSASH_DIVISION, 0), TAGETESSASH_NO_LEVEL);
         }
+}
+
+/* x e_1, x e_2, y e_1, y e_2, e_3, z e_1, z e_2 in components of degrees 1, 2, 2. By hand: the frame of level 1 is x e_3, x e_4, y e_6, x e_6, y e_7, x e_7,
+ * that of level 2 y e_4, y e_6; each is a variable times a vector of the level below, so has one degree more than that vector. */
+#define MODULE "T,1,1,1,1,0,0\nT,2,1,2,1,0,0\nT,3,1,1,0,1,0\nT,4,1,2,0,1,0\nT,5,1,3,0,0,0\nT,6,1,1,0,0,1\nT,7,1,2,0,0,1\nE,7\n"
+static const char with_degrees[] = "R,7,3,1,3\nD,1,2,2\n" MODULE;
+static const char without_degrees[] = "R,7,3,1,3\n" MODULE;
+
+static int carries(size_t level, size_t count, const uint16_t *expected)
+{
+    size_t v;
+    if (tagetessash_count(state, level) != count)
+        return 0;
+    for (v = 1; v <= count; v++)
+        if (tagetessash_degree(state, level, v) != expected[v - 1])
+            return 0;
+    return tagetessash_degree(state, level, 0) == 0 && tagetessash_degree(state, level, count + 1) == 0;
+}
+
+static void degrees(void)
+{
+    static const uint16_t elements[] = { 2, 3, 2, 3, 2, 2, 3 }, first[] = { 3, 4, 3, 3, 4, 4 }, second[] = { 4, 5 };
+    static const uint16_t flat[] = { 1, 1, 1, 1, 0, 1, 1 }, flat_first[] = { 2, 2, 2, 2, 2, 2 }, flat_second[] = { 3, 3 };
+    static const unsigned ways[5][2] = {{TAGETESSASH_DIVISION, 0}, {TAGETESSASH_HYBRID, TAGETESSASH_GREATEST}, {TAGETESSASH_HYBRID, TAGETESSASH_NEWEST},
+        {TAGETESSASH_HYBRID, TAGETESSASH_OLDEST}, {TAGETESSASH_TREE, 0}};
+    size_t i, level;
+    for (i = 0; i < 5; i++) {
+        CHECK(read_text(with_degrees) == TAGETESSASH_DONE && place == 0);
+        CHECK(tagetessash_component_degree(state, 1) == 1 && tagetessash_component_degree(state, 2) == 2 && tagetessash_component_degree(state, 3) == 2);
+        CHECK(tagetessash_component_degree(state, 0) == 0 && tagetessash_component_degree(state, 4) == 0);
+        CHECK(carries(0, 7, elements) && tagetessash_degree(state, 1, 1) == 0);
+        for (level = 1; level <= 2; level++)
+            CHECK(tagetessash_lift(state, TAGETESSASH_STATE_WORDS, tree, TAGETESSASH_TREE_WORK_WORDS, NULL, 0, level, (uint16_t)ways[i][0],
+                      (uint16_t)ways[i][1], &place) == TAGETESSASH_DONE);
+        CHECK(carries(0, 7, elements) && carries(1, 6, first) && carries(2, 2, second));
+        /* nothing behind them */
+        for (level = 0; level < LEVELS; level++)
+            CHECK(all(state + TAGETESSASH_CARRIED_AT + level * TAGETESSASH_LEVEL_VECTORS + tagetessash_count(state, level),
+                TAGETESSASH_LEVEL_VECTORS - tagetessash_count(state, level), 0));
+        CHECK(all(state + TAGETESSASH_DEGREES_AT + 3, TAGETESSASH_COMPONENTS - 3, 0));
+    }
+    /* without a D line the same vectors, every word of them, and degrees of components that are 0 */
+    memcpy(before, state, TAGETESSASH_STATE_WORDS * sizeof *state);
+    CHECK(read_text(without_degrees) == TAGETESSASH_DONE);
+    CHECK(lift(1, TAGETESSASH_DIVISION, 0) == TAGETESSASH_DONE && lift(2, TAGETESSASH_DIVISION, 0) == TAGETESSASH_DONE);
+    CHECK(memcmp(before, state, TAGETESSASH_DEGREES_AT * sizeof *state) == 0);
+    CHECK(tagetessash_component_degree(state, 1) == 0 && tagetessash_component_degree(state, 2) == 0 && tagetessash_component_degree(state, 3) == 0);
+    CHECK(carries(0, 7, flat) && carries(1, 6, flat_first) && carries(2, 2, flat_second));
+    /* lifting a level again drops what the one above it carried */
+    CHECK(lift(1, TAGETESSASH_DIVISION, 0) == TAGETESSASH_DONE && carries(1, 6, flat_first) && tagetessash_degree(state, 2, 1) == 0);
+    CHECK(all(state + TAGETESSASH_CARRIED_AT + 2 * TAGETESSASH_LEVEL_VECTORS, TAGETESSASH_LEVEL_VECTORS, 0));
+}
+
+/* One word of the degrees altered: there is no accepted basis, for lifting and for fetching. What stands behind them, or at a level that is not complete, is
+ * not looked at. */
+static void altered_degrees(void)
+{
+    static const size_t counts[] = { 7, 6, 2 };
+    size_t level, v;
+    uint16_t *word;
+    for (level = 0; level < 3; level++)
+        for (v = 1; v <= counts[level]; v++) {
+            CHECK(read_text(with_degrees) == TAGETESSASH_DONE);
+            CHECK(lift(1, TAGETESSASH_DIVISION, 0) == TAGETESSASH_DONE && lift(2, TAGETESSASH_DIVISION, 0) == TAGETESSASH_DONE);
+            CHECK(fetch(1, 1) == TAGETESSASH_DONE && fetch(2, 1) == TAGETESSASH_DONE);
+            word = state + TAGETESSASH_CARRIED_AT + level * TAGETESSASH_LEVEL_VECTORS + v - 1;
+            CHECK(*word == tagetessash_degree(state, level, v));
+            ++*word;
+            REFUSED(lift(1, TAGETESSASH_DIVISION, 0), TAGETESSASH_NO_LEVEL);
+            REFUSED(fetch(1, 1), TAGETESSASH_NO_LEVEL);
+            *word = (uint16_t)(*word - 2);
+            REFUSED(lift(3, TAGETESSASH_HYBRID, TAGETESSASH_NEWEST), TAGETESSASH_NO_LEVEL);
+            REFUSED(fetch(2, 1), TAGETESSASH_NO_LEVEL);
+            ++*word;
+            CHECK(lift(1, TAGETESSASH_DIVISION, 0) == TAGETESSASH_DONE);
+        }
+    /* a component's degree, with the elements' or without them; one above 255 */
+    CHECK(read_text(with_degrees) == TAGETESSASH_DONE);
+    state[TAGETESSASH_DEGREES_AT + 2] = 255;
+    REFUSED(lift(1, TAGETESSASH_DIVISION, 0), TAGETESSASH_NO_LEVEL);
+    state[TAGETESSASH_CARRIED_AT + 4] = 255;
+    CHECK(lift(1, TAGETESSASH_DIVISION, 0) == TAGETESSASH_DONE && tagetessash_component_degree(state, 3) == 255 && tagetessash_degree(state, 0, 5) == 255);
+    state[TAGETESSASH_DEGREES_AT + 2] = 256;
+    state[TAGETESSASH_CARRIED_AT + 4] = 256;
+    REFUSED(lift(1, TAGETESSASH_DIVISION, 0), TAGETESSASH_NO_LEVEL);
+    /* behind the components, behind the elements, at a level that is not complete: lifting writes zeros there */
+    CHECK(read_text(with_degrees) == TAGETESSASH_DONE);
+    state[TAGETESSASH_DEGREES_AT + 3] = 9;
+    state[TAGETESSASH_CARRIED_AT + 7] = 9;
+    state[TAGETESSASH_CARRIED_AT + 5 * TAGETESSASH_LEVEL_VECTORS] = 9;
+    CHECK(lift(1, TAGETESSASH_DIVISION, 0) == TAGETESSASH_DONE);
+    CHECK(state[TAGETESSASH_DEGREES_AT + 3] == 0 && state[TAGETESSASH_CARRIED_AT + 7] == 0);
+    CHECK(state[TAGETESSASH_CARRIED_AT + 5 * TAGETESSASH_LEVEL_VECTORS] == 0);
+}
+
+/* 18 at line 2, after the line's shape; what has not D's shape, a second D line and a later one are 1 */
+static void d_lines(void)
+{
+    static const struct {
+        const char *lines;
+        uint16_t number;
+        size_t place;
+    } files[] = {
+        { "D,0,255\nT,1,1,1,1\nE,1\n", TAGETESSASH_DONE, 0 },
+        { "D,256,0\nT,1,1,1,1\nE,1\n", TAGETESSASH_BAD_DEGREE, 2 },
+        { "D,0,65535\n", TAGETESSASH_BAD_DEGREE, 2 },
+        { "D,0,65536\nT,1,1,1,1\nE,1\n", TAGETESSASH_BAD_LINE, 2 },
+        { "D,256\nT,1,1,1,1\nE,1\n", TAGETESSASH_BAD_LINE, 2 },
+        { "D,0,0,0\nT,1,1,1,1\nE,1\n", TAGETESSASH_BAD_LINE, 2 },
+        { "D\nT,1,1,1,1\nE,1\n", TAGETESSASH_BAD_LINE, 2 },
+        { "D,0,01\nT,1,1,1,1\nE,1\n", TAGETESSASH_BAD_LINE, 2 },
+        { "D,0,256", TAGETESSASH_BAD_LINE, 2 },
+        { "D,0,1\nD,0,1\nT,1,1,1,1\nE,1\n", TAGETESSASH_BAD_LINE, 3 },
+        { "T,1,1,1,1\nD,0,1\nE,1\n", TAGETESSASH_BAD_LINE, 3 },
+        { "D,0,1\nT,1,1,1,1\nE,2\n", TAGETESSASH_BAD_COUNT, 4 },
+    };
+    char text[100];
+    size_t i;
+    for (i = 0; i < sizeof files / sizeof *files; i++) {
+        sprintf(text, "R,7,1,1,2\n%s", files[i].lines);
+        fill(state, TAGETESSASH_STATE_WORDS, 5);
+        fill(work, TAGETESSASH_WORK_WORDS, 5);
+        CHECK(read_text(text) == files[i].number && place == files[i].place);
+        CHECK(all(work, TAGETESSASH_WORK_WORDS, 0));
+        if (files[i].number != TAGETESSASH_DONE)
+            CHECK(all(state, TAGETESSASH_STATE_WORDS, 0));
+    }
+    CHECK(strcmp(tagetessash_meaning(TAGETESSASH_BAD_DEGREE), "a component's degree is above 255") == 0);
+    CHECK(strcmp(tagetessash_place_name(TAGETESSASH_BAD_DEGREE), "line") == 0 && tagetessash_place_name(17) == NULL);
 }
 
 static void null_with_length_0(void)
@@ -137,6 +270,7 @@ static void without_a_basis(void)
 {
     fill(state, TAGETESSASH_STATE_WORDS, 0);
     CHECK(tagetessash_complete(state) == 0 && tagetessash_count(state, 0) == 0 && tagetessash_rows(state, 0, 1) == NULL);
+    CHECK(tagetessash_component_degree(state, 1) == 0 && tagetessash_degree(state, 0, 1) == 0);
     REFUSED(lift(1, TAGETESSASH_DIVISION, 0), TAGETESSASH_NO_LEVEL);
     REFUSED(fetch(1, 1), TAGETESSASH_NO_LEVEL);
     fill(state, TAGETESSASH_STATE_WORDS, 65535);
@@ -272,6 +406,9 @@ int main(void)
     out = words(TAGETESSASH_OUT_WORDS);
     packed_rows();
     past_the_last_variable();
+    degrees();
+    altered_degrees();
+    d_lines();
     null_with_length_0();
     without_a_basis();
     one_word_short();

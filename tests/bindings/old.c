@@ -1,12 +1,17 @@
-/* A program of version 1. What it took of that header is written out, since no later header changes a program that is compiled already. Its buffers have that
- * version's lengths, and a library of version 2 refuses none of them: only the version tells. Exits with 0 if the library is of version 1, else with 2. */
+/* A program of an old version, TAGETESSASH_VERSION. What it took of that header is written out, since no later header changes a program that is compiled
+ * already. Its buffers have that version's lengths. Those of version 1 are long enough still, so that only the version tells; a state of version 2 is too
+ * short by the degrees (16). Exits with 0 if the library is of its version, else with 2. */
 #include <stddef.h>
 #include <stdint.h>
 #include <stdio.h>
 
-#define TAGETESSASH_VERSION 1
+#if TAGETESSASH_VERSION == 1
 #define TAGETESSASH_STATE_WORDS 206095
 #define TAGETESSASH_WORK_WORDS 5120
+#else
+#define TAGETESSASH_STATE_WORDS 124175
+#define TAGETESSASH_WORK_WORDS 3072
+#endif
 
 uint16_t tagetessash_read(const uint8_t *file, size_t file_bytes, uint16_t *state, size_t state_words, uint16_t *work, size_t work_words, size_t *place);
 uint16_t tagetessash_version(void);

@@ -8,7 +8,7 @@ mod plain;
 use bench_common::plain::{terms, Term};
 use bench_common::rows::Numbers;
 use bench_common::timing::{medians, turns, Run};
-use common::buffers::{count, rows, HEAD, ROW, STATE, VECTORS};
+use common::buffers::{carried, count, exponents, rows, DEGREES, HEAD, ROW, STATE, VECTORS};
 use std::hint::black_box;
 use testing::leaves as proved;
 
@@ -54,6 +54,9 @@ impl Random {
                 let component = if k == 0 { 1 } else { 1 + v as u64 / 32 };
                 let row = self.row(component, 6);
                 state[rows(k) + ROW * v..][..ROW].copy_from_slice(&row);
+                let below = if k == 0 { DEGREES } else { carried(k - 1) };
+                let degree = exponents(&row).iter().map(|e| u16::from(*e)).sum::<u16>();
+                state[carried(k) + v] = degree + state[below + component as usize - 1];
             }
         }
         state

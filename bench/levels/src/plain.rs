@@ -1,7 +1,9 @@
 //! The soundness test as one would write it in Rust: one pass over each level, images on level 0 made as it goes.
 
-use bench_common::plain::{compare_images, image, is_prime, ranked, Image, Term};
-use common::buffers::{count, rows, HEAD, LEVEL_ROWS, ROW, TERMS, VECTORS};
+use bench_common::plain::{compare_images, degree, image, is_prime, ranked, Image, Term};
+use common::buffers::{
+    carried, count, rows, COMPONENTS, DEGREES, HEAD, LEVEL_ROWS, ROW, TERMS, VECTORS,
+};
 use std::cmp::Ordering;
 
 /// `past` has the bytes past the last variable.
@@ -24,6 +26,10 @@ pub fn sound(state: &[u16]) -> bool {
         return false;
     }
     let past = u64::MAX.checked_shr(8 * u32::from(n)).unwrap_or(0);
+    let mut degrees = &state[DEGREES..][..COMPONENTS];
+    if degrees[..usize::from(s)].iter().any(|d| *d > 255) {
+        return false;
+    }
     let mut table = [Image::default(); VECTORS];
     let mut below = 0;
     for k in 0..complete {
@@ -37,6 +43,7 @@ pub fn sound(state: &[u16]) -> bool {
             return false;
         }
         let rows = &state[rows(k)..][..LEVEL_ROWS];
+        let own = &state[carried(k)..][..VECTORS];
         let mut leads = [Image::default(); VECTORS];
         let mut start = 0;
         for (v, end) in state[at + 1..][..count].iter().enumerate() {
@@ -52,7 +59,13 @@ pub fn sound(state: &[u16]) -> bool {
                 }
                 let here = image(&table[..below], term);
                 match &before {
-                    None => leads[v] = here,
+                    None => {
+                        let component = degrees[usize::from(term.component) - 1];
+                        if u64::from(own[v]) != degree(term.exponents) + u64::from(component) {
+                            return false;
+                        }
+                        leads[v] = here;
+                    }
                     Some(b) => {
                         if compare_images(code, b, &here) != Ordering::Greater {
                             return false;
@@ -68,6 +81,7 @@ pub fn sound(state: &[u16]) -> bool {
             *to = image;
         }
         below = count;
+        degrees = own;
     }
     true
 }

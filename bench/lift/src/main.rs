@@ -11,6 +11,7 @@ use common::examples::examples;
 use reference::buffers::write_state;
 use reference::engine::State;
 use reference::lifting::Way as ReferenceWay;
+use reference::monomial::Monomial;
 use reference::reader::{read_problem, Problem};
 use reference::Limits;
 use std::hint::black_box;
@@ -197,11 +198,11 @@ fn both(file: &[u8], way: &Way, buffers: &mut Buffers, cell: Duration) -> [f64; 
 
 fn homogeneous(problem: &Problem) -> bool {
     problem.elements.iter().all(|element| {
-        let degree = |e: &[u64; 8]| e.iter().sum::<u64>();
-        let first = degree(&element[0].monomial.exponents);
-        element
-            .iter()
-            .all(|term| degree(&term.monomial.exponents) == first)
+        let degree = |m: &Monomial| {
+            m.exponents.iter().sum::<u64>() + problem.degrees[m.component as usize - 1]
+        };
+        let first = degree(&element[0].monomial);
+        element.iter().all(|term| degree(&term.monomial) == first)
     })
 }
 

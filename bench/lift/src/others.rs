@@ -100,6 +100,9 @@ fn macaulay(problem: &Problem) -> String {
             _ => format!("{product}*F_{}", term.monomial.component - 1),
         }
     });
+    // the generator of R^{-d} has degree d in Macaulay2
+    let degrees: Vec<String> = problem.degrees.iter().map(|d| format!("-{d}")).collect();
+    let degrees = degrees.join(",");
     // one row of polynomials, or columns from vectors of F
     let generators = match s {
         1 => format!("matrix {{{{{elements}}}}}"),
@@ -107,7 +110,7 @@ fn macaulay(problem: &Problem) -> String {
     };
     format!(
         "R = ZZ/{p}[x_1..x_{n}, MonomialOrder => {order}]
-F = R^{s}
+F = R^{{{degrees}}}
 g = {generators}
 f = () -> res(coker map(F,, g), Strategy => 5, LengthLimit => 10)
 f()

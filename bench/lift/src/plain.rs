@@ -643,8 +643,16 @@ fn read_problem(file: &[u8]) -> Result<Engine, Refused> {
     let module = Module::ground(order, s);
     let mut elements: Level = Vec::new();
     let mut t_lines = 0;
+    let mut degrees = false;
     loop {
         match fields_of(lines.next(), &mut fields)? {
+            // line 2; degrees of components take part in nothing that is lifted
+            b'D' if t_lines == 0 && !degrees && fields.len() == usize::from(s) => {
+                if fields.iter().any(|degree| *degree > 255) {
+                    return Err(18);
+                }
+                degrees = true;
+            }
             b'T' => {
                 if fields.len() != 3 + usize::from(n) {
                     return Err(1);

@@ -1,14 +1,15 @@
 //! A plain Rust reader: the same tests in the same order, the same words, no allocation.
 
-use bench_common::plain::{compare, is_prime, Term};
-use common::buffers::{count, rows, HEAD, ROW, STATE};
+use bench_common::plain::{compare, degree, is_prime, Term};
+use common::buffers::{carried, count, rows, COMPONENTS, DEGREES, HEAD, ROW, STATE};
 use std::cmp::Ordering;
 
 const COUNT: usize = count(0);
 const ROWS: usize = rows(0);
+const CARRIED: usize = carried(0);
 
 /// The numbers of a line, zeros behind them.
-type Numbers = [u16; 11];
+type Numbers = [u16; COMPONENTS];
 
 struct Parameters {
     p: u16,
@@ -39,15 +40,29 @@ fn read_lines(file: &[u8], state: &mut [u16]) -> Result<(), (u16, usize)> {
     let (first, mut rest) = line(file, b'R', 4).ok_or((1, 1))?;
     let q = parameters(&first).map_err(|number| (number, 1))?;
     state[..HEAD].copy_from_slice(&[q.p, q.n, q.code, q.s, 1]);
+    let mut first = 2;
+    if let Some((degrees, behind)) = line(rest, b'D', q.s as usize) {
+        if degrees.iter().any(|d| *d > 255) {
+            return Err((18, 2));
+        }
+        state[DEGREES..][..COMPONENTS].copy_from_slice(&degrees);
+        rest = behind;
+        first = 3;
+    }
     let mut before = Term::default();
     let mut elements = 0;
     for count in 0.. {
-        let place = count + 2;
+        let place = count + first;
         match rest.first() {
             Some(b'T') => {
                 let (numbers, behind) = line(rest, b'T', 3 + q.n as usize).ok_or((1, place))?;
                 let term = term(&q, count, elements, before, &numbers).map_err(|n| (n, place))?;
-                elements = numbers[0];
+                if elements != numbers[0] {
+                    elements = numbers[0];
+                    let component = state[DEGREES + term.component as usize - 1];
+                    state[CARRIED + elements as usize - 1] =
+                        degree(term.exponents) as u16 + component;
+                }
                 state[ROWS + ROW * count..][..ROW].copy_from_slice(&term.row());
                 state[COUNT + elements as usize] = count as u16 + 1;
                 state[COUNT] = elements;
@@ -76,7 +91,7 @@ fn line(file: &[u8], letter: u8, count: usize) -> Option<(Numbers, &[u8])> {
     if first != letter {
         return None;
     }
-    let mut numbers = [0; 11];
+    let mut numbers = [0; COMPONENTS];
     for number in &mut numbers[..count] {
         rest = rest.strip_prefix(b",")?;
         (*number, rest) = field(rest)?;
@@ -123,7 +138,8 @@ fn term(
     before: Term,
     numbers: &Numbers,
 ) -> Result<Term, u16> {
-    let &[element, coefficient, component, ref exponents @ ..] = numbers;
+    let &[element, coefficient, component, x1, x2, x3, x4, x5, x6, x7, x8, ..] = numbers;
+    let exponents = [x1, x2, x3, x4, x5, x6, x7, x8];
     let next = element == elements + 1;
     if count >= 2_048 {
         return Err(8);

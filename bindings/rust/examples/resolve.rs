@@ -1,9 +1,10 @@
-//! Resolves a problem file by all three ways, or by one: how many vectors and terms each level has, the vectors if asked, and whether the ways agree. Prints
-//! what bindings/c/resolve.c prints.
+//! Resolves a problem file by all three ways, or by one: how many vectors and terms each level has, the vectors and degrees if asked, and whether the ways
+//! agree. Prints what bindings/c/resolve.c prints.
 //!
-//!     resolve [-v] [-w WAY] [-c TERMS] FILE
+//!     resolve [-v] [-d] [-w WAY] [-c TERMS] FILE
 //!
 //!     -v          prints the vectors too, as the sheet does, after the first way that lifts a level
+//!     -d          prints the degrees too, of the components and of each level's vectors in their sequence
 //!     -w WAY      division, greatest, newest, oldest (hybrid by that term) or tree; without it division, greatest and tree
 //!     -c TERMS    the tree's cache has so many terms, 4,096 without it
 //!
@@ -41,16 +42,19 @@ const WAYS: [(&str, &str, Way, bool); 5] = [
 struct Asked {
     file: String,
     vectors: bool,
+    degrees: bool,
     way: Option<String>,
     cache: usize,
 }
 
 fn asked() -> Option<Asked> {
-    let (mut file, mut vectors, mut way, mut cache) = (None, false, None, CACHE_TERMS);
+    let (mut file, mut vectors, mut degrees) = (None, false, false);
+    let (mut way, mut cache) = (None, CACHE_TERMS);
     let mut arguments = std::env::args().skip(1);
     while let Some(word) = arguments.next() {
         match word.as_str() {
             "-v" => vectors = true,
+            "-d" => degrees = true,
             "-w" => {
                 way = Some(
                     arguments
@@ -66,6 +70,7 @@ fn asked() -> Option<Asked> {
     Some(Asked {
         file: file?,
         vectors,
+        degrees,
         way,
         cache,
     })
@@ -73,7 +78,7 @@ fn asked() -> Option<Asked> {
 
 fn main() -> ExitCode {
     let Some(asked) = asked() else {
-        eprintln!("resolve [-v] [-w division|greatest|newest|oldest|tree] [-c TERMS] FILE");
+        eprintln!("resolve [-v] [-d] [-w division|greatest|newest|oldest|tree] [-c TERMS] FILE");
         return ExitCode::from(2);
     };
     let resolved = std::fs::read(&asked.file)
@@ -115,6 +120,11 @@ fn resolve(file: &[u8], asked: &Asked, out: &mut impl Write) -> Result<bool> {
             engine.count(0),
             engine.terms(0)
         )?;
+        if asked.degrees {
+            let degrees = engine.component_degrees().iter().copied();
+            writeln!(out, "    degrees of the components:{}", listed(degrees))?;
+            say_degrees(&engine, 0, out)?;
+        }
         for level in 1..=HIGHEST_LEVEL {
             let vectors = match lifted(&mut engine, level, way) {
                 Ok(vectors) => vectors,
@@ -130,6 +140,9 @@ fn resolve(file: &[u8], asked: &Asked, out: &mut impl Write) -> Result<bool> {
                 engine.count(level),
                 engine.terms(level)
             )?;
+            if asked.degrees {
+                say_degrees(&engine, level, out)?;
+            }
             let last = vectors.is_empty();
             match first.get(level - 1) {
                 None => {
@@ -188,6 +201,17 @@ fn say_vectors(engine: &Engine, level: usize, out: &mut impl Write) -> Result<()
         }
     }
     Ok(())
+}
+
+/// The degrees that the vectors of a level carry.
+fn say_degrees(engine: &Engine, level: usize, out: &mut impl Write) -> Result<()> {
+    let degrees = engine.vectors(level).map(|vector| vector.degree());
+    writeln!(out, "    degrees:{}", listed(degrees))
+}
+
+/// Numbers, a blank in front of each.
+fn listed(numbers: impl Iterator<Item = u16>) -> String {
+    numbers.map(|number| format!(" {number}")).collect()
 }
 
 fn words(term: &Term) -> String {

@@ -1,12 +1,13 @@
 //! Lengths and places in the lent buffers, in words, by the header's names; a test compares them with it.
 
-pub const STATE_WORDS: usize = 124_175;
+pub const STATE_WORDS: usize = 125_471;
 pub const WORK_WORDS: usize = 3_072;
 pub const TREE_WORK_WORDS: usize = 24_576;
 pub const OUT_WORDS: usize = 3_072;
 pub const SHEET_BYTES: usize = 1_400_000;
 
 pub const VARIABLES: usize = 8;
+pub const LEVEL_VECTORS: usize = 128;
 
 // a row
 pub const ROW_WORDS: usize = 6;
@@ -24,6 +25,8 @@ pub const COUNTS_AT: usize = 5;
 pub const COUNTS_WORDS: usize = 129;
 pub const ROWS_AT: usize = 1_295;
 pub const LEVEL_WORDS: usize = 12_288;
+pub const DEGREES_AT: usize = 124_175;
+pub const CARRIED_AT: usize = 124_191;
 
 /// The word of the state that holds how many vectors a level has; their ends stand behind it.
 pub const fn count_at(level: usize) -> usize {
@@ -33,6 +36,11 @@ pub const fn count_at(level: usize) -> usize {
 /// The first word of a level's rows.
 pub const fn rows_at(level: usize) -> usize {
     ROWS_AT + LEVEL_WORDS * level
+}
+
+/// The first word of the degrees that a level's vectors carry.
+pub const fn carried_at(level: usize) -> usize {
+    CARRIED_AT + LEVEL_VECTORS * level
 }
 
 /// A row's exponents, x1's first. They are one number, x1's in its top byte, in words of which the lowest stands first.

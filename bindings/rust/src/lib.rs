@@ -35,7 +35,7 @@ pub use refusal::Refusal;
 
 /// The version of the library that this crate is for: `TAGETESSASH_VERSION` of the header. A library of another version is refused by a panic at the first
 /// call.
-pub const VERSION: u16 = 2;
+pub const VERSION: u16 = 3;
 
 /// The highest level.
 pub const HIGHEST_LEVEL: usize = 9;
@@ -138,12 +138,32 @@ impl Term {
 #[derive(Clone, Copy)]
 pub struct Vector<'a> {
     rows: &'a [u16],
+    degree: u16,
 }
 
 impl<'a> Vector<'a> {
     /// Its terms, the greatest first.
     pub fn terms(&self) -> impl ExactSizeIterator<Item = Term> + 'a {
         self.rows.chunks_exact(ROW_WORDS).map(Term::of)
+    }
+
+    /// The degree that it carries, that of its leading monomial's image in level 0's module: the sum of the monomial's exponents, plus the degree of its
+    /// component (level 0; [`Engine::component_degrees`]) or of the vector of the level below that its component stands for.
+    ///
+    /// ```
+    /// // xy e_1, x^2 e_1 + y e_2 and y^2 e_2, the components of degrees 0 and 1
+    /// let file = b"R,7,2,3,2\nD,0,1\nT,1,1,1,1,1\nT,2,1,1,2,0\nT,2,1,2,0,1\nT,3,1,2,0,2\nE,4\n";
+    /// let mut engine = tagetessash::Engine::new();
+    /// engine.read(file)?;
+    /// engine.lift(1, tagetessash::Way::Division)?;
+    /// let degrees = |level| engine.vectors(level).map(|v| v.degree()).collect::<Vec<_>>();
+    /// assert_eq!(engine.component_degrees(), [0, 1]);
+    /// assert_eq!(degrees(0), [2, 2, 3]);
+    /// assert_eq!(degrees(1), [3]);
+    /// # Ok::<(), tagetessash::Refusal>(())
+    /// ```
+    pub fn degree(&self) -> u16 {
+        self.degree
     }
 }
 
@@ -262,14 +282,18 @@ impl Engine {
         usize::from(self.state[COMPONENTS_AT])
     }
 
+    /// The degrees of the components of level 0's module, the first one's first: those of the file's D line, zeros without one. Empty without a basis.
+    pub fn component_degrees(&self) -> &[u16] {
+        &self.state[DEGREES_AT..][..self.components()]
+    }
+
     /// The vectors of a level, in number order; of level 0 the file's elements. None of a level that is not complete.
     pub fn vectors(&self, level: usize) -> impl ExactSizeIterator<Item = Vector<'_>> {
-        let rows = match self.state.get(rows_at(level.min(HIGHEST_LEVEL))..) {
-            Some(rows) if level < self.complete() => rows,
-            _ => &[],
-        };
+        let at = level.min(HIGHEST_LEVEL);
+        let (rows, carried) = (&self.state[rows_at(at)..], &self.state[carried_at(at)..]);
         (0..self.count(level)).map(move |v| Vector {
             rows: &rows[ROW_WORDS * self.end(level, v)..ROW_WORDS * self.end(level, v + 1)],
+            degree: carried[v],
         })
     }
 

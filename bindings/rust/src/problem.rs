@@ -23,6 +23,7 @@ pub struct Problem {
     variables: u16,
     order: Order,
     components: u16,
+    degrees: Option<Vec<u16>>,
     elements: Vec<Vec<Term>>,
 }
 
@@ -34,8 +35,24 @@ impl Problem {
             variables,
             order,
             components,
+            degrees: None,
             elements: Vec::new(),
         }
+    }
+
+    /// The degrees of the components, from the first one's on: a D line. They change no vector, only the degree that each carries
+    /// ([`crate::Vector::degree`]); without this they are 0.
+    ///
+    /// ```
+    /// use tagetessash::{Order, Problem, Term};
+    /// // x^2 e_1 + y e_2 modulo 7, homogeneous where e_2 has degree 1
+    /// let mut problem = Problem::new(7, 2, Order::DegreeReverseLexicographic, 2);
+    /// problem.degrees([0, 1]).element([Term::new(1, 1, &[2, 0]), Term::new(1, 2, &[0, 1])]);
+    /// assert_eq!(problem.file(), b"R,7,2,3,2\nD,0,1\nT,1,1,1,2,0\nT,1,1,2,0,1\nE,2\n");
+    /// ```
+    pub fn degrees(&mut self, degrees: impl IntoIterator<Item = u16>) -> &mut Problem {
+        self.degrees = Some(degrees.into_iter().collect());
+        self
     }
 
     /// One more element, its terms in any order.
@@ -52,6 +69,14 @@ impl Problem {
         let mut count = 0;
         let (p, n, s) = (self.prime, usize::from(self.variables), self.components);
         let _ = writeln!(text, "R,{p},{n},{},{s}", self.order.code());
+        // not a degree for each component, or one above 255, is refused (1, 18)
+        if let Some(degrees) = &self.degrees {
+            text.push('D');
+            for degree in degrees {
+                let _ = write!(text, ",{degree}");
+            }
+            text.push('\n');
+        }
         // a zero element has a term with coefficient 0, which is refused (4)
         let zero = [Term::new(0, 1, &[])];
         for (element, terms) in (1..).zip(&self.elements) {

@@ -74,6 +74,11 @@ pub enum Refusal {
     },
     /// 16: a buffer is too short
     ShortBuffer,
+    /// 18: a component's degree is above 255
+    BadDegree {
+        /// the file's line, from 1
+        line: usize,
+    },
     /// a number that no call of this version gives
     Other {
         /// the number
@@ -105,11 +110,12 @@ impl Refusal {
             14 => TermLimit { level: place },
             15 => LevelLimit { level: place },
             16 => ShortBuffer,
+            18 => BadDegree { line: place },
             _ => Other { number, place },
         }
     }
 
-    /// Document 01's number: 1 to 9 or 11 to 16.
+    /// Document 01's number: 1 to 9 or 11 to 16, or 18.
     pub fn number(&self) -> u16 {
         match self {
             FileTooLong | BadLine { .. } => 1,
@@ -127,18 +133,20 @@ impl Refusal {
             TermLimit { .. } => 14,
             LevelLimit { .. } => 15,
             ShortBuffer => 16,
+            BadDegree { .. } => 18,
             Other { number, .. } => *number,
         }
     }
 
-    /// For 1 to 8 the file's line, for 9 the number of a frame term, for 13 to 15 the level (0 while a basis is being accepted), else 0.
+    /// For 1 to 8 and 18 the file's line, for 9 the number of a frame term, for 13 to 15 the level (0 while a basis is being accepted), else 0.
     pub fn place(&self) -> usize {
         match *self {
             BadLine { line } | BadPrime { line } | BadRing { line } | BadTerm { line } => line,
             BadElement { line }
             | NotDescending { line }
             | BadCount { line }
-            | TooManyTerms { line } => line,
+            | TooManyTerms { line }
+            | BadDegree { line } => line,
             NoBasis { frame_term } => frame_term,
             ExponentLimit { level } | TermLimit { level } | LevelLimit { level } => level,
             Other { place, .. } => place,
@@ -164,6 +172,7 @@ impl Refusal {
             14 => "a working value, a vector or the tree's work area is full",
             15 => "a level has too many frame terms or too many terms",
             16 => "a buffer is too short",
+            18 => "a component's degree is above 255",
             _ => "no number of a call",
         }
     }
@@ -171,7 +180,7 @@ impl Refusal {
     /// What the place counts, for refusals that have one.
     pub fn place_name(&self) -> Option<&'static str> {
         match self.number() {
-            1..=8 => Some("line"),
+            1..=8 | 18 => Some("line"),
             9 => Some("frame term"),
             13..=15 => Some("level"),
             _ => None,

@@ -138,7 +138,8 @@ fn every_number_is_a_refusal() {
                 assert_eq!(refusal.place(), place);
             }
             let other = Refusal::Other { number, place };
-            assert_eq!(refusal == other, number == 10 || number > 16);
+            let known = matches!(number, 1..=9 | 11..=16 | 18);
+            assert_eq!(refusal == other, !known);
         }
     }
 }
@@ -171,9 +172,121 @@ fn the_layout_is_the_headers() {
             numbers += 1;
         }
     }
-    assert_eq!(numbers, 19);
+    assert_eq!(numbers, 22);
     assert_eq!(layout::count_at(HIGHEST_LEVEL + 1), layout::rows_at(0));
-    assert_eq!(layout::rows_at(HIGHEST_LEVEL + 1), layout::STATE_WORDS);
+    assert_eq!(layout::rows_at(HIGHEST_LEVEL + 1), layout::DEGREES_AT);
+    let behind = layout::carried_at(0) - layout::DEGREES_AT;
+    assert_eq!(of_header("COMPONENTS"), Some(behind));
+    assert_eq!(layout::carried_at(HIGHEST_LEVEL + 1), layout::STATE_WORDS);
+}
+
+/// x e_1, x e_2, y e_1, y e_2, e_3, z e_1, z e_2, as in tests/bindings/edges.c: the frame of level 1 is x e_3, x e_4, y e_6, x e_6, y e_7, x e_7, that of
+/// level 2 y e_4, y e_6
+const MODULE: &str = "T,1,1,1,1,0,0\nT,2,1,2,1,0,0\nT,3,1,1,0,1,0\nT,4,1,2,0,1,0\nT,5,1,3,0,0,0\nT,6,1,1,0,0,1\nT,7,1,2,0,0,1\nE,7\n";
+
+fn degrees_of(engine: &Engine, level: usize) -> Vec<u16> {
+    engine.vectors(level).map(|v| v.degree()).collect()
+}
+
+/// by hand, with a D line and without it: other degrees, the same vectors
+#[test]
+fn degrees_by_every_way() {
+    let mut engine = Engine::new();
+    assert_eq!(engine.component_degrees(), []);
+    let with = format!("R,7,3,1,3\nD,1,2,2\n{MODULE}");
+    let without = format!("R,7,3,1,3\n{MODULE}");
+    for way in [
+        Way::Division,
+        Way::Hybrid(Pick::Greatest),
+        Way::Hybrid(Pick::Newest),
+        Way::Hybrid(Pick::Oldest),
+        Way::Tree,
+    ] {
+        let mut vectors = Vec::new();
+        for (file, components, carried) in [
+            (
+                &with,
+                [1, 2, 2],
+                [&[2, 3, 2, 3, 2, 2, 3][..], &[3, 4, 3, 3, 4, 4], &[4, 5]],
+            ),
+            (
+                &without,
+                [0, 0, 0],
+                [&[1, 1, 1, 1, 0, 1, 1][..], &[2; 6], &[3; 2]],
+            ),
+        ] {
+            engine.read(file.as_bytes()).expect("a Gröbner basis");
+            assert_eq!(engine.component_degrees(), components);
+            engine.lift(1, way).expect("no limit is met");
+            engine.lift(2, way).expect("no limit is met");
+            for (level, expected) in (0..).zip(carried) {
+                assert_eq!(degrees_of(&engine, level), expected);
+            }
+            assert_eq!(degrees_of(&engine, 3), []);
+            let terms = |level| {
+                let vectors = engine.vectors(level);
+                vectors
+                    .map(|v| v.terms().collect::<Vec<Term>>())
+                    .collect::<Vec<_>>()
+            };
+            vectors.push([terms(0), terms(1), terms(2)]);
+        }
+        assert_eq!(vectors[0], vectors[1]);
+    }
+    assert!(engine.read(b"").is_err());
+    assert_eq!(engine.component_degrees(), []);
+}
+
+/// a word of the degrees that is not its own: no accepted basis
+#[test]
+fn a_wrong_degree_is_no_basis() {
+    let file = format!("R,7,3,1,3\nD,1,2,2\n{MODULE}");
+    let mut engine = Engine::new();
+    engine.read(file.as_bytes()).expect("a Gröbner basis");
+    for level in 1..=2 {
+        engine.lift(level, Way::Division).expect("no limit is met");
+    }
+    let mut words: Vec<usize> = (layout::DEGREES_AT..).take(3).collect();
+    for level in 0..3 {
+        words.extend((layout::carried_at(level)..).take(engine.count(level)));
+    }
+    for word in words {
+        for altered in [engine.state[word] + 1, engine.state[word] - 1, 65_535] {
+            let mut other = engine.clone();
+            other.state[word] = altered;
+            assert_eq!(other.fetch(1, 1), Err(Refusal::NoLevel), "word {word}");
+            let lifted = other.lift(1, Way::Hybrid(Pick::Newest));
+            assert_eq!(lifted, Err(Refusal::NoLevel), "word {word}");
+            assert_eq!(other.state[word], altered);
+        }
+    }
+    assert!(engine.fetch(1, 1).is_ok());
+}
+
+/// 18 after the line's shape; what has not D's shape is 1
+#[test]
+fn degrees_of_problems() {
+    let read = |degrees: &[u16]| {
+        let mut problem = Problem::new(7, 1, Order::Lexicographic, 2);
+        problem.degrees(degrees.iter().copied());
+        problem.element([Term::new(1, 2, &[1]), Term::new(1, 1, &[])]);
+        let mut engine = Engine::new();
+        engine.read(&problem.file())?;
+        assert_eq!(engine.component_degrees(), degrees);
+        Ok(degrees_of(&engine, 0)[0])
+    };
+    assert_eq!(read(&[0, 0]), Ok(1));
+    assert_eq!(read(&[9, 255]), Ok(256));
+    for degrees in [[0, 256], [65_535, 0]] {
+        assert_eq!(read(&degrees), Err(Refusal::BadDegree { line: 2 }));
+    }
+    for degrees in [&[0][..], &[256], &[0, 1, 2], &[]] {
+        assert_eq!(read(degrees), Err(Refusal::BadLine { line: 2 }));
+    }
+    assert_eq!(
+        read(&[0, 256]).unwrap_err().to_string(),
+        "refused 18 at line 2: a component's degree is above 255"
+    );
 }
 
 /// the row that docs/BUFFERS.md prints

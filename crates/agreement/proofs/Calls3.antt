@@ -21,8 +21,7 @@ limits-1 = record {
   exponent = 2;
   t-lines = 2048;
   file = 65536;
-  field =
-      65535;
+  field = 65535;
   vectors = 128;
   level-terms = 2048;
   levels = 9;
@@ -33,11 +32,12 @@ limits-1 = record {
 }
 
 abbrev list-1 : List Call
-list-1 = reading true (text ("R,11,2,3,1" ∷ "T,1,10,1,1,0" ∷ "T,1,1,1,0,1" ∷ "T,2,10,1,2,1" ∷ "T,2,1,1,1,2" ∷ "T,2,10,1,1,0" ∷ "T,2,1,1,0,1" ∷ "E,6"
-    ∷ [])) ∷ lifting true 1 (by-hybrid 2) ∷ fetching true 1 1 ∷ fetching true 1 1 ∷ lifting true 11 (by-hybrid 3) ∷ fetching true 1 1
-    ∷ fetching true 1 1 ∷ []
+list-1 = lifting true 1 (by-tree 2) ∷ reading true (text ("R,7,3,2,1" ∷ "D,3" ∷ "T,1,5,1,1,1,1" ∷ "T,1,6,1,1,0,2" ∷ "T,1,2,1,0,2,1" ∷ "T,1,1,1,0,1,2"
+    ∷ "T,1,2,1,1,0,1" ∷ "T,1,5,1,0,1,1" ∷ "T,2,6,1,1,0,0" ∷ "T,2,5,1,0,0,0" ∷ "T,3,2,1,0,1,0" ∷ "T,3,1,1,0,0,1" ∷ "T,3,5,1,0,0,0" ∷ "E,11" ∷ []))
+    ∷ lifting true 1 (by-tree 1000) ∷ lifting true 2 (by-tree 12) ∷ lifting true 3 (by-hybrid 3) ∷ lifting true 3 (by-tree 0) ∷ fetching true 3 1
+    ∷ lifting true 3 by-division ∷ []
 
-seen-1 : seen limits-1 2000 empty list-1 ≡ some (text ("A,0,0" ∷ "A,13,1" ∷ "A,11,0" ∷ "A,11,0" ∷ "A,11,0" ∷ "A,11,0" ∷ "A,11,0" ∷ []))
+seen-1 : seen limits-1 2000 empty list-1 ≡ some (text ("A,11,0" ∷ "A,0,0" ∷ "A,13,1" ∷ "A,11,0" ∷ "A,11,0" ∷ "A,11,0" ∷ "A,11,0" ∷ "A,11,0" ∷ []))
 seen-1 = refl
 
 held-1 : held limits-1 2000 empty list-1 ≡ some (text ([]))
@@ -56,8 +56,7 @@ limits-2 = record {
   exponent = 255;
   t-lines = 2048;
   file = 65536;
-  field =
-      65535;
+  field = 65535;
   vectors = 128;
   level-terms = 2048;
   levels = 9;
@@ -68,11 +67,11 @@ limits-2 = record {
 }
 
 abbrev list-2 : List Call
-list-2 = reading true (text ("R,32003,3,1,1" ∷ "T,1,29849,1,0,1,1" ∷ "T,2,32002,1,0,1,2" ∷ "E,2" ∷ [])) ∷ lifting true 1 (by-tree 20)
-    ∷ lifting true 2 (by-hybrid 0) ∷ lifting true 2 by-division ∷ fetching true 1 1 ∷ []
+list-2 = reading true (text ("R,32003,3,1,1" ∷ "T,1,29849,1,0,1,1" ∷ "T,2,32002,1,0,1,2" ∷ "E,2" ∷ [])) ∷ lifting true 1 (by-hybrid 0)
+    ∷ lifting true 1 by-division ∷ fetching true 1 1 ∷ lifting true 1 by-division ∷ []
 
-seen-2 : seen limits-2 2000 empty list-2 ≡ some (text ("A,0,0" ∷ "A,0,0" ∷ "A,12,0" ∷ "A,0,0" ∷ "A,0,0" ∷ "V,1,2,0,0,0,0,0,0,0,0"
-    ∷ "V,12822,1,0,0,1,0,0,0,0,0" ∷ []))
+seen-2 : seen limits-2 2000 empty list-2 ≡ some (text ("A,0,0" ∷ "A,12,0" ∷ "A,0,0" ∷ "A,0,0" ∷ "V,1,2,0,0,0,0,0,0,0,0" ∷ "V,12822,1,0,0,1,0,0,0,0,0"
+    ∷ "A,0,0" ∷ []))
 seen-2 = refl
 
 held-2 : held limits-2 2000 empty list-2 ≡ some (text ("S,0,1,29849,1,0,1,1,0,0,0,0,0" ∷ "S,0,2,32002,1,0,1,2,0,0,0,0,0" ∷ "S,1,1,1,2,0,0,0,0,0,0,0,0"
@@ -93,8 +92,7 @@ limits-3 = record {
   exponent = 255;
   t-lines = 2048;
   file = 65536;
-  field =
-      65535;
+  field = 65535;
   vectors = 128;
   level-terms = 2048;
   levels = 9;
@@ -105,19 +103,19 @@ limits-3 = record {
 }
 
 abbrev list-3 : List Call
-list-3 = reading true (text ("R,32003,2,2,1" ∷ "T,1,17887,1,0,1" ∷ "T,2,22720,1,0,1" ∷ "E,2" ∷ [])) ∷ lifting true 1 (by-tree 9)
-    ∷ lifting true 2 (by-tree 60) ∷ lifting true 3 (by-hybrid 2) ∷ lifting true 3 (by-hybrid 1) ∷ fetching true 1 1 ∷ []
+list-3 = reading true (text ("R,7,5,2,1" ∷ "D,3" ∷ "T,1,5,1,1,0,0,0,1" ∷ "T,2,5,1,0,0,2,2,0" ∷ "E,2" ∷ [])) ∷ lifting true 1 (by-hybrid 3)
+    ∷ lifting true 1 (by-tree 60) ∷ lifting true 2 (by-hybrid 2) ∷ lifting true 3 (by-hybrid 1) ∷ fetching true 1 1 ∷ []
 
-seen-3 : seen limits-3 2000 empty list-3 ≡ some (text ("A,0,0" ∷ "A,0,0" ∷ "A,0,0" ∷ "A,0,0" ∷ "A,0,0" ∷ "A,0,0" ∷ "V,1,2,0,0,0,0,0,0,0,0"
-    ∷ "V,5343,1,0,0,0,0,0,0,0,0" ∷ []))
+seen-3 : seen limits-3 2000 empty list-3 ≡ some (text ("A,0,0" ∷ "A,0,0" ∷ "A,0,0" ∷ "A,0,0" ∷ "A,0,0" ∷ "A,0,0" ∷ "V,1,2,1,0,0,0,1,0,0,0"
+    ∷ "V,6,1,0,0,2,2,0,0,0,0" ∷ []))
 seen-3 = refl
 
-held-3 : held limits-3 2000 empty list-3 ≡ some (text ("S,0,1,17887,1,0,1,0,0,0,0,0,0" ∷ "S,0,2,22720,1,0,1,0,0,0,0,0,0" ∷ "S,1,1,1,2,0,0,0,0,0,0,0,0"
-    ∷ "S,1,1,5343,1,0,0,0,0,0,0,0,0" ∷ []))
+held-3 : held limits-3 2000 empty list-3 ≡ some (text ("S,0,1,5,1,1,0,0,0,1,0,0,0" ∷ "S,0,2,5,1,0,0,2,2,0,0,0,0" ∷ "S,1,1,1,2,1,0,0,0,1,0,0,0"
+    ∷ "S,1,1,6,1,0,0,2,2,0,0,0,0" ∷ []))
 held-3 = refl
 
-due-3 : due limits-3 2000 empty list-3 ≡ some (text ("S,0,1,17887,1,0,1,0,0,0,0,0,0" ∷ "S,0,2,22720,1,0,1,0,0,0,0,0,0" ∷ "S,1,1,1,2,0,0,0,0,0,0,0,0"
-    ∷ "S,1,1,5343,1,0,0,0,0,0,0,0,0" ∷ []))
+due-3 : due limits-3 2000 empty list-3 ≡ some (text ("S,0,1,5,1,1,0,0,0,1,0,0,0" ∷ "S,0,2,5,1,0,0,2,2,0,0,0,0" ∷ "S,1,1,1,2,1,0,0,0,1,0,0,0"
+    ∷ "S,1,1,6,1,0,0,2,2,0,0,0,0" ∷ []))
 due-3 = refl
 
 -- calls-1-44
@@ -130,23 +128,22 @@ limits-4 = record {
   exponent = 255;
   t-lines = 2048;
   file = 65536;
-  field =
-      65535;
+  field = 65535;
   vectors = 128;
   level-terms = 2048;
   levels = 9;
   working = 512;
-  vector = 512;
-  tree = 4;
+  vector = 3;
+  tree = 4096;
   numbering = λ code. 1;
 }
 
 abbrev list-4 : List Call
-list-4 = reading true (text ("R,11,5,1,1" ∷ "T,1,1,1,1,0,1,0,0" ∷ "T,1,10,1,0,2,0,0,0" ∷ "T,2,10,1,1,0,0,1,0" ∷ "T,2,1,1,0,1,1,0,0"
-    ∷ "T,3,10,1,0,1,0,1,0" ∷ "T,3,1,1,0,0,2,0,0" ∷ "T,4,8,1,1,0,0,0,1" ∷ "T,4,3,1,0,1,0,1,0" ∷ "T,5,1,1,0,1,0,0,1" ∷ "T,5,10,1,0,0,1,1,0"
-    ∷ "T,6,7,1,0,0,1,0,1" ∷ "T,6,4,1,0,0,0,2,0" ∷ "E,12" ∷ [])) ∷ fetching true 1 0 ∷ lifting true 1 (by-hybrid 3) ∷ lifting true 2 (by-tree 9) ∷ []
+list-4 = reading true (text ("R,101,4,3,3" ∷ "D,1,3,2" ∷ "T,1,1,2,0,3,0,0" ∷ "T,2,24,2,0,0,3,0" ∷ "T,2,77,2,0,0,2,1" ∷ "T,3,64,2,0,0,0,1" ∷ "E,4" ∷ []))
+    ∷ fetching true 1 1 ∷ lifting true 1 (by-hybrid 3) ∷ lifting true 2 (by-hybrid 65535) ∷ lifting true 2 (by-hybrid 1) ∷ lifting true 3 by-division
+    ∷ fetching true 1 0 ∷ []
 
-seen-4 : seen limits-4 2000 empty list-4 ≡ some (text ("A,0,0" ∷ "A,11,0" ∷ "A,0,0" ∷ "A,14,2" ∷ []))
+seen-4 : seen limits-4 2000 empty list-4 ≡ some (text ("A,0,0" ∷ "A,11,0" ∷ "A,0,0" ∷ "A,12,0" ∷ "A,14,2" ∷ "A,11,0" ∷ "A,11,0" ∷ []))
 seen-4 = refl
 
 held-4 : held limits-4 2000 empty list-4 ≡ some (text ([]))
@@ -165,8 +162,7 @@ limits-5 = record {
   exponent = 255;
   t-lines = 2048;
   file = 65536;
-  field =
-      65535;
+  field = 65535;
   vectors = 128;
   level-terms = 2048;
   levels = 9;
@@ -177,18 +173,17 @@ limits-5 = record {
 }
 
 abbrev list-5 : List Call
-list-5 = reading true (text ("R,2,1,2,1" ∷ "T,1,1,1,2" ∷ "T,2,1,1,3" ∷ "T,3,1,1,1" ∷ "T,4,1,1,0" ∷ "T,5,1,1,3" ∷ "T,6,1,1,0" ∷ "E,6" ∷ []))
-    ∷ fetching true 1 1 ∷ fetching true 1 1 ∷ []
+list-5 = reading true (text ("R,2,1,2,1" ∷ "d,3" ∷ "T,1,1,1,2" ∷ "T,2,1,1,3" ∷ "T,3,1,1,1" ∷ "T,4,1,1,0" ∷ "T,5,1,1,3" ∷ "T,6,1,1,0" ∷ "E,6" ∷ []))
+    ∷ fetching true 1 1 ∷ reading true (text ("R,32003,4,1,1" ∷ "T,1,32001,1,1,0,0,1" ∷ "T,2,22063,1,1,0,0,0" ∷ "T,2,9940,1,0,1,0,0" ∷ "T,3,32002,1,0,1,0,2"
+    ∷ "T,4,32001,1,2,0,0,2" ∷ "T,4,18997,1,1,0,0,1" ∷ "E,6" ∷ [])) ∷ []
 
-seen-5 : seen limits-5 2000 empty list-5 ≡ some (text ("A,0,0" ∷ "A,11,0" ∷ "A,11,0" ∷ []))
+seen-5 : seen limits-5 2000 empty list-5 ≡ some (text ("A,1,2" ∷ "A,11,0" ∷ "A,9,1" ∷ "V,9940,1,0,1,0,1,0,0,0,0" ∷ []))
 seen-5 = refl
 
-held-5 : held limits-5 2000 empty list-5 ≡ some (text ("S,0,1,1,1,2,0,0,0,0,0,0,0" ∷ "S,0,2,1,1,3,0,0,0,0,0,0,0" ∷ "S,0,3,1,1,1,0,0,0,0,0,0,0"
-    ∷ "S,0,4,1,1,0,0,0,0,0,0,0,0" ∷ "S,0,5,1,1,3,0,0,0,0,0,0,0" ∷ "S,0,6,1,1,0,0,0,0,0,0,0,0" ∷ []))
+held-5 : held limits-5 2000 empty list-5 ≡ some (text ([]))
 held-5 = refl
 
-due-5 : due limits-5 2000 empty list-5 ≡ some (text ("S,0,1,1,1,2,0,0,0,0,0,0,0" ∷ "S,0,2,1,1,3,0,0,0,0,0,0,0" ∷ "S,0,3,1,1,1,0,0,0,0,0,0,0"
-    ∷ "S,0,4,1,1,0,0,0,0,0,0,0,0" ∷ "S,0,5,1,1,3,0,0,0,0,0,0,0" ∷ "S,0,6,1,1,0,0,0,0,0,0,0,0" ∷ []))
+due-5 : due limits-5 2000 empty list-5 ≡ some (text ([]))
 due-5 = refl
 
 -- calls-1-46
@@ -198,36 +193,35 @@ limits-6 = record {
   variables = 8;
   components = 16;
   elements = 64;
-  exponent = 2;
+  exponent = 255;
   t-lines = 2048;
   file = 65536;
-  field =
-      65535;
+  field = 65535;
   vectors = 128;
   level-terms = 0;
   levels = 9;
   working = 512;
   vector = 512;
-  tree = 4096;
+  tree = 0;
   numbering = λ code. 1;
 }
 
 abbrev list-6 : List Call
-list-6 = reading true (text ("R,2,3,1,1" ∷ "T,1,1,1,2,0,0" ∷ "T,1,1,1,1,0,1" ∷ "T,1,1,1,1,0,0" ∷ "T,1,1,1,0,2,0" ∷ "T,1,1,1,0,1,1" ∷ "T,1,1,1,0,1,0"
+list-6 = reading true (text ("R,2,3,1,11" ∷ "D,2" ∷ "T,1,1,1,2,0,0" ∷ "T,1,1,1,1,0,1" ∷ "T,1,1,1,1,0,0" ∷ "T,1,1,1,0,2,0" ∷ "T,1,1,1,0,1,1" ∷ "T,1,1,1,0,1,0"
     ∷ "T,2,1,1,2,0,0" ∷ "T,2,1,1,1,0,1" ∷ "T,2,1,1,1,0,0" ∷ "T,2,1,1,0,2,0" ∷ "T,2,1,1,0,1,1" ∷ "T,2,1,1,0,1,0" ∷ "E,12" ∷ []))
-    ∷ lifting true 1 by-division ∷ reading true (text ("R,251,5,1,1" ∷ "T,1,1,1,0,0,0,1,0" ∷ "T,2,42,1,2,0,0,0,0" ∷ "T,2,209,1,0,1,1,0,0"
-    ∷ "T,2,209,1,0,1,0,0,1" ∷ "T,3,50,1,2,0,0,1,0" ∷ "T,3,50,1,0,1,0,1,0" ∷ "T,3,50,1,0,0,2,1,0" ∷ "E,7" ∷ [])) ∷ fetching true 1 1 ∷ fetching true 1 1
-    ∷ []
+    ∷ reading true (text ("R,5,5,1,3" ∷ "T,1,1,3,0,0,0,0,0" ∷ "T,2,1,3,1,0,0,0,0" ∷ "T,2,4,2,0,0,0,1,0" ∷ "T,3,4,2,1,1,0,0,0" ∷ "T,3,3,3,0,0,0,0,0"
+    ∷ "T,3,1,1,0,0,0,0,0" ∷ "E,6" ∷ [])) ∷ lifting true 1 (by-hybrid 3) ∷ fetching true 1 1 ∷ reading true (text ("R,2,2,1,3" ∷ "D,0,0,0" ∷ "T,1,1,1,0,1"
+    ∷ "T,2,1,1,0,1" ∷ "T,3,1,3,0,1" ∷ "T,3,1,2,0,1" ∷ "T,3,1,1,0,1" ∷ "E,5" ∷ [])) ∷ []
 
-seen-6 : seen limits-6 2000 empty list-6 ≡ some (text ("A,0,0" ∷ "A,15,1" ∷ "A,0,0" ∷ "A,11,0" ∷ "A,11,0" ∷ []))
+seen-6 : seen limits-6 2000 empty list-6 ≡ some (text ("A,1,2" ∷ "A,9,1" ∷ "V,4,2,0,0,0,1,0,0,0,0" ∷ "A,11,0" ∷ "A,11,0" ∷ "A,0,0" ∷ []))
 seen-6 = refl
 
-held-6 : held limits-6 2000 empty list-6 ≡ some (text ("S,0,1,1,1,0,0,0,1,0,0,0,0" ∷ "S,0,2,42,1,2,0,0,0,0,0,0,0" ∷ "S,0,2,209,1,0,1,1,0,0,0,0,0"
-    ∷ "S,0,2,209,1,0,1,0,0,1,0,0,0" ∷ "S,0,3,50,1,2,0,0,1,0,0,0,0" ∷ "S,0,3,50,1,0,1,0,1,0,0,0,0" ∷ "S,0,3,50,1,0,0,2,1,0,0,0,0" ∷ []))
+held-6 : held limits-6 2000 empty list-6 ≡ some (text ("S,0,1,1,1,0,1,0,0,0,0,0,0" ∷ "S,0,2,1,1,0,1,0,0,0,0,0,0" ∷ "S,0,3,1,3,0,1,0,0,0,0,0,0"
+    ∷ "S,0,3,1,2,0,1,0,0,0,0,0,0" ∷ "S,0,3,1,1,0,1,0,0,0,0,0,0" ∷ []))
 held-6 = refl
 
-due-6 : due limits-6 2000 empty list-6 ≡ some (text ("S,0,1,1,1,0,0,0,1,0,0,0,0" ∷ "S,0,2,42,1,2,0,0,0,0,0,0,0" ∷ "S,0,2,209,1,0,1,1,0,0,0,0,0"
-    ∷ "S,0,2,209,1,0,1,0,0,1,0,0,0" ∷ "S,0,3,50,1,2,0,0,1,0,0,0,0" ∷ "S,0,3,50,1,0,1,0,1,0,0,0,0" ∷ "S,0,3,50,1,0,0,2,1,0,0,0,0" ∷ []))
+due-6 : due limits-6 2000 empty list-6 ≡ some (text ("S,0,1,1,1,0,1,0,0,0,0,0,0" ∷ "S,0,2,1,1,0,1,0,0,0,0,0,0" ∷ "S,0,3,1,3,0,1,0,0,0,0,0,0"
+    ∷ "S,0,3,1,2,0,1,0,0,0,0,0,0" ∷ "S,0,3,1,1,0,1,0,0,0,0,0,0" ∷ []))
 due-6 = refl
 
 -- calls-1-47
@@ -240,8 +234,7 @@ limits-7 = record {
   exponent = 255;
   t-lines = 2048;
   file = 65536;
-  field =
-      65535;
+  field = 65535;
   vectors = 128;
   level-terms = 2048;
   levels = 9;
@@ -252,11 +245,11 @@ limits-7 = record {
 }
 
 abbrev list-7 : List Call
-list-7 = reading true (text ("R,32003,3,2,1" ∷ "T,1,23839,1,0,0,0" ∷ "T,2,1,1,0,0,1" ∷ "T,2,1,1,0,0,0" ∷ "T,3,10271,1,0,1,0" ∷ "T,3,7234,1,0,0,0"
-    ∷ "T,4,11401,1,0,0,2" ∷ "T,5,8502,1,0,2,0" ∷ "T,6,32002,1,2,0,0" ∷ "T,6,1,1,0,0,1" ∷ "T,6,1,1,0,0,0" ∷ "T,7,9628,1,2,0,0" ∷ "E,11" ∷ []))
-    ∷ fetching true 1 65535 ∷ lifting true 1 (by-tree 60) ∷ lifting true 2 (by-tree 0) ∷ []
+list-7 = reading true (text ("R,2,4,3,1" ∷ "D,0" ∷ "T,1,1,1,1,0,0,0" ∷ "T,1,1,1,0,0,0,0" ∷ "T,2,1,1,0,1,0,0" ∷ "T,3,1,1,0,0,1,0" ∷ "T,4,1,2,0,0,0,1"
+    ∷ "T,4,1,1,0,0,0,0" ∷ "E,6" ∷ [])) ∷ reading true (text ("R,5,2,2,1" ∷ "T,1,3,1,1,0" ∷ "T,2,3,1,1,0" ∷ "T,3,3,1,0,1" ∷ "E,3" ∷ [])) ∷ fetching true 2 1
+    ∷ lifting true 1 (by-tree 0) ∷ lifting true 2 (by-hybrid 2) ∷ lifting true 1 (by-tree 9) ∷ []
 
-seen-7 : seen limits-7 2000 empty list-7 ≡ some (text ("A,0,0" ∷ "A,11,0" ∷ "A,14,1" ∷ "A,11,0" ∷ []))
+seen-7 : seen limits-7 2000 empty list-7 ≡ some (text ("A,4,7" ∷ "A,0,0" ∷ "A,11,0" ∷ "A,14,1" ∷ "A,11,0" ∷ "A,11,0" ∷ []))
 seen-7 = refl
 
 held-7 : held limits-7 2000 empty list-7 ≡ some (text ([]))
@@ -275,8 +268,7 @@ limits-8 = record {
   exponent = 255;
   t-lines = 2048;
   file = 65536;
-  field =
-      65535;
+  field = 65535;
   vectors = 128;
   level-terms = 2048;
   levels = 9;
@@ -288,18 +280,18 @@ limits-8 = record {
 
 abbrev list-8 : List Call
 list-8 = reading true (text ("R,32003,4,3,1" ∷ "T,1,13803,1,0,2,0,0" ∷ "T,1,18200,1,1,0,1,0" ∷ "T,2,23441,1,0,1,1,0" ∷ "T,2,8562,1,1,0,0,1"
-    ∷ "T,3,21693,1,0,0,2,0" ∷ "T,3,10310,1,0,1,0,1" ∷ "E,6" ∷ [])) ∷ fetching true 1 1 ∷ fetching true 1 1 ∷ lifting true 1 (by-hybrid 1)
-    ∷ fetching true 1 2 ∷ lifting true 10 (by-tree 6) ∷ reading true (text ("R,32749,2,1,2" ∷ "T,1,25481,2,1,0" ∷ "T,1,7268,1,0,6" ∷ "E,2" ∷ []))
-    ∷ lifting true 1 (by-hybrid 2) ∷ []
+    ∷ "T,3,21693,1,0,0,2,0" ∷ "T,3,10310,1,0,1,0,1" ∷ "E,6" ∷ [])) ∷ fetching true 1 1 ∷ lifting true 1 (by-hybrid 1) ∷ fetching true 1 2
+    ∷ lifting true 10 (by-tree 6) ∷ reading true (text ("R,32749,2,1,2" ∷ "T,1,25481,2,1,0" ∷ "T,1,7268,1,0,0" ∷ "E,2" ∷ [])) ∷ lifting true 1 (by-hybrid 2)
+    ∷ lifting true 2 (by-hybrid 3) ∷ []
 
-seen-8 : seen limits-8 2000 empty list-8 ≡ some (text ("A,0,0" ∷ "A,11,0" ∷ "A,11,0" ∷ "A,0,0" ∷ "A,0,0" ∷ "V,1,3,0,1,0,0,0,0,0,0"
-    ∷ "V,5755,2,0,0,1,0,0,0,0,0" ∷ "V,405,1,0,0,0,1,0,0,0,0" ∷ "A,12,0" ∷ "A,0,0" ∷ "A,0,0" ∷ []))
+seen-8 : seen limits-8 2000 empty list-8 ≡ some (text ("A,0,0" ∷ "A,11,0" ∷ "A,0,0" ∷ "A,0,0" ∷ "V,1,3,0,1,0,0,0,0,0,0" ∷ "V,5755,2,0,0,1,0,0,0,0,0"
+    ∷ "V,405,1,0,0,0,1,0,0,0,0" ∷ "A,12,0" ∷ "A,0,0" ∷ "A,0,0" ∷ "A,0,0" ∷ []))
 seen-8 = refl
 
-held-8 : held limits-8 2000 empty list-8 ≡ some (text ("S,0,1,25481,2,1,0,0,0,0,0,0,0" ∷ "S,0,1,7268,1,0,6,0,0,0,0,0,0" ∷ []))
+held-8 : held limits-8 2000 empty list-8 ≡ some (text ("S,0,1,25481,2,1,0,0,0,0,0,0,0" ∷ "S,0,1,7268,1,0,0,0,0,0,0,0,0" ∷ []))
 held-8 = refl
 
-due-8 : due limits-8 2000 empty list-8 ≡ some (text ("S,0,1,25481,2,1,0,0,0,0,0,0,0" ∷ "S,0,1,7268,1,0,6,0,0,0,0,0,0" ∷ []))
+due-8 : due limits-8 2000 empty list-8 ≡ some (text ("S,0,1,25481,2,1,0,0,0,0,0,0,0" ∷ "S,0,1,7268,1,0,0,0,0,0,0,0,0" ∷ []))
 due-8 = refl
 
 -- calls-1-49
@@ -312,23 +304,21 @@ limits-9 = record {
   exponent = 255;
   t-lines = 2048;
   file = 65536;
-  field =
-      65535;
+  field = 65535;
   vectors = 128;
   level-terms = 2048;
   levels = 9;
-  working = 1;
-  vector = 512;
-  tree = 0;
+  working = 512;
+  vector = 4;
+  tree = 4096;
   numbering = λ code. 1;
 }
 
 abbrev list-9 : List Call
-list-9 = reading true (text ("R,5,4,1,1" ∷ "T,1,1,1,0,1,1,1" ∷ "T,2,4,1,1,1,0,1" ∷ "T,3,4,1,1,2,0,0" ∷ "T,4,1,1,0,0,0,1" ∷ "T,5,1,1,0,0,0,1"
-    ∷ "T,6,2,1,1,0,0,0" ∷ "T,7,3,1,0,0,1,1" ∷ "T,8,3,1,0,2,0,1" ∷ "E,8" ∷ [])) ∷ lifting true 1 (by-hybrid 1) ∷ lifting true 2 (by-hybrid 2)
-    ∷ fetching true 2 2 ∷ fetching true 1 3 ∷ lifting true 3 (by-tree 1000) ∷ fetching true 3 1 ∷ fetching true 1 5 ∷ []
+list-9 = reading true (text ("R,3,3,3,1" ∷ "T,1,2,1,3,0,0" ∷ "T,1,1,1,0,0,1" ∷ "T,2,2,1,0,0,3" ∷ "T,2,1,1,0,1,0" ∷ "T,3,2,1,0,2,0" ∷ "E,5" ∷ []))
+    ∷ lifting true 1 (by-hybrid 3) ∷ lifting true 2 by-division ∷ []
 
-seen-9 : seen limits-9 2000 empty list-9 ≡ some (text ("A,0,0" ∷ "A,0,0" ∷ "A,14,2" ∷ "A,11,0" ∷ "A,11,0" ∷ "A,11,0" ∷ "A,11,0" ∷ "A,11,0" ∷ []))
+seen-9 : seen limits-9 2000 empty list-9 ≡ some (text ("A,0,0" ∷ "A,0,0" ∷ "A,14,2" ∷ []))
 seen-9 = refl
 
 held-9 : held limits-9 2000 empty list-9 ≡ some (text ([]))
@@ -347,8 +337,7 @@ limits-10 = record {
   exponent = 255;
   t-lines = 2048;
   file = 65536;
-  field =
-      65535;
+  field = 65535;
   vectors = 128;
   level-terms = 2048;
   levels = 9;
@@ -359,23 +348,20 @@ limits-10 = record {
 }
 
 abbrev list-10 : List Call
-list-10 = reading true (text ("R,101,3,3,1" ∷ "T,1,34,1,0,2,0" ∷ "T,2,100,1,0,0,0" ∷ "T,3,1,1,0,0,0" ∷ "T,4,17,1,0,2,0" ∷ "T,4,70,1,0,1,0" ∷ "E,5"
-    ∷ [])) ∷ lifting true 1 (by-hybrid 2) ∷ lifting true 2 by-division ∷ fetching true 1 1 ∷ []
+list-10 = reading true (text ("R,101,3,3,1" ∷ "D,1" ∷ "T,1,34,1,0,2,0" ∷ "T,2,100,1,0,0,0" ∷ "T,3,1,1,0,0,0" ∷ "T,4,17,1,0,2,0" ∷ "T,4,70,1,0,1,0" ∷ "E,5"
+    ∷ [])) ∷ reading true (text ("R,7,4,2,1" ∷ "T,1,6,1,0,1,0,0" ∷ "T,1,6,1,0,0,0,1" ∷ "T,2,4,1,0,0,0,0" ∷ "E,3" ∷ [])) ∷ lifting true 1 (by-tree 60)
+    ∷ fetching true 1 1 ∷ []
 
-seen-10 : seen limits-10 2000 empty list-10 ≡ some (text ("A,0,0" ∷ "A,0,0" ∷ "A,0,0" ∷ "A,0,0" ∷ "V,1,2,0,2,0,0,0,0,0,0" ∷ "V,3,1,0,0,0,0,0,0,0,0"
-    ∷ []))
+seen-10 : seen limits-10 2000 empty list-10 ≡ some (text ("A,0,0" ∷ "A,0,0" ∷ "A,0,0" ∷ "A,0,0" ∷ "V,1,2,0,1,0,0,0,0,0,0" ∷ "V,4,1,0,0,0,0,0,0,0,0"
+    ∷ "V,1,2,0,0,0,1,0,0,0,0" ∷ []))
 seen-10 = refl
 
-held-10 : held limits-10 2000 empty list-10 ≡ some (text ("S,0,1,34,1,0,2,0,0,0,0,0,0" ∷ "S,0,2,100,1,0,0,0,0,0,0,0,0" ∷ "S,0,3,1,1,0,0,0,0,0,0,0,0"
-    ∷ "S,0,4,17,1,0,2,0,0,0,0,0,0" ∷ "S,0,4,70,1,0,1,0,0,0,0,0,0" ∷ "S,1,1,1,2,0,2,0,0,0,0,0,0" ∷ "S,1,1,3,1,0,0,0,0,0,0,0,0"
-    ∷ "S,1,2,1,3,0,0,0,0,0,0,0,0" ∷ "S,1,2,1,2,0,0,0,0,0,0,0,0" ∷ "S,1,3,1,4,0,0,0,0,0,0,0,0" ∷ "S,1,3,50,1,0,0,0,0,0,0,0,0"
-    ∷ "S,1,3,70,2,0,1,0,0,0,0,0,0" ∷ []))
+held-10 : held limits-10 2000 empty list-10 ≡ some (text ("S,0,1,6,1,0,1,0,0,0,0,0,0" ∷ "S,0,1,6,1,0,0,0,1,0,0,0,0" ∷ "S,0,2,4,1,0,0,0,0,0,0,0,0"
+    ∷ "S,1,1,1,2,0,1,0,0,0,0,0,0" ∷ "S,1,1,4,1,0,0,0,0,0,0,0,0" ∷ "S,1,1,1,2,0,0,0,1,0,0,0,0" ∷ []))
 held-10 = refl
 
-due-10 : due limits-10 2000 empty list-10 ≡ some (text ("S,0,1,34,1,0,2,0,0,0,0,0,0" ∷ "S,0,2,100,1,0,0,0,0,0,0,0,0" ∷ "S,0,3,1,1,0,0,0,0,0,0,0,0"
-    ∷ "S,0,4,17,1,0,2,0,0,0,0,0,0" ∷ "S,0,4,70,1,0,1,0,0,0,0,0,0" ∷ "S,1,1,1,2,0,2,0,0,0,0,0,0" ∷ "S,1,1,3,1,0,0,0,0,0,0,0,0"
-    ∷ "S,1,2,1,3,0,0,0,0,0,0,0,0" ∷ "S,1,2,1,2,0,0,0,0,0,0,0,0" ∷ "S,1,3,1,4,0,0,0,0,0,0,0,0" ∷ "S,1,3,50,1,0,0,0,0,0,0,0,0"
-    ∷ "S,1,3,70,2,0,1,0,0,0,0,0,0" ∷ []))
+due-10 : due limits-10 2000 empty list-10 ≡ some (text ("S,0,1,6,1,0,1,0,0,0,0,0,0" ∷ "S,0,1,6,1,0,0,0,1,0,0,0,0" ∷ "S,0,2,4,1,0,0,0,0,0,0,0,0"
+    ∷ "S,1,1,1,2,0,1,0,0,0,0,0,0" ∷ "S,1,1,4,1,0,0,0,0,0,0,0,0" ∷ "S,1,1,1,2,0,0,0,1,0,0,0,0" ∷ []))
 due-10 = refl
 
 -- calls-1-51
@@ -385,11 +371,10 @@ limits-11 = record {
   variables = 8;
   components = 16;
   elements = 64;
-  exponent = 1;
+  exponent = 0;
   t-lines = 2048;
   file = 65536;
-  field =
-      65535;
+  field = 65535;
   vectors = 128;
   level-terms = 2048;
   levels = 9;
@@ -400,10 +385,10 @@ limits-11 = record {
 }
 
 abbrev list-11 : List Call
-list-11 = reading true (text ("R,5,1,3,1" ∷ "T,1,2,1,2" ∷ "T,1,3,1,1" ∷ "T,2,4,1,2?" ∷ "T,2,1,1,1" ∷ "T,3,4,1,3" ∷ "T,3,1,1,1" ∷ "E,6" ∷ []))
-    ∷ fetching true 1 1 ∷ lifting true 1 (by-tree 1) ∷ reading true (text ("R,251,3,3,3" ∷ "T,1,187,2,1,0,0" ∷ "T,2,2,2,0,0,2" ∷ "E,2" ∷ [])) ∷ []
+list-11 = fetching true 1 1 ∷ lifting true 1 (by-hybrid 3) ∷ fetching true 1 1 ∷ fetching true 1 1 ∷ lifting true 1 (by-hybrid 3)
+    ∷ lifting true 1 (by-hybrid 3) ∷ []
 
-seen-11 : seen limits-11 2000 empty list-11 ≡ some (text ("A,4,2" ∷ "A,11,0" ∷ "A,11,0" ∷ "A,4,3" ∷ []))
+seen-11 : seen limits-11 2000 empty list-11 ≡ some (text ("A,11,0" ∷ "A,11,0" ∷ "A,11,0" ∷ "A,11,0" ∷ "A,11,0" ∷ "A,11,0" ∷ []))
 seen-11 = refl
 
 held-11 : held limits-11 2000 empty list-11 ≡ some (text ([]))
@@ -422,28 +407,32 @@ limits-12 = record {
   exponent = 255;
   t-lines = 2048;
   file = 65536;
-  field =
-      65535;
+  field = 65535;
   vectors = 128;
   level-terms = 2048;
   levels = 9;
   working = 512;
-  vector = 3;
-  tree = 1;
+  vector = 512;
+  tree = 0;
   numbering = λ code. 1;
 }
 
 abbrev list-12 : List Call
-list-12 = reading true (text ("R,32749,2,1,1" ∷ "T,1,1,1,1,0" ∷ "T,1,2465,1,0,1" ∷ "T,2,23570,1,0,2" ∷ "T,3,1757,1,2,1" ∷ "T,3,8137,1,1,2" ∷ "E,5"
-    ∷ [])) ∷ lifting true 1 (by-tree 12) ∷ fetching true 1 1 ∷ lifting true 2 (by-hybrid 1) ∷ []
+list-12 = reading true (text ("R,101,5,2,3" ∷ "T,1,97,1,2,0,0,0,0" ∷ "T,2,8,1,0,0,2,0,0" ∷ "T,2,44,1,0,0,1,1,0" ∷ "T,3,100,1,0,0,0,2,0" ∷ "T,4,64,1,0,0,0,0,2"
+    ∷ "E,5" ∷ [])) ∷ lifting true 1 (by-tree 9) ∷ lifting true 2 (by-hybrid 1) ∷ reading true (text ("R,251,5,1,1" ∷ "D,3" ∷ "T,1,1,1,0,0,0,3,0"
+    ∷ "T,2,250,1,0,0,3,0,0" ∷ "T,3,250,1,0,3,0,0,0" ∷ "T,4,1,1,0,1,0,0,0" ∷ "T,4,250,1,0,0,1,0,0" ∷ "T,5,1,1,3,0,0,0,0" ∷ "T,6,27,1,0,1,0,0,0"
+    ∷ "T,6,224,1,0,0,1,0,0" ∷ "T,7,60,1,0,0,0,0,3" ∷ "E,9" ∷ [])) ∷ fetching true 1 0 ∷ reading true (text ("R,32003,5,2,1" ∷ "T,1,32002,1,0,0,1,0,0"
+    ∷ "T,1,1,1,0,0,0,1,0" ∷ "T,2,28554,1,0,1,0,0,0" ∷ "T,2,3449,1,0,0,0,0,1" ∷ "E,4" ∷ [])) ∷ []
 
-seen-12 : seen limits-12 2000 empty list-12 ≡ some (text ("A,0,0" ∷ "A,14,1" ∷ "A,11,0" ∷ "A,11,0" ∷ []))
+seen-12 : seen limits-12 2000 empty list-12 ≡ some (text ("A,0,0" ∷ "A,14,1" ∷ "A,11,0" ∷ "A,0,0" ∷ "A,11,0" ∷ "A,0,0" ∷ []))
 seen-12 = refl
 
-held-12 : held limits-12 2000 empty list-12 ≡ some (text ([]))
+held-12 : held limits-12 2000 empty list-12 ≡ some (text ("S,0,1,32002,1,0,0,1,0,0,0,0,0" ∷ "S,0,1,1,1,0,0,0,1,0,0,0,0" ∷ "S,0,2,28554,1,0,1,0,0,0,0,0,0"
+    ∷ "S,0,2,3449,1,0,0,0,0,1,0,0,0" ∷ []))
 held-12 = refl
 
-due-12 : due limits-12 2000 empty list-12 ≡ some (text ([]))
+due-12 : due limits-12 2000 empty list-12 ≡ some (text ("S,0,1,32002,1,0,0,1,0,0,0,0,0" ∷ "S,0,1,1,1,0,0,0,1,0,0,0,0" ∷ "S,0,2,28554,1,0,1,0,0,0,0,0,0"
+    ∷ "S,0,2,3449,1,0,0,0,0,1,0,0,0" ∷ []))
 due-12 = refl
 
 -- calls-1-53
@@ -456,23 +445,23 @@ limits-13 = record {
   exponent = 255;
   t-lines = 2048;
   file = 65536;
-  field =
-      65535;
+  field = 65535;
   vectors = 128;
   level-terms = 2048;
   levels = 9;
-  working = 2;
-  vector = 512;
-  tree = 0;
+  working = 512;
+  vector = 3;
+  tree = 4096;
   numbering = λ code. 1;
 }
 
 abbrev list-13 : List Call
-list-13 = reading true (text ("R,101,4,2,1" ∷ "T,1,9,1,1,0,2,0" ∷ "T,1,96,1,0,1,0,2" ∷ "T,2,46,1,0,1,1,1" ∷ "T,2,46,1,0,1,1,0" ∷ "T,3,100,1,1,0,0,0"
-    ∷ "T,4,1,1,0,1,0,0" ∷ "T,5,91,1,0,1,0,0" ∷ "T,6,100,1,0,0,1,0" ∷ "T,7,1,1,0,0,0,1" ∷ "E,9" ∷ [])) ∷ lifting true 1 (by-hybrid 65535)
-    ∷ fetching true 1 1 ∷ fetching true 1 1 ∷ lifting true 1 (by-hybrid 3) ∷ lifting true 2 (by-hybrid 2) ∷ []
+list-13 = reading true (text ("R,32749,4,3,1" ∷ "D,246" ∷ "T,1,1,1,0,0,0,1" ∷ "T,2,32748,1,0,0,1,0" ∷ "T,3,1,1,0,1,0,0" ∷ "T,4,21682,1,1,0,0,0"
+    ∷ "T,4,32748,1,0,0,1,0" ∷ "T,5,32748,1,1,0,0,0" ∷ "T,6,23618,1,0,1,1,1" ∷ "T,6,9131,1,0,0,0,1" ∷ "E,8" ∷ [])) ∷ lifting true 1 (by-hybrid 3)
+    ∷ fetching true 1 3 ∷ fetching true 2 129 ∷ lifting true 2 (by-tree 20) ∷ fetching true 2 3 ∷ []
 
-seen-13 : seen limits-13 2000 empty list-13 ≡ some (text ("A,0,0" ∷ "A,12,0" ∷ "A,11,0" ∷ "A,11,0" ∷ "A,0,0" ∷ "A,14,2" ∷ []))
+seen-13 : seen limits-13 2000 empty list-13 ≡ some (text ("A,0,0" ∷ "A,0,0" ∷ "A,0,0" ∷ "V,1,3,0,0,1,0,0,0,0,0" ∷ "V,1,2,0,1,0,0,0,0,0,0" ∷ "A,11,0"
+    ∷ "A,14,2" ∷ "A,11,0" ∷ []))
 seen-13 = refl
 
 held-13 : held limits-13 2000 empty list-13 ≡ some (text ([]))
@@ -491,8 +480,7 @@ limits-14 = record {
   exponent = 0;
   t-lines = 2048;
   file = 65536;
-  field =
-      65535;
+  field = 65535;
   vectors = 128;
   level-terms = 0;
   levels = 9;
@@ -524,8 +512,7 @@ limits-15 = record {
   exponent = 255;
   t-lines = 2048;
   file = 65536;
-  field =
-      65535;
+  field = 65535;
   vectors = 128;
   level-terms = 2048;
   levels = 9;
@@ -536,26 +523,19 @@ limits-15 = record {
 }
 
 abbrev list-15 : List Call
-list-15 = reading true (text ("R,251,3,2,1" ∷ "T,1,250,1,0,0,1" ∷ "T,1,1,1,0,0,0" ∷ "T,2,1,1,1,0,0" ∷ "T,2,250,1,0,0,0" ∷ "T,3,250,1,0,3,0" ∷ "E,5"
-    ∷ [])) ∷ fetching true 2 1 ∷ lifting true 1 (by-hybrid 1) ∷ lifting true 2 (by-tree 4) ∷ lifting true 3 (by-tree 12) ∷ []
+list-15 = reading true (text ("R,2,2,2,1" ∷ "T,1,1,1,0,1" ∷ "T,2,1,1,0,1" ∷ "E,2" ∷ [])) ∷ lifting true 1 (by-hybrid 3) ∷ fetching true 1 1
+    ∷ lifting true 2 (by-hybrid 1) ∷ lifting true 3 (by-tree 4) ∷ []
 
-seen-15 : seen limits-15 2000 empty list-15 ≡ some (text ("A,0,0" ∷ "A,11,0" ∷ "A,0,0" ∷ "A,0,0" ∷ "A,0,0" ∷ []))
+seen-15 : seen limits-15 2000 empty list-15 ≡ some (text ("A,0,0" ∷ "A,0,0" ∷ "A,0,0" ∷ "V,1,2,0,0,0,0,0,0,0,0" ∷ "V,1,1,0,0,0,0,0,0,0,0" ∷ "A,0,0" ∷ "A,0,0"
+    ∷ []))
 seen-15 = refl
 
-held-15 : held limits-15 2000 empty list-15 ≡ some (text ("S,0,1,250,1,0,0,1,0,0,0,0,0" ∷ "S,0,1,1,1,0,0,0,0,0,0,0,0" ∷ "S,0,2,1,1,1,0,0,0,0,0,0,0"
-    ∷ "S,0,2,250,1,0,0,0,0,0,0,0,0" ∷ "S,0,3,250,1,0,3,0,0,0,0,0,0" ∷ "S,1,1,1,2,0,0,1,0,0,0,0,0" ∷ "S,1,1,1,1,1,0,0,0,0,0,0,0"
-    ∷ "S,1,1,250,2,0,0,0,0,0,0,0,0" ∷ "S,1,1,250,1,0,0,0,0,0,0,0,0" ∷ "S,1,2,1,3,0,0,1,0,0,0,0,0" ∷ "S,1,2,250,1,0,3,0,0,0,0,0,0"
-    ∷ "S,1,2,250,3,0,0,0,0,0,0,0,0" ∷ "S,1,3,1,3,1,0,0,0,0,0,0,0" ∷ "S,1,3,1,2,0,3,0,0,0,0,0,0" ∷ "S,1,3,250,3,0,0,0,0,0,0,0,0"
-    ∷ "S,2,1,1,3,0,0,1,0,0,0,0,0" ∷ "S,2,1,250,2,1,0,0,0,0,0,0,0" ∷ "S,2,1,250,1,0,3,0,0,0,0,0,0" ∷ "S,2,1,250,3,0,0,0,0,0,0,0,0"
-    ∷ "S,2,1,1,2,0,0,0,0,0,0,0,0" ∷ []))
+held-15 : held limits-15 2000 empty list-15 ≡ some (text ("S,0,1,1,1,0,1,0,0,0,0,0,0" ∷ "S,0,2,1,1,0,1,0,0,0,0,0,0" ∷ "S,1,1,1,2,0,0,0,0,0,0,0,0"
+    ∷ "S,1,1,1,1,0,0,0,0,0,0,0,0" ∷ []))
 held-15 = refl
 
-due-15 : due limits-15 2000 empty list-15 ≡ some (text ("S,0,1,250,1,0,0,1,0,0,0,0,0" ∷ "S,0,1,1,1,0,0,0,0,0,0,0,0" ∷ "S,0,2,1,1,1,0,0,0,0,0,0,0"
-    ∷ "S,0,2,250,1,0,0,0,0,0,0,0,0" ∷ "S,0,3,250,1,0,3,0,0,0,0,0,0" ∷ "S,1,1,1,2,0,0,1,0,0,0,0,0" ∷ "S,1,1,1,1,1,0,0,0,0,0,0,0"
-    ∷ "S,1,1,250,2,0,0,0,0,0,0,0,0" ∷ "S,1,1,250,1,0,0,0,0,0,0,0,0" ∷ "S,1,2,1,3,0,0,1,0,0,0,0,0" ∷ "S,1,2,250,1,0,3,0,0,0,0,0,0"
-    ∷ "S,1,2,250,3,0,0,0,0,0,0,0,0" ∷ "S,1,3,1,3,1,0,0,0,0,0,0,0" ∷ "S,1,3,1,2,0,3,0,0,0,0,0,0" ∷ "S,1,3,250,3,0,0,0,0,0,0,0,0"
-    ∷ "S,2,1,1,3,0,0,1,0,0,0,0,0" ∷ "S,2,1,250,2,1,0,0,0,0,0,0,0" ∷ "S,2,1,250,1,0,3,0,0,0,0,0,0" ∷ "S,2,1,250,3,0,0,0,0,0,0,0,0"
-    ∷ "S,2,1,1,2,0,0,0,0,0,0,0,0" ∷ []))
+due-15 : due limits-15 2000 empty list-15 ≡ some (text ("S,0,1,1,1,0,1,0,0,0,0,0,0" ∷ "S,0,2,1,1,0,1,0,0,0,0,0,0" ∷ "S,1,1,1,2,0,0,0,0,0,0,0,0"
+    ∷ "S,1,1,1,1,0,0,0,0,0,0,0,0" ∷ []))
 due-15 = refl
 
 -- calls-1-56
@@ -568,23 +548,21 @@ limits-16 = record {
   exponent = 255;
   t-lines = 2048;
   file = 65536;
-  field =
-      65535;
+  field = 65535;
   vectors = 128;
   level-terms = 2048;
   levels = 9;
   working = 512;
   vector = 512;
-  tree = 1;
+  tree = 0;
   numbering = λ code. 1;
 }
 
 abbrev list-16 : List Call
-list-16 = reading true (text ("R,5,2,3,1" ∷ "T,1,1,1,2,0" ∷ "T,1,3,1,1,1" ∷ "T,1,2,1,0,2" ∷ "T,2,4,1,3,0" ∷ "T,2,2,1,1,2" ∷ "T,2,1,1,0,3"
-    ∷ "T,3,4,1,2,0" ∷ "T,3,3,1,1,1" ∷ "T,3,4,1,0,2" ∷ "T,4,1,1,1,1" ∷ "T,4,1,1,0,2" ∷ "E,11" ∷ [])) ∷ fetching true 1 1 ∷ lifting true 1 (by-tree 7)
-    ∷ []
+list-16 = reading true (text ("R,3,4,2,1" ∷ "D,163" ∷ "T,1,2,1,2,0,0,0" ∷ "T,1,1,1,0,1,0,1" ∷ "T,2,2,1,0,2,0,1" ∷ "T,2,1,1,0,0,1,1" ∷ "E,4" ∷ []))
+    ∷ lifting true 1 (by-tree 4) ∷ fetching true 1 1 ∷ []
 
-seen-16 : seen limits-16 2000 empty list-16 ≡ some (text ("A,0,0" ∷ "A,11,0" ∷ "A,14,1" ∷ []))
+seen-16 : seen limits-16 2000 empty list-16 ≡ some (text ("A,0,0" ∷ "A,14,1" ∷ "A,11,0" ∷ []))
 seen-16 = refl
 
 held-16 : held limits-16 2000 empty list-16 ≡ some (text ([]))
@@ -603,8 +581,7 @@ limits-17 = record {
   exponent = 255;
   t-lines = 2048;
   file = 65536;
-  field =
-      65535;
+  field = 65535;
   vectors = 128;
   level-terms = 2048;
   levels = 9;
@@ -615,23 +592,21 @@ limits-17 = record {
 }
 
 abbrev list-17 : List Call
-list-17 = reading true (text ("R,251,3,2,1" ∷ "T,1,198,1,1,1,2" ∷ "T,1,243,1,1,0,3" ∷ "T,1,23,1,1,0,1" ∷ "T,2,53,1,0,1,1" ∷ "T,2,8,1,0,0,2"
-    ∷ "T,3,1,1,0,0,1" ∷ "E,6" ∷ [])) ∷ lifting true 1 (by-tree 60) ∷ lifting true 2 by-division ∷ lifting true 1 (by-tree 9)
-    ∷ lifting true 2 (by-tree 6) ∷ lifting true 3 (by-tree 7) ∷ fetching true 4 65535 ∷ fetching true 2 1 ∷ []
+list-17 = reading true (text ("R,251,3,2,1" ∷ "T,1,198,1,1,1,2" ∷ "T,1,243,1,1,0,3" ∷ "T,1,23,1,1,0,1" ∷ "T,2,53,1,0,1,1" ∷ "T,2,8,1,0,0,2" ∷ "T,3,1,1,0,0,1"
+    ∷ "E,6" ∷ [])) ∷ lifting true 1 by-division ∷ lifting true 1 (by-tree 9) ∷ lifting true 2 (by-tree 6) ∷ lifting true 3 (by-tree 7) ∷ fetching true 4 65535
+    ∷ fetching true 2 1 ∷ lifting true 3 (by-hybrid 3) ∷ []
 
-seen-17 : seen limits-17 2000 empty list-17 ≡ some (text ("A,0,0" ∷ "A,0,0" ∷ "A,0,0" ∷ "A,0,0" ∷ "A,0,0" ∷ "A,0,0" ∷ "A,11,0" ∷ "A,12,0" ∷ []))
+seen-17 : seen limits-17 2000 empty list-17 ≡ some (text ("A,0,0" ∷ "A,0,0" ∷ "A,0,0" ∷ "A,0,0" ∷ "A,0,0" ∷ "A,11,0" ∷ "A,12,0" ∷ "A,0,0" ∷ []))
 seen-17 = refl
 
 held-17 : held limits-17 2000 empty list-17 ≡ some (text ("S,0,1,198,1,1,1,2,0,0,0,0,0" ∷ "S,0,1,243,1,1,0,3,0,0,0,0,0" ∷ "S,0,1,23,1,1,0,1,0,0,0,0,0"
-    ∷ "S,0,2,53,1,0,1,1,0,0,0,0,0" ∷ "S,0,2,8,1,0,0,2,0,0,0,0,0" ∷ "S,0,3,1,1,0,0,1,0,0,0,0,0" ∷ "S,1,1,1,2,1,0,1,0,0,0,0,0"
-    ∷ "S,1,1,1,1,0,0,0,0,0,0,0,0" ∷ "S,1,1,228,3,1,0,0,0,0,0,0,0" ∷ "S,1,2,1,3,0,1,0,0,0,0,0,0" ∷ "S,1,2,161,2,0,0,0,0,0,0,0,0"
-    ∷ "S,1,2,218,3,0,0,1,0,0,0,0,0" ∷ []))
+    ∷ "S,0,2,53,1,0,1,1,0,0,0,0,0" ∷ "S,0,2,8,1,0,0,2,0,0,0,0,0" ∷ "S,0,3,1,1,0,0,1,0,0,0,0,0" ∷ "S,1,1,1,2,1,0,1,0,0,0,0,0" ∷ "S,1,1,1,1,0,0,0,0,0,0,0,0"
+    ∷ "S,1,1,228,3,1,0,0,0,0,0,0,0" ∷ "S,1,2,1,3,0,1,0,0,0,0,0,0" ∷ "S,1,2,161,2,0,0,0,0,0,0,0,0" ∷ "S,1,2,218,3,0,0,1,0,0,0,0,0" ∷ []))
 held-17 = refl
 
 due-17 : due limits-17 2000 empty list-17 ≡ some (text ("S,0,1,198,1,1,1,2,0,0,0,0,0" ∷ "S,0,1,243,1,1,0,3,0,0,0,0,0" ∷ "S,0,1,23,1,1,0,1,0,0,0,0,0"
-    ∷ "S,0,2,53,1,0,1,1,0,0,0,0,0" ∷ "S,0,2,8,1,0,0,2,0,0,0,0,0" ∷ "S,0,3,1,1,0,0,1,0,0,0,0,0" ∷ "S,1,1,1,2,1,0,1,0,0,0,0,0"
-    ∷ "S,1,1,1,1,0,0,0,0,0,0,0,0" ∷ "S,1,1,228,3,1,0,0,0,0,0,0,0" ∷ "S,1,2,1,3,0,1,0,0,0,0,0,0" ∷ "S,1,2,161,2,0,0,0,0,0,0,0,0"
-    ∷ "S,1,2,218,3,0,0,1,0,0,0,0,0" ∷ []))
+    ∷ "S,0,2,53,1,0,1,1,0,0,0,0,0" ∷ "S,0,2,8,1,0,0,2,0,0,0,0,0" ∷ "S,0,3,1,1,0,0,1,0,0,0,0,0" ∷ "S,1,1,1,2,1,0,1,0,0,0,0,0" ∷ "S,1,1,1,1,0,0,0,0,0,0,0,0"
+    ∷ "S,1,1,228,3,1,0,0,0,0,0,0,0" ∷ "S,1,2,1,3,0,1,0,0,0,0,0,0" ∷ "S,1,2,161,2,0,0,0,0,0,0,0,0" ∷ "S,1,2,218,3,0,0,1,0,0,0,0,0" ∷ []))
 due-17 = refl
 
 -- calls-1-58
@@ -644,8 +619,7 @@ limits-18 = record {
   exponent = 255;
   t-lines = 2048;
   file = 65536;
-  field =
-      65535;
+  field = 65535;
   vectors = 128;
   level-terms = 2048;
   levels = 9;
@@ -656,20 +630,18 @@ limits-18 = record {
 }
 
 abbrev list-18 : List Call
-list-18 = reading true (text ("R,101,2,3,1" ∷ "T,1,81,1,1,1" ∷ "T,1,14,1,0,2" ∷ "T,2,87,1,2,1" ∷ "T,2,30,1,1,2" ∷ "E,4" ∷ []))
-    ∷ lifting true 1 (by-hybrid 1) ∷ fetching true 1 1 ∷ reading true (text
-    ("R,11,4,3,81" ∷ "T,1,10,1,0,0,2,0" ∷ "T,1,1,1,0,0,1,0" ∷ "T,2,1,1,1,0,1,0" ∷ "T,2,10,1,1,0,0,0" ∷ "T,3,10,1,1,0,0,2" ∷ "T,3,1,1,2,0,0,0"
-    ∷ "T,4,1,1,1,1,0,0" ∷ "T,4,10,1,0,0,1,1" ∷ "T,5,1,1,0,0,1,2" ∷ "T,5,10,1,1,0,0,0" ∷ "T,6,1,1,0,1,1,1" ∷ "T,6,10,1,0,0,1,0" ∷ "E,12" ∷ []))
-    ∷ fetching true 1 1 ∷ reading true (text ("R,251,2,3,1" ∷ "T,1,250,1,1,0" ∷ "T,2,113,1,0,1" ∷ "E,2" ∷ [])) ∷ fetching true 1 1 ∷ []
+list-18 = reading true (text ("R,101,2,3,1" ∷ "D,73" ∷ "T,1,81,1,1,1" ∷ "T,1,14,1,0,2" ∷ "T,2,87,1,2,1" ∷ "T,2,30,1,1,2" ∷ "E,4" ∷ [])) ∷ fetching true 1 1
+    ∷ lifting true 1 (by-hybrid 3) ∷ lifting true 2 (by-tree 9) ∷ lifting true 3 (by-tree 20) ∷ lifting true 10 (by-hybrid 1) ∷ lifting true 3 (by-tree 0) ∷ []
 
-seen-18 : seen limits-18 2000 empty list-18 ≡ some (text ("A,0,0" ∷ "A,0,0" ∷ "A,0,0" ∷ "V,1,2,0,0,0,0,0,0,0,0" ∷ "V,70,1,1,0,0,0,0,0,0,0" ∷ "A,3,1"
-    ∷ "A,11,0" ∷ "A,0,0" ∷ "A,11,0" ∷ []))
+seen-18 : seen limits-18 2000 empty list-18 ≡ some (text ("A,0,0" ∷ "A,11,0" ∷ "A,0,0" ∷ "A,0,0" ∷ "A,0,0" ∷ "A,12,0" ∷ "A,0,0" ∷ []))
 seen-18 = refl
 
-held-18 : held limits-18 2000 empty list-18 ≡ some (text ("S,0,1,250,1,1,0,0,0,0,0,0,0" ∷ "S,0,2,113,1,0,1,0,0,0,0,0,0" ∷ []))
+held-18 : held limits-18 2000 empty list-18 ≡ some (text ("S,0,1,81,1,1,1,0,0,0,0,0,0" ∷ "S,0,1,14,1,0,2,0,0,0,0,0,0" ∷ "S,0,2,87,1,2,1,0,0,0,0,0,0"
+    ∷ "S,0,2,30,1,1,2,0,0,0,0,0,0" ∷ "S,1,1,1,2,0,0,0,0,0,0,0,0" ∷ "S,1,1,70,1,1,0,0,0,0,0,0,0" ∷ []))
 held-18 = refl
 
-due-18 : due limits-18 2000 empty list-18 ≡ some (text ("S,0,1,250,1,1,0,0,0,0,0,0,0" ∷ "S,0,2,113,1,0,1,0,0,0,0,0,0" ∷ []))
+due-18 : due limits-18 2000 empty list-18 ≡ some (text ("S,0,1,81,1,1,1,0,0,0,0,0,0" ∷ "S,0,1,14,1,0,2,0,0,0,0,0,0" ∷ "S,0,2,87,1,2,1,0,0,0,0,0,0"
+    ∷ "S,0,2,30,1,1,2,0,0,0,0,0,0" ∷ "S,1,1,1,2,0,0,0,0,0,0,0,0" ∷ "S,1,1,70,1,1,0,0,0,0,0,0,0" ∷ []))
 due-18 = refl
 
 -- calls-1-59
@@ -682,8 +654,7 @@ limits-19 = record {
   exponent = 255;
   t-lines = 2048;
   file = 65536;
-  field =
-      65535;
+  field = 65535;
   vectors = 128;
   level-terms = 2048;
   levels = 9;
@@ -694,16 +665,17 @@ limits-19 = record {
 }
 
 abbrev list-19 : List Call
-list-19 = reading true (text ("R,251,1,2,1" ∷ "T,1,1,1,1" ∷ "E,1" ∷ [])) ∷ fetching true 1 0 ∷ fetching true 1 1 ∷ lifting true 1 by-division
-    ∷ lifting true 2 (by-tree 4) ∷ lifting true 3 by-division ∷ lifting true 3 (by-hybrid 2) ∷ lifting true 3 (by-hybrid 3) ∷ []
+list-19 = reading true (text ("R,251,1,2,1" ∷ "E,1" ∷ "D,2" ∷ "T,1,1,1,1" ∷ "E,1" ∷ [])) ∷ lifting true 1 by-division ∷ reading true (text ("R,7,2,2,1"
+    ∷ "D,99999" ∷ "T,1,4,1,1,1" ∷ "E,1" ∷ [])) ∷ fetching true 1 1 ∷ lifting true 1 (by-hybrid 0) ∷ lifting true 1 by-division
+    ∷ reading true (text ("R,3,2,3,1" ∷ "D,2" ∷ "T,1,2,1,1,1" ∷ "T,1,2,1,0,1" ∷ "T,2,2,1,0,2" ∷ "T,2,1,1,0,1" ∷ "D,4" ∷ [])) ∷ lifting true 1 (by-hybrid 1) ∷ []
 
-seen-19 : seen limits-19 2000 empty list-19 ≡ some (text ("A,0,0" ∷ "A,11,0" ∷ "A,11,0" ∷ "A,0,0" ∷ "A,0,0" ∷ "A,0,0" ∷ "A,0,0" ∷ "A,0,0" ∷ []))
+seen-19 : seen limits-19 2000 empty list-19 ≡ some (text ("A,7,2" ∷ "A,11,0" ∷ "A,1,2" ∷ "A,11,0" ∷ "A,11,0" ∷ "A,11,0" ∷ "A,1,7" ∷ "A,11,0" ∷ []))
 seen-19 = refl
 
-held-19 : held limits-19 2000 empty list-19 ≡ some (text ("S,0,1,1,1,1,0,0,0,0,0,0,0" ∷ []))
+held-19 : held limits-19 2000 empty list-19 ≡ some (text ([]))
 held-19 = refl
 
-due-19 : due limits-19 2000 empty list-19 ≡ some (text ("S,0,1,1,1,1,0,0,0,0,0,0,0" ∷ []))
+due-19 : due limits-19 2000 empty list-19 ≡ some (text ([]))
 due-19 = refl
 
 -- calls-1-60
@@ -716,8 +688,7 @@ limits-20 = record {
   exponent = 255;
   t-lines = 2048;
   file = 65536;
-  field =
-      65535;
+  field = 65535;
   vectors = 128;
   level-terms = 2048;
   levels = 9;
@@ -728,10 +699,10 @@ limits-20 = record {
 }
 
 abbrev list-20 : List Call
-list-20 = reading true (text ("R,251,2,2,1" ∷ "T,1,1,1,0,0" ∷ "E,1" ∷ [])) ∷ fetching true 1 1 ∷ lifting true 1 (by-hybrid 3) ∷ fetching true 1 1
-    ∷ lifting true 2 (by-hybrid 1) ∷ []
+list-20 = reading true (text ("R,251,2,2,1" ∷ "T,1,1,1,0,0" ∷ "E,1" ∷ [])) ∷ lifting true 1 (by-hybrid 2) ∷ fetching true 1 1 ∷ fetching true 1 1
+    ∷ lifting true 2 by-division ∷ []
 
-seen-20 : seen limits-20 2000 empty list-20 ≡ some (text ("A,0,0" ∷ "A,11,0" ∷ "A,0,0" ∷ "A,12,0" ∷ "A,0,0" ∷ []))
+seen-20 : seen limits-20 2000 empty list-20 ≡ some (text ("A,0,0" ∷ "A,0,0" ∷ "A,12,0" ∷ "A,12,0" ∷ "A,0,0" ∷ []))
 seen-20 = refl
 
 held-20 : held limits-20 2000 empty list-20 ≡ some (text ("S,0,1,1,1,0,0,0,0,0,0,0,0" ∷ []))

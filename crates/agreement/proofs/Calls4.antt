@@ -21,8 +21,7 @@ limits-1 = record {
   exponent = 255;
   t-lines = 2;
   file = 65536;
-  field =
-      65535;
+  field = 65535;
   vectors = 128;
   level-terms = 2048;
   levels = 9;

@@ -83,5 +83,5 @@ pub extern "C" fn tagetessash_sheet(
 pub extern "C" fn tagetessash_version() -> u16
     ensures { λ x. ⌜ x ≡ version ⌝ }
 {
-    2
+    3
 }

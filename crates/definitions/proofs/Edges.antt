@@ -80,7 +80,7 @@ printed-file = text ("R,7,2,1,1" ∷ "T,1,1,1,1,0" ∷ "T,1,1,1,0,1" ∷ "T,2,1,
 
 -- the state that acceptance leaves
 abbrev accepted-file : State
-accepted-file = record { parameters = record { p = 7; n = 2; code = 1; s = 1 }; levels = f₁ ∷ [] }
+accepted-file = record { parameters = record { p = 7; n = 2; code = 1; s = 1; degrees = 0 ∷ [] }; levels = f₁ ∷ [] }
 
 -- "a 513th term would be stored in a .. vector": four terms fit four places, not three
 vector-of-four : seen (limited 255 128 2048 512 4 4096) 99 empty (first-vector printed-file (by-hybrid 2))
@@ -129,7 +129,7 @@ no-frame-term = refl
 
 -- "A product is tested for 13 before 14": f = x + y + z⁴, z gives x·z, then −z·f_1 whose last product is z⁵. It has no place either
 abbrev with-level-0 : Level → State
-with-level-0 f = record { parameters = record { p = 7; n = 3; code = 1; s = 1 }; levels = f ∷ [] }
+with-level-0 f = record { parameters = record { p = 7; n = 3; code = 1; s = 1; degrees = 0 ∷ [] }; levels = f ∷ [] }
 
 abbrev three-variables : State
 three-variables = with-level-0 (((1, (xyz 1 0 0, 1)) ∷ (1, (xyz 0 1 0, 1)) ∷ (1, (xyz 0 0 4, 1)) ∷ []) ∷ ((1, (xyz 0 0 1, 1)) ∷ []) ∷ [])

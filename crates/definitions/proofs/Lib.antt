@@ -3,4 +3,5 @@ pub mod Instances
 pub mod Views
 pub mod Printed
 pub mod Edges
+pub mod Degrees
 pub mod Places

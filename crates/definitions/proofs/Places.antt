@@ -4,13 +4,14 @@ use Prim.Native.Nat.{ℕ, suc, _+_, _*_, _<_, _≤_}
 use native.Mathlib.Omega.{arith}
 use Rattle.definitions.specs.Limits.{document-01}
 use lib.ListN.{length}
-use Rattle.definitions.specs.Layout.{words-of, level-vectors, level-rows, count-place, rows-place, state-words, work-words, out-words, division, tree}
+use Rattle.definitions.specs.Layout.{words-of, level-vectors, level-rows, count-place, rows-place, degrees-place, carried-place, state-words}
+use Rattle.definitions.specs.Layout.{work-words, out-words, division, tree}
 use Rattle.definitions.specs.Places.{exponents-length, most-exponent, most-variables, most-components, most-elements, most-vectors, most-rows, most-terms}
 use Rattle.definitions.specs.Places.{most-tree-terms, most-levels, all-levels, packed-length, row-length, image-length, component-offset}
 use Rattle.definitions.specs.Places.{exponents-offset, rank-offset, counts-length}
 use Rattle.definitions.specs.Places.{rows-start, level-length, state-length, count-offset, ends-offset, rows-offset, value-length, tree-length}
 use Rattle.definitions.specs.Places.{vector-length, heads-length, images-length, spans-length, tables-spans, tables-ends, tables-below, tables-above}
-use Rattle.definitions.specs.Places.{most-image, tables-length}
+use Rattle.definitions.specs.Places.{most-image, tables-length, most-degree, most-carried, degrees-start, carried-start, carried-offset}
 use Rattle.definitions.specs.Places.{ends-length, lifted-length, grown-length, file-length, read-length, s-line-length, pair-line-length, s-lines-length}
 use Rattle.definitions.specs.Places.{level-lines-length, all-lines-length, sheet-length}
 
@@ -24,7 +25,8 @@ limits-are : (exponents-length ≡ document-01 .variables) × (most-exponent ≡
     × (most-terms ≡ document-01 .vector)
     × (most-tree-terms ≡ document-01 .tree) × (most-levels ≡ document-01 .levels) × (all-levels ≡ suc (document-01 .levels))
     × (file-length ≡ document-01 .file) × (read-length ≡ suc file-length) × (most-image ≡ all-levels * most-exponent)
-limits-are = (refl, refl, refl, refl, refl, refl, refl, refl, refl, refl, refl, refl, refl, refl, refl, refl, refl)
+    × (most-carried ≡ most-degree + all-levels * (exponents-length * most-exponent))
+limits-are = (refl, refl, refl, refl, refl, refl, refl, refl, refl, refl, refl, refl, refl, refl, refl, refl, refl, refl)
 
 -- of rows
 row-is : (row-length ≡ exponents-offset + packed-length) × (image-length ≡ exponents-offset + exponents-length) × (exponents-offset ≡ suc component-offset)
@@ -41,9 +43,12 @@ ends-are k = omega arith
 rows-are : (k : ℕ) → rows-offset k ≡ rows-place document-01 k
 rows-are k = refl
 
-state-is : (state-length ≡ state-words document-01) × (rows-start ≡ count-offset all-levels) × (counts-length ≡ suc (level-vectors document-01))
-    × (level-length ≡ level-rows document-01 * row-length)
-state-is = (refl, refl, refl, refl)
+carried-are : (k : ℕ) → carried-offset k ≡ carried-place document-01 k
+carried-are k = refl
+
+state-is : (state-length ≡ state-words document-01) × (degrees-start ≡ degrees-place document-01) × (carried-start ≡ degrees-start + most-components)
+    × (rows-start ≡ count-offset all-levels) × (counts-length ≡ suc (level-vectors document-01)) × (level-length ≡ level-rows document-01 * row-length)
+state-is = (refl, refl, refl, refl, refl, refl)
 
 -- of the other buffers
 buffers-are : (value-length ≡ work-words document-01 division) × (tree-length ≡ work-words document-01 tree) × (vector-length ≡ out-words document-01)
@@ -76,9 +81,15 @@ rows-apart j k h = omega arith
 pub counts-apart : (j k : ℕ) → j < k → count-offset j + counts-length ≤ count-offset k
 counts-apart j k h = omega arith
 
--- the counts end where the rows start, and the last level's rows where the state ends
+-- the counts end where the rows start, the last level's rows where the degrees start, and the last level's degrees where the state ends
 pub counts-inside : (k : ℕ) → k < all-levels → count-offset k + counts-length ≤ rows-start
 counts-inside k h = omega arith
 
-pub rows-inside : (k : ℕ) → k < all-levels → rows-offset k + level-length ≤ state-length
+pub rows-inside : (k : ℕ) → k < all-levels → rows-offset k + level-length ≤ degrees-start
 rows-inside k h = omega arith
+
+pub carried-inside : (k : ℕ) → k < all-levels → carried-offset k + most-vectors ≤ state-length
+carried-inside k h = omega arith
+
+pub carried-apart : (j k : ℕ) → j < k → carried-offset j + most-vectors ≤ carried-offset k
+carried-apart j k h = omega arith

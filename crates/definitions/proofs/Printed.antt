@@ -133,7 +133,7 @@ hundred-bytes = refl
 -- ## Refusals from the state
 
 abbrev levels-0-and-1 : State
-levels-0-and-1 = record { parameters = record { p = 7; n = 2; code = 1; s = 1 }; levels = g₁ ∷ f₁ ∷ [] }
+levels-0-and-1 = record { parameters = record { p = 7; n = 2; code = 1; s = 1; degrees = 0 ∷ [] }; levels = g₁ ∷ f₁ ∷ [] }
 
 -- 16 before all else; 11 before 12
 without-basis : seen document-01 9 empty (reading false [] ∷ lifting false 10 by-division ∷ lifting true 10 by-division ∷ lifting true 1 (by-hybrid 4)
@@ -154,7 +154,7 @@ again : held document-01 99 levels-0-and-1 (lifting true 2 by-division ∷ lifti
 again = refl
 
 abbrev with-level-0 : Level → State
-with-level-0 f = record { parameters = record { p = 7; n = 2; code = 1; s = 1 }; levels = f ∷ [] }
+with-level-0 f = record { parameters = record { p = 7; n = 2; code = 1; s = 1; degrees = 0 ∷ [] }; levels = f ∷ [] }
 
 -- what makes a state count as no accepted basis
 pub record Soundness : Type 0 where
@@ -229,7 +229,7 @@ numbered-in-code-3 = refl
 
 -- ## The lengths and places of docs/BUFFERS.md
 
-lengths-of-buffers : (state-words document-01 ≡ 124_175) × (work-words document-01 division ≡ 3_072) × (work-words document-01 tree ≡ 24_576)
+lengths-of-buffers : (state-words document-01 ≡ 125_471) × (work-words document-01 division ≡ 3_072) × (work-words document-01 tree ≡ 24_576)
     × (out-words document-01 ≡ 3_072)
 lengths-of-buffers = (refl, refl, refl, refl)
 

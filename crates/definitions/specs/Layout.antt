@@ -7,11 +7,12 @@ use lib.Dec.{leb, ltb}
 use lib.ListN.{length, getD, take, drop, replicate}
 use Rattle.definitions.specs.Limits.{Limits}
 use Rattle.definitions.specs.Lists.{_and_, _then_}
-use Rattle.definitions.specs.Monomial.{Term, Vector, Level}
+use Rattle.definitions.specs.Monomial.{Term, Vector, Level, same-exponents?}
 use Rattle.definitions.specs.Packed.{four, unpack, pack}
 use Rattle.definitions.specs.Lifting.{Lifting, by-division, by-hybrid, by-tree}
 use Rattle.definitions.specs.Problem.{Bytes}
 use Rattle.definitions.specs.State.{State, empty, sound?}
+use Rattle.definitions.specs.Degrees.{carried}
 use Rattle.definitions.specs.Calls.{Reply, read-reply, lift-reply, fetch-reply}
 use Rattle.definitions.specs.Places.{row-length, component-offset, exponents-offset, header-length}
 
@@ -71,9 +72,17 @@ count-place lim k = header-length + k * suc (level-vectors lim)
 abbrev pub rows-place : Limits → ℕ → ℕ
 rows-place lim k = count-place lim (suc (lim .levels)) + k * (level-rows lim * row-length)
 
+-- where the components' degrees stand, behind all rows
+abbrev pub degrees-place : Limits → ℕ
+degrees-place lim = rows-place lim (suc (lim .levels))
+
+-- where the degrees stand that level k's vectors carry
+abbrev pub carried-place : Limits → ℕ → ℕ
+carried-place lim k = degrees-place lim + lim .components + k * level-vectors lim
+
 -- the state's words
 abbrev pub state-words : Limits → ℕ
-state-words lim = rows-place lim (suc (lim .levels))
+state-words lim = carried-place lim (suc (lim .levels))
 
 -- the end of each vector's rows, after so many rows
 abbrev pub ends-from : ℕ → Level → Words
@@ -101,9 +110,21 @@ abbrev pub header-of : Limits → State → Words
 header-of lim X = X .parameters .p ∷ X .parameters .n ∷ X .parameters .code ∷ X .parameters .s ∷ length (X .levels)
     ∷ all-counts lim (reverse (X .levels))
 
+-- .. and their rows
+abbrev pub levels-of : Limits → State → Words
+levels-of lim X = padded (rows-place lim 0) (header-of lim X) ++ all-rows lim (reverse (X .levels))
+
+abbrev pub all-carried : Limits → List Words → Words
+all-carried lim [] = []
+all-carried lim (ds ∷ others) = padded (level-vectors lim) ds ++ all-carried lim others
+
+-- the components' degrees, then those that the vectors of each level carry
+abbrev pub degree-words : Limits → State → Words
+degree-words lim X = padded (lim .components) (X .parameters .degrees) ++ all-carried lim (reverse (carried (X .parameters .degrees) (X .levels)))
+
 -- a state in a buffer of this size: "zeros in .. the unused places of the state"
 abbrev pub encode : Limits → ℕ → State → Words
-encode lim size X = padded size (padded (rows-place lim 0) (header-of lim X) ++ all-rows lim (reverse (X .levels)))
+encode lim size X = padded size (padded (degrees-place lim) (levels-of lim X) ++ degree-words lim X)
 
 -- the vectors with these ends among the rows, after so many rows
 abbrev pub vectors-at : Words → ℕ → Words → Level
@@ -121,12 +142,14 @@ abbrev pub levels-at : Limits → Words → ℕ → List Level
 levels-at lim s zero = []
 levels-at lim s (suc k) = level-at lim s k ∷ levels-at lim s k
 
+abbrev pub degrees-at : Limits → Words → Words
+degrees-at lim s = take (getD s 3 0) (drop (degrees-place lim) s)
+
 -- what any contents say
 abbrev pub decode : Limits → Words → State
 decode lim s = record {
-  parameters = record { p = getD s 0 0; n = getD s 1 0; code = getD s 2 0; s = getD s 3 0 };
-  levels =
-      levels-at lim s (getD s 4 0);
+  parameters = record { p = getD s 0 0; n = getD s 1 0; code = getD s 2 0; s = getD s 3 0; degrees = degrees-at lim s };
+  levels = levels-at lim s (getD s 4 0);
 }
 
 -- the ends ascend strictly from the one before, up to the limit
@@ -143,9 +166,17 @@ abbrev pub all-words-sound? : Limits → Words → ℕ → Bool
 all-words-sound? lim s zero = true
 all-words-sound? lim s (suc k) = words-sound? lim s k and all-words-sound? lim s k
 
+-- the degrees that stand with each level are those that its vectors carry, the highest level first: "a state where it is not counts as no accepted basis
+-- (11)" (A5)
+abbrev pub carries? : Limits → Words → List Words → Bool
+carries? lim s [] = true
+carries? lim s (ds ∷ below) = same-exponents? (take (length ds) (drop (carried-place lim (length below)) s)) ds and carries? lim s below
+
 -- "A state with a number out of its range, or with an element or vector that is empty or not strictly descending, counts as no accepted basis (11)"
 abbrev pub holds-state? : Limits → Words → Bool
-holds-state? lim s = leb (getD s 4 0) (suc (lim .levels)) and all-words-sound? lim s (getD s 4 0) and sound? lim (decode lim s)
+holds-state? lim s =
+    leb (getD s 4 0) (suc (lim .levels)) and all-words-sound? lim s (getD s 4 0) and sound? lim (decode lim s) and
+    carries? lim s (carried (degrees-at lim s) (levels-at lim s (getD s 4 0)))
 
 -- the state that a buffer's contents mean
 abbrev pub meant : Limits → Words → State

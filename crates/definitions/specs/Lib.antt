@@ -1,3 +1,4 @@
+pub mod Places
 pub mod Lists
 pub mod Limits
 pub mod Field
@@ -14,8 +15,8 @@ pub mod Tree
 pub mod Lifting
 pub mod Problem
 pub mod State
+pub mod Degrees
 pub mod Calls
 pub mod Reckoning
 pub mod Sheet
-pub mod Places
 pub mod Layout

@@ -12,6 +12,14 @@ exponents-length = 8
 abbrev pub most-exponent : ℕ
 most-exponent = 255
 
+-- the largest degree of a component (A5)
+abbrev pub most-degree : ℕ
+most-degree = 255
+
+-- the largest degree that a vector can carry: a component's and eight exponents' for each level
+abbrev pub most-carried : ℕ
+most-carried = 20_655
+
 -- variables, components, elements of a file
 abbrev pub most-variables : ℕ
 most-variables = 8
@@ -96,9 +104,17 @@ rows-start = 1_295
 abbrev pub level-length : ℕ
 level-length = 12_288
 
+-- where the components' degrees start, behind all rows (A5)
+abbrev pub degrees-start : ℕ
+degrees-start = 124_175
+
+-- where the degrees start that level 0's elements carry
+abbrev pub carried-start : ℕ
+carried-start = 124_191
+
 -- the state
 abbrev pub state-length : ℕ
-state-length = 124_175
+state-length = 125_471
 
 -- where level k's count stands
 abbrev pub count-offset : ℕ → ℕ
@@ -111,6 +127,10 @@ ends-offset k = ends-start + k * counts-length
 -- where level k's rows start
 abbrev pub rows-offset : ℕ → ℕ
 rows-offset k = rows-start + k * level-length
+
+-- where the degrees start that level k's vectors carry
+abbrev pub carried-offset : ℕ → ℕ
+carried-offset k = carried-start + k * most-vectors
 
 -- ## Other buffers
 

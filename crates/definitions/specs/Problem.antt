@@ -1,4 +1,4 @@
--- "Problem file": the reader, with "Refusals from the input" 1 to 8.
+-- "Problem file": the reader, with "Refusals from the input" 1 to 8, and 18 of request A5.
 use mathlib.Core.Bool.{Bool, true, false, not, _||_}
 use mathlib.Core.Option.{Option, none, some}
 use mathlib.Core.List.{List, [], _∷_, _++_}
@@ -7,6 +7,7 @@ use lib.Dec.{leb, ltb, eqb}
 use lib.ListN.{length, getD, drop, replicate}
 use Rattle.definitions.specs.Limits.{Limits}
 use Rattle.definitions.specs.Lists.{_and_, _then_, every, empty?, last, between}
+use Rattle.definitions.specs.Places.{most-degree}
 use Rattle.definitions.specs.Field.{prime?}
 use Rattle.definitions.specs.Monomial.{Term, Vector, Level, fits?}
 use Rattle.definitions.specs.Order.{compare-over, greater?}
@@ -31,6 +32,9 @@ letter-T = 84
 
 abbrev pub letter-E : ℕ
 letter-E = 69
+
+abbrev pub letter-D : ℕ
+letter-D = 68
 
 abbrev pub onto : ℕ → List Bytes → List Bytes
 onto b [] = (b ∷ []) ∷ []
@@ -94,6 +98,8 @@ pub record Parameters : Type 0 where
   pub n : ℕ
   pub code : ℕ
   pub s : ℕ
+  -- d1, .., ds: "A line `D,d1,..,ds`, each 0 to 255, may follow R" (A5)
+  pub degrees : List ℕ
 
 -- not 2: "p not prime or out of range"
 abbrev pub prime-in-range? : Limits → ℕ → Bool
@@ -103,8 +109,9 @@ prime-in-range? lim p = leb p (lim .prime-bound) and prime? p
 abbrev pub in-ranges? : Limits → Parameters → Bool
 in-ranges? lim q = between 1 (q .n) (lim .variables) and between 1 (q .code) 3 and between 1 (q .s) (lim .components)
 
+-- of an R line: "files without D keep zeros" (A5)
 abbrev pub parameters-of : List ℕ → Parameters
-parameters-of v = record { p = getD v 0 0; n = getD v 1 0; code = getD v 2 0; s = getD v 3 0 }
+parameters-of v = record { p = getD v 0 0; n = getD v 1 0; code = getD v 2 0; s = getD v 3 0; degrees = replicate (getD v 3 0) 0 }
 
 -- `R,p,n,order,s`: "1, then 2, 3 for R"
 abbrev pub r-line : Limits → List ℕ → Result Parameters
@@ -185,15 +192,48 @@ body lim q place count elements (line ∷ later) =
     by-shape (shaped (lim .field) letter-T (3 + q .n) line) lim q place count elements line later
     (λ grown. body lim q (suc place) (suc count) grown later)
 
-abbrev pub after-r : Limits → List Line → Option (List ℕ) → Result (Parameters × Level)
+-- ## The lines before the first T line
+
+-- what they say, the number of the next line, the lines from it on
+pub record Head : Type 0 where
+  pub parameters : Parameters
+  pub place : ℕ
+  pub later : List Line
+
+-- after R
+abbrev pub head-of : Parameters → List Line → Head
+head-of q later = record { parameters = q; place = 2; later = later }
+
+-- a line more, with these degrees
+abbrev pub with-degrees : Head → List ℕ → List Line → Head
+with-degrees h v later = record {
+  parameters = record { p = h .parameters .p; n = h .parameters .n; code = h .parameters .code; s = h .parameters .s; degrees = v };
+  place = suc (h .place);
+  later = later;
+}
+
+-- `D,d1,..,ds`: 18 "when a component's degree is above 255, tested after the line's shape" (A5). A line without that shape is left to T and E
+abbrev pub d-line : Head → List Line → Option (List ℕ) → Result Head
+d-line h later none = done h
+d-line h later (some v) = unless-refused (fits? most-degree v) 18 (h .place) >>= λ u. done (with-degrees h v later)
+
+abbrev pub d-first : Limits → Head → List Line → Result Head
+d-first lim h [] = done h
+d-first lim h (line ∷ later) = d-line h later (shaped (lim .field) letter-D (h .parameters .s) line)
+
+abbrev pub after-r : Limits → List Line → Option (List ℕ) → Result Head
 after-r lim later none = refused 1 1 []
-after-r lim later (some v) = r-line lim v >>= λ q. body lim q 2 0 [] later >>= λ f. done (q, f)
+after-r lim later (some v) = r-line lim v >>= λ q. d-first lim (head-of q later) later
 
 -- "`R,p,n,order,s`, first"
-abbrev pub first-line : Limits → List Line → Result (Parameters × Level)
+abbrev pub first-line : Limits → List Line → Result Head
 first-line lim [] = refused 1 1 []
 first-line lim (line ∷ later) = after-r lim later (shaped (lim .field) letter-R 4 line)
 
--- the parameters and the elements. 1: "file too long (line 0, tested first)"; "The first bad line counts."
+-- 1: "file too long (line 0, tested first)"
+abbrev pub head : Limits → Bytes → Result Head
+head lim bytes = unless-refused (leb (length bytes) (lim .file)) 1 0 >>= λ u. first-line lim (lines bytes)
+
+-- the parameters and the elements. "The first bad line counts."
 abbrev pub problem : Limits → Bytes → Result (Parameters × Level)
-problem lim bytes = unless-refused (leb (length bytes) (lim .file)) 1 0 >>= λ u. first-line lim (lines bytes)
+problem lim bytes = head lim bytes >>= λ h. body lim (h .parameters) (h .place) 0 [] (h .later) >>= λ f. done (h .parameters, f)

@@ -9,6 +9,7 @@ use Rattle.definitions.specs.Lists.{_and_, every, sum, between}
 use Rattle.definitions.specs.Monomial.{Exponents, Term, Vector, Level, fits?}
 use Rattle.definitions.specs.Order.{compare-over}
 use Rattle.definitions.specs.Vectors.{strictly-descending?}
+use Rattle.definitions.specs.Places.{most-degree}
 use Rattle.definitions.specs.Problem.{Parameters, in-ranges?, prime-in-range?}
 
 pub record State : Type 0 where
@@ -18,7 +19,7 @@ pub record State : Type 0 where
 
 -- "the state is empty"
 abbrev pub empty : State
-empty = record { parameters = record { p = 0; n = 0; code = 0; s = 0 }; levels = [] }
+empty = record { parameters = record { p = 0; n = 0; code = 0; s = 0; degrees = [] }; levels = [] }
 
 -- level k is complete
 abbrev pub has-level? : State → ℕ → Bool
@@ -58,8 +59,12 @@ levels-sound? lim q (f ∷ g ∷ below) =
     levels-sound? lim q (g ∷ below) and leb (length f) (lim .vectors) and leb (terms-of f) (lim .level-terms) and
     every (vector-sound? lim q (length g) (lim .vector) (g ∷ below)) f
 
+-- a degree for each component, "each 0 to 255" (A5)
+abbrev pub degrees-sound? : Parameters → Bool
+degrees-sound? q = eqb (length (q .degrees)) (q .s) and fits? most-degree (q .degrees)
+
 -- "A state with a number out of its range, or with an element or vector that is empty or not strictly descending, counts as no accepted basis (11)"
 abbrev pub sound? : Limits → State → Bool
 sound? lim X =
-    prime-in-range? lim (X .parameters .p) and in-ranges? lim (X .parameters) and leb (length (X .levels)) (suc (lim .levels)) and
-    levels-sound? lim (X .parameters) (X .levels)
+    prime-in-range? lim (X .parameters .p) and in-ranges? lim (X .parameters) and degrees-sound? (X .parameters) and
+    leb (length (X .levels)) (suc (lim .levels)) and levels-sound? lim (X .parameters) (X .levels)

@@ -60,7 +60,7 @@ abbrev level-2-lines : Bytes
 level-2-lines = text ("S,2,1,1,3,0,1,0" ∷ "S,2,1,6,2,1,0,0" ∷ "S,2,1,6,1,0,0,1" ∷ "Z,2,1" ∷ "Z,3,0" ∷ [])
 
 abbrev q₃ : Parameters
-q₃ = record { p = 7; n = 3; code = 1; s = 1 }
+q₃ = record { p = 7; n = 3; code = 1; s = 1; degrees = 0 ∷ [] }
 
 abbrev f₃ : Level
 f₃ = ((1, (xyz 1 0 0, 1)) ∷ []) ∷ ((1, (xyz 0 1 0, 1)) ∷ []) ∷ ((1, (xyz 0 0 1, 1)) ∷ []) ∷ []

@@ -17,7 +17,7 @@ use Rattle.definitions.specs.Calls.{lift, eleven?}
 use Rattle.laws.proofs.Tests.{between-low, between-high}
 use Rattle.laws.proofs.Sound.{sound-says, sound-shown, level-says}
 use Rattle.laws.proofs.Numbers
-use Rattle.laws.proofs.Numbers.{Numbered, limit-number?, read-number?, lift-level-number}
+use Rattle.laws.proofs.Numbers.{Numbered, limit-number?, added-number?, read-number?, lift-level-number}
 use Rattle.demands.specs.Demands.{sensible?}
 use Rattle.demands.proofs.Results.{Gives, gives, refuses, open-yet}
 use Rattle.demands.proofs.Over.{vector-room, sound-prime, sound-eight, Lift-right, over}
@@ -61,6 +61,7 @@ module _ (lim : Limits) (X : State) (s : T (sound? lim X)) where
   with-level k r l g t = sound-shown lim (record { parameters = X .parameters; levels = g ∷ up-to X (k - 1) }) (record {
     prime = sound-says lim X s .prime;
     ranges = sound-says lim X s .ranges;
+    degrees = sound-says lim X s .degrees;
     height = omega (arith, between-low 1 k (lim .levels) r, between-high 1 k (lim .levels) r, height-up-to (k - 1) l);
     levels = t;
   })
@@ -84,11 +85,12 @@ module _ (lim : Limits) (o : T (sensible? lim)) where
       go open-yet h = still-lifting
 
 pub limit-read : (number : ℕ) → T (limit-number? number) → T (read-number? number)
-limit-read number t = go (between 1 number 9)
+limit-read number t = go (between 1 number 9) (between 13 number 15) t
   where
-    go : (b : Bool) → T (b || between 13 number 15)
-    go true = tt
-    go false = t
+    go : (b c : Bool) → T c → T (b || (c || added-number? number))
+    go true c t = tt
+    go false true t = tt
+    go false false t = absurd t
 
 -- not 11: a sound state, and the level is there
 pub not-eleven : (lim : Limits) (X : State) (k needed : ℕ) → (T (eleven? lim X k needed) → ⊥)

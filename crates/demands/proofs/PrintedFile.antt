@@ -41,7 +41,7 @@ abbrev pub printed-file : Bytes
 printed-file = text ("R,7,2,1,1" ∷ "T,1,1,1,1,0" ∷ "T,1,1,1,0,1" ∷ "T,2,1,1,0,2" ∷ "T,2,1,1,0,0" ∷ "E,4" ∷ [])
 
 abbrev pub q₁ : Parameters
-q₁ = record { p = 7; n = 2; code = 1; s = 1 }
+q₁ = record { p = 7; n = 2; code = 1; s = 1; degrees = 0 ∷ [] }
 
 abbrev pub X₁ : State
 X₁ = record { parameters = q₁; levels = f₁ ∷ [] }

@@ -17,7 +17,7 @@ module _ (lim : Limits) (o : T (sensible? lim)) where
       leb→le (getD (readable lim) i (0, 0) .0) (getD (readable lim) i (0, 0) .1)
       (every-at (λ (x : ℕ × ℕ). leb (x .0) (x .1)) (readable lim) i (0, 0) (are-readable lim o) l)
 
-  wide : Wide lim
+  pub wide : Wide lim
   wide =
       let f : 255 ≤ lim .field = at-most 0 (omega arith) in
       record {
@@ -29,6 +29,7 @@ module _ (lim : Limits) (o : T (sensible? lim)) where
         elements-in-field = at-most 3 (omega arith);
         exponent-in-field = omega (arith, small-exponents lim o);
         t-lines-in-field = at-most 4 (omega arith);
+        degree-in-field = f;
       }
 
   roomy : Roomy lim

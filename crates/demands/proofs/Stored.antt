@@ -18,7 +18,9 @@ use Rattle.definitions.specs.Stage.{highest}
 use Rattle.definitions.specs.Calls.{Call, reading, lifting, Reply, refuse, settled, lift, fetch, eleven?, pick-code?, lifts?, fetches?, read-reply, lift-reply}
 use Rattle.definitions.specs.Calls.{fetch-reply}
 use Rattle.definitions.specs.Reckoning.{Reckoning, nothing, succeeds, fails, reckon}
-use Rattle.definitions.specs.Layout.{Words, zeros, state-words, encode, meant, decode, holds-state?, state-after, rows-after, levels-at, all-words-sound?}
+use Rattle.definitions.specs.Degrees.{carried}
+use Rattle.definitions.specs.Layout.{Words, zeros, state-words, encode, meant, degrees-at, decode, all-words-sound?, carries?, holds-state?, state-after}
+use Rattle.definitions.specs.Layout.{rows-after, levels-at}
 use Rattle.definitions.specs.Layout.{Way, division, lifting-by, long-enough?, work-words, out-words, Read, read-left, Lift}
 use Rattle.definitions.specs.Layout.{Lent, read-with, lift-with, fetch-with, Left, lent-call}
 use Rattle.laws.proofs.Tests.{false-is, and-left, and-right, and-both}
@@ -71,7 +73,12 @@ at-zeros (suc size) zero = refl
 at-zeros (suc size) (suc i) = at-zeros size i
 
 meant-zeros : (lim : Limits) (size : ℕ) → meant lim (replicate size 0) ≡ empty
-meant-zeros lim size = go (holds-state? lim s) (λ t. sound (sound? lim (decode lim s)) t (λ u. u))
+meant-zeros lim size =
+    let a = leb (getD s 4 0) (suc (lim .levels)) in
+    let b = all-words-sound? lim s (getD s 4 0) in
+    let c = sound? lim (decode lim s) in
+    let e = carries? lim s (carried (degrees-at lim s) (levels-at lim s (getD s 4 0))) in
+    go (holds-state? lim s) (λ t. no-level (and-left c e (and-right b (c and e) (and-right a (b and c and e) t))))
   where
     s : Words
     s = replicate size 0
@@ -79,12 +86,6 @@ meant-zeros lim size = go (holds-state? lim s) (λ t. sound (sound? lim (decode 
     no-level : T (sound? lim (decode lim s)) → ⊥
     no-level t = let h = sound-says lim (decode lim s) t .levels in
         subst (λ k. T (levels-sound? lim (decode lim s .parameters) (levels-at lim s k))) (at-zeros size 4) h
-
-    sound : (b : Bool) → T (leb (getD s 4 0) (suc (lim .levels)) and all-words-sound? lim s (getD s 4 0) and b) → (T b → T (sound? lim (decode lim s)))
-        → ⊥
-    sound b t f =
-        no-level (f (and-right (all-words-sound? lim s (getD s 4 0)) b (and-right (leb (getD s 4 0) (suc (lim .levels)))
-        (all-words-sound? lim s (getD s 4 0) and b) t)))
 
     go : (b : Bool) → (T b → ⊥) → elim b [ true ↦ decode lim s | false ↦ empty ] ≡ empty
     go true f = absurd (f tt)

@@ -55,7 +55,7 @@ are-sensible = tt
 
 -- levels 0 and 1 are complete
 abbrev two-levels : Words
-two-levels = encode tiny (state-words tiny) (record { parameters = record { p = 7; n = 2; code = 1; s = 1 }; levels = g₁ ∷ f₁ ∷ [] })
+two-levels = encode tiny (state-words tiny) (record { parameters = record { p = 7; n = 2; code = 1; s = 1; degrees = 0 ∷ [] }; levels = g₁ ∷ f₁ ∷ [] })
 
 -- the reckoning then
 abbrev over-printed : Reckoning

@@ -13,7 +13,7 @@ use Rattle.ending.specs.Well.{Well}
 use Rattle.ending.proofs.Soundness.{sound-well}
 
 abbrev q₁ : Parameters
-q₁ = record { p = 7; n = 2; code = 1; s = 1 }
+q₁ = record { p = 7; n = 2; code = 1; s = 1; degrees = 0 ∷ [] }
 
 pub instance-well : Well (stage-over document-01 7 1 (f₁ ∷ []))
 instance-well = sound-well document-01 q₁ (f₁ ∷ []) tt (lit≤ tt) tt

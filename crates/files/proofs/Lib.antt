@@ -1,6 +1,7 @@
 pub mod Decimals
 pub mod Lines
 pub mod Forms
+pub mod Heads
 pub mod Taken
 pub mod Only
 pub mod First

@@ -10,10 +10,11 @@ use lib.ListN.{length, take}
 use Rattle.definitions.specs.Limits.{Limits, document-01}
 use Rattle.definitions.specs.Monomial.{Vector, Level}
 use Rattle.definitions.specs.Result.{Result, done, refused, unfinished, unless-refused, _>>=_}
-use Rattle.definitions.specs.Problem.{Bytes, Parameters, lines, first-line, problem}
+use Rattle.definitions.specs.Problem.{Bytes, Parameters, lines, problem}
 use Rattle.files.specs.Files.{file-of, Wide, Roomy, First-bad-line}
 use Rattle.files.specs.Answers
 use Rattle.files.specs.Answers.{Refused-right, too-long, at-line, Answered, Reader-right}
+use Rattle.files.proofs.Heads.{lines-read, problem-sized}
 use Rattle.files.proofs.Taken.{lines-taken, file-taken}
 use Rattle.files.proofs.Only.{taken-only}
 use Rattle.files.proofs.First.{If-refused, Bad-lines, lines-bad}
@@ -39,21 +40,22 @@ done-only x y e = ap value e
 
 module _ (lim : Limits) (wide : Wide lim) (room : Roomy lim) where
   answered : (bytes : Bytes) → Answered lim bytes (problem lim bytes)
-  answered bytes = sized (leb (length bytes) (lim .file)) refl
+  answered bytes = subst (Answered lim bytes) (sym (problem-sized lim bytes)) (sized (leb (length bytes) (lim .file)) refl)
     where
       bad-line : length bytes ≤ lim .file → (number place : ℕ) (value : Vector) → problem lim bytes ≡ refused number place value
           → Bad-lines lim wide room (lines bytes) number place value → Answered lim bytes (refused number place value)
       bad-line l number place value p b = (
-        at-line (b .is .from) (b .is .to) l (record {
+        at-line (b .is .right) l (record {
           before = b .good;
           next = b .is .at;
           inside = b .inside;
+          given = b .given;
           parameters = b .parameters;
           elements = b .elements;
           well = b .well;
           alike = b .alike;
-          bad = λ q f w e. not-both (first-line lim (lines (file-of q f))) (lines-taken lim wide q f w)
-              (b .local (lines (file-of q f)) (subst (λ k. take k (lines (file-of q f)) ≡ take k (lines bytes)) (b .is .at) e));
+          bad = λ g q f w e. not-both (lines-read lim (lines (file-of g q f))) (lines-taken lim wide g q f w)
+              (b .local (lines (file-of g q f)) (subst (λ k. take k (lines (file-of g q f)) ≡ take k (lines bytes)) (b .is .at) e));
         }) (refusal-why lim wide bytes number place value l p),
         b .is .no-value,
       )
@@ -61,27 +63,29 @@ module _ (lim : Limits) (wide : Wide lim) (room : Roomy lim) where
       by-lines : length bytes ≤ lim .file → (r : Result (Parameters × Level)) → problem lim bytes ≡ r
           → If-refused (Bad-lines lim wide room (lines bytes)) r
           → Answered lim bytes r
-      by-lines l (done x) e b = let t = taken-only lim (wide .variables-in-eight) bytes (x .0) (x .1) e in record { text = t .0; well = t .1; fits = l }
+      by-lines l (done x) e b =
+          let t = taken-only lim (wide .variables-in-eight) bytes (x .0) (x .1) e in
+          record { given = t .0; text = t .1; well = t .2; fits = l }
       by-lines l (refused number place value) e b = bad-line l number place value e b
       by-lines l unfinished e b = b
 
-      sized : (c : Bool) → leb (length bytes) (lim .file) ≡ c → Answered lim bytes (unless-refused c 1 0 >>= λ u. first-line lim (lines bytes))
-      sized true e = by-lines (leb-true (length bytes) (lim .file) e) (first-line lim (lines bytes))
-          (ap (λ c. unless-refused c 1 0 >>= λ u. first-line lim (lines bytes)) e) (lines-bad lim wide room (lines bytes))
+      sized : (c : Bool) → leb (length bytes) (lim .file) ≡ c → Answered lim bytes (unless-refused c 1 0 >>= λ u. lines-read lim (lines bytes))
+      sized true e = by-lines (leb-true (length bytes) (lim .file) e) (lines-read lim (lines bytes))
+          (problem-sized lim bytes ∙ ap (λ c. unless-refused c 1 0 >>= λ u. lines-read lim (lines bytes)) e) (lines-bad lim wide room (lines bytes))
       sized false e = (too-long refl refl (leb-false (length bytes) (lim .file) e), refl)
 
   refuses : (bytes : Bytes) (number place : ℕ) → Refused-right lim bytes number place → problem lim bytes ≡ refused number place []
   refuses bytes number place (too-long n p l) = too-long-refused lim bytes l ∙ (λ i. refused (sym n i) (sym p i) [])
-  refuses bytes number place (at-line m k l b r) = reason-refused lim wide bytes number place l r
+  refuses bytes number place (at-line m l b r) = reason-refused lim wide bytes number place l r
 
   pub reader-right : Reader-right lim
   reader-right = record {
     taken = λ bytes q f w. subst (λ b. problem lim b ≡ done (q, f)) (sym (w .text))
-        (file-taken lim wide q f (w .well) (subst (λ b. length b ≤ lim .file) (w .text) (w .fits)));
+        (file-taken lim wide (w .given) q f (w .well) (subst (λ b. length b ≤ lim .file) (w .text) (w .fits)));
     refuses = refuses;
     answered = answered;
-    once = λ q r f g w u e. done-only (q, f) (r, g) (sym (lines-taken lim wide q f w) ∙ ap (λ b. first-line lim (lines b)) e
-        ∙ lines-taken lim wide r g u);
+    once = λ given given′ q r f g w u e. done-only (q, f) (r, g) (sym (lines-taken lim wide given q f w) ∙ ap (λ b. lines-read lim (lines b)) e
+        ∙ lines-taken lim wide given′ r g u);
   }
 
 -- there is one first bad line
@@ -95,8 +99,8 @@ not-later : (lim : Limits) (bytes : Bytes) (p r : ℕ) → First-bad-line lim by
 not-later lim bytes p r a b l =
     let n = b .next in
     let h : p ≤ b .before = omega (arith, l, n) in
-    let x = lines (file-of (b .parameters) (b .elements)) in
-    a .bad (b .parameters) (b .elements) (b .well)
+    let x = lines (file-of (b .given) (b .parameters) (b .elements)) in
+    a .bad (b .given) (b .parameters) (b .elements) (b .well)
     (sym (take-less p (b .before) x h) ∙ ap (take p) (b .alike) ∙ take-less p (b .before) (lines bytes) h)
 
 pub one-place : (lim : Limits) (bytes : Bytes) (p r : ℕ) → First-bad-line lim bytes p → First-bad-line lim bytes r → p ≡ r
@@ -117,6 +121,7 @@ document-wide = record {
   elements-in-field = lit≤ tt;
   exponent-in-field = lit≤ tt;
   t-lines-in-field = lit≤ tt;
+  degree-in-field = lit≤ tt;
 }
 
 pub document-roomy : Roomy document-01

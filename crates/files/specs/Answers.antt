@@ -1,5 +1,7 @@
--- What may be answered to a file: what it says if it is well-formed, else a number from 1 to 8 at its first bad line, for its reason.
+-- What may be answered to a file: what it says if it is well-formed, else a number from 1 to 8, or 18, at its first bad line, for its reason.
 use mathlib.Core.Path.{_≡_}
+use mathlib.Core.Logic.{_⊎_}
+use mathlib.Core.Bool.{Bool}
 use mathlib.Core.Option.{some}
 use mathlib.Core.List.{[], _∷_}
 use Prim.Native.Nat.{ℕ, _≤_, _<_}
@@ -13,10 +15,14 @@ use Rattle.definitions.specs.Sheet.{printed, letter-X, sheet, sheet-of}
 use Rattle.files.specs.Files.{file-of, Well-formed, Well-formed-file, First-bad-line}
 use Rattle.files.specs.Reasons.{Reason}
 
--- "1: .. file too long (line 0, tested first)", else a number from 1 to 8 at the first bad line, the one that document 01's order of tests gives
+-- the numbers that refuse a line: 1 to 8, and 18 of request A5
+abbrev pub Line-number : ℕ → Type 0
+Line-number number = ((1 ≤ number) × (number ≤ 8)) ⊎ (number ≡ 18)
+
+-- "1: .. file too long (line 0, tested first)", else a number from 1 to 8 or 18 (A5) at the first bad line, the one that the order of tests gives
 pub data Refused-right (lim : Limits) (bytes : Bytes) (number place : ℕ) : Type 0 where
   too-long : number ≡ 1 → place ≡ 0 → lim .file < length bytes → Refused-right lim bytes number place
-  at-line : 1 ≤ number → number ≤ 8 → length bytes ≤ lim .file → First-bad-line lim bytes place → Reason lim bytes number place
+  at-line : Line-number number → length bytes ≤ lim .file → First-bad-line lim bytes place → Reason lim bytes number place
       → Refused-right lim bytes number place
 
 abbrev pub Answered : Limits → Bytes → Result (Parameters × Level) → Type 0
@@ -32,7 +38,8 @@ pub record Reader-right (lim : Limits) : Type 0 where
   -- and each file is the one or the other
   pub answered : (bytes : Bytes) → Answered lim bytes (problem lim bytes)
   -- a text says one thing
-  pub once : (q r : Parameters) (f g : Level) → Well-formed lim q f → Well-formed lim r g → file-of q f ≡ file-of r g
+  pub once : (given given′ : Bool) (q r : Parameters) (f g : Level) → Well-formed lim given q f → Well-formed lim given′ r g
+      → file-of given q f ≡ file-of given′ r g
       → _≡_ {A = Parameters × Level} (q, f) (r, g)
 
 -- the sheet of a file is that of its parameters and elements, or `X,number,place` alone

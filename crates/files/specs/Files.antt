@@ -1,12 +1,14 @@
 -- A problem file as it is printed, and what a well-formed one says, in plain notions: no test, no reader.
 use mathlib.Core.Path.{_≡_}
+use mathlib.Core.Bool.{Bool, true, false}
 use mathlib.Core.List.{[], _∷_, _++_}
 use Prim.Native.Nat.{ℕ, suc, _≤_, _<_}
-use lib.ListN.{length, take, drop}
+use lib.ListN.{length, take, drop, replicate}
 use Rattle.definitions.specs.Limits.{Limits}
 use Rattle.definitions.specs.Monomial.{Term, Vector, Level}
 use Rattle.definitions.specs.Order.{greater, compare-over}
-use Rattle.definitions.specs.Problem.{Bytes, Parameters, letter-R, letter-T, letter-E, lines}
+use Rattle.definitions.specs.Problem.{Bytes, Parameters, letter-R, letter-D, letter-T, letter-E, lines}
+use Rattle.definitions.specs.Places.{most-degree}
 use Rattle.definitions.specs.State.{terms-of}
 use Rattle.definitions.specs.Sheet.{printed, term-fields}
 use Rattle.laws.proofs.Modular.{Prime}
@@ -32,9 +34,19 @@ end-line f = printed letter-E (terms-of f ∷ [])
 abbrev pub first-line-of : Parameters → Bytes
 first-line-of q = printed letter-R (q .p ∷ q .n ∷ q .code ∷ q .s ∷ [])
 
--- the R line, the T lines element by element, the E line
-abbrev pub file-of : Parameters → Level → Bytes
-file-of q f = first-line-of q ++ (elements-lines (q .n) 1 f ++ end-line f)
+-- "A line `D,d1,..,ds` .. may follow R" (A5): it is given or not
+abbrev pub degrees-line : Bool → Parameters → Bytes
+degrees-line true q = printed letter-D (q .degrees)
+degrees-line false q = []
+
+-- the R line, the D line where it is given, the T lines element by element, the E line
+abbrev pub file-of : Bool → Parameters → Level → Bytes
+file-of given q f = first-line-of q ++ (degrees-line given q ++ (elements-lines (q .n) 1 f ++ end-line f))
+
+-- the number of the first line behind R and D
+abbrev pub first-term-line : Bool → ℕ
+first-term-line true = 3
+first-term-line false = 2
 
 -- ## What it says
 
@@ -48,6 +60,16 @@ pub record Well-formed-parameters (lim : Limits) (q : Parameters) : Type 0 where
   pub code-to : q .code ≤ 3
   pub s-from : 1 ≤ q .s
   pub s-to : q .s ≤ lim .components
+
+-- A D line has "d1,..,ds, each 0 to 255"
+pub record Well-formed-degrees (q : Parameters) : Type 0 where
+  pub counted : length (q .degrees) ≡ q .s
+  pub each-to : All (λ x. x ≤ most-degree) (q .degrees)
+
+-- "files without D keep zeros"
+abbrev pub Degrees-said : Bool → Parameters → Type 0
+Degrees-said true q = Well-formed-degrees q
+Degrees-said false q = q .degrees ≡ replicate (q .s) 0
 
 -- "A coefficient is 1 to p − 1", "component 1..s", "A monomial is eight exponents and a component; exponents past n are zero", "exponent 0 to 255"
 pub record Well-formed-term (lim : Limits) (q : Parameters) (t : Term) : Type 0 where
@@ -71,8 +93,9 @@ pub record Well-formed-element (lim : Limits) (q : Parameters) (v : Vector) : Ty
   pub descends : Descends (q .code) v
 
 -- "r elements, 1 to 64", "2,048 T lines"
-pub record Well-formed (lim : Limits) (q : Parameters) (f : Level) : Type 0 where
+pub record Well-formed (lim : Limits) (given : Bool) (q : Parameters) (f : Level) : Type 0 where
   pub parameters : Well-formed-parameters lim q
+  pub degrees : Degrees-said given q
   pub some-element : 1 ≤ length f
   pub few : length f ≤ lim .elements
   pub short : terms-of f ≤ lim .t-lines
@@ -90,6 +113,7 @@ pub record Wide (lim : Limits) : Type 0 where
   pub elements-in-field : lim .elements ≤ lim .field
   pub exponent-in-field : lim .exponent ≤ lim .field
   pub t-lines-in-field : lim .t-lines ≤ lim .field
+  pub degree-in-field : most-degree ≤ lim .field
 
 -- .. and there is a well-formed file at all
 pub record Roomy (lim : Limits) : Type 0 where
@@ -103,8 +127,9 @@ pub record Roomy (lim : Limits) : Type 0 where
 
 -- a well-formed file of allowed length, with what it says
 pub record Well-formed-file (lim : Limits) (bytes : Bytes) (q : Parameters) (f : Level) : Type 0 where
-  pub text : bytes ≡ file-of q f
-  pub well : Well-formed lim q f
+  pub given : Bool
+  pub text : bytes ≡ file-of given q f
+  pub well : Well-formed lim given q f
   pub fits : length bytes ≤ lim .file
 
 -- "The first bad line counts": with the lines before it some well-formed file begins, with it and these none; "an absent line has the next number"
@@ -112,8 +137,10 @@ pub record First-bad-line (lim : Limits) (bytes : Bytes) (place : ℕ) : Type 0 
   pub before : ℕ
   pub next : place ≡ suc before
   pub inside : before ≤ length (lines bytes)
+  pub given : Bool
   pub parameters : Parameters
   pub elements : Level
-  pub well : Well-formed lim parameters elements
-  pub alike : take before (lines (file-of parameters elements)) ≡ take before (lines bytes)
-  pub bad : (q : Parameters) (f : Level) → Well-formed lim q f → ¬ (take place (lines (file-of q f)) ≡ take place (lines bytes))
+  pub well : Well-formed lim given parameters elements
+  pub alike : take before (lines (file-of given parameters elements)) ≡ take before (lines bytes)
+  pub bad : (given : Bool) (q : Parameters) (f : Level)
+      → Well-formed lim given q f → ¬ (take place (lines (file-of given q f)) ≡ take place (lines bytes))

@@ -1,24 +1,28 @@
--- "Refusals from the input" 1 to 8, each with its reason in plain notions; "1, then 2, 3 for R; 1, 8, 5, 4, 6 for T; 1, 7 for E".
+-- "Refusals from the input" 1 to 8, each with its reason in plain notions; "1, then 2, 3 for R; 1, 8, 5, 4, 6 for T; 1, 7 for E". And 18 for D (A5).
 use mathlib.Core.Path.{_≡_}
+use mathlib.Core.Bool.{Bool, false}
 use mathlib.Core.Logic.{_⊎_}
 use mathlib.Core.Option.{some}
 use mathlib.Core.List.{List, [], _∷_, _++_}
 use Prim.Native.Nat.{ℕ, suc, _+_, _≤_, _<_}
-use lib.ListN.{length, drop}
+use lib.ListN.{length, drop, replicate}
 use Rattle.definitions.specs.Limits.{Limits}
 use Rattle.definitions.specs.Lists.{last}
 use Rattle.definitions.specs.Monomial.{Term, Vector, Level}
 use Rattle.definitions.specs.Order.{greater, compare-over}
-use Rattle.definitions.specs.Problem.{Bytes, Line, Parameters, letter-R, letter-T, letter-E, lines, last-term}
+use Rattle.definitions.specs.Problem.{Bytes, Line, Parameters, letter-R, letter-D, letter-T, letter-E, lines, last-term}
+use Rattle.definitions.specs.Places.{most-degree}
 use Rattle.definitions.specs.State.{terms-of}
 use Rattle.definitions.specs.Sheet.{printed, term-fields}
 use Rattle.laws.proofs.Modular.{Prime}
 use Rattle.laws.proofs.Members.{All}
-use Rattle.files.specs.Files.{elements-lines, end-line, first-line-of, Well-formed-parameters, Well-formed-element}
+use Rattle.files.specs.Files.{elements-lines, end-line, first-line-of, degrees-line, first-term-line, Well-formed-parameters, Degrees-said}
+use Rattle.files.specs.Files.{Well-formed-element}
 
 -- the elements of the lines so far are in order
-pub record So-far (lim : Limits) (q : Parameters) (f : Level) : Type 0 where
+pub record So-far (lim : Limits) (given : Bool) (q : Parameters) (f : Level) : Type 0 where
   pub parameters : Well-formed-parameters lim q
+  pub degrees : Degrees-said given q
   pub few : length f ≤ lim .elements
   pub short : terms-of f ≤ lim .t-lines
   pub elements : All (Well-formed-element lim q) f
@@ -52,17 +56,22 @@ pub data Bad-term (lim : Limits) (q : Parameters) (f : Level) (i : ℕ) (t : Ter
   out-of-range : terms-of f < lim .t-lines → In-sequence lim f i → ¬ (In-range lim q t) → Bad-term lim q f i t 4
   not-below : terms-of f < lim .t-lines → In-sequence lim f i → In-range lim q t → ¬ (Below (q .code) f i t) → Bad-term lim q f i t 6
 
--- the lines after R and the T lines of f
-pub data Bad-later (lim : Limits) (q : Parameters) (f : Level) : List Line → ℕ → Type 0 where
-  absent : Bad-later lim q f [] 1
-  no-shape : {line : Line} {later : List Line} → ((v : List ℕ) → ¬ (Says lim letter-T (3 + q .n) line v))
+-- the next line is line 2: there alone D may stand
+abbrev pub Second : Bool → Level → Type 0
+Second given f = (given ≡ false) × (f ≡ [])
+
+-- the lines after R, D where it is given, and the T lines of f
+pub data Bad-later (lim : Limits) (given : Bool) (q : Parameters) (f : Level) : List Line → ℕ → Type 0 where
+  absent : Bad-later lim given q f [] 1
+  no-shape : {line : Line} {later : List Line} → (Second given f → (v : List ℕ) → ¬ (Says lim letter-D (q .s) line v))
+      → ((v : List ℕ) → ¬ (Says lim letter-T (3 + q .n) line v))
       → ((v : List ℕ) → ¬ (Says lim letter-E 1 line v))
-      → Bad-later lim q f (line ∷ later) 1
+      → Bad-later lim given q f (line ∷ later) 1
   bad-term : {line : Line} {later : List Line} {number : ℕ} (i : ℕ) (t : Term) → length (t .1 .0) ≡ 8 → All (λ x. x ≡ 0) (drop (q .n) (t .1 .0))
       → Says lim letter-T (3 + q .n) line (i ∷ term-fields (q .n) t) → Bad-term lim q f i t number
-      → Bad-later lim q f (line ∷ later) number
+      → Bad-later lim given q f (line ∷ later) number
   bad-count : {line : Line} {later : List Line} (c : ℕ) → Says lim letter-E 1 line (c ∷ []) → ¬ ((1 ≤ c) × (c ≡ terms-of f))
-      → Bad-later lim q f (line ∷ later) 7
+      → Bad-later lim given q f (line ∷ later) 7
 
 -- the number and the place of a refusal, with the lines of the file
 pub data Reason (lim : Limits) (bytes : Bytes) (number place : ℕ) : Type 0 where
@@ -75,9 +84,16 @@ pub data Reason (lim : Limits) (bytes : Bytes) (number place : ℕ) : Type 0 whe
       → ¬ (Prime p × (p ≤ lim .prime-bound)) → Reason lim bytes number place
   first-range : number ≡ 3 → place ≡ 1 → (line : Line) (later : List Line) → lines bytes ≡ line ∷ later → (p n code s : ℕ)
       → Says lim letter-R 4 line (p ∷ n ∷ code ∷ s ∷ [])
-      → Prime p × (p ≤ lim .prime-bound) → ¬ (Well-formed-parameters lim (record { p = p; n = n; code = code; s = s })) → Reason lim bytes number place
-  later-line : (q : Parameters) (f : Level) → So-far lim q f → (tail : Bytes) → bytes ≡ first-line-of q ++ (elements-lines (q .n) 1 f ++ tail)
-      → place ≡ 2 + terms-of f → Bad-later lim q f (lines tail) number → Reason lim bytes number place
-  after-end : number ≡ 1 → (q : Parameters) (f : Level) → So-far lim q f → 1 ≤ terms-of f → (tail : Bytes) (line : Line) (later : List Line)
-      → lines tail ≡ line ∷ later
-      → bytes ≡ first-line-of q ++ (elements-lines (q .n) 1 f ++ (end-line f ++ tail)) → place ≡ 3 + terms-of f → Reason lim bytes number place
+      → Prime p × (p ≤ lim .prime-bound) → ¬ (Well-formed-parameters lim (record { p = p; n = n; code = code; s = s; degrees = replicate s 0 }))
+      → Reason lim bytes number place
+  -- "18 when a component's degree is above 255, tested after the line's shape" (A5)
+  second-degree : number ≡ 18 → place ≡ 2 → (q : Parameters) → Well-formed-parameters lim q → (tail : Bytes) → bytes ≡ first-line-of q ++ tail
+      → (line : Line) (later : List Line) → lines tail ≡ line ∷ later → (v : List ℕ) → Says lim letter-D (q .s) line v
+      → ¬ (All (λ x. x ≤ most-degree) v) → Reason lim bytes number place
+  later-line : (given : Bool) (q : Parameters) (f : Level) → So-far lim given q f → (tail : Bytes)
+      → bytes ≡ first-line-of q ++ (degrees-line given q ++ (elements-lines (q .n) 1 f ++ tail))
+      → place ≡ first-term-line given + terms-of f → Bad-later lim given q f (lines tail) number → Reason lim bytes number place
+  after-end : number ≡ 1 → (given : Bool) (q : Parameters) (f : Level) → So-far lim given q f → 1 ≤ terms-of f
+      → (tail : Bytes) (line : Line) (later : List Line) → lines tail ≡ line ∷ later
+      → bytes ≡ first-line-of q ++ (degrees-line given q ++ (elements-lines (q .n) 1 f ++ (end-line f ++ tail)))
+      → place ≡ suc (first-term-line given) + terms-of f → Reason lim bytes number place

@@ -16,7 +16,7 @@ use Rattle.definitions.specs.State.{State}
 use Rattle.definitions.specs.Calls.{lifting}
 use Rattle.definitions.specs.Sheet.{sheet}
 use Rattle.definitions.specs.Packed.{low-bytes}
-use Rattle.definitions.specs.Layout.{row-at, rows, Words, state-words, rows-place, encode, holds-state?, tree, lifting-by}
+use Rattle.definitions.specs.Layout.{row-at, rows, Words, state-words, rows-place, carried-place, encode, holds-state?, tree, lifting-by}
 use Rattle.definitions.proofs.Text.{text}
 use Rattle.definitions.proofs.Instances.{xyz, xy, f₁}
 use Rattle.definitions.proofs.Views.{limited, seen}
@@ -34,7 +34,7 @@ powers i zero = []
 powers i (suc count) = ((1, xy i 0 1) ∷ []) ∷ powers (suc i) count
 
 abbrev two-variables : Parameters
-two-variables = record { p = 7; n = 2; code = 1; s = 1 }
+two-variables = record { p = 7; n = 2; code = 1; s = 1; degrees = 0 ∷ [] }
 
 element-64 : t-line document-01 two-variables 65 63 (powers 1 63) (64 ∷ 1 ∷ 1 ∷ 64 ∷ 0 ∷ []) ≡ done (powers 1 64)
 element-64 = refl
@@ -103,7 +103,7 @@ sheet-by-newest = refl
 
 -- "A subtree's sum .. the frame term's own sum is the vector and counts only there": a subtree of five terms under a limit of four for vectors
 abbrev over : ℕ → Level → State
-over p f = record { parameters = record { p = p; n = 3; code = 1; s = 1 }; levels = f ∷ [] }
+over p f = record { parameters = record { p = p; n = 3; code = 1; s = 1; degrees = 0 ∷ [] }; levels = f ∷ [] }
 
 subtree-not-held-to-the-vector's : seen (limited 255 128 2048 512 4 4096) 99 (over 2 (
     ((1, (xyz 1 1 1, 1)) ∷ (1, (xyz 1 0 1, 1)) ∷ (1, (xyz 0 2 1, 1)) ∷ []) ∷ ((1, (xyz 2 2 1, 1)) ∷ []) ∷ ((1, (xyz 1 2 2, 1)) ∷ []) ∷ []))
@@ -140,20 +140,25 @@ tiny = record {
 }
 
 abbrev words : Words
-words = encode tiny (state-words tiny) (record { parameters = record { p = 7; n = 2; code = 1; s = 1 }; levels = f₁ ∷ [] })
+words = encode tiny (state-words tiny) (record { parameters = record { p = 7; n = 2; code = 1; s = 1; degrees = 0 ∷ [] }; levels = f₁ ∷ [] })
 
 holds : holds-state? tiny words ≡ true
 unfolding low-bytes row-at rows
 holds = refl
 
--- x8 is the lowest byte of a row's exponents, x2 is in their highest word
-x8-in-use : holds-state? tiny (set words (rows-place tiny 0 + 2) 1) ≡ false
+-- x8 is the lowest byte of a row's exponents, x2 is in their highest word; the degree is then 2
+x8-in-use : holds-state? tiny (set (set words (rows-place tiny 0 + 2) 1) (carried-place tiny 0) 2) ≡ false
 unfolding low-bytes row-at rows
 x8-in-use = refl
 
-x2-in-use : holds-state? tiny (set words (rows-place tiny 0 + 5) 257) ≡ true
+x2-in-use : holds-state? tiny (set (set words (rows-place tiny 0 + 5) 257) (carried-place tiny 0) 2) ≡ true
 unfolding low-bytes row-at rows
 x2-in-use = refl
+
+-- "a state where it is not counts as no accepted basis" (A5): the same exponents with the degree as it was
+degree-as-it-was : holds-state? tiny (set words (rows-place tiny 0 + 5) 257) ≡ false
+unfolding low-bytes row-at rows
+degree-as-it-was = refl
 
 -- the cache's length in terms: six words a row
 six-words : lifting-by tree (replicate 119 0) ≡ by-tree 19

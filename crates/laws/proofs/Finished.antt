@@ -23,7 +23,8 @@ use Rattle.definitions.specs.Tree.{open-subtree, or-open, lift-by, lift-term, i
 use Rattle.definitions.specs.Lifting.{Lifted, add-vector, with-vector, if-few, limited-frame}
 use Rattle.definitions.specs.Problem.{Bytes, Line, Parameters, lines, shaped, letter-R, letter-T, letter-E, prime-in-range?, in-ranges?}
 use Rattle.definitions.specs.Problem.{parameters-of, r-line, term-of, next?, in-sequence?, term-in-range?, descends?, with-term, t-line, e-line}
-use Rattle.definitions.specs.Problem.{by-shape, body, after-r, first-line, problem}
+use Rattle.definitions.specs.Problem.{by-shape, body, Head, head-of, letter-D, with-degrees, d-line, d-first, after-r, first-line, head, problem}
+use Rattle.definitions.specs.Places.{most-degree}
 use Rattle.laws.proofs.Results.{bind-finished, unless-refused-finished}
 
 -- ## A step
@@ -248,15 +249,28 @@ body-finished lim q place count elements (line ∷ later) =
     go (some v) k = bind-finished (t-line lim q place count elements v) more (t-line-finished lim q place count elements v) k
     go none k = e-line-finished place count later elements (shaped (lim .field) letter-E 1 line)
 
-pub problem-finished : (lim : Limits) (bytes : Bytes) → T (finished? (problem lim bytes))
-problem-finished lim bytes = guard-finished (leb (length bytes) (lim .file)) 1 0 (λ u. first-line lim (lines bytes)) (λ u. first (lines bytes))
+d-line-finished : (h : Head) (later : List Line) (o : Option (List ℕ)) → T (finished? (d-line h later o))
+d-line-finished h later none = tt
+d-line-finished h later (some v) = guard-finished (fits? most-degree v) 18 (h .place) (λ u. done (with-degrees h v later)) (λ u. tt)
+
+d-first-finished : (lim : Limits) (h : Head) (ls : List Line) → T (finished? (d-first lim h ls))
+d-first-finished lim h [] = tt
+d-first-finished lim h (line ∷ later) = d-line-finished h later (shaped (lim .field) letter-D (h .parameters .s) line)
+
+pub head-finished : (lim : Limits) (bytes : Bytes) → T (finished? (head lim bytes))
+head-finished lim bytes = guard-finished (leb (length bytes) (lim .file)) 1 0 (λ u. first-line lim (lines bytes)) (λ u. first (lines bytes))
   where
     after : (later : List Line) (o : Option (List ℕ)) → T (finished? (after-r lim later o))
     after later none = tt
-    after later (some v) =
-        bind-finished (r-line lim v) (λ q. body lim q 2 0 [] later >>= λ f. done (q, f)) (r-line-finished lim v) λ q.
-        bind-finished (body lim q 2 0 [] later) (λ f. done (q, f)) (body-finished lim q 2 0 [] later) (λ f. tt)
+    after later (some v) = bind-finished (r-line lim v) (λ q. d-first lim (head-of q later) later) (r-line-finished lim v)
+        (λ q. d-first-finished lim (head-of q later) later)
 
     first : (ls : List Line) → T (finished? (first-line lim ls))
     first [] = tt
     first (line ∷ later) = after later (shaped (lim .field) letter-R 4 line)
+
+pub problem-finished : (lim : Limits) (bytes : Bytes) → T (finished? (problem lim bytes))
+problem-finished lim bytes =
+    bind-finished (head lim bytes) (λ h. body lim (h .parameters) (h .place) 0 [] (h .later) >>= λ f. done (h .parameters, f)) (head-finished lim bytes) λ h.
+    bind-finished (body lim (h .parameters) (h .place) 0 [] (h .later)) (λ f. done (h .parameters, f))
+    (body-finished lim (h .parameters) (h .place) 0 [] (h .later)) (λ f. tt)

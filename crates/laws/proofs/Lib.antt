@@ -6,6 +6,8 @@ pub mod Packing
 pub mod Rows
 pub mod Sound
 pub mod RoundTrip
+pub mod Degrees
+pub mod Heights
 pub mod Numbers
 pub mod Refusals
 pub mod Comparisons

@@ -1,4 +1,4 @@
--- By which numbers each part refuses: a run by 13, 14 or, where it stops, 9; the lifting of a level by 13 to 15; reading by 1 to 9 and 13 to 15.
+-- By which numbers each part refuses: a run by 13, 14 or, where it stops, 9; the lifting of a level by 13 to 15; reading by 1 to 9, 13 to 15 and 18.
 use mathlib.Core.Path.{_≡_, sym, subst}
 use mathlib.Core.Bool.{Bool, true, false, not, _||_}
 use mathlib.Core.Option.{Option, none, some}
@@ -26,7 +26,8 @@ use Rattle.definitions.specs.Lifting.{Lifting, by-division, by-hybrid, by-tree,
 use Rattle.definitions.specs.Lifting.{at-frame-term, accept-from, accept}
 use Rattle.definitions.specs.Problem.{Bytes, Line, Parameters, shaped, letter-R, letter-T, letter-E, prime-in-range?, in-ranges?, parameters-of, r-line}
 use Rattle.definitions.specs.Problem.{term-of, in-sequence?, term-in-range?, descends?, t-line, e-line, by-shape, body, after-r, first-line, lines}
-use Rattle.definitions.specs.Problem.{problem}
+use Rattle.definitions.specs.Problem.{letter-D, Head, head-of, d-line, d-first, head, problem}
+use Rattle.definitions.specs.Places.{most-degree}
 use Rattle.definitions.specs.State.{State, up-to}
 use Rattle.definitions.specs.Calls.{read, lift}
 use Rattle.laws.proofs.Tests.{between-low, between-high, between-shown}
@@ -61,9 +62,13 @@ limit-number? n = between 13 n 15
 abbrev pub run-number? : ℕ → Bool
 run-number? n = eqb n 9 || between 13 n 15
 
--- "After 1 to 9 and 13 to 15"
+-- the refusals of a line that requests add: 18 (A5)
+abbrev pub added-number? : ℕ → Bool
+added-number? n = eqb n 18
+
+-- "After 1 to 9 and 13 to 15", and "A refusal that a request adds leaves what 1 leaves"
 abbrev pub read-number? : ℕ → Bool
-read-number? n = between 1 n 9 || between 13 n 15
+read-number? n = between 1 n 9 || (between 13 n 15 || added-number? n)
 
 -- ## Runs
 
@@ -270,7 +275,7 @@ accept-number lim p code f n =
 -- ## Reading
 
 abbrev pub line-number? : ℕ → Bool
-line-number? n = between 1 n 8
+line-number? n = between 1 n 8 || added-number? n
 
 unless-number : (b : Bool) (number place : ℕ) → T (line-number? number) → Numbered line-number? (unless-refused b number place)
 unless-number true number place h = gives
@@ -306,29 +311,44 @@ body-number lim q place count f (line ∷ later) =
     by-shape-number (shaped (lim .field) letter-T (3 + q .n) line) lim q place count f line later (λ g. body lim q (suc place) (suc count) g later)
     (λ g. body-number lim q (suc place) (suc count) g later)
 
+d-line-number : (h : Head) (later : List Line) (o : Option (List ℕ)) → Numbered line-number? (d-line h later o)
+d-line-number h later none = gives
+d-line-number h later (some v) = numbered-then (unless-number (fits? most-degree v) 18 (h .place) tt) (λ u. gives)
+
+d-first-number : (lim : Limits) (h : Head) (ls : List Line) → Numbered line-number? (d-first lim h ls)
+d-first-number lim h [] = gives
+d-first-number lim h (line ∷ later) = d-line-number h later (shaped (lim .field) letter-D (h .parameters .s) line)
+
 after-r-number : (lim : Limits) (later : List Line) (o : Option (List ℕ)) → Numbered line-number? (after-r lim later o)
 after-r-number lim later none = refuses tt
-after-r-number lim later (some v) = numbered-then (r-line-number lim v) (λ q. numbered-then (body-number lim q 2 0 [] later) (λ f. gives))
+after-r-number lim later (some v) = numbered-then (r-line-number lim v) (λ q. d-first-number lim (head-of q later) later)
 
 first-line-number : (lim : Limits) (ls : List Line) → Numbered line-number? (first-line lim ls)
 first-line-number lim [] = refuses tt
 first-line-number lim (line ∷ later) = after-r-number lim later (shaped (lim .field) letter-R 4 line)
 
+pub head-number : (lim : Limits) (bytes : Bytes) → Numbered line-number? (head lim bytes)
+head-number lim bytes = numbered-then (unless-number (leb (length bytes) (lim .file)) 1 0 tt) (λ u. first-line-number lim (lines bytes))
+
 pub problem-number : (lim : Limits) (bytes : Bytes) → Numbered line-number? (problem lim bytes)
-problem-number lim bytes = numbered-then (unless-number (leb (length bytes) (lim .file)) 1 0 tt) (λ u. first-line-number lim (lines bytes))
+problem-number lim bytes =
+    numbered-then (head-number lim bytes) (λ h. numbered-then (body-number lim (h .parameters) (h .place) 0 [] (h .later)) (λ f. gives))
 
 -- ## The calls
 
 line-read : (n : ℕ) → T (line-number? n) → T (read-number? n)
-line-read n h = or-left (between 1 n 9) (between 13 n 15) (between-shown 1 n 9 (between-low 1 n 8 h)
-    (let k : n ≤ 8 = between-high 1 n 8 h in omega arith))
+line-read n h = go (between 1 n 8) (λ t. between-shown 1 n 9 (between-low 1 n 8 t) (let k : n ≤ 8 = between-high 1 n 8 t in omega arith)) h
+  where
+    go : (b : Bool) → (T b → T (between 1 n 9)) → T (b || added-number? n) → T (read-number? n)
+    go true f t = or-left (between 1 n 9) (between 13 n 15 || added-number? n) (f tt)
+    go false f t = or-right (between 1 n 9) (between 13 n 15 || added-number? n) (or-right (between 13 n 15) (added-number? n) t)
 
 run-read : (n : ℕ) → T (run-number? n) → T (read-number? n)
 run-read n h = go (eqb n 9) (eqb→eq n 9) h
   where
     go : (b : Bool) → (T b → n ≡ 9) → T (b || between 13 n 15) → T (read-number? n)
     go true e h = subst (λ k. T (read-number? k)) (sym (e tt)) tt
-    go false e h = or-right (between 1 n 9) (between 13 n 15) h
+    go false e h = or-right (between 1 n 9) (between 13 n 15 || added-number? n) (or-left (between 13 n 15) (added-number? n) h)
 
 pub read-number : (lim : Limits) (n : ℕ) (bytes : Bytes) → Numbered read-number? (read lim n bytes)
 read-number lim n bytes =

@@ -6,10 +6,10 @@ use native.Mathlib.Omega.{arith}
 use lib.Dec.{T, leb, leb→le, le→leb}
 use lib.ListN.{length, getD}
 use lib.Arith.{digits-div, digits-mod}
-use Rattle.definitions.specs.Monomial.{Exponents, fits?}
+use Rattle.definitions.specs.Monomial.{Exponents, fits?, degree}
 use Rattle.definitions.specs.Packed.{low-bytes, unpack, pack, pack-from, four, long-bound}
 use Rattle.definitions.specs.Layout.{words-of}
-use Rattle.definitions.specs.Places.{most-exponent}
+use Rattle.definitions.specs.Places.{exponents-length, most-exponent}
 use Rattle.laws.proofs.Tests.{and-left, and-right, and-both}
 
 -- eight exponents in range
@@ -208,3 +208,14 @@ words-of-four a b c d ha hb hc hd =
 
 pub four-below : (a b c d : ℕ) → a < 65536 → b < 65536 → c < 65536 → d < 65536 → four a b c d < long-bound
 four-below a b c d ha hb hc hd = omega arith
+
+-- ## The degree
+
+degree-within : (e : Exponents) → Small e → degree e ≤ length e * most-exponent
+degree-within [] none = omega arith
+degree-within (x ∷ e) (more h s) = let i : degree e ≤ length e * most-exponent = degree-within e s in omega arith
+
+-- eight exponents of eight bits
+pub degree-small : (x : ℕ) → degree (unpack x) ≤ exponents-length * most-exponent
+degree-small x =
+    let w : degree (unpack x) ≤ length (unpack x) * most-exponent = degree-within (unpack x) (unpack-small x) in omega (arith, unpack-long x)

@@ -4,28 +4,29 @@ use mathlib.Core.Path.{_≡_, refl, sym, ap, subst}
 use mathlib.Core.Bool.{Bool, true, false, not}
 use mathlib.Core.Option.{Option, none, some}
 use mathlib.Core.List.{List, [], _∷_}
-use Prim.Native.Nat.{ℕ, suc, _+_, _≤_}
+use Prim.Native.Nat.{ℕ, zero, suc, _+_, _≤_}
 use native.Mathlib.Omega.{arith}
 use lib.Dec.{T, leb, ltb, eqb, ltb→lt, eqb→eq, eqb-refl, T-not}
-use lib.ListN.{length, getD}
+use lib.ListN.{length, getD, replicate, length-replicate}
 use Rattle.definitions.specs.Limits.{Limits}
 use Rattle.definitions.specs.Lists.{_and_, _then_, between, empty?}
-use Rattle.definitions.specs.Monomial.{Term, Level}
+use Rattle.definitions.specs.Monomial.{Term, Level, fits?}
 use Rattle.definitions.specs.Result.{Result, done, unless-refused, _>>=_}
 use Rattle.definitions.specs.Problem.{Bytes, Line, Parameters, number, all-numbers, letter?, shaped-fields, shaped, split, comma, lines}
-use Rattle.definitions.specs.Problem.{letter-R, letter-T, letter-E}
+use Rattle.definitions.specs.Problem.{letter-R, letter-D, letter-T, letter-E}
 use Rattle.definitions.specs.Problem.{prime-in-range?, in-ranges?, parameters-of, r-line, term-of, next?, in-sequence?, term-in-range?}
 use Rattle.definitions.specs.Problem.{descends?, with-term, t-line, e-line, by-shape, body, after-r, first-line}
-use Rattle.definitions.specs.Problem.{problem}
-use Rattle.definitions.specs.State.{State, levels-sound?, sound?}
-use Rattle.laws.proofs.Tests.{and-left, and-right, between-high}
+use Rattle.definitions.specs.Problem.{Head, head-of, with-degrees, d-line, d-first, head, problem}
+use Rattle.definitions.specs.Places.{most-degree}
+use Rattle.definitions.specs.State.{State, degrees-sound?, levels-sound?, sound?}
+use Rattle.laws.proofs.Tests.{and-left, and-right, and-both, between-high}
 use Rattle.laws.proofs.Results.{If-done, if-done-bind, guard-done, If-some, if-some-then, if-some-always}
 use Rattle.laws.proofs.Sound.{sound-shown}
 use Rattle.laws.proofs.Elements.{Elements, term-of-sound, with-term-elements, basis-sound}
 
 -- ## Lines
 
-abbrev Counts : ℕ → List ℕ → Type 0
+abbrev pub Counts : ℕ → List ℕ → Type 0
 Counts n v = length v ≡ n
 
 all-numbers-length : (limit : ℕ) (fields : List Bytes) → If-some (Counts (length fields)) (all-numbers limit fields)
@@ -37,7 +38,7 @@ all-numbers-length limit (field ∷ fields) =
     (all-numbers-length limit fields) (λ v e. ap suc e)
 
 -- a line has as many numbers as its shape asks for
-shaped-length : (limit letter count : ℕ) (line : Line) → If-some (Counts count) (shaped limit letter count line)
+pub shaped-length : (limit letter count : ℕ) (line : Line) → If-some (Counts count) (shaped limit letter count line)
 shaped-length limit letter count line = go (line .1)
   where
     test : (head : Bytes) (fields : List Bytes) (b : Bool) → (T b → length fields ≡ count)
@@ -126,8 +127,66 @@ module _ (lim : Limits) (q : Parameters) where
 abbrev pub basis-state : Parameters × Level → State
 basis-state f = record { parameters = f .0; levels = f .1 ∷ [] }
 
+-- the lines before the first T line passed their tests
+pub record Ready (lim : Limits) (h : Head) : Type 0 where
+  pub prime : T (prime-in-range? lim (h .parameters .p))
+  pub ranges : T (in-ranges? lim (h .parameters))
+  pub degrees : T (degrees-sound? (h .parameters))
+
+module _ (lim : Limits) where
+  zeros-fit : (n : ℕ) → T (fits? most-degree (replicate n 0))
+  zeros-fit zero = tt
+  zeros-fit (suc n) = zeros-fit n
+
+  -- "files without D keep zeros" (A5)
+  pub r-line-ready : (later : List Line) (v : List ℕ) → If-done (λ q. Ready lim (head-of q later)) (r-line lim v)
+  r-line-ready later v =
+      let q = parameters-of v in
+      guard-done (λ q. Ready lim (head-of q later)) (prime-in-range? lim (q .p)) 2 1 (λ u. unless-refused (in-ranges? lim q) 3 1 >>= λ u′. done q) λ t.
+      guard-done (λ q. Ready lim (head-of q later)) (in-ranges? lim q) 3 1 (λ u′. done q) (λ t′. record { prime = t; ranges = t′; degrees = plain })
+    where
+      s : ℕ
+      s = getD v 3 0
+
+      plain : T (degrees-sound? (parameters-of v))
+      plain =
+          let e : length (replicate {A = ℕ} s 0) ≡ s = length-replicate {A = ℕ} s 0 in
+          and-both (eqb (length (replicate s 0)) s) (fits? most-degree (replicate s 0)) (subst (λ n. T (eqb n s)) (sym e) (eqb-refl s)) (zeros-fit s)
+
+  d-line-ready : (h : Head) → Ready lim h → (later : List Line) (o : Option (List ℕ)) → If-some (Counts (h .parameters .s)) o
+      → If-done (Ready lim) (d-line h later o)
+  d-line-ready h r later none l = r
+  d-line-ready h r later (some v) l =
+      guard-done (Ready lim) (fits? most-degree v) 18 (h .place) (λ u. done (with-degrees h v later)) λ t.
+      record {
+        prime = r .prime;
+        ranges = r .ranges;
+        degrees = and-both (eqb (length v) (h .parameters .s)) (fits? most-degree v)
+            (subst (λ n. T (eqb n (h .parameters .s))) (sym l) (eqb-refl (h .parameters .s))) t;
+      }
+
+  pub d-first-ready : (h : Head) → Ready lim h → (ls : List Line) → If-done (Ready lim) (d-first lim h ls)
+  d-first-ready h r [] = r
+  d-first-ready h r (line ∷ later) =
+      d-line-ready h r later (shaped (lim .field) letter-D (h .parameters .s) line) (shaped-length (lim .field) letter-D (h .parameters .s) line)
+
+  pub head-ready : (bytes : Bytes) → If-done (Ready lim) (head lim bytes)
+  head-ready bytes = guard-done (Ready lim) (leb (length bytes) (lim .file)) 1 0 (λ u. first-line lim (lines bytes)) (λ t. first (lines bytes))
+    where
+      after : (later : List Line) (o : Option (List ℕ)) → If-done (Ready lim) (after-r lim later o)
+      after later none = tt
+      after later (some v) =
+          if-done-bind (λ q. Ready lim (head-of q later)) (Ready lim) (r-line lim v) (λ q. d-first lim (head-of q later) later) (r-line-ready later v)
+          (λ q r. d-first-ready (head-of q later) r later)
+
+      first : (ls : List Line) → If-done (Ready lim) (first-line lim ls)
+      first [] = tt
+      first (line ∷ later) = after later (shaped (lim .field) letter-R 4 line)
+
 pub problem-sound : (lim : Limits) → lim .variables ≤ 8 → (bytes : Bytes) → If-done (λ f. T (sound? lim (basis-state f))) (problem lim bytes)
-problem-sound lim v bytes = guard-done Sound (leb (length bytes) (lim .file)) 1 0 (λ u. first-line lim (lines bytes)) (λ t. first (lines bytes))
+problem-sound lim v bytes =
+    if-done-bind (Ready lim) Sound (head lim bytes) (λ h. body lim (h .parameters) (h .place) 0 [] (h .later) >>= λ f. done (h .parameters, f))
+    (head-ready lim bytes) read
   where
     Sound : Parameters × Level → Type 0
     Sound f = T (sound? lim (basis-state f))
@@ -137,32 +196,12 @@ problem-sound lim v bytes = guard-done Sound (leb (length bytes) (lim .file)) 1 
         let n = between 1 (q .n) (lim .variables) in
         omega (arith, v, between-high 1 (q .n) (lim .variables) (and-left n (between 1 (q .code) 3 and between 1 (q .s) (lim .components)) r))
 
-    -- the parameters passed their tests
-    read : (later : List Line) (q : Parameters) → T (prime-in-range? lim (q .p)) → T (in-ranges? lim q)
-        → If-done Sound (body lim q 2 0 [] later >>= λ f. done (q, f))
-    read later q p r =
-        if-done-bind (λ f. T (levels-sound? lim q (f ∷ []))) Sound (body lim q 2 0 [] later) (λ f. done (q, f))
-        (body-basis lim q (few q r) 2 0 [] none-yet later)
-        (λ f s. sound-shown lim (basis-state (q, f)) (record { prime = p; ranges = r; height = omega arith; levels = s }))
+    read : (h : Head) → Ready lim h → If-done Sound (body lim (h .parameters) (h .place) 0 [] (h .later) >>= λ f. done (h .parameters, f))
+    read h r =
+        let q = h .parameters in
+        if-done-bind (λ f. T (levels-sound? lim q (f ∷ []))) Sound (body lim q (h .place) 0 [] (h .later)) (λ f. done (q, f))
+        (body-basis lim q (few q (r .ranges)) (h .place) 0 [] none-yet (h .later))
+        (λ f s. sound-shown lim (basis-state (q, f)) (record { prime = r .prime; ranges = r .ranges; degrees = r .degrees; height = omega arith; levels = s }))
       where
-        none-yet : Elements lim q 0 []
+        none-yet : Elements lim (h .parameters) 0 []
         none-yet = record { few = omega arith; short = omega arith; terms = refl; elements = tt }
-
-    Ranged : Parameters → Type 0
-    Ranged q = T (prime-in-range? lim (q .p)) × T (in-ranges? lim q)
-
-    r-line-ranged : (v : List ℕ) → If-done Ranged (r-line lim v)
-    r-line-ranged v =
-        let q = parameters-of v in
-        guard-done Ranged (prime-in-range? lim (q .p)) 2 1 (λ u. unless-refused (in-ranges? lim q) 3 1 >>= λ u′. done q) λ t.
-        guard-done Ranged (in-ranges? lim q) 3 1 (λ u′. done q) (λ t′. (t, t′))
-
-    after : (later : List Line) (o : Option (List ℕ)) → If-done Sound (after-r lim later o)
-    after later none = tt
-    after later (some v) =
-        if-done-bind Ranged Sound (r-line lim v) (λ q. body lim q 2 0 [] later >>= λ f. done (q, f)) (r-line-ranged v)
-        (λ q h. read later q (h .0) (h .1))
-
-    first : (ls : List Line) → If-done Sound (first-line lim ls)
-    first [] = tt
-    first (line ∷ later) = after later (shaped (lim .field) letter-R 4 line)

@@ -1,4 +1,4 @@
--- "11, 12, 16 change no buffer and no state. After 1 to 9 and 13 to 15 the state is empty": of the calls on buffers.
+-- "11, 12, 16 change no buffer and no state. After 1 to 9 and 13 to 15 the state is empty", and after 18: of the calls on buffers.
 use mathlib.Core.Path.{_≡_, refl, sym, ap, _∙_, subst}
 use mathlib.Core.Bool.{Bool, true, false, not, _||_}
 use mathlib.Core.Option.{Option, none, some, Option·some-injective}
@@ -15,10 +15,12 @@ use Rattle.definitions.specs.Lifting.{Lifting}
 use Rattle.definitions.specs.Problem.{Bytes}
 use Rattle.definitions.specs.State.{State, empty}
 use Rattle.definitions.specs.Calls.{Reply, refuse, settled, read, lift, fetch, eleven?, lifts?, fetches?, read-reply, lift-reply, fetch-reply}
-use Rattle.definitions.specs.Layout.{Words, padded, zeros, rows-place, state-words, encode, state-after, rows-after, cache-after, meant, Way, division}
+use Rattle.definitions.specs.Layout.{Words, padded, zeros, rows-place, degrees-place, levels-of, degree-words, state-words, encode, state-after}
+use Rattle.definitions.specs.Layout.{rows-after, cache-after, meant, Way, division}
 use Rattle.definitions.specs.Layout.{lifting-by, work-words, out-words, long-enough?, Read, read-left, read-call, Lift, lift-left, lift-call, fetch-call}
 use Rattle.laws.proofs.Tests.{and-left}
-use Rattle.laws.proofs.Numbers.{Numbered, gives, refuses, stops, open-yet, limit-number?, read-number?, numbered-more, read-number, lift-number}
+use Rattle.laws.proofs.Numbers.{Numbered, gives, refuses, stops, open-yet, limit-number?, added-number?, read-number?, numbered-more}
+use Rattle.laws.proofs.Numbers.{read-number, lift-number}
 use Rattle.definitions.specs.Places.{header-length}
 
 -- the numbers after which nothing has changed
@@ -33,9 +35,21 @@ padded-zeros n k h =
     ap (λ j. replicate k 0 ++ replicate (n - j) 0) (length-replicate {A = ℕ} k 0) ∙ replicate-append-replicate k (n - k) 0 ∙ ap (λ j. replicate j 0) e
 
 pub encode-empty : (lim : Limits) (size : ℕ) → state-words lim ≤ size → encode lim size empty ≡ replicate size 0
-encode-empty lim size h =
-    ap (padded size) (append-nil (padded (rows-place lim 0) (replicate header-length 0)) ∙ padded-zeros (rows-place lim 0) header-length (omega arith))
-    ∙ padded-zeros size (rows-place lim 0) (omega arith)
+encode-empty lim size h = ap (padded size) ((λ i. terms i ++ degrees i) ∙ replicate-append-replicate c d 0) ∙ padded-zeros size (c + d) (omega arith)
+  where
+    c : ℕ
+    c = degrees-place lim
+
+    d : ℕ
+    d = lim .components
+
+    terms : padded (degrees-place lim) (levels-of lim empty) ≡ replicate (degrees-place lim) 0
+    terms =
+        ap (padded (degrees-place lim)) (append-nil (padded (rows-place lim 0) (replicate header-length 0))
+        ∙ padded-zeros (rows-place lim 0) header-length (omega arith)) ∙ padded-zeros (degrees-place lim) (rows-place lim 0) (omega arith)
+
+    degrees : degree-words lim empty ≡ replicate (lim .components) 0
+    degrees = append-nil (padded (lim .components) []) ∙ padded-zeros (lim .components) 0 (omega arith)
 
 -- ## What a settled call leaves
 
@@ -70,11 +84,12 @@ settled-fair lim r (stops {value = v} h) = record { kept = λ k. absurd (never-b
 settled-fair lim r open-yet = tt
 
 limit-read : (n : ℕ) → T (limit-number? n) → T (read-number? n)
-limit-read n h = go (between 1 n 9)
+limit-read n h = go (between 1 n 9) (between 13 n 15) h
   where
-    go : (b : Bool) → T (b || between 13 n 15)
-    go true = tt
-    go false = h
+    go : (b c : Bool) → T c → T (b || (c || added-number? n))
+    go true c t = tt
+    go false true t = tt
+    go false false t = absurd t
 
 read-fair : (lim : Limits) (n : ℕ) (X : State) (long : Bool) (file : Bytes) → Fair-or-none lim (read-reply lim n X long file)
 read-fair lim n X false file = refuse-fair lim 16 X tt

@@ -5,14 +5,15 @@ use mathlib.Core.List.{List, [], _∷_, _++_, append-assoc, append-nil, reverse,
 use Prim.Native.Nat.{ℕ, suc, _+_, _-_, _*_, _≤_}
 use native.Mathlib.Omega.{arith}
 use native.Mathlib.Nat.{mul-le-mul-right}
-use lib.Dec.{T, leb, ltb, leb→le, le→leb, lt→ltb}
+use lib.Dec.{T, leb, ltb, eqb, leb→le, le→leb, lt→ltb, eqb→eq, eqb-refl}
 use lib.ListN.{length, take, drop, getD, replicate, length-append, length-replicate}
 use lib.Seq.{take-at, drop-drop, getD-drop, drop-append-seam}
 use Rattle.definitions.specs.Limits.{Limits}
-use Rattle.definitions.specs.Lists.{_and_, every}
-use Rattle.definitions.specs.Monomial.{Exponents, Vector, Level, fits?}
+use Rattle.definitions.specs.Lists.{_and_, every, between}
+use Rattle.definitions.specs.Monomial.{Exponents, Vector, Level, fits?, same-exponents?}
 use Rattle.definitions.specs.Problem.{Parameters}
 use Rattle.definitions.specs.State.{State, empty, sound?, levels-sound?, vector-sound?, term-sound?, terms-of}
+use Rattle.definitions.specs.Degrees.{degrees-of, carried}
 use Rattle.definitions.specs.Layout
 use Rattle.definitions.specs.Layout.{
   Words,
@@ -23,6 +24,8 @@ use Rattle.definitions.specs.Layout.{
   level-rows,
   count-place,
   rows-place,
+  degrees-place,
+  carried-place,
   state-words,
   ends-from,
   counts-of,
@@ -30,6 +33,9 @@ use Rattle.definitions.specs.Layout.{
   all-counts,
   all-rows,
   header-of,
+  levels-of,
+  all-carried,
+  degree-words,
   encode,
   vectors-at,
   ends-at,
@@ -39,13 +45,14 @@ use Rattle.definitions.specs.Layout.{
   ascending?,
   words-sound?,
   all-words-sound?,
+  carries?,
   holds-state?,
   meant,
 }
-use Rattle.laws.proofs.Tests.{and-left, and-right, and-both}
+use Rattle.laws.proofs.Tests.{and-left, and-right, and-both, between-high}
 use Rattle.laws.proofs.Rows.{Eights, no-terms, one-more, length-rows-of, rows-of-append, drop-behind, rows-spelled}
 use Rattle.laws.proofs.Sound.{term-says, vector-says, basis-says, level-says, sound-says}
-use Rattle.definitions.specs.Places.{most-exponent, row-length, header-length}
+use Rattle.definitions.specs.Places.{most-exponent, most-degree, row-length, header-length}
 
 -- ## What soundness says of a level's size and exponents
 
@@ -149,7 +156,7 @@ length-all-rows lim ls (one-level f below h hs) =
 
 -- ## A level read from its words
 
-vectors-spelled : (s : Words) (a : ℕ) (f : Level) (z : Words) → Filled f → drop (a * row-length) s ≡ rows-of (joined f) ++ z
+pub vectors-spelled : (s : Words) (a : ℕ) (f : Level) (z : Words) → Filled f → drop (a * row-length) s ≡ rows-of (joined f) ++ z
     → vectors-at s a (ends-from a f) ≡ f
 vectors-spelled s a f z no-vectors d = refl
 vectors-spelled s a f z (one-vector {v} {f = g} l h hs) d =
@@ -264,6 +271,67 @@ all-words-read lim s ls (one-level f below h hs) w =
     and-both (words-sound? lim s (length below)) (all-words-sound? lim s (length below))
     (words-read lim s (length below) f (written-here lim s f below w hs) h) (all-words-read lim s below hs (written-below lim s f below w))
 
+-- ## Degrees
+
+same-self : (e : Words) → T (same-exponents? e e)
+same-self [] = tt
+same-self (x ∷ e) = and-both (eqb x x) (same-exponents? e e) (eqb-refl x) (same-self e)
+
+pub length-degrees : (d : List ℕ) (below : List Level) (f : Level) → length (degrees-of d below f) ≡ length f
+length-degrees d below [] = refl
+length-degrees d below (v ∷ f) = ap suc (length-degrees d below f)
+
+pub length-carried : (d : List ℕ) (ls : List Level) → length (carried d ls) ≡ length ls
+length-carried d [] = refl
+length-carried d (f ∷ below) = ap suc (length-carried d below)
+
+-- the levels below come first, then this one
+pub carried-last : (lim : Limits) (dss : List Words) (ds : Words) → all-carried lim (dss ++ ds ∷ []) ≡ all-carried lim dss ++ padded (level-vectors lim) ds
+carried-last lim [] ds = append-nil (padded (level-vectors lim) ds)
+carried-last lim (es ∷ dss) ds =
+    ap (λ l. padded (level-vectors lim) es ++ l) (carried-last lim dss ds)
+    ∙ sym (append-assoc (padded (level-vectors lim) es) (all-carried lim dss) (padded (level-vectors lim) ds))
+
+length-level-degrees : (lim : Limits) (d : List ℕ) (f : Level) (below : List Level) → Housed lim f
+    → length (padded (level-vectors lim) (degrees-of d below f)) ≡ level-vectors lim
+length-level-degrees lim d f below h = length-padded (level-vectors lim) (degrees-of d below f) (omega (arith, length-degrees d below f, h .few))
+
+length-all-carried : (lim : Limits) (d : List ℕ) (ls : List Level) → All-housed lim ls
+    → length (all-carried lim (reverse (carried d ls))) ≡ length (carried d ls) * level-vectors lim
+length-all-carried lim d ls no-level = omega arith
+length-all-carried lim d ls (one-level f below h hs) =
+    ap (λ l. length (all-carried lim l)) (reverse-cons (degrees-of d below f) (carried d below))
+    ∙ ap length (carried-last lim (reverse (carried d below)) (degrees-of d below f))
+    ∙ length-append (all-carried lim (reverse (carried d below))) (padded (level-vectors lim) (degrees-of d below f))
+    ∙ omega (arith, length-all-carried lim d below hs, length-level-degrees lim d f below h)
+
+-- the words of the degrees are those that the levels carry
+pub carries-read : (lim : Limits) (s : Words) (d : List ℕ) (ls : List Level) → All-housed lim ls → (z : Words)
+    → drop (carried-place lim 0) s ≡ all-carried lim (reverse (carried d ls)) ++ z → T (carries? lim s (carried d ls))
+carries-read lim s d ls no-level z e = tt
+carries-read lim s d ls (one-level f below h hs) z e =
+    and-both (same-exponents? (take (length ds) (drop (carried-place lim (length (carried d below))) s)) ds) (carries? lim s (carried d below))
+    (subst (λ x. T (same-exponents? x ds)) (sym taken) (same-self ds))
+    (carries-read lim s d below hs (padded (level-vectors lim) ds ++ z) split)
+  where
+    ds : Words
+    ds = degrees-of d below f
+
+    split : drop (carried-place lim 0) s ≡ all-carried lim (reverse (carried d below)) ++ (padded (level-vectors lim) ds ++ z)
+    split =
+        e ∙ ap (λ l. all-carried lim l ++ z) (reverse-cons ds (carried d below)) ∙ ap (λ l. l ++ z) (carried-last lim (reverse (carried d below)) ds)
+        ∙ append-assoc (all-carried lim (reverse (carried d below))) (padded (level-vectors lim) ds) z
+
+    here : drop (carried-place lim (length (carried d below))) s ≡ padded (level-vectors lim) ds ++ z
+    here =
+        drop-behind s (all-carried lim (reverse (carried d below))) (padded (level-vectors lim) ds ++ z) (carried-place lim 0)
+        (length (carried d below) * level-vectors lim) (carried-place lim (length (carried d below))) split (length-all-carried lim d below hs) (omega arith)
+
+    taken : take (length ds) (drop (carried-place lim (length (carried d below))) s) ≡ ds
+    taken =
+        ap (take (length ds)) (here ∙ append-assoc ds (replicate (level-vectors lim - length ds) 0) z)
+        ∙ take-at ds (replicate (level-vectors lim - length ds) 0 ++ z) (length ds) refl
+
 -- ## The state
 
 module _ (lim : Limits) (small : lim .exponent ≤ most-exponent) (size : ℕ) (X : State) (h : T (sound? lim X)) where
@@ -275,45 +343,110 @@ module _ (lim : Limits) (small : lim .exponent ≤ most-exponent) (size : ℕ) (
       let l : length (X .levels) ≤ suc (lim .levels) = sound-says lim X h .height in
       omega (arith, length-all-counts lim (X .levels) housed, mul-le-mul-right (suc (level-vectors lim)) l)
 
+  abbrev counts′ : Words
+  counts′ = all-counts lim (reverse (X .levels))
+
+  abbrev terms′ : Words
+  terms′ = all-rows lim (reverse (X .levels))
+
+  abbrev carried′ : Words
+  carried′ = all-carried lim (reverse (carried (X .parameters .degrees) (X .levels)))
+
+  abbrev zeros₁ : Words
+  zeros₁ = replicate (rows-place lim 0 - length (header-of lim X)) 0
+
+  abbrev zeros₂ : Words
+  zeros₂ = replicate (degrees-place lim - length (levels-of lim X)) 0
+
+  abbrev zeros₃ : Words
+  zeros₃ = replicate (size - length (padded (degrees-place lim) (levels-of lim X) ++ degree-words lim X)) 0
+
+  -- what follows the rows
+  abbrev tail : Words
+  tail = zeros₂ ++ (degree-words lim X ++ zeros₃)
+
+  regrouped : (a : Words) → ((a ++ zeros₂) ++ degree-words lim X) ++ zeros₃ ≡ a ++ tail
+  regrouped a = append-assoc (a ++ zeros₂) (degree-words lim X) zeros₃ ∙ append-assoc a zeros₂ (degree-words lim X ++ zeros₃)
+
   written : All-written lim (encode lim size X) (X .levels)
   unfolding header-fits
   written = record {
-    counts-behind = zeros₁ ++ (terms ++ zeros₂);
-    counts = ap (λ j. drop j (encode lim size X)) five ∙ append-assoc (counts ++ zeros₁) terms zeros₂ ∙ append-assoc counts zeros₁ (terms ++ zeros₂);
-    rows-behind = zeros₂;
+    counts-behind = zeros₁ ++ (terms′ ++ tail);
+    counts =
+        ap (λ j. drop j (encode lim size X)) five ∙ regrouped ((counts′ ++ zeros₁) ++ terms′) ∙ append-assoc (counts′ ++ zeros₁) terms′ tail
+        ∙ append-assoc counts′ zeros₁ (terms′ ++ tail);
+    rows-behind = tail;
     terms =
-        ap (drop (rows-place lim 0)) (append-assoc (padded (rows-place lim 0) (header-of lim X)) terms zeros₂)
-        ∙ ap (λ j. drop j (padded (rows-place lim 0) (header-of lim X) ++ (terms ++ zeros₂)))
+        ap (drop (rows-place lim 0)) (regrouped (levels-of lim X) ∙ append-assoc (padded (rows-place lim 0) (header-of lim X)) terms′ tail)
+        ∙ ap (λ j. drop j (padded (rows-place lim 0) (header-of lim X) ++ (terms′ ++ tail)))
         (sym (length-padded (rows-place lim 0) (header-of lim X) header-fits))
-        ∙ drop-append-seam (padded (rows-place lim 0) (header-of lim X)) (terms ++ zeros₂);
+        ∙ drop-append-seam (padded (rows-place lim 0) (header-of lim X)) (terms′ ++ tail);
   }
     where
-      counts : Words
-      counts = all-counts lim (reverse (X .levels))
-
-      terms : Words
-      terms = all-rows lim (reverse (X .levels))
-
-      zeros₁ : Words
-      zeros₁ = replicate (rows-place lim 0 - length (header-of lim X)) 0
-
-      zeros₂ : Words
-      zeros₂ = replicate (size - length (padded (rows-place lim 0) (header-of lim X) ++ terms)) 0
-
       five : count-place lim 0 ≡ header-length
       five = omega arith
 
+  pub levels-fit : length (levels-of lim X) ≤ degrees-place lim
+  unfolding header-fits
+  levels-fit =
+      let k : length (X .levels) ≤ suc (lim .levels) = sound-says lim X h .height in
+      subst (λ n. n ≤ degrees-place lim) (sym (length-append (padded (rows-place lim 0) (header-of lim X)) terms′))
+      (omega (
+        arith,
+        length-padded (rows-place lim 0) (header-of lim X) header-fits,
+        length-all-rows lim (X .levels) housed,
+        mul-le-mul-right (level-rows lim * row-length) k,
+      ))
+
+  -- a degree for each component
+  pub s-degrees : length (X .parameters .degrees) ≡ X .parameters .s
+  s-degrees =
+      let q = X .parameters in
+      eqb→eq (length (q .degrees)) (q .s) (and-left (eqb (length (q .degrees)) (q .s)) (fits? most-degree (q .degrees)) (sound-says lim X h .degrees))
+
+  pub few-components : length (X .parameters .degrees) ≤ lim .components
+  few-components =
+      let q = X .parameters in
+      let r = and-right (between 1 (q .n) (lim .variables)) (between 1 (q .code) 3 and between 1 (q .s) (lim .components)) (sound-says lim X h .ranges) in
+      let b : q .s ≤ lim .components =
+      between-high 1 (q .s) (lim .components) (and-right (between 1 (q .code) 3) (between 1 (q .s) (lim .components)) r) in
+      omega (arith, s-degrees, b)
+
+  degrees-behind : drop (degrees-place lim) (encode lim size X) ≡ padded (lim .components) (X .parameters .degrees) ++ (carried′ ++ zeros₃)
+  degrees-behind =
+      ap (drop (degrees-place lim)) (append-assoc (padded (degrees-place lim) (levels-of lim X)) (degree-words lim X) zeros₃)
+      ∙ ap (λ j. drop j (padded (degrees-place lim) (levels-of lim X) ++ (degree-words lim X ++ zeros₃)))
+      (sym (length-padded (degrees-place lim) (levels-of lim X) levels-fit))
+      ∙ drop-append-seam (padded (degrees-place lim) (levels-of lim X)) (degree-words lim X ++ zeros₃)
+      ∙ append-assoc (padded (lim .components) (X .parameters .degrees)) carried′ zeros₃
+
+  degrees-read : take (X .parameters .s) (drop (degrees-place lim) (encode lim size X)) ≡ X .parameters .degrees
+  degrees-read =
+      let d = X .parameters .degrees in
+      ap (take (X .parameters .s)) (degrees-behind ∙ append-assoc d (replicate (lim .components - length d) 0) (carried′ ++ zeros₃))
+      ∙ take-at d (replicate (lim .components - length d) 0 ++ (carried′ ++ zeros₃)) (X .parameters .s) s-degrees
+
+  pub carries-encode : T (carries? lim (encode lim size X) (carried (X .parameters .degrees) (X .levels)))
+  carries-encode =
+      let d = X .parameters .degrees in
+      carries-read lim (encode lim size X) d (X .levels) housed zeros₃
+      (drop-behind (encode lim size X) (padded (lim .components) d) (carried′ ++ zeros₃) (degrees-place lim) (lim .components) (carried-place lim 0)
+      degrees-behind (length-padded (lim .components) d few-components) (omega arith))
+
   pub decode-encode : decode lim (encode lim size X) ≡ X
-  decode-encode = λ i. record { parameters = X .parameters; levels = levels-read lim (encode lim size X) (X .levels) housed written i }
+  decode-encode = λ i. record {
+    parameters = record { p = X .parameters .p; n = X .parameters .n; code = X .parameters .code; s = X .parameters .s; degrees = degrees-read i };
+    levels = levels-read lim (encode lim size X) (X .levels) housed written i;
+  }
 
   pub holds-encode : T (holds-state? lim (encode lim size X))
   holds-encode =
-      and-both (leb (length (X .levels)) (suc (lim .levels))) (all-words-sound? lim (encode lim size X) (length (X .levels))
-      and sound? lim (decode lim (encode lim size X)))
+      let s = encode lim size X in
+      let Rest : State → Bool = λ Y. sound? lim Y and carries? lim s (carried (Y .parameters .degrees) (Y .levels)) in
+      and-both (leb (length (X .levels)) (suc (lim .levels))) (all-words-sound? lim s (length (X .levels)) and Rest (decode lim s))
       (le→leb (length (X .levels)) (suc (lim .levels)) (sound-says lim X h .height))
-      (and-both (all-words-sound? lim (encode lim size X) (length (X .levels))) (sound? lim (decode lim (encode lim size X)))
-      (all-words-read lim (encode lim size X) (X .levels) housed written)
-      (subst (λ Y. T (sound? lim Y)) (sym decode-encode) h))
+      (and-both (all-words-sound? lim s (length (X .levels))) (Rest (decode lim s)) (all-words-read lim s (X .levels) housed written)
+      (subst (λ Y. T (Rest Y)) (sym decode-encode) (and-both (sound? lim X) (carries? lim s (carried (X .parameters .degrees) (X .levels))) h carries-encode)))
 
   -- what is written is what is read
   pub meant-encode : meant lim (encode lim size X) ≡ X
@@ -323,16 +456,19 @@ module _ (lim : Limits) (small : lim .exponent ≤ most-exponent) (size : ℕ) (
       go true t = decode-encode
       go false t = absurd t
 
+  pub length-degree-words : length (degree-words lim X) ≡ lim .components + length (X .levels) * level-vectors lim
+  length-degree-words =
+      let d = X .parameters .degrees in
+      length-append (padded (lim .components) d) carried′
+      ∙ (λ i. length-padded (lim .components) d few-components i
+      + (length-all-carried lim d (X .levels) housed ∙ ap (λ n. n * level-vectors lim) (length-carried d (X .levels))) i)
+
   pub length-encode : state-words lim ≤ size → length (encode lim size X) ≡ size
-  length-encode l = length-padded size (padded (rows-place lim 0) (header-of lim X) ++ all-rows lim (reverse (X .levels))) whole
+  unfolding levels-fit few-components
+  length-encode l = length-padded size (padded (degrees-place lim) (levels-of lim X) ++ degree-words lim X) whole
     where
-      whole : length (padded (rows-place lim 0) (header-of lim X) ++ all-rows lim (reverse (X .levels))) ≤ size
+      whole : length (padded (degrees-place lim) (levels-of lim X) ++ degree-words lim X) ≤ size
       whole =
           let k : length (X .levels) ≤ suc (lim .levels) = sound-says lim X h .height in
-          subst (λ n. n ≤ size) (sym (length-append (padded (rows-place lim 0) (header-of lim X)) (all-rows lim (reverse (X .levels)))))
-          (omega (
-            arith,
-            length-padded (rows-place lim 0) (header-of lim X) header-fits,
-            length-all-rows lim (X .levels) housed,
-            mul-le-mul-right (level-rows lim * row-length) k,
-          ))
+          subst (λ n. n ≤ size) (sym (length-append (padded (degrees-place lim) (levels-of lim X)) (degree-words lim X)))
+          (omega (arith, length-padded (degrees-place lim) (levels-of lim X) levels-fit, length-degree-words, mul-le-mul-right (level-vectors lim) k))

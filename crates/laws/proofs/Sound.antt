@@ -11,7 +11,7 @@ use Rattle.definitions.specs.Monomial.{Exponents, Term, Vector, Level, fits?}
 use Rattle.definitions.specs.Order.{compare-over}
 use Rattle.definitions.specs.Vectors.{strictly-descending?}
 use Rattle.definitions.specs.Problem.{Parameters, in-ranges?, prime-in-range?}
-use Rattle.definitions.specs.State.{State, sound?, levels-sound?, vector-sound?, term-sound?, exponents-sound?, terms-of}
+use Rattle.definitions.specs.State.{State, sound?, degrees-sound?, levels-sound?, vector-sound?, term-sound?, exponents-sound?, terms-of}
 use Rattle.laws.proofs.Tests.{and-left, and-right, and-both, between-low, between-high, between-shown}
 
 abbrev Past : ℕ → Exponents → Bool
@@ -47,6 +47,7 @@ pub record Sound-level (lim : Limits) (q : Parameters) (f g : Level) (below : Li
 pub record Sound (lim : Limits) (X : State) : Type 0 where
   pub prime : T (prime-in-range? lim (X .parameters .p))
   pub ranges : T (in-ranges? lim (X .parameters))
+  pub degrees : T (degrees-sound? (X .parameters))
   pub height : length (X .levels) ≤ suc (lim .levels)
   pub levels : T (levels-sound? lim (X .parameters) (X .levels))
 
@@ -137,11 +138,14 @@ module _ (lim : Limits) (X : State) where
   pub sound-says : T (sound? lim X) → Sound lim X
   unfolding Height Levels
   sound-says h =
-      let r = and-right (prime-in-range? lim (X .parameters .p)) (in-ranges? lim (X .parameters) and Height and Levels) h in
-      let s = and-right (in-ranges? lim (X .parameters)) (Height and Levels) r in
+      let d = degrees-sound? (X .parameters) in
+      let r = and-right (prime-in-range? lim (X .parameters .p)) (in-ranges? lim (X .parameters) and d and Height and Levels) h in
+      let e = and-right (in-ranges? lim (X .parameters)) (d and Height and Levels) r in
+      let s = and-right d (Height and Levels) e in
       record {
-        prime = and-left (prime-in-range? lim (X .parameters .p)) (in-ranges? lim (X .parameters) and Height and Levels) h;
-        ranges = and-left (in-ranges? lim (X .parameters)) (Height and Levels) r;
+        prime = and-left (prime-in-range? lim (X .parameters .p)) (in-ranges? lim (X .parameters) and d and Height and Levels) h;
+        ranges = and-left (in-ranges? lim (X .parameters)) (d and Height and Levels) r;
+        degrees = and-left d (Height and Levels) e;
         height = leb→le (length (X .levels)) (suc (lim .levels)) (and-left Height Levels s);
         levels = and-right Height Levels s;
       }
@@ -149,6 +153,8 @@ module _ (lim : Limits) (X : State) where
   pub sound-shown : Sound lim X → T (sound? lim X)
   unfolding Height Levels
   sound-shown h =
-      and-both (prime-in-range? lim (X .parameters .p)) (in-ranges? lim (X .parameters) and Height and Levels) (h .prime)
-      (and-both (in-ranges? lim (X .parameters)) (Height and Levels) (h .ranges)
-      (and-both Height Levels (le→leb (length (X .levels)) (suc (lim .levels)) (h .height)) (h .levels)))
+      let d = degrees-sound? (X .parameters) in
+      and-both (prime-in-range? lim (X .parameters .p)) (in-ranges? lim (X .parameters) and d and Height and Levels) (h .prime)
+      (and-both (in-ranges? lim (X .parameters)) (d and Height and Levels) (h .ranges)
+      (and-both d (Height and Levels) (h .degrees)
+      (and-both Height Levels (le→leb (length (X .levels)) (suc (lim .levels)) (h .height)) (h .levels))))

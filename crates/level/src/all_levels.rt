@@ -34,7 +34,7 @@ pub struct Ended {
 
 // What lifting gave: a level is stored as level k, a refusal's number is handed on and changes nothing.
 pub fn store(state: &mut [u16], k: usize, x: Leveled, out: &[u16]) -> u16
-    requires { ⌜ Liftable (now state) k × Settles x (now out) ⌝ }
+    requires { ⌜ Liftable (now state) k × Settles (now state) k x (now out) ⌝ }
     ensures { λ r. ⌜ told r (now (state .exit)) ≡ stored (now (state .entry)) (state-over (now (state .entry)) k (leveled-of x (now (out .entry)) [])) ⌝ }
 {
     match x {
@@ -61,7 +61,7 @@ pub fn lift_level(state: &mut [u16], work: &mut [u16], k: usize, w: Strategy) ->
 
 // The same without zeroing: unused places stay as they are.
 fn keep(state: &mut [u16], k: usize, x: Leveled, out: &[u16]) -> u16
-    requires { ⌜ Liftable (now state) k × Settles x (now out) ⌝ }
+    requires { ⌜ Liftable (now state) k × Settles (now state) k x (now out) ⌝ }
     ensures { λ r. ⌜ Kept-as (now (state .entry)) k x (now (out .entry)) r (now (state .exit)) ⌝ }
 {
     match x {

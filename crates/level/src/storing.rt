@@ -6,9 +6,12 @@ ghost use Prim.Native.Nat.{_+_, _*_, _≤_, _<_};
 ghost use lib.Dec.{T};
 ghost use lib.ListN.{length, set};
 ghost use Rattle.definitions.specs.Limits.{document-01};
+ghost use Rattle.definitions.specs.State.{sound?};
 ghost use Rattle.definitions.specs.Layout.{encode, all-words-sound?};
 ghost use Rattle.definitions.specs.Places.{most-vectors, all-levels, state-length, count-offset};
+ghost use Rattle.state.specs.degrees.Carrying.{carried-right?};
 ghost use Rattle.level.specs.storing.Stored.{Kept-apart, with-level, Appended, Added};
+use state::degrees;
 use state::writing;
 
 // The vectors that the slice holds, as those of level k.
@@ -38,18 +41,21 @@ fn complete(state: &mut [u16], k: usize, count: usize)
     state[4] = h;
 }
 
-// Level k of the state is what the slice holds; those above are dropped. Unused places stay as they are.
+// Level k of the state is what the slice holds, and carries its degrees; those above are dropped. Unused places stay as they are.
 pub fn add_level(state: &mut [u16], k: usize, count: usize, out: &[u16])
-    requires { ⌜ (state-length ≤ length (now state)) × (k < all-levels) × T (all-words-sound? document-01 (now state) k) × Kept-apart count (now out) ⌝ }
+    requires { ⌜ (state-length ≤ length (now state)) × (k < all-levels) × T (all-words-sound? document-01 (now state) k) × Kept-apart count (now out)
+        × T (sound? document-01 (with-level (now state) k count (now out))) × T (carried-right? (now state) k) ⌝ }
     ensures { λ _. ⌜ Added (now (state .entry)) (now (state .exit)) k count (now (out .entry)) ⌝ }
 {
     append_all(state, k, count, out);
     complete(state, k, count);
+    degrees::carry(state, k);
 }
 
 // The same, and unused places are zeroed.
 pub fn store_level(state: &mut [u16], k: usize, count: usize, out: &[u16])
-    requires { ⌜ (state-length ≤ length (now state)) × (k < all-levels) × T (all-words-sound? document-01 (now state) k) × Kept-apart count (now out) ⌝ }
+    requires { ⌜ (state-length ≤ length (now state)) × (k < all-levels) × T (all-words-sound? document-01 (now state) k) × Kept-apart count (now out)
+        × T (sound? document-01 (with-level (now state) k count (now out))) × T (carried-right? (now state) k) ⌝ }
     ensures { λ _. ⌜ now (state .exit) ≡ encode document-01 (length (now (state .entry))) (with-level (now (state .entry)) k count (now (out .entry))) ⌝ }
 {
     append_all(state, k, count, out);

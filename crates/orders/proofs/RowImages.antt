@@ -7,7 +7,7 @@ use lib.ListN.{length, getD}
 use Rattle.definitions.specs.Monomial.{product, degree}
 use Rattle.definitions.specs.Layout.{Words, long-at, row-at}
 use Rattle.definitions.specs.Packed.{unpack, four, long-bound}
-use Rattle.definitions.specs.Places.{exponents-length, most-exponent, most-image, row-length, image-length, component-offset, exponents-offset}
+use Rattle.definitions.specs.Places.{most-image, row-length, image-length, component-offset, exponents-offset}
 use Rattle.laws.proofs.Packing.{Bytes, bytes-of, unpack-is, unpack-long}
 use Rattle.laws.proofs.Rows.{row-is}
 use Rattle.monomial.specs.Values.{pair-lanes, lane-sum}
@@ -112,12 +112,6 @@ behind-on e i j f h p l a k m q r =
     ap (λ n. getD (unpack (f / 256)) n 0) z ∙ down f (bytes-of f h) (m - 1 + k) s ∙ a k (m - 1) (omega arith) (omega arith)
 
 -- ## The degree, in lanes
-
--- eight exponents of eight bits
-pub degree-small : (x : ℕ) → x < long-bound → degree (unpack x) ≤ exponents-length * most-exponent
-degree-small x h =
-    let b = bytes-of x h in
-    subst (λ e. degree e ≤ exponents-length * most-exponent) (sym (b .spelled)) (omega (arith, b .s1, b .s2, b .s3, b .s4, b .s5, b .s6, b .s7, b .s8))
 
 -- the words of a table's entry, from word b on
 entry-words : (t : Words) (b : ℕ) → long-at t (b + 4) ≡ four (getD t (b + 7) 0) (getD t (b + 6) 0) (getD t (b + 5) 0) (getD t (b + 4) 0)

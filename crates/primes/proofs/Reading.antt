@@ -1,24 +1,24 @@
 -- A file with such a p is read and accepted, or refused, as before.
 use mathlib.Core.Path.{_≡_, refl, sym, ap, _∙_}
-use mathlib.Core.Bool.{Bool, true, false}
 use mathlib.Core.Option.{Option, none, some}
 use mathlib.Core.List.{List, [], _∷_}
 use Prim.Native.Nat.{ℕ, suc, _+_, _≤_}
 use native.Mathlib.Omega.{arith}
-use lib.Dec.{T, leb, le→leb}
+use lib.Dec.{leb, le→leb}
 use lib.ListN.{length, getD}
 use Rattle.definitions.specs.Limits.{Limits}
 use Rattle.definitions.specs.Lists.{_and_}
 use Rattle.definitions.specs.Field.{prime?}
-use Rattle.definitions.specs.Monomial.{Level}
+use Rattle.definitions.specs.Monomial.{Level, fits?}
 use Rattle.definitions.specs.Result.{Result, done, refused, unfinished, unless-refused, _>>=_}
 use Rattle.definitions.specs.Problem.{Bytes, Line, Parameters, lines, shaped, letter-R, letter-T, parameters-of, prime-in-range?, in-ranges?, r-line, t-line}
-use Rattle.definitions.specs.Problem.{by-shape, body, after-r, first-line, problem}
+use Rattle.definitions.specs.Problem.{by-shape, body, letter-D, Head, head-of, with-degrees, d-line, d-first, after-r, first-line, head, problem}
+use Rattle.definitions.specs.Places.{most-degree}
 use Rattle.definitions.specs.Lifting.{accept}
 use Rattle.definitions.specs.State.{State}
 use Rattle.definitions.specs.Calls.{accepted, read}
 use Rattle.laws.proofs.Tests.{true-is}
-use Rattle.laws.proofs.Results.{If-done}
+use Rattle.laws.proofs.Results.{If-done, if-done-bind, guard-done}
 use Rattle.primes.specs.Primes.{with-prime-bound, named, first-named, prime-of}
 use Rattle.primes.proofs.Trees.{accept-same}
 
@@ -46,16 +46,22 @@ module _ (lim : Limits) (bound : ℕ) (l : lim .prime-bound ≤ bound) where
       go (some v) ih = λ i. t-line lim q place count f v >>= λ g. ih g i
       go none ih = refl
 
+  d-same : (h : Head) (ls : List Line) → d-first wide h ls ≡ d-first lim h ls
+  d-same h [] = refl
+  d-same h (line ∷ later) = refl
+
   after-same : (later : List Line) (o : Option (List ℕ)) → named o ≤ lim .prime-bound → after-r wide later o ≡ after-r lim later o
   after-same later none h = refl
-  after-same later (some v) h = λ i. r-same v h i >>= λ q. body-same q 2 0 [] later i >>= λ f. done (q, f)
+  after-same later (some v) h = λ i. r-same v h i >>= λ q. d-same (head-of q later) later i
 
   first-same : (ls : List Line) → first-named lim ls ≤ lim .prime-bound → first-line wide ls ≡ first-line lim ls
   first-same [] h = refl
   first-same (line ∷ later) h = after-same later (shaped (lim .field) letter-R 4 line) h
 
   pub problem-same : (bytes : Bytes) → prime-of lim bytes ≤ lim .prime-bound → problem wide bytes ≡ problem lim bytes
-  problem-same bytes h = λ i. unless-refused (leb (length bytes) (lim .file)) 1 0 >>= λ u. first-same (lines bytes) h i
+  problem-same bytes h = λ i.
+      (unless-refused (leb (length bytes) (lim .file)) 1 0 >>= λ u. first-same (lines bytes) h i)
+      >>= λ h. body-same (h .parameters) (h .place) 0 [] (h .later) i >>= λ f. done (h .parameters, f)
 
   accepted-same : (n : ℕ) (f : Parameters × Level) → accepted wide n f ≡ accepted lim n f
   accepted-same n f = ap (λ x. x >>= λ u. done (record { parameters = f .0; levels = f .1 ∷ [] }))
@@ -69,31 +75,43 @@ module _ (lim : Limits) (most : ℕ) where
   abbrev Within : Parameters × Level → Type 0
   Within f = f .0 .p ≤ most
 
+  abbrev Head-within : Head → Type 0
+  Head-within h = h .parameters .p ≤ most
+
+  r-within : (v : List ℕ) → getD v 0 0 ≤ most → If-done (λ q. q .p ≤ most) (r-line lim v)
+  r-within v h =
+      let q = parameters-of v in
+      guard-done (λ q. q .p ≤ most) (prime-in-range? lim (q .p)) 2 1 (λ u. unless-refused (in-ranges? lim q) 3 1 >>= λ u′. done q) λ t.
+      guard-done (λ q. q .p ≤ most) (in-ranges? lim q) 3 1 (λ u′. done q) (λ t′. h)
+
+  d-within : (h : Head) → Head-within h → (ls : List Line) → If-done Head-within (d-first lim h ls)
+  d-within h w [] = w
+  d-within h w (line ∷ later) = go (shaped (lim .field) letter-D (h .parameters .s) line)
+    where
+      go : (o : Option (List ℕ)) → If-done Head-within (d-line h later o)
+      go none = w
+      go (some v) = guard-done Head-within (fits? most-degree v) 18 (h .place) (λ u. done (with-degrees h v later)) (λ t. w)
+
+  after-within : (later : List Line) (o : Option (List ℕ)) → named o ≤ most → If-done Head-within (after-r lim later o)
+  after-within later none h = tt
+  after-within later (some v) h =
+      if-done-bind (λ q. q .p ≤ most) Head-within (r-line lim v) (λ q. d-first lim (head-of q later) later) (r-within v h)
+      (λ q w. d-within (head-of q later) w later)
+
+  first-within : (ls : List Line) → first-named lim ls ≤ most → If-done Head-within (first-line lim ls)
+  first-within [] h = tt
+  first-within (line ∷ later) h = after-within later (shaped (lim .field) letter-R 4 line) h
+
   body-within : (q : Parameters) → q .p ≤ most → (x : Result Level) → If-done Within (x >>= λ f. done (q, f))
   body-within q h (done f) = h
   body-within q h (refused number place value) = tt
   body-within q h unfinished = tt
 
-  r-within : (v : List ℕ) → getD v 0 0 ≤ most → (a b : Bool) (go : Parameters → Result Level)
-      → If-done Within ((unless-refused a 2 1 >>= λ u. unless-refused b 3 1 >>= λ u′. done (parameters-of v)) >>= λ q. go q >>= λ f. done (q, f))
-  r-within v h false b go = tt
-  r-within v h true false go = tt
-  r-within v h true true go = body-within (parameters-of v) h (go (parameters-of v))
-
-  after-within : (later : List Line) (o : Option (List ℕ)) → named o ≤ most → If-done Within (after-r lim later o)
-  after-within later none h = tt
-  after-within later (some v) h = r-within v h (prime-in-range? lim (getD v 0 0)) (in-ranges? lim (parameters-of v)) (λ q. body lim q 2 0 [] later)
-
-  first-within : (ls : List Line) → first-named lim ls ≤ most → If-done Within (first-line lim ls)
-  first-within [] h = tt
-  first-within (line ∷ later) h = after-within later (shaped (lim .field) letter-R 4 line) h
-
-  size-within : (b : Bool) (x : Result (Parameters × Level)) → If-done Within x → If-done Within (unless-refused b 1 0 >>= λ u. x)
-  size-within true x h = h
-  size-within false x h = tt
-
   problem-within : (bytes : Bytes) → prime-of lim bytes ≤ most → If-done Within (problem lim bytes)
-  problem-within bytes h = size-within (leb (length bytes) (lim .file)) (first-line lim (lines bytes)) (first-within (lines bytes) h)
+  problem-within bytes h =
+      if-done-bind Head-within Within (head lim bytes) (λ h. body lim (h .parameters) (h .place) 0 [] (h .later) >>= λ f. done (h .parameters, f))
+      (guard-done Head-within (leb (length bytes) (lim .file)) 1 0 (λ u. first-line lim (lines bytes)) (λ t. first-within (lines bytes) h))
+      (λ h w. body-within (h .parameters) w (body lim (h .parameters) (h .place) 0 [] (h .later)))
 
   abbrev pub State-within : State → Type 0
   State-within X = X .parameters .p ≤ most

@@ -1,16 +1,16 @@
 // The lines of a problem file one by one: the tests of each in their order, and what it says.
-// Knows: crate definitions' Problem, tests and refusals of R, T and E lines.
-// The sequence of lines is decided by `first_line` and `next_line` alone.
+// Knows: crate definitions' Problem, tests and refusals of R, D, T and E lines.
+// The sequence of lines is decided by `first_line`, `degrees_line` and `next_line` alone.
 ghost use mathlib.Core.Path.{_≡_};
 ghost use mathlib.Core.Bool.{true};
-ghost use Prim.Native.Nat.{_≤_};
+ghost use Prim.Native.Nat.{_+_, _≤_};
 ghost use lib.Dec.{ltb};
 ghost use lib.ListN.{take, drop};
 ghost use Rattle.definitions.specs.Lists.{between};
 ghost use Rattle.definitions.specs.Limits.{document-01};
 ghost use Rattle.definitions.specs.Monomial.{fits?};
 ghost use Rattle.definitions.specs.Problem.{term-in-range?};
-ghost use Rattle.definitions.specs.Places.{most-exponent, most-rows};
+ghost use Rattle.definitions.specs.Places.{most-exponent, most-degree, most-components, most-rows};
 ghost use Rattle.lists.specs.Marking.{mark-by};
 ghost use Rattle.words.specs.parameters.Values.{parameters-of};
 ghost use Rattle.vectors.specs.terms.Rows.{term-of};
@@ -23,7 +23,7 @@ ghost use Rattle.reader.specs.lines.Tests.{
   t-number,
   r-number,
 };
-ghost use Rattle.reader.specs.lines.Steps.{r-first, t-first, e-first, line-first, first-as, taken-as};
+ghost use Rattle.reader.specs.lines.Steps.{r-first, d-first, t-first, e-first, line-first, first-as, graded-as, taken-as};
 ghost use Rattle.reader.specs.declared.lines.Step.the-variants.{Refused};
 use crate::fields;
 use crate::fields::End as LineEnd;
@@ -42,6 +42,18 @@ pub enum Start {
 pub struct First {
     pub start: Start,
     pub parameters: Parameters,
+}
+
+// Behind the head, the lines before the first T line: the position and the number of the line there; or D's refusal.
+pub enum Opening {
+    At(usize, usize),
+    Refused(u16),
+}
+
+// The degrees of the components, zeros behind them.
+pub struct Graded {
+    pub opening: Opening,
+    pub degrees: [u16; words::DEGREES_LENGTH],
 }
 
 // A T line, with the position behind it; the end; a refusal, with its line.
@@ -97,6 +109,45 @@ pub fn first_line(file: &[u8]) -> First
     First {
         start: Start::At(next),
         parameters: q,
+    }
+}
+
+fn degrees_fit(d: [u16; words::DEGREES_LENGTH]) -> bool
+    ensures { λ r. ⌜ r ≡ fits? most-degree d ⌝ }
+{
+    let mut mark: u16 = 0;
+    let mut j = 0;
+    while j < words::DEGREES_LENGTH {
+        mark = mark_above(mark, d[j], words::MOST_DEGREE);
+        j += 1;
+    }
+    mark == 0
+}
+
+// The D line at a position, where it stands there: a line without its shape is left to `next_line`.
+pub fn degrees_line(file: &[u8], at: usize, s: u16) -> Graded
+    requires { ⌜ s ≤ most-components ⌝ }
+    ensures { λ r. ⌜ graded-as r (now (file .entry)) ≡ d-first s (drop at (now (file .entry))) ⌝ }
+{
+    let n = size_of(s);
+    let line = fields::line_at(file, at, b'D', n);
+    let d = line.numbers;
+    let end = line.end;
+    let LineEnd::Behind(next) = end else {
+        return Graded {
+            opening: Opening::At(at, 2),
+            degrees: [0; words::DEGREES_LENGTH],
+        };
+    };
+    if degrees_fit(d) {
+        return Graded {
+            opening: Opening::At(next, 3),
+            degrees: d,
+        };
+    }
+    Graded {
+        opening: Opening::Refused(18),
+        degrees: d,
     }
 }
 
@@ -230,23 +281,24 @@ fn term_line(
     file: &[u8],
     at: usize,
     q: Parameters,
+    place: usize,
     count: usize,
     elements: u16,
     before: [u16; 16],
 ) -> Taken
-    requires { ⌜ (q .n ≤ 8) × (count ≤ most-rows) ⌝ }
-    ensures { λ r. ⌜ taken-as r (now (file .entry)) ≡ t-first (parameters-of q) count elements before (drop at (now (file .entry))) ⌝ }
+    requires { ⌜ q .n ≤ 8 ⌝ }
+    ensures { λ r. ⌜ taken-as r (now (file .entry)) ≡ t-first (parameters-of q) place count elements before (drop at (now (file .entry))) ⌝ }
 {
     let n = size_of(q.n);
     let line = fields::line_at(file, at, b'T', 3 + n);
     let w = line.numbers;
     let end = line.end;
     let LineEnd::Behind(next) = end else {
-        return refused(1, count + 2);
+        return refused(1, place);
     };
     let number = term_refusal(q, count, elements, before, w);
     if number != 0 {
-        return refused(number, count + 2);
+        return refused(number, place);
     }
     Taken {
         step: Step::Term(next),
@@ -254,25 +306,25 @@ fn term_line(
     }
 }
 
-fn end_line(file: &[u8], at: usize, count: usize) -> Taken
-    requires { ⌜ count ≤ most-rows ⌝ }
-    ensures { λ r. ⌜ taken-as r (now (file .entry)) ≡ e-first count (drop at (now (file .entry))) ⌝ }
+fn end_line(file: &[u8], at: usize, place: usize, count: usize) -> Taken
+    requires { ⌜ place ≤ most-rows + 3 ⌝ }
+    ensures { λ r. ⌜ taken-as r (now (file .entry)) ≡ e-first place count (drop at (now (file .entry))) ⌝ }
 {
     let line = fields::line_at(file, at, b'E', 1);
     let w = line.numbers;
     let end = line.end;
     let LineEnd::Behind(next) = end else {
-        return refused(1, count + 2);
+        return refused(1, place);
     };
     let said = size_of(w[0]);
     if said == 0 {
-        return refused(7, count + 2);
+        return refused(7, place);
     }
     if said != count {
-        return refused(7, count + 2);
+        return refused(7, place);
     }
     if next < file.len() {
-        return refused(1, count + 3);
+        return refused(1, place + 1);
     }
     Taken {
         step: Step::End,
@@ -280,26 +332,27 @@ fn end_line(file: &[u8], at: usize, count: usize) -> Taken
     }
 }
 
-// The sequence of lines after R's: the letter decides.
+// The sequence of lines behind the head: the letter decides.
 pub fn next_line(
     file: &[u8],
     at: usize,
     q: Parameters,
+    place: usize,
     count: usize,
     elements: u16,
     before: [u16; 16],
 ) -> Taken
-    requires { ⌜ (q .n ≤ 8) × (count ≤ most-rows) ⌝ }
-    ensures { λ r. ⌜ taken-as r (now (file .entry)) ≡ line-first (parameters-of q) count elements before (drop at (now (file .entry))) ⌝ }
+    requires { ⌜ (q .n ≤ 8) × (place ≤ most-rows + 3) ⌝ }
+    ensures { λ r. ⌜ taken-as r (now (file .entry)) ≡ line-first (parameters-of q) place count elements before (drop at (now (file .entry))) ⌝ }
 {
     if file.len() <= at {
-        return refused(1, count + 2);
+        return refused(1, place);
     }
     let letter = file[at];
     match letter {
-        b'T' => term_line(file, at, q, count, elements, before),
-        b'E' => end_line(file, at, count),
-        _ => refused(1, count + 2),
+        b'T' => term_line(file, at, q, place, count, elements, before),
+        b'E' => end_line(file, at, place, count),
+        _ => refused(1, place),
     }
 }
 

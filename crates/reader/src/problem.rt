@@ -1,22 +1,49 @@
-// The reader: from the bytes of a problem file to the words of a state, or a refusal from 1 to 8 with its place.
+// The reader: from the bytes of a problem file to the words of a state, or a refusal from 1 to 8 or 18 with its place.
 // Knows: crate definitions' Problem and the state's words in its Layout.
 // The state that it leaves is read, not accepted: only a call that goes on to accept it may use it.
 ghost use mathlib.Core.Path.{_≡_};
 ghost use mathlib.Core.Bool.{true};
+ghost use mathlib.Core.List.{[]};
 ghost use Prim.Native.Nat.{_+_, _*_, _≤_, _<_};
-ghost use lib.ListN.{length, getD, drop, replicate};
+ghost use lib.ListN.{length, getD, take, drop, replicate};
 ghost use lib.Seq.{paste};
 ghost use Rattle.definitions.specs.Limits.{document-01};
 ghost use Rattle.definitions.specs.Monomial.{fits?};
 ghost use Rattle.definitions.specs.Problem.{problem as problem-definition};
 ghost use Rattle.definitions.specs.Layout.{row-of};
-ghost use Rattle.definitions.specs.Places.{most-exponent, most-elements, most-rows, row-length, rows-start, state-length};
+ghost use Rattle.definitions.specs.Places.{
+  most-exponent,
+  most-components,
+  most-elements,
+  most-vectors,
+  most-rows,
+  row-length,
+  header-length,
+  rows-start,
+  degrees-start,
+  state-length,
+};
 ghost use Rattle.words.specs.parameters.Values.{parameters-of};
 ghost use Rattle.reader.specs.lines.Tests.{term-in};
-ghost use Rattle.reader.specs.problem.Reading.{body-words, problem-words, read-as, stored, begun, outcome-as, answer-as};
+ghost use Rattle.reader.specs.problem.Reading.{
+  laid-level,
+  body-words,
+  behind-words,
+  problem-words,
+  read-as,
+  stored,
+  begun,
+  Weighable,
+  weights,
+  carrying,
+  outcome-as,
+  answer-as,
+};
 use crate::lines;
+use crate::lines::Opening;
 use crate::lines::Start;
 use crate::lines::Step;
+use reducers::tables;
 use vectors::terms;
 use words::parameters::Parameters;
 
@@ -52,9 +79,10 @@ fn store(state: &mut [u16], count: usize, w: [u16; 16])
     state[words::HEADER_LENGTH] = element;
 }
 
-fn begin(state: &mut [u16], q: Parameters)
+// The header, and the components' degrees behind all rows.
+fn begin(state: &mut [u16], q: Parameters, d: [u16; words::DEGREES_LENGTH])
     requires { ⌜ state-length ≤ length (now state) ⌝ }
-    ensures { λ _. ⌜ now (state .exit) ≡ begun (now (state .entry)) (parameters-of q) ⌝ }
+    ensures { λ _. ⌜ (now (state .exit) ≡ begun (now (state .entry)) (parameters-of q) d) × (length d ≡ most-components) ⌝ }
 {
     let p = q.p;
     let n = q.n;
@@ -65,19 +93,22 @@ fn begin(state: &mut [u16], q: Parameters)
     state[2] = code;
     state[3] = s;
     state[4] = 1;
+    terms::copy(state, words::DEGREES_START, &d, words::DEGREES_LENGTH);
 }
 
-// The lines behind R's, into a state with no element yet.
-fn body(file: &[u8], from: usize, q: Parameters, state: &mut [u16]) -> Outcome
-    requires { ⌜ (q .n ≤ 8) × (state-length ≤ length (now state)) × (now state ≡ begun (replicate (length (now state)) 0) (parameters-of q)) ⌝ }
-    ensures { λ r. ⌜ outcome-as r (now (state .exit)) ≡ body-words (length (now (state .entry))) (parameters-of q) (drop from (now (file .entry))) ⌝ }
+// The lines behind the head, the first with this number, into a state with no element yet.
+fn body(file: &[u8], from: usize, first: usize, q: Parameters, state: &mut [u16]) -> Outcome
+    requires { ⌜ (q .n ≤ 8) × (first ≤ 3) × (state-length ≤ length (now state))
+        × (now state ≡ laid-level (parameters-of q) [] (drop degrees-start (now state))) ⌝ }
+    ensures { λ r. ⌜ outcome-as r (now (state .exit))
+        ≡ body-words (drop degrees-start (now (state .entry))) (parameters-of q) first (drop from (now (file .entry))) ⌝ }
 {
     let mut at = from;
     let mut count: usize = 0;
     let mut elements: u16 = 0;
     let mut before = [0u16; 16];
     loop {
-        let taken = lines::next_line(file, at, q, count, elements, before);
+        let taken = lines::next_line(file, at, q, count + first, count, elements, before);
         let w = taken.numbers;
         let step = taken.step;
         match step {
@@ -94,6 +125,23 @@ fn body(file: &[u8], from: usize, q: Parameters, state: &mut [u16]) -> Outcome
     }
 }
 
+// The lines behind R's, into a state of zeros.
+fn behind_first(file: &[u8], at: usize, q: Parameters, state: &mut [u16]) -> Outcome
+    requires { ⌜ (q .n ≤ 8) × (q .s ≤ most-components) × (state-length ≤ length (now state)) × (now state ≡ replicate (length (now state)) 0) ⌝ }
+    ensures { λ r. ⌜ outcome-as r (now (state .exit)) ≡ behind-words (length (now (state .entry))) (parameters-of q) (drop at (now (file .entry))) ⌝ }
+{
+    let graded = lines::degrees_line(file, at, q.s);
+    let d = graded.degrees;
+    let opening = graded.opening;
+    match opening {
+        Opening::At(next, first) => {
+            begin(state, q, d);
+            body(file, next, first, q, state)
+        }
+        Opening::Refused(number) => Outcome::Refused(number, 2),
+    }
+}
+
 // The file, into a state of zeros; what a refused one leaves there is to be zeroed.
 fn read_lines(file: &[u8], state: &mut [u16]) -> Outcome
     requires { ⌜ (state-length ≤ length (now state)) × (now state ≡ replicate (length (now state)) 0) ⌝ }
@@ -106,12 +154,37 @@ fn read_lines(file: &[u8], state: &mut [u16]) -> Outcome
     let q = first.parameters;
     let start = first.start;
     match start {
-        Start::At(next) => {
-            begin(state, q);
-            body(file, next, q, state)
-        }
+        Start::At(next) => behind_first(file, next, q, state),
         Start::Refused(number) => Outcome::Refused(number, 1),
     }
+}
+
+// The degrees of the elements in a state.
+fn weigh(d: &mut [u16], state: &[u16])
+    requires { ⌜ (most-vectors ≤ length (now d)) × Weighable (now state) ⌝ }
+    ensures { λ _. ⌜ take (getD (now (state .entry)) header-length 0) (now (d .exit)) ≡ weights (now (state .entry)) ⌝ }
+{
+    let r = words::place(state[words::HEADER_LENGTH]);
+    let n = words::place(state[3]);
+    tables::fill_degrees(
+        d,
+        &state[words::ROWS_START..],
+        &state[words::ENDS_START..],
+        r,
+        &state[words::DEGREES_START..],
+        n,
+    );
+}
+
+// .. in their place: each carries its degree from the reading on.
+fn carry(state: &mut [u16])
+    requires { ⌜ Weighable (now state) ⌝ }
+    ensures { λ _. ⌜ now (state .exit) ≡ carrying (now (state .entry)) ⌝ }
+{
+    let mut d = [0u16; words::MOST_VECTORS];
+    weigh(&mut d, state);
+    let r = words::place(state[words::HEADER_LENGTH]);
+    terms::copy(state, words::CARRIED_START, &d, r);
 }
 
 // Reads a file. Read, not accepted: the state's words are those of its elements as level 0, which acceptance has still to divide; refused, they are
@@ -123,10 +196,13 @@ pub fn read(file: &[u8], state: &mut [u16]) -> Reading
     terms::clear(state, 0);
     let outcome = read_lines(file, state);
     match outcome {
-        Outcome::Done => Reading {
-            number: 0,
-            place: 0,
-        },
+        Outcome::Done => {
+            carry(state);
+            Reading {
+                number: 0,
+                place: 0,
+            }
+        }
         Outcome::Refused(number, place) => {
             terms::clear(state, 0);
             Reading { number, place }

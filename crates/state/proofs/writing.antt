@@ -2,8 +2,12 @@ pub mod Copying
 pub mod Parts
 pub mod Blocks
 pub mod Spelled
+pub mod Wordwise
+pub mod EncodedDegrees
 pub mod Encoded
+pub mod Settled
 pub mod Fetching
 pub mod Local
 pub mod Appending
 pub mod AppendLoop
+pub mod Finished

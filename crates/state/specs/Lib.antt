@@ -1,3 +1,4 @@
 pub mod soundness
 pub mod preparing
+pub mod degrees
 pub mod writing

@@ -13,7 +13,7 @@ ghost use Rattle.definitions.specs.Layout.{holds-state?};
 ghost use Rattle.definitions.specs.Places.{most-vectors, all-levels, row-length, header-length, level-length, state-length, images-length, image-length};
 ghost use Rattle.orders.specs.Images.{key-of, compare-keys, table-of, table-order, Tabled};
 ghost use Rattle.words.specs.parameters.Values.{parameters-of};
-ghost use Rattle.state.specs.soundness.Places.{parameters-at, count-at, count-below, rows-from, ends-from};
+ghost use Rattle.state.specs.soundness.Places.{numbers-at, count-at, count-below, rows-from, ends-from};
 ghost use Rattle.state.specs.soundness.Holding.{
   exponent-limits as limits-definition,
   bounds-of,
@@ -25,9 +25,11 @@ ghost use Rattle.state.specs.soundness.Holding.{
   level-holds?,
   level-test?,
   levels-hold?,
+  basis-holds?,
 };
 ghost use Rattle.state.specs.soundness.Tabled.{Advanced};
 ghost use Rattle.reducers.specs.tables.Cuts.{Cut};
+use crate::degrees;
 use orders::Comparison;
 use orders::Image;
 use reducers::tables;
@@ -51,7 +53,7 @@ fn both(a: bool, b: bool) -> bool
     false
 }
 
-fn fails(a: bool) -> bool
+pub fn fails(a: bool) -> bool
     ensures { λ r. ⌜ r ≡ not a ⌝ }
 {
     if a {
@@ -64,7 +66,7 @@ fn fails(a: bool) -> bool
 
 pub fn read_parameters(state: &[u16]) -> Parameters
     requires { ⌜ header-length ≤ length (now state) ⌝ }
-    ensures { λ q. ⌜ parameters-of q ≡ parameters-at (now (state .entry)) ⌝ }
+    ensures { λ q. ⌜ parameters-of q ≡ numbers-at (now (state .entry)) ⌝ }
 {
     Parameters {
         p: state[0],
@@ -346,6 +348,21 @@ fn levels_hold(below: &mut [u16], above: &mut [u16], state: &[u16], h: usize) ->
 
 // ## The state
 
+// The four numbers, and levels 0 to h − 1.
+fn basis_holds(state: &[u16], h: usize) -> bool
+    requires { ⌜ (state-length ≤ length (now state)) × (h ≤ all-levels) ⌝ }
+    ensures { λ r. ⌜ r ≡ basis-holds? (now (state .entry)) h ⌝ }
+{
+    let q = read_parameters(state);
+    let ranges = parameters::in_ranges(q);
+    if fails(both(field::prime_in_range(q.p), ranges)) {
+        return false;
+    }
+    let mut below = [0u16; words::IMAGES_LENGTH];
+    let mut above = [0u16; words::IMAGES_LENGTH];
+    levels_hold(&mut below, &mut above, state, h)
+}
+
 // Whether the contents are those of a state with an accepted basis: the test behind 11.
 pub fn sound(state: &[u16]) -> bool
     requires { ⌜ state-length ≤ length (now state) ⌝ }
@@ -358,12 +375,8 @@ pub fn sound(state: &[u16]) -> bool
     if words::ALL_LEVELS < h {
         return false;
     }
-    let q = read_parameters(state);
-    let ranges = parameters::in_ranges(q);
-    if fails(both(field::prime_in_range(q.p), ranges)) {
+    if fails(basis_holds(state, h)) {
         return false;
     }
-    let mut below = [0u16; words::IMAGES_LENGTH];
-    let mut above = [0u16; words::IMAGES_LENGTH];
-    levels_hold(&mut below, &mut above, state, h)
+    degrees::hold(state, h)
 }

@@ -8,12 +8,24 @@ ghost use lib.ListN.{length, getD, take, drop};
 ghost use lib.Seq.{paste};
 ghost use Rattle.definitions.specs.Limits.{document-01};
 ghost use Rattle.definitions.specs.Monomial.{vector-of};
+ghost use Rattle.definitions.specs.State.{sound?};
 ghost use Rattle.definitions.specs.Layout.{rows, rows-of, padded, encode, decode, level-at, all-words-sound?, holds-state?};
-ghost use Rattle.definitions.specs.Places.{most-vectors, most-rows, all-levels, row-length, state-length, vector-length};
+ghost use Rattle.definitions.specs.Places.{
+  most-components,
+  most-vectors,
+  most-rows,
+  all-levels,
+  row-length,
+  state-length,
+  carried-offset,
+  vector-length,
+};
 ghost use Rattle.reducers.specs.tables.Cuts.{start-of};
 ghost use Rattle.state.specs.soundness.Places.{count-at, ends-from};
-ghost use Rattle.state.specs.writing.LevelSoFar.{words-so-far?, appended, finished, tidied};
-ghost use Rattle.state.specs.writing.Zeroed.{Tidied-to};
+ghost use Rattle.state.specs.writing.LevelSoFar.{words-so-far?, appended, finished, block-cleared, tidied};
+ghost use Rattle.state.specs.degrees.Carrying.{carried-right?};
+ghost use Rattle.state.specs.writing.Zeroed.{Few, Tidied-to, Carried-to, Levels-settled, Degrees-settled};
+use crate::degrees;
 use crate::soundness;
 use vectors::terms;
 
@@ -86,28 +98,74 @@ fn tidy(state: &mut [u16], h: usize)
     }
 }
 
-// All unused places of a state with h complete levels. Its words are of sixteen bits: so the rows that are kept are those of what they say.
-fn settle(state: &mut [u16], h: usize)
-    requires { ⌜ (state-length ≤ length (now state)) × (h ≤ all-levels) × (getD (now state) 4 0 ≡ h) × T (all-words-sound? document-01 (now state) h) ⌝ }
-    ensures { λ _. ⌜ now (state .exit) ≡ encode document-01 (length (now (state .entry))) (decode document-01 (now (state .entry))) ⌝ }
+// The unused degrees of level k.
+fn tidy_degrees(state: &mut [u16], k: usize)
+    requires { ⌜ (state-length ≤ length (now state)) × (k < all-levels) × (count-at (now state) k ≤ most-vectors) ⌝ }
+    ensures { λ _. ⌜ now (state .exit) ≡ block-cleared (carried-offset k) most-vectors (count-at (now (state .entry)) k) (now (state .entry)) ⌝ }
 {
-    words::know(state);
+    let r = soundness::count_of(state, k);
+    let a = words::CARRIED_START + k * words::MOST_VECTORS;
+    let b = a + words::MOST_VECTORS;
+    terms::clear(&mut state[a..b], r);
+}
+
+// The unused degrees of levels 0 to h − 1.
+fn tidy_carried(state: &mut [u16], h: usize)
+    requires { ⌜ (state-length ≤ length (now state)) × (h ≤ all-levels) × Few (now state) h ⌝ }
+    ensures { λ _. ⌜ Carried-to (now (state .entry)) (now (state .exit)) h ⌝ }
+{
+    let mut k: usize = 0;
+    while k < h {
+        tidy_degrees(state, k);
+        k += 1;
+    }
+}
+
+// All unused places up to the degrees, of a state with h complete levels.
+fn settle_levels(state: &mut [u16], h: usize)
+    requires { ⌜ (state-length ≤ length (now state)) × (h ≤ all-levels) × T (all-words-sound? document-01 (now state) h) ⌝ }
+    ensures { λ _. ⌜ Levels-settled (now (state .entry)) (now (state .exit)) h ⌝ }
+{
     tidy(state, h);
     let a = words::HEADER_LENGTH + h * words::COUNTS_LENGTH;
     terms::clear(&mut state[a..words::ROWS_START], 0);
-    terms::clear(state, words::ROWS_START + h * words::LEVEL_LENGTH);
+    let b = words::ROWS_START + h * words::LEVEL_LENGTH;
+    terms::clear(&mut state[b..words::DEGREES_START], 0);
 }
 
-// Level k is complete with its vectors so far; levels above it are dropped, unused places zeroed.
+// All unused places of the degrees, and what stands behind the state.
+fn settle_degrees(state: &mut [u16], h: usize)
+    requires { ⌜ (state-length ≤ length (now state)) × (h ≤ all-levels) × (getD (now state) 3 0 ≤ most-components) × Few (now state) h ⌝ }
+    ensures { λ _. ⌜ Degrees-settled (now (state .entry)) (now (state .exit)) h ⌝ }
+{
+    tidy_carried(state, h);
+    let a = words::DEGREES_START + words::place(state[3]);
+    terms::clear(&mut state[a..words::CARRIED_START], 0);
+    terms::clear(state, words::CARRIED_START + h * words::MOST_VECTORS);
+}
+
+// All unused places of a state with h complete levels. Its words are of sixteen bits: so the rows that are kept are those of what they say.
+fn settle(state: &mut [u16], h: usize)
+    requires { ⌜ (state-length ≤ length (now state)) × (h ≤ all-levels) × (getD (now state) 4 0 ≡ h) × (getD (now state) 3 0 ≤ most-components)
+        × T (all-words-sound? document-01 (now state) h) × T (carried-right? (now state) h) ⌝ }
+    ensures { λ _. ⌜ now (state .exit) ≡ encode document-01 (length (now (state .entry))) (decode document-01 (now (state .entry))) ⌝ }
+{
+    words::know(state);
+    settle_levels(state, h);
+    settle_degrees(state, h);
+}
+
+// Level k is complete with its vectors so far, and carries their degrees; levels above it are dropped, unused places zeroed.
 pub fn finish(state: &mut [u16], k: usize, count: usize)
     requires { ⌜ (state-length ≤ length (now state)) × (k < all-levels) × T (all-words-sound? document-01 (now state) k)
-        × T (words-so-far? (now state) k count) ⌝ }
+        × T (words-so-far? (now state) k count) × T (sound? document-01 (finished (now state) k count)) × T (carried-right? (now state) k) ⌝ }
     ensures { λ _. ⌜ now (state .exit) ≡ encode document-01 (length (now (state .entry))) (finished (now (state .entry)) k count) ⌝ }
 {
     let r = count as u16;
     let h = (k + 1) as u16;
     state[words::HEADER_LENGTH + k * words::COUNTS_LENGTH] = r;
     state[4] = h;
+    degrees::carry(state, k);
     settle(state, k + 1);
 }
 

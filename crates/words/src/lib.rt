@@ -12,6 +12,7 @@ ghost use Rattle.definitions.specs.Lists.{between as between-definition};
 ghost use Rattle.definitions.specs.Places.{
   exponents-length,
   most-exponent,
+  most-degree,
   most-variables,
   most-components,
   most-elements,
@@ -32,6 +33,8 @@ ghost use Rattle.definitions.specs.Places.{
   ends-start,
   rows-start,
   level-length,
+  degrees-start,
+  carried-start,
   state-length,
   value-length,
   tree-length,
@@ -66,6 +69,8 @@ pub mod parameters;
 pub const EXPONENTS_LENGTH: usize = 8;
 
 pub const MOST_EXPONENT: u16 = 255;
+
+pub const MOST_DEGREE: u16 = 255;
 
 pub const MOST_VARIABLES: u16 = 8;
 
@@ -113,7 +118,13 @@ pub const ROWS_START: usize = HEADER_LENGTH + ALL_LEVELS * COUNTS_LENGTH;
 
 pub const LEVEL_LENGTH: usize = MOST_ROWS * ROW_LENGTH;
 
-pub const STATE_LENGTH: usize = ROWS_START + ALL_LEVELS * LEVEL_LENGTH;
+pub const DEGREES_START: usize = ROWS_START + ALL_LEVELS * LEVEL_LENGTH;
+
+pub const DEGREES_LENGTH: usize = 16;
+
+pub const CARRIED_START: usize = DEGREES_START + DEGREES_LENGTH;
+
+pub const STATE_LENGTH: usize = CARRIED_START + ALL_LEVELS * MOST_VECTORS;
 
 // ## Other buffers
 
@@ -167,10 +178,10 @@ pub const SHEET_LENGTH: usize = 1400000;
 
 // ## Held to the definitions
 
-pub fn numbers() -> [usize; 42]
+pub fn numbers() -> [usize; 45]
     ensures { λ r. ⌜ r ≡ exponents-length ∷ most-vectors ∷ most-rows ∷ most-terms ∷ most-tree-terms ∷ most-levels ∷ all-levels ∷ component-offset
         ∷ exponents-offset ∷ rank-offset ∷ packed-length ∷ row-length ∷ image-length ∷ header-length ∷ counts-length ∷ ends-start ∷ rows-start ∷ level-length ∷
-        state-length
+        degrees-start ∷ most-components ∷ carried-start ∷ state-length
         ∷ value-length ∷ tree-length ∷ vector-length ∷ heads-length ∷ images-length ∷ spans-length ∷ ends-length ∷ tables-spans ∷ tables-ends ∷ tables-below
         ∷ tables-above ∷ tables-length ∷ lifted-length ∷ grown-length ∷ file-length ∷ read-length ∷ s-line-length ∷ w-line-length ∷ pair-line-length
         ∷ s-lines-length ∷ level-lines-length ∷ all-lines-length ∷ sheet-length ∷ [] ⌝ }
@@ -194,6 +205,9 @@ pub fn numbers() -> [usize; 42]
         ENDS_START,
         ROWS_START,
         LEVEL_LENGTH,
+        DEGREES_START,
+        DEGREES_LENGTH,
+        CARRIED_START,
         STATE_LENGTH,
         VALUE_LENGTH,
         TREE_LENGTH,
@@ -221,11 +235,12 @@ pub fn numbers() -> [usize; 42]
     ]
 }
 
-pub fn word_numbers() -> [u16; 5]
-    ensures { λ r. ⌜ r ≡ most-exponent ∷ most-variables ∷ most-components ∷ most-elements ∷ most-vectors ∷ [] ⌝ }
+pub fn word_numbers() -> [u16; 6]
+    ensures { λ r. ⌜ r ≡ most-exponent ∷ most-degree ∷ most-variables ∷ most-components ∷ most-elements ∷ most-vectors ∷ [] ⌝ }
 {
     [
         MOST_EXPONENT,
+        MOST_DEGREE,
         MOST_VARIABLES,
         MOST_COMPONENTS,
         MOST_ELEMENTS,

@@ -1,19 +1,36 @@
 //! Files at and past the limits, and damaged files.
 
-use crate::generate::problems::{element_of, problem_file, random_basis, random_set, Size, PRIMES};
+use crate::generate::degree_lines::{spoil_degree_line, with_degrees, with_random_degrees};
+use crate::generate::problems::{
+    element_of, problem_file, random_basis, random_degrees, random_set, Size, PRIMES,
+};
 use crate::monomial::{Exponents, Level, Monomial, Parameters, Term, Vector, UNIT};
 use crate::random::Random;
 use crate::reader::Problem;
 use std::collections::BTreeSet;
 
-/// A file of a random basis or, at times, of a random set.
+/// A file of a random basis or, at times, of a random set; about half of them have a D line, some
+/// with zeros alone.
 pub fn plain_file(random: &mut Random, size: &Size) -> Vec<u8> {
     let problem = if random.chance(75) {
         random_basis(random, size)
     } else {
         random_set(random, size)
     };
-    problem_file(&problem)
+    let file = problem_file(&problem);
+    if random.chance(10) {
+        return with_degrees(&file, &problem.degrees);
+    }
+    file
+}
+
+/// The file of these elements, at times with a D line.
+fn file_with(random: &mut Random, parameters: Parameters, elements: Level) -> Vec<u8> {
+    problem_file(&Problem {
+        parameters,
+        degrees: random_degrees(random, parameters.s),
+        elements,
+    })
 }
 
 /// A file that stands at a limit or passes one.
@@ -92,6 +109,7 @@ fn bounds_of(letter: &str, field: usize) -> &'static [u64] {
         ("R", 2) => &[0, 1, 2, 7, 8, 9, 10, 255, 65_535],
         ("R", 3) => &[0, 1, 2, 3, 4, 5, 65_535],
         ("R", _) => &[0, 1, 2, 15, 16, 17, 65_535],
+        ("D", _) => &[0, 1, 127, 128, 254, 255, 256, 257, 511, 512, 65_535],
         ("T", 1) => &[0, 1, 2, 3, 4, 63, 64, 65, 66, 65_535],
         ("T", 2) => &[
             0, 1, 2, 6, 7, 8, 100, 101, 250, 251, 32_002, 32_003, 32_748, 32_749, 65_535,
@@ -140,6 +158,7 @@ pub fn exact_length_file(random: &mut Random, length: usize) -> Vec<u8> {
     }
     let mut problem = Problem {
         parameters,
+        degrees: random_degrees(random, parameters.s),
         elements,
     };
     set_length(&mut problem, length);
@@ -209,10 +228,7 @@ pub fn exact_t_lines_file(random: &mut Random, t_lines: usize) -> Vec<u8> {
         }
         elements.push(element_with(&parameters, component, &monomials, 1));
     }
-    problem_file(&Problem {
-        parameters,
-        elements,
-    })
+    file_with(random, parameters, elements)
 }
 
 /// 63 to 65 elements, of few components or with one leading monomial over and over.
@@ -237,10 +253,7 @@ fn many_elements_file(random: &mut Random) -> Vec<u8> {
             }]
         })
         .collect();
-    problem_file(&Problem {
-        parameters,
-        elements,
-    })
+    file_with(random, parameters, elements)
 }
 
 /// x + y^a and powers of y and z, so that products come close to exponent 255 or past it.
@@ -281,10 +294,7 @@ fn long_vector_file(random: &mut Random) -> Vec<u8> {
     if random.chance(50) {
         elements.reverse();
     }
-    problem_file(&Problem {
-        parameters,
-        elements,
-    })
+    file_with(random, parameters, elements)
 }
 
 /// Variables with tails so long that a level has about 2,048 terms.
@@ -313,10 +323,7 @@ fn long_level_file(random: &mut Random) -> Vec<u8> {
         monomials.insert(leading);
         elements.push(element_with(&parameters, 1, &monomials, 1));
     }
-    problem_file(&Problem {
-        parameters,
-        elements,
-    })
+    file_with(random, parameters, elements)
 }
 
 /// Many monomials, so that a frame has about 128 terms or more.
@@ -342,10 +349,7 @@ fn large_frame_file(random: &mut Random) -> Vec<u8> {
             }]
         })
         .collect();
-    problem_file(&Problem {
-        parameters,
-        elements,
-    })
+    file_with(random, parameters, elements)
 }
 
 /// A file damaged once to three times.
@@ -362,15 +366,15 @@ pub fn damaged_file(random: &mut Random) -> Vec<u8> {
     file
 }
 
-/// Truncates, flips, deletes, doubles, inserts or changes at any byte, or swaps, drops or doubles
-/// lines.
+/// Truncates, flips, deletes, doubles, inserts or changes at any byte, swaps, drops or doubles
+/// lines, or spoils the D line, at times by a right one.
 pub fn damage(random: &mut Random, file: &mut Vec<u8>) {
     if file.is_empty() {
         file.push(random.bits() as u8);
         return;
     }
     let at = random.below(file.len() as u64) as usize;
-    match random.below(14) {
+    match random.below(16) {
         0 => file.truncate(at),
         1 => file[at] ^= 1 << random.below(8),
         2 => {
@@ -382,11 +386,13 @@ pub fn damage(random: &mut Random, file: &mut Vec<u8>) {
             file.insert(at, byte);
         }
         5 => {
-            let byte = *random.pick(b"0123456789,RTE\n\r -+");
+            let byte = *random.pick(b"0123456789,RDTE\n\r -+");
             file.insert(at, byte);
         }
-        6 => file[at] = *random.pick(b"0123456789,RTE\n"),
+        6 => file[at] = *random.pick(b"0123456789,RDTE\n"),
         kind @ 7..=9 => damage_lines(random, file, kind),
+        10 if random.chance(25) => *file = with_random_degrees(random, file),
+        10 | 11 => spoil_degree_line(random, file),
         _ => {
             // a digit becomes another one, so that the line keeps its shape
             let digits = (at..file.len()).chain(0..at);

@@ -4,6 +4,7 @@ use crate::completion::{Caps, Completion};
 use crate::field::Field;
 use crate::frame::frame;
 use crate::lifting::Sum;
+use crate::limits::MOST_DEGREE;
 use crate::monomial::{
     leading_monomial, multiply, Exponents, Level, Monomial, Parameters, Term, Vector, UNIT,
 };
@@ -122,10 +123,32 @@ pub fn random_set(random: &mut Random, size: &Size) -> Problem {
     }
 }
 
-/// The bytes of a problem's file.
+/// Degrees for s components: half of the time all are 0, else small ones, or any and those at the
+/// limit.
+pub fn random_degrees(random: &mut Random, s: u64) -> Vec<u64> {
+    let kind = random.below(6);
+    let mut degree = || match kind {
+        0..=2 => 0,
+        3 | 4 => random.below(4),
+        _ if random.chance(25) => MOST_DEGREE,
+        _ => random.between(0, MOST_DEGREE),
+    };
+    (0..s).map(|_| degree()).collect()
+}
+
+/// `D,d1,..,ds`, without byte 10.
+pub fn degree_line(degrees: &[u64]) -> String {
+    let numbers = degrees.iter().map(|degree| format!(",{degree}"));
+    format!("D{}", numbers.collect::<String>())
+}
+
+/// The bytes of a problem's file. It has a D line where some component's degree is not 0.
 pub fn problem_file(problem: &Problem) -> Vec<u8> {
     let Parameters { p, n, order, s } = problem.parameters;
     let mut file = format!("R,{p},{n},{order},{s}\n");
+    if problem.degrees.iter().any(|degree| *degree != 0) {
+        file.push_str(&format!("{}\n", degree_line(&problem.degrees)));
+    }
     let mut lines = 0;
     for (number, element) in (1..).zip(&problem.elements) {
         for term in element {
@@ -247,8 +270,10 @@ impl<'a> Maker<'a> {
                 .iter()
                 .flatten()
                 .all(|term| term.monomial.exponents.iter().all(|e| *e <= 255));
+        let degrees = random_degrees(self.random, self.parameters.s);
         fits.then_some(Problem {
             parameters: self.parameters,
+            degrees,
             elements,
         })
     }

@@ -2,6 +2,7 @@
 
 use crate::buffers::{out_words, work_words, ROW};
 use crate::engine::State;
+use crate::generate::degree_lines::spoil_degree_line;
 use crate::generate::files::{damage, plain_file};
 use crate::generate::problems::Size;
 use crate::lifting::{Usage, Way};
@@ -115,6 +116,8 @@ fn random_read(random: &mut Random, reach: &Reach, damaged: u64) -> Call {
     let mut file = good.clone();
     if random.chance(damaged) {
         damage(random, &mut file);
+    } else if random.chance(3) {
+        spoil_degree_line(random, &mut file);
     }
     let lines = file.split(|byte| *byte == 10);
     if lines.filter(|line| line.starts_with(b"T")).count() as u64 > reach.size.t_lines {

@@ -97,7 +97,7 @@ pub struct Compare {
     pub calls: u64,
     pub left_out: u64,
     /// by kind and number
-    pub met: [[u64; 17]; KINDS.len()],
+    pub met: [[u64; 19]; KINDS.len()],
     pub spoil: Option<(u64, Spoiled)>,
 }
 
@@ -110,7 +110,7 @@ impl Compare {
             theirs: Buffers::new(),
             calls: 0,
             left_out: 0,
-            met: [[0; 17]; KINDS.len()],
+            met: [[0; 19]; KINDS.len()],
             spoil: None,
         }
     }

@@ -8,19 +8,24 @@ mod compare;
 mod proved;
 
 use common::arguments::{asked, words};
-use common::buffers::{self, OUT, ROW, STATE, WORK};
+use common::buffers::{self, DEGREES, OUT, ROW, STATE, WORK};
 use common::deep::{deep, on_small_stack, DEEPEST};
 use common::examples::examples;
-use common::files::{basis_or_set, damage_some, long_tails, many_monomials, random_size};
+use common::files::{basis_or_set, damage_some, long_tails, many_monomials, random_size, WRITTEN};
 use common::report::counts;
 use common::states::{
-    alter, basis_of, leading_variable, random_basis as random_state, write_basis, Size,
+    alter, basis_of, degree_is_free, degree_words, leading_variable, random_basis as random_state,
+    write_basis, Size,
 };
 use compare::{Call, Compare, Lent, Spoiled, CACHE, KINDS, MORE, SPOILS, WHOLE};
 use reference::buffers::read_state;
 use reference::engine::Basis;
+use reference::generate::degree_lines::{
+    components_of, spoiled_degree_lines, with_degrees, without_degree_lines,
+};
 use reference::generate::files::{edited_file, limit_file};
-use reference::generate::problems::problem_file;
+use reference::generate::problems::{problem_file, random_basis, random_degrees, Size as FileSize};
+use reference::generate::states::{carry, with_other_degrees};
 use reference::random::Random;
 use reference::reader::read_problem;
 use reference::Limits;
@@ -31,6 +36,9 @@ const FILES: u64 = 50_000;
 /// Products that a call may take; one that takes more is left out.
 const BUDGET: u64 = 6_000;
 const LONG_BUDGET: u64 = 100_000;
+
+/// x², y³ and z in component 1, x and y in component 2, none in component 3: three levels.
+const MODULE: &str = "R,7,3,1,3\nD,3,0,200\nT,1,1,1,2,0,0\nT,2,1,1,0,3,0\nT,3,1,1,0,0,1\nT,4,1,2,1,0,0\nT,4,1,1,0,0,1\nT,5,1,2,0,1,0\nE,6\n";
 
 struct Lists {
     compare: Compare,
@@ -309,6 +317,194 @@ impl Lists {
     }
 }
 
+/// D lines (request A5): every way to spoil one and right ones, over the files that are written out and some others.
+fn degree_lines(lists: &mut Lists) {
+    let mut files: Vec<Vec<u8>> = WRITTEN.map(|file| file.as_bytes().to_vec()).to_vec();
+    files.extend((0..20).map(|_| {
+        let size = random_size(&mut lists.random, 6);
+        problem_file(&basis_or_set(&mut lists.random, &size))
+    }));
+    for file in files {
+        let bare = without_degree_lines(&file);
+        let lines = bare.iter().filter(|byte| **byte == 10).count();
+        let degrees = random_degrees(&mut lists.random, components_of(&bare));
+        for spoiled in spoiled_degree_lines(lines, &degrees) {
+            let file = spoiled.file(&bare);
+            lists.compare.call(&Call::Read(&file), &WHOLE, LONG_BUDGET);
+        }
+        // with and without the line: the same vectors, and what they carry
+        let other: Vec<u64> = degrees.iter().map(|degree| 255 - degree).collect();
+        for file in [
+            bare.clone(),
+            with_degrees(&bare, &degrees),
+            with_degrees(&bare, &other),
+        ] {
+            if lists.compare.call(&Call::Read(&file), &WHOLE, LONG_BUDGET) != Some(0) {
+                continue;
+            }
+            for level in 1..=9 {
+                let (way, pick) = *lists.random.pick(&[(0, 0), (1, 1), (1, 2), (1, 3), (2, 0)]);
+                if !lists.lift_and_fetch(level, way, pick, &WHOLE) {
+                    break;
+                }
+            }
+        }
+    }
+}
+
+/// Every word of a state that holds a degree or has room for one, changed: 11 for each call where it is a degree of a component that an element leads with
+/// or one that a vector of a complete level carries, and nothing else than before where it is none. Gives how many were changed.
+fn altered_degrees(lists: &mut Lists) -> u64 {
+    let mut changed = 0;
+    for case in 0..8 {
+        let mut levels = 0;
+        let file = match case {
+            0 => MODULE.as_bytes().to_vec(),
+            // sixteen components
+            1 => WRITTEN[12].as_bytes().to_vec(),
+            _ => {
+                let problem = random_basis(&mut lists.random, &FileSize::small());
+                let bare = problem_file(&problem);
+                let degrees = problem.degrees.iter();
+                let degrees: Vec<u64> = degrees
+                    .map(|_| *lists.random.pick(&[0, 1, 3, 254, 255]))
+                    .collect();
+                with_degrees(&bare, &degrees)
+            }
+        };
+        if lists.compare.call(&Call::Read(&file), &WHOLE, LONG_BUDGET) != Some(0) {
+            continue;
+        }
+        let highest = if case == 0 {
+            4
+        } else {
+            lists.random.between(1, 5)
+        };
+        for level in 1..=highest as usize {
+            let before = lists.compare.theirs.state.clone();
+            if !lists.lift_and_fetch(level, 2, 0, &WHOLE) {
+                // refused or left out: back to the levels below it
+                if lists.complete() != level as u64 + 1 {
+                    lists
+                        .compare
+                        .both(|buffers| buffers.state.copy_from_slice(&before));
+                }
+                break;
+            }
+            levels = level;
+        }
+        changed += altered_degrees_of(lists, levels.max(1));
+        changed += changed_together(lists, levels.max(1));
+    }
+    changed
+}
+
+/// Each degree word of the state that is held changed by itself, and lifting and fetching of this level.
+fn altered_degrees_of(lists: &mut Lists, level: usize) -> u64 {
+    let good = lists.compare.theirs.state.clone();
+    let held = read_state(&lists.limits, &good).basis.expect("a basis");
+    let named = degree_words(&held);
+    let calls = [
+        Call::Fetch { level, vector: 1 },
+        Call::Lift {
+            level,
+            way: 1,
+            pick: 2,
+        },
+    ];
+    let as_it_is = calls.map(|call| {
+        let number = lists.compare.call(&call, &WHOLE, LONG_BUDGET);
+        lists
+            .compare
+            .both(|buffers| buffers.state.copy_from_slice(&good));
+        number
+    });
+    let mut changed = 0;
+    for at in DEGREES..STATE {
+        // a word that is none in one way, each of the others in all
+        let ways: &[u16] = if named.contains(&at) {
+            &[1, u16::MAX, 256, 1 << 15]
+        } else {
+            &[1]
+        };
+        for by in ways {
+            let word = good[at].wrapping_add(*by);
+            let free = degree_is_free(&held, at, word);
+            // of the words that are none some
+            if !named.contains(&at) && lists.random.chance(60) {
+                continue;
+            }
+            for (call, number) in calls.iter().zip(as_it_is) {
+                lists.compare.both(|buffers| buffers.state[at] = word);
+                let found = lists.compare.call(call, &WHOLE, LONG_BUDGET);
+                let expected = if free { number } else { Some(11) };
+                assert_eq!(found, expected, "word {at} from {} to {word}", good[at]);
+                lists
+                    .compare
+                    .both(|buffers| buffers.state.copy_from_slice(&good));
+            }
+            changed += 1;
+        }
+    }
+    changed
+}
+
+/// All degrees changed together: another sound state, used as it stands; and one of them left behind is 11.
+fn changed_together(lists: &mut Lists, level: usize) -> u64 {
+    let good = lists.compare.theirs.state.clone();
+    let held = read_state(&lists.limits, &good).basis.expect("a basis");
+    let mut changed = 0;
+    for _ in 0..20 {
+        let other = with_other_degrees(&mut lists.random, &held);
+        lists.compare.both(|buffers| {
+            // behind the state may stand anything
+            write_basis(other.clone(), &mut buffers.state[..STATE]);
+        });
+        let words = lists.compare.theirs.state.clone();
+        let at = *lists.random.pick(&degree_words(&held));
+        for (behind, call) in [
+            (false, Call::Fetch { level, vector: 1 }),
+            (true, Call::Fetch { level, vector: 1 }),
+            (
+                true,
+                Call::Lift {
+                    level,
+                    way: 2,
+                    pick: 0,
+                },
+            ),
+            (
+                false,
+                Call::Lift {
+                    level,
+                    way: 0,
+                    pick: 0,
+                },
+            ),
+        ] {
+            if behind {
+                lists.compare.both(|buffers| buffers.state[at] = good[at]);
+            }
+            let found = lists.compare.call(&call, &WHOLE, LONG_BUDGET);
+            let free = words[at] == good[at] || degree_is_free(&other, at, good[at]);
+            if behind && !free {
+                assert_eq!(found, Some(11), "word {at} left behind");
+            }
+            if !behind && matches!(call, Call::Lift { .. }) {
+                assert_ne!(found, Some(11), "other degrees are used as they stand");
+            }
+            lists
+                .compare
+                .both(|buffers| buffers.state.copy_from_slice(&words));
+            changed += 1;
+        }
+    }
+    lists
+        .compare
+        .both(|buffers| buffers.state.copy_from_slice(&good));
+    changed
+}
+
 /// Files over the primes of request A4: read, every level lifted by one of the ways, every vector fetched. Gives how many were read with a coefficient above
 /// 32,767.
 fn large_primes(lists: &mut Lists, files: u64) -> u64 {
@@ -360,7 +556,7 @@ fn deepest() {
     }
 }
 
-/// The highest level times a power of a variable, so that products pass 255.
+/// The highest level times a power of a variable, so that products pass 255; what its vectors carry follows.
 fn raise(random: &mut Random, basis: &Basis, state: &mut [u16]) -> Vec<(usize, u16)> {
     let k = basis.levels.len() - 1;
     let used: usize = basis.levels[k].iter().map(Vec::len).sum();
@@ -369,13 +565,15 @@ fn raise(random: &mut Random, basis: &Basis, state: &mut [u16]) -> Vec<(usize, u
     let words = (0..used).map(|row| buffers::rows(k) + ROW * row + word);
     let exponents = words.clone().map(|at| (state[at] / one) as u8);
     let by = (255 - exponents.max().unwrap_or(0)).saturating_sub(random.below(3) as u8);
-    words
+    let mut before: Vec<(usize, u16)> = words
         .map(|at| {
             let old = state[at];
             state[at] = old + u16::from(by) * one;
             (at, old)
         })
-        .collect()
+        .collect();
+    before.extend(carry(&Limits::document_01(), state));
+    before
 }
 
 fn main() {
@@ -403,8 +601,11 @@ fn primes(files: u64, seed: u64) {
 
 fn calls(wanted: u64, seed: u64, spoil: Option<Spoiled>) {
     let mut lists = Lists::new(seed, spoil.map(|what| (700, what)));
+    let mut degrees = 0;
     if spoil.is_none() {
         lists.whole_examples();
+        degree_lines(&mut lists);
+        degrees = altered_degrees(&mut lists);
     }
     let systematic = lists.compare.calls;
     while lists.compare.calls < wanted {
@@ -413,7 +614,8 @@ fn calls(wanted: u64, seed: u64, spoil: Option<Spoiled>) {
     let compare = &lists.compare;
     println!(
         "calls: {} calls agree in number, place and every word \
-         ({systematic} on the files of the field, then {} lists, {} of them with altered states; {} calls left out; seed {seed})",
+         ({systematic} on the files of the field, with D lines and with {degrees} degrees altered, then {} lists, {} of them with altered \
+         states; {} calls left out; seed {seed})",
         compare.calls, lists.lists, lists.altered, compare.left_out
     );
     for (kind, met) in KINDS.iter().zip(&compare.met) {
@@ -427,7 +629,7 @@ fn calls(wanted: u64, seed: u64, spoil: Option<Spoiled>) {
     // a run in which a number hardly comes tests too little
     let lifts: &[usize] = &[0, 11, 12, 13, 14, 15, 16];
     let expected: [&[usize]; KINDS.len()] = [
-        &[0, 1, 2, 3, 4, 5, 6, 7, 8, 9, 13, 14, 15, 16],
+        &[0, 1, 2, 3, 4, 5, 6, 7, 8, 9, 13, 14, 15, 16, 18],
         lifts,
         lifts,
         lifts,

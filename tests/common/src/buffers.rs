@@ -20,14 +20,19 @@ pub const COMPLETE: usize = 4;
 /// Words before the first level's count.
 pub const HEAD: usize = 5;
 /// Levels that a state has room for, and vectors and terms that each of them has room for.
-const LEVELS: usize = 10;
+pub const LEVELS: usize = 10;
 pub const VECTORS: usize = 128;
 pub const TERMS: usize = 2_048;
+/// Components that it has room for the degrees of.
+pub const COMPONENTS: usize = 16;
 /// The rows of one level.
 pub const LEVEL_ROWS: usize = ROW * TERMS;
 
+/// The degree of component 1; those of the others stand behind it.
+pub const DEGREES: usize = rows(LEVELS);
+
 /// The lengths that calls need.
-pub const STATE: usize = rows(LEVELS);
+pub const STATE: usize = carried(LEVELS);
 pub const WORK: usize = ROW * 512;
 pub const TREE_WORK: usize = ROW * 4_096;
 pub const OUT: usize = ROW * 512;
@@ -35,7 +40,8 @@ pub const OUT: usize = ROW * 512;
 pub const SHEET: usize = 1_400_000;
 
 // as the page has them
-const _: () = assert!(ROW == 6 && rows(0) == 1_295 && LEVEL_ROWS == 12_288 && STATE == 124_175);
+const _: () = assert!(ROW == 6 && rows(0) == 1_295 && LEVEL_ROWS == 12_288 && STATE == 125_471);
+const _: () = assert!(DEGREES == 124_175 && carried(0) == 124_191 && carried(9) == 125_343);
 const _: () = assert!(WORK == 3_072 && TREE_WORK == 24_576 && OUT == 3_072);
 
 /// The word that holds how many vectors level k has; the ends of its vectors stand behind it.
@@ -46,6 +52,11 @@ pub const fn count(k: usize) -> usize {
 /// The first word of level k's rows.
 pub const fn rows(k: usize) -> usize {
     count(LEVELS) + LEVEL_ROWS * k
+}
+
+/// The degree that the first vector of level k carries; those of the others stand behind it.
+pub const fn carried(k: usize) -> usize {
+    DEGREES + COMPONENTS + VECTORS * k
 }
 
 /// A term's row; x1's exponent comes first.

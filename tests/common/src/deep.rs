@@ -51,13 +51,8 @@ pub fn deep(depth: u64) -> Problem {
         ],
         vec![term(1, 1, [0, 1, 0, 254, 0]), term(6, 1, [0, 0, 254, 0, 0])],
     ];
-    Problem {
-        parameters,
-        elements: elements
-            .iter()
-            .map(|terms| element_of(&parameters, terms))
-            .collect(),
-    }
+    let elements = elements.iter().map(|terms| element_of(&parameters, terms));
+    Problem::new(parameters, elements.collect())
 }
 
 /// Runs this in a thread whose stack has 8 MiB; gives how much of it was touched, in words.

@@ -1,15 +1,15 @@
 //! Problem files: some written out, some random; and every way to damage one at a byte.
 
 use reference::generate::files::damage;
-use reference::generate::problems::{element_of, random_basis, random_set, Size};
+use reference::generate::problems::{element_of, random_basis, random_degrees, random_set, Size};
 use reference::monomial::{Level, Monomial, Parameters, Term, UNIT};
 use reference::order::Modules;
 use reference::random::Random;
 use reference::reader::Problem;
 use std::cmp::Ordering;
 
-/// Small files that are read, with all codes, 1 to 8 variables and numbers at their limits.
-pub const WRITTEN: [&str; 10] = [
+/// Small files that are read, with all codes, 1 to 8 variables, with and without a D line, and numbers at their limits.
+pub const WRITTEN: [&str; 14] = [
     "R,7,2,1,1\nT,1,1,1,1,0\nT,1,1,1,0,1\nT,2,1,1,0,2\nT,2,1,1,0,0\nE,4\n",
     "R,2,1,1,1\nT,1,1,1,255\nE,1\n",
     "R,32749,1,2,16\nT,1,32748,16,255\nT,1,1,15,255\nT,1,10000,16,0\nE,3\n",
@@ -20,6 +20,10 @@ pub const WRITTEN: [&str; 10] = [
     "R,181,2,2,2\nT,1,1,2,0,0\nT,1,1,1,0,0\nE,2\n",
     "R,11,1,3,1\nT,1,1,1,1\nT,2,1,1,1\nT,3,1,1,1\nT,4,1,1,1\nT,5,1,1,1\nT,6,1,1,1\nT,7,1,1,1\nT,8,1,1,1\nT,9,1,1,1\nT,10,1,1,1\nE,10\n",
     "R,13,2,1,1\nE,0\n",
+    "R,7,3,1,2\nD,3,0\nT,1,1,1,2,0,0\nT,2,1,1,0,3,0\nT,3,1,2,1,0,0\nT,3,1,1,0,0,1\nE,4\n",
+    "R,3,1,2,1\nD,255\nT,1,2,1,255\nT,1,1,1,0\nE,2\n",
+    "R,65521,2,3,16\nD,0,1,2,3,4,5,6,7,8,9,10,99,100,199,254,255\nT,1,65520,16,255,255\nT,1,1,3,0,1\nT,2,1,1,0,0\nE,3\n",
+    "R,13,2,1,3\nD,0,0,0\nE,0\n",
 ];
 
 /// What a field may be changed to: numbers about every limit, and what is no number.
@@ -147,6 +151,7 @@ pub fn random_problem(random: &mut Random) -> Problem {
     }
     Problem {
         parameters,
+        degrees: random_degrees(random, parameters.s),
         elements,
     }
 }
@@ -176,6 +181,7 @@ pub fn many_monomials(random: &mut Random) -> Problem {
         .collect();
     Problem {
         parameters,
+        degrees: random_degrees(random, parameters.s),
         elements,
     }
 }
@@ -215,6 +221,7 @@ pub fn long_tails(random: &mut Random, tail: usize) -> Problem {
         .collect();
     Problem {
         parameters,
+        degrees: random_degrees(random, parameters.s),
         elements,
     }
 }
@@ -267,7 +274,7 @@ pub fn fields_of(file: &[u8]) -> Vec<usize> {
 
 /// Every file that one change at this byte gives: cut off there, flipped, deleted, doubled, replaced, inserted.
 pub fn changed_at(file: &[u8], at: usize, mut each: impl FnMut(&[u8])) {
-    const BYTES: &[u8] = b"0123456789,RTEt\n\r -+.\0\xff";
+    const BYTES: &[u8] = b"0123456789,RDTEtd\n\r -+.\0\xff";
     each(&file[..at]);
     let mut changed = file.to_vec();
     for bit in 0..8 {

@@ -1,11 +1,13 @@
 //! Sound states: levels of any vectors that are in range and descend, lifted or not; and their words altered.
 
 use crate::buffers::{
-    count, exponent_at, exponents, rows, COEFFICIENT, COMPONENT, HEAD, PRIME, ROW, VARIABLES,
-    VECTORS,
+    carried, count, exponent_at, exponents, rows, COEFFICIENT, COMPONENT, DEGREES, HEAD, LEVELS,
+    PRIME, ROW, STATE, VARIABLES, VECTORS,
 };
 use reference::buffers::write_state;
 use reference::engine::{Basis, State};
+use reference::generate::problems::random_degrees;
+use reference::generate::states::{alter_degree, carry};
 use reference::monomial::{Exponents, Level, Monomial, Parameters, Term, Vector};
 use reference::order::Modules;
 use reference::random::Random;
@@ -26,14 +28,12 @@ pub struct Size {
 
 /// A problem's elements as level 0, without acceptance.
 pub fn basis_of(problem: Problem) -> Basis {
-    Basis {
-        parameters: problem.parameters,
-        levels: vec![problem.elements],
-    }
+    Basis::new(problem.parameters, problem.degrees, vec![problem.elements])
 }
 
-/// The words of a state that holds this basis.
+/// The words of a state that holds this basis, whose elements and vectors carry their own degrees whatever it says of them.
 pub fn write_basis(basis: Basis, state: &mut [u16]) {
+    let basis = Basis::new(basis.parameters, basis.degrees, basis.levels);
     write_state(&Limits::document_01(), &State { basis: Some(basis) }, state);
 }
 
@@ -95,7 +95,8 @@ pub fn random_basis(random: &mut Random, size: &Size) -> Basis {
             .collect();
         levels.push(level);
     }
-    Basis { parameters, levels }
+    let degrees = random_degrees(random, parameters.s);
+    Basis::new(parameters, degrees, levels)
 }
 
 /// Ten levels as full as they may be: 2,048 terms each.
@@ -117,7 +118,8 @@ pub fn full_basis(random: &mut Random, order: u64) -> Basis {
             .collect();
         levels.push(level);
     }
-    Basis { parameters, levels }
+    let degrees = random_degrees(random, parameters.s);
+    Basis::new(parameters, degrees, levels)
 }
 
 /// At the limits of counts and lengths: 512 terms in a vector, 2,048 in a level, 64 and 128 vectors.
@@ -138,7 +140,8 @@ pub fn long_basis(random: &mut Random) -> Basis {
         .map(|_| exact_vector(random, &parameters, &levels, 4, 1))
         .collect();
     levels.push(many);
-    Basis { parameters, levels }
+    let degrees = random_degrees(random, parameters.s);
+    Basis::new(parameters, degrees, levels)
 }
 
 /// At most so many terms: monomials that come twice are left out.
@@ -210,8 +213,43 @@ fn descending(
         .collect()
 }
 
-/// Alters a word, an exponent or a whole row; gives what stood there.
+/// The words that hold degrees of a state with this basis: those of its components, and those that the vectors of its levels carry.
+pub fn degree_words(basis: &Basis) -> Vec<usize> {
+    let mut words: Vec<usize> = (DEGREES..DEGREES + basis.degrees.len()).collect();
+    for (k, level) in basis.levels.iter().enumerate() {
+        words.extend(carried(k)..carried(k) + level.len());
+    }
+    words
+}
+
+/// Whether the words of a sound state stay those of one if this degree word is changed to that: a word that the counts do not name, or the degree of a
+/// component that no element leads with.
+pub fn degree_is_free(basis: &Basis, at: usize, word: u16) -> bool {
+    let leads = |component: usize| {
+        let mut leading = basis.levels[0].iter().map(|element| element[0].monomial);
+        leading.any(|monomial| monomial.component as usize == component)
+    };
+    if !degree_words(basis).contains(&at) {
+        return true;
+    }
+    at < carried(0) && !leads(at - DEGREES + 1) && word <= 255
+}
+
+/// Alters a word, an exponent, a whole row or a degree; gives what stood there. Two times out of three what the vectors carry follows the rows, so that a
+/// state may stay sound whose leading terms were altered.
 pub fn alter(random: &mut Random, basis: &Basis, state: &mut [u16]) -> Vec<(usize, u16)> {
+    let limits = Limits::document_01();
+    if random.chance(8) {
+        return vec![alter_degree(random, &limits, basis, state)];
+    }
+    let mut before = alter_words(random, basis, state);
+    if random.below(3) > 0 {
+        before.extend(carry(&limits, state));
+    }
+    before
+}
+
+fn alter_words(random: &mut Random, basis: &Basis, state: &mut [u16]) -> Vec<(usize, u16)> {
     let k = random.below(basis.levels.len() as u64) as usize;
     let used: usize = basis.levels[k].iter().map(Vec::len).sum();
     let row = |random: &mut Random| rows(k) + ROW * random.below(used.max(1) as u64) as usize;
@@ -237,7 +275,9 @@ pub fn alter(random: &mut Random, basis: &Basis, state: &mut [u16]) -> Vec<(usiz
         0..=9 => random.below(HEAD as u64) as usize,
         10..=24 => count(k) + random.below(1 + VECTORS as u64) as usize,
         25..=34 => count(k) + 1 + random.below(basis.levels[k].len().max(1) as u64) as usize,
-        35..=89 => row(random) + random.below(ROW as u64) as usize,
+        35..=84 => row(random) + random.below(ROW as u64) as usize,
+        85..=87 => DEGREES + random.below((STATE - DEGREES) as u64) as usize,
+        88 | 89 => carried(k.min(LEVELS - 1)) + random.below(VECTORS as u64) as usize,
         _ => random.below(state.len() as u64) as usize,
     };
     let old = state[at];

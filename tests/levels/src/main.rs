@@ -4,13 +4,16 @@
 //!     test-levels spoil             spoils one answer: the run must find it and exit with 1
 
 use common::arguments::{asked, words};
-use common::buffers::{exponent_at, rows, STATE, VARIABLES};
-use common::states::{alter, full_basis, long_basis, random_basis, write_basis, Size};
+use common::buffers::{exponent_at, rows, DEGREES, STATE, VARIABLES};
+use common::states::{
+    alter, degree_is_free, degree_words, full_basis, long_basis, random_basis, write_basis, Size,
+};
 use reference::buffers::read_state;
 use reference::engine::{sound, Basis, State};
 use reference::generate::problems::{
     problem_file, random_basis as random_problem, Size as ProblemSize,
 };
+use reference::generate::states::{alter_degree, carry, with_other_degrees};
 use reference::lifting::Way;
 use reference::monomial::{Monomial, Parameters, Term, UNIT};
 use reference::random::Random;
@@ -88,17 +91,78 @@ fn each_exponent(compare: &mut Compare, state: &mut [u16]) {
             monomial,
         };
         let levels = vec![vec![vec![term]]];
-        write_basis(Basis { parameters, levels }, state);
+        write_basis(Basis::new(parameters, vec![9], levels), state);
         for x in 0..VARIABLES {
             let (word, one) = exponent_at(x);
             for exponent in [1, 255] {
                 state[rows(0) + word] = exponent * one;
+                carry(&compare.limits, state);
                 let what = format!("exponent {} is {exponent} of {n} variables", x + 1);
                 assert_eq!(compare.words(state, &what), x < n, "{what}");
             }
             state[rows(0) + word] = 0;
+            carry(&compare.limits, state);
         }
     }
+}
+
+/// Each word that holds a degree or has room for one, changed in some ways; all of them that follow from other degrees of the components; and words that are
+/// none filled. Gives how many were changed.
+fn each_degree(compare: &mut Compare, random: &mut Random, state: &mut [u16]) -> u64 {
+    let mut changed = 0;
+    for (levels, vectors) in [(1, 3), (2, 5), (3, 9), (10, 4), (10, 12)] {
+        for _ in 0..2 {
+            let size = Size {
+                levels,
+                vectors,
+                terms: 3,
+                exponent: 4,
+            };
+            let basis = random_basis(random, &size);
+            write_basis(basis.clone(), state);
+            assert!(compare.words(state, "degrees as made"));
+            let named = degree_words(&basis);
+            for at in DEGREES..STATE {
+                let old = state[at];
+                let words: Vec<u16> = if named.contains(&at) {
+                    vec![
+                        old.wrapping_add(1),
+                        old.wrapping_sub(1),
+                        old ^ 256,
+                        !old,
+                        255,
+                        256,
+                    ]
+                } else {
+                    vec![1]
+                };
+                for word in words {
+                    state[at] = word;
+                    let what = format!("degree word {at} from {old} to {word}");
+                    let free = word == old || degree_is_free(&basis, at, word);
+                    assert_eq!(compare.words(state, &what), free, "{what}");
+                    changed += 1;
+                }
+                state[at] = old;
+            }
+            for _ in 0..20 {
+                let other = with_other_degrees(random, &basis);
+                write_basis(other.clone(), state);
+                assert!(compare.words(state, "other degrees"));
+                let (at, _) = alter_degree(random, &compare.limits, &other, state);
+                compare.words(state, &format!("other degrees, word {at}"));
+                changed += 2;
+            }
+            write_basis(basis.clone(), state);
+            for (at, word) in state.iter_mut().enumerate().skip(DEGREES) {
+                if !named.contains(&at) {
+                    *word = random.bits() as u16;
+                }
+            }
+            assert!(compare.words(state, "other words behind the degrees"));
+        }
+    }
+    changed
 }
 
 /// The levels that lifting makes, over a random basis that is accepted.
@@ -131,6 +195,7 @@ fn main() {
     // no state at all
     compare.words(&state, "all zero");
     each_exponent(&mut compare, &mut state);
+    let degrees = each_degree(&mut compare, &mut random, &mut state);
     for order in 1..=3 {
         let basis = full_basis(&mut random, order);
         compare.altered(&mut random, &basis, &mut state, 60);
@@ -180,7 +245,7 @@ fn main() {
         compare.altered(&mut random, &basis, &mut state, 40);
     }
     println!(
-        "levels: {} states agree ({} sound, {} not, {lifts} bases lifted, seed {seed})",
+        "levels: {} states agree ({} sound, {} not, {degrees} with a degree changed, {lifts} bases lifted, seed {seed})",
         compare.states,
         compare.sound,
         compare.states - compare.sound

@@ -30,8 +30,8 @@ pub struct Compare {
     expected: Vec<u16>,
     /// files so far
     pub files: u64,
-    /// files so far by number, 0 to 16
-    pub met: [u64; 17],
+    /// files so far by number, 0 to 18
+    pub met: [u64; 19],
     /// the file at which to spoil an answer
     pub spoil: Option<(u64, Spoiled)>,
 }
@@ -47,7 +47,7 @@ impl Compare {
             state: vec![0xaaaa; STATE + MORE],
             expected: vec![0; STATE + MORE],
             files: 0,
-            met: [0; 17],
+            met: [0; 19],
             spoil: None,
         }
     }

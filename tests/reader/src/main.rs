@@ -13,8 +13,12 @@ use common::files::{
 };
 use common::report::counts;
 use compare::{Compare, SPOILS};
+use reference::generate::degree_lines::{
+    components_of, spoil_degree_line, spoiled_degree_lines, with_degrees, with_random_degrees,
+    without_degree_lines,
+};
 use reference::generate::files::{damage, edited_file, exact_length_file, exact_t_lines_file};
-use reference::generate::problems::problem_file;
+use reference::generate::problems::{problem_file, random_degrees};
 use reference::random::Random;
 
 const FILES: u64 = 200_000;
@@ -28,6 +32,7 @@ fn main() {
 
     every_change(&mut compare);
     every_field(&mut compare);
+    degree_lines(&mut compare, &mut random);
     short_buffers(&mut compare);
     at_the_limits(&mut compare, &mut random);
     // a long run cuts the longest file off at every byte, a short one here and there
@@ -49,7 +54,7 @@ fn main() {
         println!("  {count}");
     }
     // a run in which a refusal never comes tests too little
-    for number in [0, 1, 2, 3, 4, 5, 6, 7, 8, 16] {
+    for number in [0, 1, 2, 3, 4, 5, 6, 7, 8, 16, 18] {
         assert!(compare.met[number] >= 20, "number {number} came too seldom");
     }
 }
@@ -75,6 +80,52 @@ fn every_change(compare: &mut Compare) {
 fn every_field(compare: &mut Compare) {
     for file in WRITTEN.map(str::as_bytes) {
         with_each_field(file, 1, |changed| compare.file(changed));
+    }
+}
+
+/// D lines: every degree, every way to spoil one, and one spoiled at each byte; in small files and in some at the limits.
+fn degree_lines(compare: &mut Compare, random: &mut Random) {
+    for file in WRITTEN.map(str::as_bytes) {
+        let bare = without_degree_lines(file);
+        compare.file(&bare);
+        let s = components_of(&bare) as usize;
+        for degree in (0..=300).chain([511, 512, 32_767, 32_768, 65_280, 65_534, 65_535, 65_536]) {
+            for at in [0, s / 2, s - 1] {
+                let mut degrees = random_degrees(random, s as u64);
+                degrees[at] = degree;
+                compare.file(&with_degrees(&bare, &degrees));
+            }
+        }
+        let lines = fields_of(&bare).len();
+        for degrees in [vec![0; s], vec![255; s], random_degrees(random, s as u64)] {
+            for spoiled in spoiled_degree_lines(lines, &degrees) {
+                compare.file(&spoiled.file(&bare));
+            }
+            // as many fields as any line may have, and more
+            for fields in 0..=40 {
+                let mut longer = degrees.clone();
+                longer.resize(fields, 7);
+                compare.file(&with_degrees(&bare, &longer));
+            }
+            let with = with_degrees(&bare, &degrees);
+            let from = with.iter().position(|byte| *byte == 10).expect("a line");
+            let line = with[from + 1..].iter().position(|byte| *byte == 10);
+            for at in from..=from + 1 + line.expect("a line") {
+                changed_at(&with, at, |changed| compare.file(changed));
+            }
+        }
+    }
+    for file in [
+        exact_length_file(random, 65_500),
+        exact_t_lines_file(random, 2_048),
+        exact_t_lines_file(random, 2_049),
+    ] {
+        for _ in 0..40 {
+            compare.file(&with_random_degrees(random, &file));
+            let mut spoiled = file.clone();
+            spoil_degree_line(random, &mut spoiled);
+            compare.file(&spoiled);
+        }
     }
 }
 
@@ -166,8 +217,10 @@ fn random_file(compare: &mut Compare, random: &mut Random) {
         }
     }
     let kinds = fields_of(&file);
-    match random.below(3) {
-        0 => {
+    match random.below(9) {
+        0 => spoil_degree_line(random, &mut file),
+        1 => file = with_random_degrees(random, &file),
+        2..=4 => {
             let line = random.below(kinds.len() as u64) as usize;
             let field = random.between(0, kinds[line] as u64) as usize;
             if file.ends_with(b"\n") {

@@ -43,7 +43,7 @@ pub struct Compare {
     pub files: u64,
     pub left_out: u64,
     /// files so far by the number of their X line, 0 for a full listing
-    pub met: [u64; 17],
+    pub met: [u64; 19],
     /// the longest sheet so far, and the most levels in one
     pub longest: usize,
     pub levels: usize,
@@ -61,7 +61,7 @@ impl Compare {
             out: vec![0xaa; OUT + MORE],
             files: 0,
             left_out: 0,
-            met: [0; 17],
+            met: [0; 19],
             longest: 0,
             levels: 0,
             spoil: None,

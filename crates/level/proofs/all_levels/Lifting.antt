@@ -5,6 +5,7 @@ use mathlib.Core.List.{List, [], _∷_}
 use Prim.Native.Nat.{ℕ, zero, suc, _-_, _<_, _≤_}
 use native.Mathlib.Nat.{not-suc-le-zero}
 use native.Mathlib.Omega.{arith}
+use native.Mathlib.Decide.{ℕ-discrete}
 use lib.Dec.{T, leb, le→leb}
 use lib.ListN.{length, getD, take, drop, replicate}
 use lib.Seq.{length-take-le, getD-take}
@@ -17,7 +18,8 @@ use Rattle.definitions.specs.State.{State, sound?, vector-sound?, levels-sound?
 use Rattle.definitions.specs.Run.{by-code}
 use Rattle.definitions.specs.Lifting.{Lifting, by-division, by-hybrid, limited-frame, lift-all, lift-level}
 use Rattle.definitions.specs.Calls.{lift}
-use Rattle.definitions.specs.Layout.{Words, rows, encode, decode, vectors-at, level-at, levels-at, all-words-sound?, holds-state?}
+use Rattle.definitions.specs.Layout.{Words, rows, encode, decode, vectors-at, degrees-at, level-at, levels-at, all-words-sound?, holds-state?}
+use Rattle.laws.proofs.Degrees.{carries-below}
 use Rattle.laws.proofs.Tests.{and-left, and-right, and-both, between-high, between-shown}
 use Rattle.laws.proofs.Sound.{level-says, vector-says}
 use Rattle.laws.proofs.Modular.{prime-says}
@@ -31,6 +33,7 @@ use Rattle.demands.proofs.Lifts.{Lifted-to, one-more, limit-met, still-lifting,
 use Rattle.vectors.specs.terms.Rows.{cleared}
 use Rattle.reducers.specs.tables.Cuts.{start-of}
 use Rattle.state.specs.soundness.Places.{parameters-at}
+use Rattle.state.specs.degrees.Carrying.{carried-right?}
 use Rattle.state.proofs.soundness.StateTests.{holds-said}
 use Rattle.runs.specs.declared.run.Strategy.{Strategy}
 use Rattle.runs.specs.frame_terms.Vectors.{lifted-vectors, Kept, lifts}
@@ -130,13 +133,19 @@ apart s j b n used out l u k t = record {
 
 -- ## What can be stored
 
-module _ (s : Words) (j : ℕ) (b : Base s j) (out : Words) (long : lifted-length ≤ length out) where
-  settles : (x : Leveled) (v : Words) → Right s j b (leveled-of x out v) → Stored-as x out → Settles x out
-  settles (Vectors n used) v r k = apart s j b n used out long (k .0) (k .1) r
-  settles (Refused number) v r k = tt
-  settles (Stopped n) v r k = absurd (r .0)
+-- vectors that stand apart, or a refusal
+abbrev Apart : Leveled → Words → Type 0
+Apart (Vectors n used) out = Kept-apart n out
+Apart (Refused number) out = Unit {0}
+Apart (Stopped n) out = ⊥
 
-  valueless : (x : Leveled) (v : Words) → Settles x out → leveled-of x out [] ≡ leveled-of x out v
+module _ (s : Words) (j : ℕ) (b : Base s j) (out : Words) (long : lifted-length ≤ length out) where
+  stands : (x : Leveled) (v : Words) → Right s j b (leveled-of x out v) → Stored-as x out → Apart x out
+  stands (Vectors n used) v r k = apart s j b n used out long (k .0) (k .1) r
+  stands (Refused number) v r k = tt
+  stands (Stopped n) v r k = absurd (r .0)
+
+  valueless : (x : Leveled) (v : Words) → Apart x out → leveled-of x out [] ≡ leveled-of x out v
   valueless (Vectors n used) v h = refl
   valueless (Refused number) v h = refl
   valueless (Stopped n) v h = absurd h
@@ -147,10 +156,13 @@ module _ (s : Words) (j : ℕ) (b : Base s j) (out : Words) (long : lifted-lengt
   over-finished (Stopped n) v = tt
 
   -- what a lifting left, any way
-  pub way-settles : (way : Lifting) (n : ℕ) (x : Leveled) (v : Words) → leveled-of x out v
-      ≡ lift-level document-01 (getD s 0 0) (getD s 2 0) (levels-at document-01 s (suc j)) way n
-      → Stored-as x out → Settles x out
-  way-settles way n x v e k = settles x v (subst (Right s j b) (sym e) (right s j b way n)) k
+  way-right : (way : Lifting) (n : ℕ) (x : Leveled) (v : Words) → leveled-of x out v
+      ≡ lift-level document-01 (getD s 0 0) (getD s 2 0) (levels-at document-01 s (suc j)) way n → Right s j b (leveled-of x out v)
+  way-right way n x v e = subst (Right s j b) (sym e) (right s j b way n)
+
+  way-apart : (way : Lifting) (n : ℕ) (x : Leveled) (v : Words) → leveled-of x out v
+      ≡ lift-level document-01 (getD s 0 0) (getD s 2 0) (levels-at document-01 s (suc j)) way n → Stored-as x out → Apart x out
+  way-apart way n x v e k = stands x v (way-right way n x v e) k
 
   pub run-way : (w : Strategy) → Chosen w → (n : ℕ) (x : Leveled) (v : Words) → leveled-of x out v ≡ lift-over usual s j w n
       → leveled-of x out v ≡ lift-level document-01 (getD s 0 0) (getD s 2 0) (levels-at document-01 s (suc j)) (way-by w) n
@@ -170,6 +182,30 @@ module _ (s : Words) (k : ℕ) (h : Liftable s k) where
       ∙ ap (λ ls. at-level k (lift-level document-01 (getD s 0 0) (getD s 2 0) ls way n)
       >>= λ f. done (record { parameters = parameters-at s; levels = f ∷ ls })) (sym (up-to-is s (k - 1) (h .base .has)))
 
+  next : suc (k - 1) ≡ k
+  next = omega (arith, h .low)
+
+  -- a sound level over them leaves the state sound
+  sound-with : (f : Level) → T (levels-sound? document-01 (parameters-at s) (f ∷ levels-at document-01 s (suc (k - 1))))
+      → T (sound? document-01 (record { parameters = parameters-at s; levels = f ∷ levels-at document-01 s k }))
+  sound-with f t =
+      let up = up-to-is s (k - 1) (h .base .has) in
+      subst (λ ls. T (sound? document-01 (record { parameters = parameters-at s; levels = f ∷ ls }))) (up ∙ ap (levels-at document-01 s) next)
+      (level-above document-01 (decode document-01 s) (holds-sound s (h .base .holds)) k (between-shown 1 k most-levels (h .low) (h .high))
+      (omega (arith, length-levels s (getD s 4 0), h .base .has)) f
+      (subst (λ ls. T (levels-sound? document-01 (parameters-at s) (f ∷ ls))) (sym up) t))
+
+  settles : (x : Leveled) (out v : Words) → Right s (k - 1) (h .base) (leveled-of x out v) → Apart x out → Settles s k x out
+  settles (Vectors n used) out v r a = (a, sound-with (lifted-vectors out n) r)
+  settles (Refused number) out v r a = tt
+  settles (Stopped n) out v r a = a
+
+  -- what a lifting left, any way
+  pub way-settles : (out : Words) → lifted-length ≤ length out → (way : Lifting) (n : ℕ) (x : Leveled) (v : Words) → leveled-of x out v
+      ≡ lift-level document-01 (getD s 0 0) (getD s 2 0) (levels-at document-01 s (suc (k - 1))) way n → Stored-as x out → Settles s k x out
+  way-settles out long way n x v e saved =
+      settles x out v (way-right s (k - 1) (h .base) out long way n x v e) (way-apart s (k - 1) (h .base) out long way n x v e saved)
+
   at-finished : (x : Result Level) → T (finished? x) → T (finished? (state-over s k x))
   at-finished (done f) t = tt
   at-finished (refused number place value) t = tt
@@ -180,7 +216,7 @@ module _ (s : Words) (k : ℕ) (h : Liftable s k) where
       → leveled-of x out v ≡ lift-level document-01 (getD s 0 0) (getD s 2 0) (levels-at document-01 s (suc (k - 1))) way n → Stored-as x out
       → (number : ℕ) (t : Words) → told number t ≡ stored s (state-over s k (leveled-of x out [])) → Lifted-by s k way number t
   lifted-by way n out long x v e kept number t p =
-      let settled = way-settles s (k - 1) (h .base) out long way n x v e kept in
+      let settled = way-apart s (k - 1) (h .base) out long way n x v e kept in
       let f = valueless s (k - 1) (h .base) out long x v settled ∙ e in (
         n,
         p ∙ ap (λ y. stored s (state-over s k y)) f ∙ ap (stored s) (lift-is way n),
@@ -217,14 +253,15 @@ module _ (s : Words) (k : ℕ) (h : Liftable s k) where
   added-base : (t : Words) (count : ℕ) (out : Words) → Added s t k count out → T (sound? document-01 (with-level s k count out)) → Base t 0
   added-base t count out A sound =
       let tall : getD t 4 0 ≤ all-levels = omega (arith, A .height, h .high) in
+      let Rest : Bool = sound? document-01 (decode document-01 t) and carried-right? t (getD t 4 0) in
       record {
         long = omega (arith, A .long, h .base .long);
         holds =
-            and-both (leb (getD t 4 0) all-levels) (all-words-sound? document-01 t (getD t 4 0) and sound? document-01 (decode document-01 t))
-            (le→leb (getD t 4 0) all-levels tall)
-            (and-both (all-words-sound? document-01 t (getD t 4 0)) (sound? document-01 (decode document-01 t))
+            and-both (leb (getD t 4 0) all-levels) (all-words-sound? document-01 t (getD t 4 0) and Rest) (le→leb (getD t 4 0) all-levels tall)
+            (and-both (all-words-sound? document-01 t (getD t 4 0)) Rest
             (subst (λ i. T (all-words-sound? document-01 t i)) (sym (A .height)) (A .words))
-            (subst (λ Z. T (sound? document-01 Z)) (sym (A .state)) sound));
+            (and-both (sound? document-01 (decode document-01 t)) (carried-right? t (getD t 4 0))
+            (subst (λ Z. T (sound? document-01 Z)) (sym (A .state)) sound) (subst (λ i. T (carried-right? t i)) (sym (A .height)) (A .carries))));
         has = omega (arith, A .height);
         low = omega arith;
       }
@@ -254,7 +291,7 @@ module _ (s : Words) (k : ℕ) (h : Liftable s k) where
       → leveled-of x out v ≡ lift-level document-01 (getD s 0 0) (getD s 2 0) (levels-at document-01 s (suc (k - 1))) (by-hybrid 2) n → Stored-as x out
       → (number : ℕ) (t : Words) → Kept-as s k x out number t → Lifted-next s k number t
   lifted-next n out long x v e saved number t a =
-      let settled = way-settles s (k - 1) (h .base) out long (by-hybrid 2) n x v e saved in
+      let settled = way-apart s (k - 1) (h .base) out long (by-hybrid 2) n x v e saved in
       next-of n out x number t a (valueless s (k - 1) (h .base) out long x v settled ∙ e)
 
   pub kept-words : (x : Leveled) (count used : ℕ) (out t : Words) → x ≡ Vectors count used → Added s t k count out → Kept-as s k x out 0 t
@@ -270,6 +307,20 @@ module _ (s : Words) (k : ℕ) (h : Liftable s k) where
 
   pub refused-words : (x : Leveled) (number : ℕ) (out : Words) → x ≡ Refused number → told number s ≡ stored s (state-over s k (leveled-of x out []))
   refused-words x number out e = ap (λ y. stored s (state-over s k (leveled-of y out []))) (sym e)
+
+-- ## Degrees that are carried
+
+pub carried-below : (s : Words) (h k : ℕ) → k ≤ h → T (carried-right? s h) → T (carried-right? s k)
+carried-below s zero k l t = let z : 0 ≡ k = omega arith in subst (λ n. T (carried-right? s n)) z t
+carried-below s (suc h) k l t = go (ℕ-discrete k (suc h))
+    (λ m. carried-below s h k m (carries-below document-01 s (degrees-at document-01 s) (level-at document-01 s h) (levels-at document-01 s h) t))
+  where
+    go : Dec (k ≡ suc h) → (k ≤ h → T (carried-right? s k)) → T (carried-right? s k)
+    go (yes e) r = subst (λ n. T (carried-right? s n)) (sym e) t
+    go (no e) r = r (omega arith)
+
+pub liftable-carried : (s : Words) (k : ℕ) → Liftable s k → T (carried-right? s k)
+liftable-carried s k h = carried-below s (getD s 4 0) k (omega (arith, h .low, h .base .has)) (holds-said s (h .base .long) (h .base .holds) .6)
 
 -- ## What is zeroed
 

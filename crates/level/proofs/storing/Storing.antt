@@ -4,9 +4,10 @@ use mathlib.Core.List.{[], _∷_, _++_}
 use Prim.Native.Nat.{ℕ, suc, _+_, _-_, _*_, _<_, _≤_}
 use native.Mathlib.Omega.{arith}
 use lib.Dec.{T}
-use lib.ListN.{length, getD, drop, set, length-set}
+use lib.ListN.{length, getD, drop, set}
 use lib.Seq.{getD-drop}
 use Rattle.definitions.specs.Limits.{document-01}
+use Rattle.definitions.specs.State.{sound?}
 use Rattle.definitions.specs.Layout.{Words, rows, encode, decode, all-words-sound?}
 use Rattle.laws.proofs.Rows.{rows-same}
 use Rattle.definitions.specs.Places.{all-levels, row-length, state-length, count-offset, ends-length}
@@ -15,8 +16,9 @@ use Rattle.reducers.specs.tables.Cuts.{start-of}
 use Rattle.reducers.proofs.tables.Cutting.{cut-more}
 use Rattle.state.specs.writing.LevelSoFar.{appended, finished}
 use Rattle.state.specs.writing.AppendLoop.{Grown}
-use Rattle.state.proofs.writing.Local.{new-height, new-words, new-state}
-use Rattle.state.proofs.writing.AppendLoop.{grown-more, grown-finished}
+use Rattle.state.specs.degrees.Carrying.{carried-right?, Weighable, with-carried}
+use Rattle.state.proofs.writing.Finished.{finish-weighable, finish-carried}
+use Rattle.state.proofs.writing.AppendLoop.{grown-more, grown-finished, grown-carried}
 use Rattle.runs.specs.frame_terms.Vectors.{lifted-vectors}
 use Rattle.level.specs.storing.Stored.{Kept-apart, with-level, Appended, Added}
 
@@ -79,14 +81,30 @@ module _ (s z out : Words) (k count : ℕ) (A : Appended s z k count out) where
   pub stored-whole : encode document-01 (length z) (finished z k count) ≡ encode document-01 (length s) (with-level s k count out)
   stored-whole = λ j. encode document-01 (A .1 .long j) (state-is j)
 
-  pub added : state-length ≤ length s → k < all-levels → (t : Words) → t ≡ set (set z (count-offset k) count) 4 (k + 1) → Added s t k count out
-  added long inside t e =
-      let l : state-length ≤ length z = omega (arith, long, A .1 .long) in
-      let n = length-set z (count-offset k) count in
-      let m = length-set (set z (count-offset k) count) 4 (k + 1) in
-      record {
-        long = ap length e ∙ m ∙ n ∙ A .1 .long;
-        height = ap (λ y. getD y 4 0) e ∙ new-height z k count l inside (A .1 .words-below) (A .1 .words);
-        words = subst (λ y. T (all-words-sound? document-01 y (k + 1))) (sym e) (new-words z k count l inside (A .1 .words-below) (A .1 .words));
-        state = ap (decode document-01) e ∙ new-state z k count l inside (A .1 .words-below) (A .1 .words) ∙ state-is;
-      }
+  -- what making it complete asks for
+  pub grown-sound : T (sound? document-01 (with-level s k count out)) → T (sound? document-01 (finished z k count))
+  grown-sound = subst (λ X. T (sound? document-01 X)) (sym state-is)
+
+  pub grown-right : T (carried-right? s k) → T (carried-right? z k)
+  grown-right = grown-carried s z k count (A .0) (lifted-vectors out count) (A .1)
+
+  module _ (long : state-length ≤ length s) (inside : k < all-levels) (sound : T (sound? document-01 (with-level s k count out)))
+      (right : T (carried-right? s k)) where
+    fits : state-length ≤ length z
+    fits = omega (arith, long, A .1 .long)
+
+    pub complete-weighable : (y : Words) → y ≡ set (set z (count-offset k) count) 4 (k + 1) → Weighable y k
+    complete-weighable y e = subst (λ w. Weighable w k) (sym e)
+        (finish-weighable z k count fits inside (A .1 .words-below) (A .1 .words) (grown-sound sound) (grown-right right))
+
+    pub added : (y t : Words) → y ≡ set (set z (count-offset k) count) 4 (k + 1) → t ≡ with-carried y k → Added s t k count out
+    added y t p q =
+        let f = finish-carried z k count fits inside (A .1 .words-below) (A .1 .words) (grown-sound sound) (grown-right right) in
+        let e = q ∙ ap (λ w. with-carried w k) p in
+        record {
+          long = ap length e ∙ f .long ∙ A .1 .long;
+          height = ap (λ w. getD w 4 0) e ∙ f .settles .2;
+          words = subst (λ w. T (all-words-sound? document-01 w (k + 1))) (sym e) (f .settles .4);
+          state = ap (decode document-01) e ∙ f .means ∙ state-is;
+          carries = subst (λ w. T (carried-right? w (k + 1))) (sym e) (f .settles .5);
+        }

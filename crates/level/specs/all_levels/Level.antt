@@ -11,7 +11,7 @@ use Rattle.definitions.specs.Lists.{choose}
 use Rattle.definitions.specs.Monomial.{Level}
 use Rattle.definitions.specs.Result.{Result, done, refused, unfinished, finished?, at-level, _>>=_}
 use Rattle.definitions.specs.Lifting.{Lifting, by-division, by-hybrid}
-use Rattle.definitions.specs.State.{State}
+use Rattle.definitions.specs.State.{State, sound?}
 use Rattle.definitions.specs.Calls.{lift}
 use Rattle.definitions.specs.Layout.{Words, encode, decode, levels-at}
 use Rattle.definitions.specs.Places.{most-levels}
@@ -20,7 +20,7 @@ use Rattle.runs.specs.declared.run.Strategy.{Strategy}
 use Rattle.level.specs.by_runs.Stages.{Base}
 use Rattle.level.specs.declared.by_runs.Leveled.{Leveled}
 use Rattle.level.specs.declared.by_runs.Leveled.the-variants.{Vectors, Refused, Stopped}
-use Rattle.level.specs.storing.Stored.{Kept-apart, Added}
+use Rattle.level.specs.storing.Stored.{Kept-apart, with-level, Added}
 use Rattle.level.specs.all_levels.Levels.{reached}
 use Rattle.level.specs.declared.all_levels.Ended.{Ended}
 
@@ -38,11 +38,11 @@ pub data Chosen (w : Strategy) : Type 0 where
 abbrev pub way-by : Strategy → Lifting
 way-by w = choose (w .drops) (by-hybrid (w .pick)) by-division
 
--- vectors that can be stored, or a refusal
-abbrev pub Settles : Leveled → Words → Type 0
-Settles (Vectors n used) out = Kept-apart n out
-Settles (Refused number) out = Unit {0}
-Settles (Stopped n) out = ⊥
+-- vectors that can be stored as level k and leave the state sound, or a refusal
+abbrev pub Settles : Words → ℕ → Leveled → Words → Type 0
+Settles s k (Vectors n used) out = Kept-apart n out × T (sound? document-01 (with-level s k n out))
+Settles s k (Refused number) out = Unit {0}
+Settles s k (Stopped n) out = ⊥
 
 -- this as level k, over the levels below it, in the state that the words hold
 abbrev pub state-over : Words → ℕ → Result Level → Result State

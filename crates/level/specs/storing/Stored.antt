@@ -10,6 +10,7 @@ use Rattle.definitions.specs.Layout.{Words, decode, levels-at, all-words-sound?
 use Rattle.definitions.specs.Places.{most-vectors, most-rows, lifted-length}
 use Rattle.reducers.specs.tables.Cuts.{start-of}
 use Rattle.state.specs.soundness.Places.{parameters-at}
+use Rattle.state.specs.degrees.Carrying.{carried-right?}
 use Rattle.runs.specs.frame_terms.Vectors.{lifted-vectors}
 use Rattle.state.specs.writing.AppendLoop.{Grown}
 
@@ -33,3 +34,4 @@ pub record Added (s t : Words) (k count : ℕ) (out : Words) : Type 0 where
   pub height : getD t 4 0 ≡ k + 1
   pub words : T (all-words-sound? document-01 t (k + 1))
   pub state : decode document-01 t ≡ with-level s k count out
+  pub carries : T (carried-right? t (k + 1))

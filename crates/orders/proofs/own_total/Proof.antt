@@ -1,6 +1,6 @@
 use borrow.Author.Needs.{needs}
 use native.Mathlib.Omega.{arith}
-use Rattle.orders.proofs.RowImages.{degree-small}
+use Rattle.laws.proofs.Packing.{degree-small}
 use Rattle.orders.proofs.own_total.Statement.{statement}
 use Rattle.orders.proofs.own_total.Tie as tie
 
@@ -8,7 +8,7 @@ degree-exponents-requires : tie.Need-degree-exponents-requires
 degree-exponents-requires c κs = search needs
 
 cast-result : tie.Need-cast-result
-cast-result c = let e = c .before .args .e in omega (arith, c .degree-exponents .ensures, degree-small e (omega arith))
+cast-result c = let e = c .before .args .e in omega (arith, c .degree-exponents .ensures, degree-small e)
 
 returns : tie.Need-returns
 returns c = c .degree-exponents .ensures

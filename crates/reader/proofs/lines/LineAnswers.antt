@@ -6,12 +6,14 @@ use mathlib.Core.List.{[], _∷_}
 use Prim.Native.Nat.{ℕ, zero, suc, _+_, _<_, _≤_}
 use native.Mathlib.Omega.{arith}
 use lib.Dec.{eqb}
-use lib.ListN.{length, getD, drop}
+use lib.ListN.{length, getD, drop, replicate}
 use borrow.Author.Tests.{eq-eqb, ne-eqb}
 use Rattle.definitions.specs.Lists.{_and_, empty?}
 use Rattle.definitions.specs.Result.{Result, done, refused, unless-refused, _>>=_}
 use Rattle.definitions.specs.Problem.{Bytes, Parameters}
+use Rattle.definitions.specs.Monomial.{fits?}
 use Rattle.definitions.specs.Layout.{Words}
+use Rattle.definitions.specs.Places.{most-degree, most-components}
 use Rattle.reader.specs.fields.Scanning.{line-as, end-as}
 use Rattle.reader.specs.declared.fields.End as line-end
 use Rattle.reader.specs.declared.fields.End.the-variants.{Behind, Misshapen}
@@ -20,6 +22,8 @@ use Rattle.reader.proofs.fields.Positions.{nothing-left, byte-left}
 use Rattle.reader.specs.declared.lines.Step.{Step}
 use Rattle.reader.specs.declared.lines.Step.the-variants.{Refused}
 use Rattle.reader.specs.declared.lines.Taken.{Taken}
+use Rattle.reader.specs.lines.Tests.{unless}
+use Rattle.reader.specs.lines.Steps.{Graded-said, d-judged, or-zeros}
 use Rattle.reader.specs.lines.Steps.{Said, judged, with-shape, t-first, e-judged, e-first, by-letter, line-first, step-as, taken-as}
 
 pub refused-as : (r : Taken) (file : Bytes) (number place : ℕ) → r .step ≡ Refused number place → taken-as r file ≡ refused number place []
@@ -34,6 +38,23 @@ module _ {A : Type 0} (o : Option (Words × Bytes)) (place : ℕ) (tests : Words
 
   pub has-shape : (next : ℕ) → l .end ≡ Behind next → tests (l .numbers, drop next file) ≡ with-shape o place tests
   has-shape next e = sym (ap (λ x. with-shape x place tests) (sym said ∙ ap (λ (x : line-end.End). end-as x (l .numbers) file) e))
+
+-- the D line, or none
+module _ (bytes : Bytes) (o : Option (Words × Bytes)) (file : Bytes) (l : Line) (said : line-as l file ≡ o) where
+  pub no-degrees : l .end ≡ Misshapen → done (replicate most-components 0, 2, bytes) ≡ or-zeros bytes o
+  no-degrees e = sym (ap (or-zeros bytes) (sym said ∙ ap (λ (x : line-end.End). end-as x (l .numbers) file) e))
+
+  some-degrees : (next : ℕ) → l .end ≡ Behind next → or-zeros bytes o ≡ d-judged (l .numbers, drop next file)
+  some-degrees next e = ap (or-zeros bytes) (sym said ∙ ap (λ (x : line-end.End). end-as x (l .numbers) file) e)
+
+  abbrev by-test : ℕ → Bool → Result Graded-said
+  by-test next b = judged (unless b 18 0) 2 (l .numbers, 3, drop next file)
+
+  pub degrees-taken : (next : ℕ) → l .end ≡ Behind next → fits? most-degree (l .numbers) ≡ true → done (l .numbers, 3, drop next file) ≡ or-zeros bytes o
+  degrees-taken next e t = sym (some-degrees next e ∙ ap (by-test next) t)
+
+  pub degrees-refused : (next : ℕ) → l .end ≡ Behind next → fits? most-degree (l .numbers) ≡ false → refused 18 2 [] ≡ or-zeros bytes o
+  degrees-refused next e t = sym (some-degrees next e ∙ ap (by-test next) t)
 
 -- ## The tests
 
@@ -50,20 +71,20 @@ module _ {A : Type 0} (place : ℕ) (a : A) where
 
 -- ## The end
 
-module _ (count : ℕ) (w : Words) (rest : Bytes) where
+module _ (place count : ℕ) (w : Words) (rest : Bytes) where
   abbrev counted : Bool → Bool → Result Said
-  counted t u = unless-refused t 7 (count + 2) >>= λ u₁. unless-refused u 1 (count + 3) >>= λ u₂. done none
+  counted t u = unless-refused t 7 place >>= λ u₁. unless-refused u 1 (place + 1) >>= λ u₂. done none
 
-  pub count-zero : getD w 0 0 ≡ 0 → refused 7 (count + 2) [] ≡ e-judged count (w, rest)
+  pub count-zero : getD w 0 0 ≡ 0 → refused 7 place [] ≡ e-judged place count (w, rest)
   count-zero e = sym (λ i. counted (not (eq-eqb (getD w 0 0) 0 e i) and eqb (getD w 0 0) count) (empty? rest))
 
-  pub count-wrong : (getD w 0 0 ≡ 0 → ⊥) → (getD w 0 0 ≡ count → ⊥) → refused 7 (count + 2) [] ≡ e-judged count (w, rest)
+  pub count-wrong : (getD w 0 0 ≡ 0 → ⊥) → (getD w 0 0 ≡ count → ⊥) → refused 7 place [] ≡ e-judged place count (w, rest)
   count-wrong n m = sym (λ i. counted (not (ne-eqb (getD w 0 0) 0 n i) and ne-eqb (getD w 0 0) count m i) (empty? rest))
 
-  pub count-right : (getD w 0 0 ≡ 0 → ⊥) → getD w 0 0 ≡ count → e-judged count (w, rest) ≡ counted true (empty? rest)
+  pub count-right : (getD w 0 0 ≡ 0 → ⊥) → getD w 0 0 ≡ count → e-judged place count (w, rest) ≡ counted true (empty? rest)
   count-right n e = λ i. counted (not (ne-eqb (getD w 0 0) 0 n i) and eq-eqb (getD w 0 0) count e i) (empty? rest)
 
-  pub line-behind : empty? rest ≡ false → refused 1 (count + 3) [] ≡ counted true (empty? rest)
+  pub line-behind : empty? rest ≡ false → refused 1 (place + 1) [] ≡ counted true (empty? rest)
   line-behind e = sym (λ i. counted true (e i))
 
   pub no-line-behind : empty? rest ≡ true → done none ≡ counted true (empty? rest)
@@ -77,23 +98,23 @@ none-left file at h = ap empty? (nothing-left file at h)
 
 -- ## The letter
 
-module _ (q : Parameters) (count r : ℕ) (before : Words) (file : Bytes) (at : ℕ) where
-  pub letter-none : length file ≤ at → refused 1 (count + 2) [] ≡ line-first q count r before (drop at file)
-  letter-none h = sym (ap (line-first q count r before) (nothing-left file at h))
+module _ (q : Parameters) (place count r : ℕ) (before : Words) (file : Bytes) (at : ℕ) where
+  pub letter-none : length file ≤ at → refused 1 place [] ≡ line-first q place count r before (drop at file)
+  letter-none h = sym (ap (line-first q place count r before) (nothing-left file at h))
 
   module _ (h : at < length file) where
     abbrev decided : Bool → Bool → Result Said
-    decided t e = by-letter t e (t-first q count r before (getD file at 0 ∷ drop (at + 1) file)) (e-first count (getD file at 0 ∷ drop (at + 1) file))
-        (refused 1 (count + 2) [])
+    decided t e = by-letter t e (t-first q place count r before (getD file at 0 ∷ drop (at + 1) file))
+        (e-first place count (getD file at 0 ∷ drop (at + 1) file)) (refused 1 place [])
 
-    pub letter-T : getD file at 0 ≡ 84 → t-first q count r before (drop at file) ≡ line-first q count r before (drop at file)
-    letter-T e = subst (λ (l : Bytes). t-first q count r before l ≡ line-first q count r before l) (sym (byte-left file at h))
+    pub letter-T : getD file at 0 ≡ 84 → t-first q place count r before (drop at file) ≡ line-first q place count r before (drop at file)
+    letter-T e = subst (λ (l : Bytes). t-first q place count r before l ≡ line-first q place count r before l) (sym (byte-left file at h))
         (sym (λ i. decided (eq-eqb (getD file at 0) 84 e i) (eqb (getD file at 0) 69)))
 
-    pub letter-E : getD file at 0 ≡ 69 → e-first count (drop at file) ≡ line-first q count r before (drop at file)
-    letter-E e = subst (λ (l : Bytes). e-first count l ≡ line-first q count r before l) (sym (byte-left file at h))
+    pub letter-E : getD file at 0 ≡ 69 → e-first place count (drop at file) ≡ line-first q place count r before (drop at file)
+    letter-E e = subst (λ (l : Bytes). e-first place count l ≡ line-first q place count r before l) (sym (byte-left file at h))
         (sym (λ i. decided (ne-eqb (getD file at 0) 84 (λ z. omega arith) i) (eq-eqb (getD file at 0) 69 e i)))
 
-    pub letter-other : (getD file at 0 ≡ 84 → ⊥) → (getD file at 0 ≡ 69 → ⊥) → refused 1 (count + 2) [] ≡ line-first q count r before (drop at file)
-    letter-other t e = subst (λ (l : Bytes). refused 1 (count + 2) [] ≡ line-first q count r before l) (sym (byte-left file at h))
+    pub letter-other : (getD file at 0 ≡ 84 → ⊥) → (getD file at 0 ≡ 69 → ⊥) → refused 1 place [] ≡ line-first q place count r before (drop at file)
+    letter-other t e = subst (λ (l : Bytes). refused 1 place [] ≡ line-first q place count r before l) (sym (byte-left file at h))
         (sym (λ i. decided (ne-eqb (getD file at 0) 84 t i) (ne-eqb (getD file at 0) 69 e i)))

@@ -4,7 +4,7 @@ use mathlib.Core.Bool.{Bool, true, false, not, _||_}
 use mathlib.Core.List.{[], _∷_}
 use Prim.Native.Nat.{ℕ, zero, suc, _+_, _-_, _<_, _≤_}
 use native.Mathlib.Omega.{arith}
-use lib.Dec.{T, leb, ltb, eqb, eqb·suc-suc, leb→le}
+use lib.Dec.{T, leb, ltb, eqb, eqb·suc-suc, eqb·suc-zero, leb→le}
 use lib.ListN.{length, getD, take, drop}
 use lib.Seq.{drop-cons, getD-take, getD-drop}
 use borrow.Author.Tests.{lt-ltb, le-ltb, le-leb, lt-leb, eq-eqb, ne-eqb}
@@ -14,6 +14,8 @@ use Rattle.definitions.specs.Monomial.{Exponents, fits?}
 use Rattle.definitions.specs.Order.{Comparison, greater, equal, smaller, or-at-tie, numbers, exponents-by, greater?}
 use Rattle.definitions.specs.Problem.{Parameters, term-in-range?}
 use Rattle.definitions.specs.Layout.{Words}
+use Rattle.lists.specs.Marking.{Marked, unmarked, marked-at}
+use Rattle.monomial.proofs.Scans.{fits-all, fits-not}
 use Rattle.laws.proofs.Tests.{is-true, and-left, and-right}
 use Rattle.laws.proofs.Comparisons.{Says, numbers-say}
 use Rattle.definitions.specs.Places.{most-exponent, most-elements}
@@ -52,6 +54,19 @@ module _ (q : Parameters) (w : Words) where
       λ i. (le-leb 1 (getD w 1 0) (omega arith) i and le-leb (getD w 1 0) (q .p - 1) (omega arith) i) and between 1 (getD w 2 0) (q .s)
       and fits? most-exponent (take 8 (drop 3 w))
 
+-- ## Degrees
+
+-- a mark for each number above the limit
+pub fits-marked : (n limit : ℕ) (w : Words) (mark : ℕ) → length w ≡ n → Marked (λ k. ltb limit (getD w k 0)) n mark → eqb mark 0 ≡ fits? limit w
+fits-marked n limit w mark l m = go mark m
+  where
+    f : ℕ → Bool
+    f k = ltb limit (getD w k 0)
+
+    go : (mark : ℕ) → Marked f n mark → eqb mark 0 ≡ fits? limit w
+    go zero m = sym (fits-all limit w (λ k h. unmarked f n 0 m refl k (omega arith)))
+    go (suc x) m = let s = marked-at f n (suc x) m (λ e. omega arith) in eqb·suc-zero x ∙ sym (fits-not limit w (s .0) (omega (arith, s .1)) (s .2))
+
 -- ## The sequence of elements
 
 pub begins-pred : (r e : ℕ) → (e ≡ 0 → ⊥) → eqb (e - 1) r ≡ begins? r e
@@ -83,7 +98,7 @@ last-eight w l =
     (drop-cons w 9 0 (omega arith) ∙ ap (λ z. getD w 9 0 ∷ z) (drop-cons w 10 0 (omega arith))))))))))
 
 -- .. each of them at most the limit, where they fit
-fits-at : (limit : ℕ) (e : Exponents) (k : ℕ) → T (fits? limit e) → getD e k 0 ≤ limit
+pub fits-at : (limit : ℕ) (e : Exponents) (k : ℕ) → T (fits? limit e) → getD e k 0 ≤ limit
 fits-at limit [] zero t = omega arith
 fits-at limit [] (suc k) t = omega arith
 fits-at limit (x ∷ e) zero t = leb→le x limit (and-left (leb x limit) (fits? limit e) t)

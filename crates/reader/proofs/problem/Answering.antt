@@ -1,32 +1,44 @@
 -- From the file to the answer: what reading says and leaves. A refused file leaves nothing of itself.
-use mathlib.Core.Path.{_≡_, refl, sym, ap, _∙_}
+use mathlib.Core.Path.{_≡_, refl, sym, ap, _∙_, subst}
 use mathlib.Core.List.{[]}
 use Prim.Native.Nat.{ℕ, _-_, _<_, _≤_}
 use native.Mathlib.Omega.{arith}
 use lib.Dec.{T}
-use lib.ListN.{length, replicate, length-set, length-replicate}
+use lib.ListN.{length, drop, replicate, length-replicate}
 use Rattle.definitions.specs.Limits.{document-01}
 use Rattle.definitions.specs.Monomial.{Vector, Level}
 use Rattle.definitions.specs.Result.{Result, done, refused, unfinished, finished?, _>>=_}
-use Rattle.definitions.specs.Problem.{Bytes, Parameters, lines, body, problem}
+use Rattle.definitions.specs.Problem.{Bytes, Parameters, problem}
+use Rattle.definitions.specs.State.{sound?}
 use Rattle.definitions.specs.Layout.{Words}
-use Rattle.laws.proofs.Tests.{between-low, between-high}
+use Rattle.laws.proofs.Results.{if-done-says}
+use Rattle.laws.proofs.Reading.{basis-state, problem-sound}
 use Rattle.laws.proofs.Numbers.{Numbered, gives, refuses, stops, open-yet, line-number?, problem-number}
 use Rattle.laws.proofs.Finished.{problem-finished}
-use Rattle.definitions.specs.Places.{file-length}
+use Rattle.definitions.specs.Places.{most-components, rows-start, degrees-start, state-length, file-length}
 use Rattle.vectors.specs.terms.Rows.{cleared}
 use Rattle.reader.specs.lines.Steps.{r-first}
-use Rattle.reader.specs.problem.Reading.{words-read, read-as, body-words, problem-words, begun, outcome-as}
+use Rattle.reader.specs.problem.Reading.{laid-level, degrees-alone, state-read, words-laid, read-as, behind-words, problem-words, begun, outcome-as}
+use Rattle.reader.specs.problem.Reading.{Weighable, carrying}
 use Rattle.reader.specs.declared.problem.Outcome.{Outcome}
-use Rattle.reader.proofs.problem.LineByLine.{goes-on-body, too-long, problem-step}
+use Rattle.reader.proofs.problem.LevelWords.{laid-begun, behind-laid}
+use Rattle.reader.proofs.problem.LineByLine.{goes-on-head, too-long, problem-step}
+use Rattle.reader.proofs.problem.DegreesLine.{regraded, degrees-step}
+use Rattle.reader.proofs.problem.Carrying.{read-weighable, carrying-is}
 
--- ## Lengths
+-- ## Zeros, and what is begun over them
 
-pub length-begun : (s : Words) (q : Parameters) → length (begun s q) ≡ length s
-length-begun s q = simp length-set
+module _ (s z : Words) (q : Parameters) (d : Words) (e : s ≡ replicate (length s) 0) (h : state-length ≤ length s) (l : length d ≡ most-components)
+    (b : z ≡ begun s q d) where
+  begun-laid : z ≡ laid-level q [] (degrees-alone (length s) d)
+  begun-laid = b ∙ ap (λ x. begun x q d) e ∙ laid-begun q (length s) d h l
 
-pub begun-zeros : (s z : Words) (q : Parameters) → s ≡ replicate (length s) 0 → z ≡ begun s q → z ≡ begun (replicate (length z) 0) q
-begun-zeros s z q e b = b ∙ ap (λ l. begun l q) (e ∙ ap (λ n. replicate n 0) (sym (ap length b ∙ length-begun s q)))
+  pub begun-behind : drop degrees-start z ≡ degrees-alone (length s) d
+  begun-behind = ap (drop degrees-start) begun-laid
+      ∙ behind-laid q 0 [] [] (degrees-start - rows-start) (degrees-alone (length s) d) (omega arith) (omega arith)
+
+  pub begun-words : z ≡ laid-level q [] (drop degrees-start z)
+  begun-words = begun-laid ∙ ap (laid-level q []) (sym begun-behind)
 
 pub cleared-zeros : (s z : Words) → z ≡ cleared s 0 → z ≡ replicate (length s) 0
 cleared-zeros s z e = let n : length s - 0 ≡ length s = omega arith in e ∙ ap (λ k. replicate k 0) n
@@ -34,26 +46,21 @@ cleared-zeros s z e = let n : length s - 0 ≡ length s = omega arith in e ∙ a
 pub cleared-length : (s z : Words) → z ≡ cleared s 0 → length z ≡ length s
 cleared-length s z e = ap length (cleared-zeros s z e) ∙ length-replicate {A = ℕ} (length s) 0
 
--- ## The first line
+-- ## The head
 
 module _ (size : ℕ) (file : Bytes) where
   abbrev worded : Result (Parameters × Level) → Result Words
-  worded x = x >>= λ f. done (words-read size f)
+  worded x = x >>= λ f. done (words-laid size f)
 
   pub read-too-long : file-length < length file → refused 1 0 [] ≡ problem-words size file
   read-too-long h = sym (ap worded (too-long file h))
 
   pub read-barred : (number : ℕ) → length file ≤ file-length → r-first file ≡ refused number 1 [] → refused number 1 [] ≡ problem-words size file
-  read-barred number h e = sym (ap worded (problem-step file h ∙ ap (λ x. x >>= goes-on-body) e))
+  read-barred number h e = sym (ap worded (problem-step file h ∙ ap (λ x. x >>= goes-on-head) e))
 
-  pub read-on : (q : Parameters) (rest : Bytes) → length file ≤ file-length → r-first file ≡ done (q, rest) → body-words size q rest
-      ≡ problem-words size file
-  read-on q rest h e = sym (ap worded (problem-step file h ∙ ap (λ x. x >>= goes-on-body) e) ∙ go (body document-01 q 2 0 [] (lines rest)))
-    where
-      go : (x : Result Level) → worded (x >>= λ f. done (q, f)) ≡ (x >>= λ f. done (words-read size (q, f)))
-      go (done f) = refl
-      go (refused number place value) = refl
-      go unfinished = refl
+  pub read-on : (q : Parameters) (rest : Bytes) → length file ≤ file-length → r-first file ≡ done (q, rest) → q .s ≤ most-components
+      → regraded q (replicate (q .s) 0) ≡ q → behind-words size q rest ≡ problem-words size file
+  read-on q rest h e few zeros = sym (ap worded (problem-step file h ∙ ap (λ x. x >>= goes-on-head) e) ∙ degrees-step size q few zeros rest)
 
 -- ## The answer
 
@@ -61,14 +68,30 @@ pub outcome-is : (s : Words) {r r′ : Outcome} → r ≡ r′ → outcome-as r 
 outcome-is s e = ap (λ (x : Outcome). outcome-as x s) e
 
 module _ (size : ℕ) where
-  pub answer-done : (x : Result (Parameters × Level)) (s : Words) → done s ≡ (x >>= λ f. done (words-read size f))
-      → _≡_ {A = ℕ × ℕ × Words} (0, 0, s) (read-as size x)
-  answer-done (done f) s e = let w : s ≡ words-read size f = cc in λ i. (0, 0, w i)
-  answer-done (refused number place value) s e = let z : _≡_ {A = ℕ} 0 1 = cc in absurd (omega arith)
-  answer-done unfinished s e = let z : _≡_ {A = ℕ} 0 1 = cc in absurd (omega arith)
+  -- the file that was read
+  pub read-done : (x : Result (Parameters × Level)) (z : Words) → done z ≡ (x >>= λ f. done (words-laid size f))
+      → (f : Parameters × Level) × (x ≡ done f) × (z ≡ words-laid size f)
+  read-done (done f) z e = let w : z ≡ words-laid size f = cc in (f, refl, w)
+  read-done (refused number place value) z e = let y : _≡_ {A = ℕ} 0 1 = cc in absurd (omega arith)
+  read-done unfinished z e = let y : _≡_ {A = ℕ} 0 1 = cc in absurd (omega arith)
+
+  module _ (h : state-length ≤ size) (file : Bytes) (z : Words) (e : done z ≡ problem-words size file) where
+    got : (f : Parameters × Level) × (problem document-01 file ≡ done f) × (z ≡ words-laid size f)
+    got = read-done (problem document-01 file) z e
+
+    sound : T (sound? document-01 (state-read (got .0)))
+    sound = if-done-says (λ (f : Parameters × Level). T (sound? document-01 (basis-state f))) (problem document-01 file)
+        (problem-sound document-01 (omega arith) file) (got .0) (got .1)
+
+    pub answer-weighable : Weighable z
+    answer-weighable = subst Weighable (sym (got .2)) (read-weighable size (got .0 .0) (got .0 .1) h sound)
+
+    pub answer-done : (s : Words) → s ≡ carrying z → _≡_ {A = ℕ × ℕ × Words} (0, 0, s) (read-as size (problem document-01 file))
+    answer-done s c =
+        (λ i. (0, 0, (c ∙ ap carrying (got .2) ∙ carrying-is size (got .0 .0) (got .0 .1) h sound) i)) ∙ sym (ap (read-as size) (got .1))
 
   pub answer-refused : (x : Result (Parameters × Level)) (number place : ℕ) (s : Words) → s ≡ replicate size 0 → refused number place []
-      ≡ (x >>= λ f. done (words-read size f))
+      ≡ (x >>= λ f. done (words-laid size f))
       → _≡_ {A = ℕ × ℕ × Words} (number, place, s) (read-as size x)
   answer-refused (done f) number place s z e = let y : _≡_ {A = ℕ} 0 1 = cc in absurd (omega arith)
   answer-refused (refused number′ place′ value) number place s z e = let a : number ≡ number′ = cc in let b : place
@@ -91,23 +114,17 @@ module _ (size : ℕ) where
       go (refused number place value) n = refl
       go unfinished n = refl
 
-  -- ## What the number says: 0 that the file is read, 1 to 8 its refusal
+  -- ## What the number says: 0 that the file is read, 1 to 8 or 18 its refusal
 
   pub zero-is-read : (file : Bytes) → (read-as size (problem document-01 file)) .0 ≡ 0 → (f : Parameters × Level) × (problem document-01 file ≡ done f)
   zero-is-read file z = go (problem-number document-01 file) (problem-finished document-01 file) z
     where
+      none-zero : T (line-number? 0) → ⊥
+      none-zero t = t
+
       go : {x : Result (Parameters × Level)} → Numbered line-number? x → T (finished? x) → (read-as size x) .0 ≡ 0 → (f : Parameters × Level)
           × (x ≡ done f)
       go (gives {a}) t e = (a, refl)
-      go (refuses {number} h) t e = let l : 1 ≤ number = between-low 1 number 8 h in absurd (omega arith)
+      go (refuses {number} h) t e = absurd (none-zero (subst (λ n. T (line-number? n)) e h))
       go (stops h) t e = absurd h
       go open-yet t e = absurd t
-
-  pub at-most-eight : (file : Bytes) → (read-as size (problem document-01 file)) .0 ≤ 8
-  at-most-eight file = go (problem-number document-01 file)
-    where
-      go : {x : Result (Parameters × Level)} → Numbered line-number? x → (read-as size x) .0 ≤ 8
-      go (gives {a}) = omega arith
-      go (refuses {number} h) = between-high 1 number 8 h
-      go (stops h) = absurd h
-      go open-yet = omega arith

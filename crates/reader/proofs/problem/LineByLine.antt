@@ -6,8 +6,8 @@ use mathlib.Core.List.{[], _∷_, _++_}
 use Prim.Native.Nat.{ℕ, zero, suc, _+_, _-_, _<_, _≤_}
 use native.Mathlib.Omega.{arith}
 use native.Mathlib.Decide.{ℕ-discrete}
-use lib.Dec.{leb, ltb, eqb, eqb·suc-zero}
-use lib.ListN.{length, getD, take, drop, replicate, length-drop}
+use lib.Dec.{T, leb, ltb, eqb, eqb·suc-zero}
+use lib.ListN.{length, getD, take, drop, replicate, length-drop, length-replicate, replicate-append-replicate}
 use lib.Seq.{drop-append-le, take-append-add}
 use borrow.Author.Tests.{le-leb, lt-leb, eq-eqb, ne-eqb}
 use Rattle.definitions.specs.Limits.{document-01}
@@ -15,7 +15,7 @@ use Rattle.definitions.specs.Lists.{_and_, _then_, last, empty?, between}
 use Rattle.definitions.specs.Monomial.{Term, Level, fits?}
 use Rattle.definitions.specs.Result.{Result, done, refused, unless-refused, _>>=_}
 use Rattle.definitions.specs.Problem.{Bytes, Line, Parameters, lines, shaped, prime-in-range?, in-ranges?, parameters-of, r-line, term-of, term-in-range?}
-use Rattle.definitions.specs.Problem.{below?, last-term, with-term, t-line, e-line, by-shape, body, after-r, first-line, problem}
+use Rattle.definitions.specs.Problem.{below?, last-term, with-term, t-line, e-line, by-shape, body, Head, head-of, d-first, after-r, first-line, problem}
 use Rattle.definitions.specs.Layout.{Words, padded}
 use Rattle.laws.proofs.Tests.{true-is, is-true, and-left, and-right, between-high}
 use Rattle.laws.proofs.Results.{If-done, If-some}
@@ -57,7 +57,31 @@ term-padded n v h l = λ i. (sym (getD-padded v 1) i, (exponents i, sym (getD-pa
         ∙ take-append-add (drop 3 v) (replicate (16 - length v) 0) (8 - n) ∙ ap (λ z. drop 3 v ++ z) (take-zeros (8 - n) (16 - length v) (omega arith)))
 
 parameters-padded : (v : Words) → parameters-of (padded 16 v) ≡ parameters-of v
-parameters-padded v = λ i. record { p = getD-padded v 0 i; n = getD-padded v 1 i; code = getD-padded v 2 i; s = getD-padded v 3 i }
+parameters-padded v = λ i. record {
+  p = getD-padded v 0 i;
+  n = getD-padded v 1 i;
+  code = getD-padded v 2 i;
+  s = getD-padded v 3 i;
+  degrees = replicate (getD-padded v 3 i) 0;
+}
+
+fits-zeros : (limit k : ℕ) → fits? limit (replicate k 0) ≡ true
+fits-zeros limit zero = refl
+fits-zeros limit (suc k) = λ i. le-leb 0 limit (omega arith) i and fits-zeros limit k i
+
+-- zeros fit
+pub fits-padded : (limit n : ℕ) (v : Words) → fits? limit (padded n v) ≡ fits? limit v
+fits-padded limit n v = go (n - length v) v
+  where
+    go : (k : ℕ) (v : Words) → fits? limit (v ++ replicate k 0) ≡ fits? limit v
+    go k [] = fits-zeros limit k
+    go k (x ∷ v) = ap (λ t. leb x limit and t) (go k v)
+
+-- zeros behind zeros
+pub zeros-padded : (n k : ℕ) → k ≤ n → padded n (replicate k 0) ≡ replicate n 0
+zeros-padded n k h =
+    let l : k + (n - length (replicate {A = ℕ} k 0)) ≡ n = omega (arith, length-replicate {A = ℕ} k 0) in
+    replicate-append-replicate k (n - length (replicate {A = ℕ} k 0)) 0 ∙ ap (λ m. replicate m 0) l
 
 -- ## Tests in a row, and the number of the first that fails
 
@@ -92,7 +116,7 @@ empty-is : (f : Level) → empty? f ≡ eqb (length f) 0
 empty-is [] = refl
 empty-is (v ∷ f) = sym (eqb·suc-zero (length f))
 
-module _ (q : Parameters) (few : q .n ≤ 8) (count : ℕ) (f : Level) (r : ℕ) (before : Words) (held : Held f r before) where
+module _ (q : Parameters) (few : q .n ≤ 8) (count : ℕ) (f : Level) (r : ℕ) (before : Words) (held : Held f r before) (place : ℕ) where
   -- the level with the term of a line
   abbrev more : Words → Level
   more w = with-term (begins? r (getD w 0 0)) f (term-in w)
@@ -106,10 +130,10 @@ module _ (q : Parameters) (few : q .n ≤ 8) (count : ℕ) (f : Level) (r : ℕ)
       go true h = refl
       go false h = ap (λ o. below? (q .code) o (term-in w)) (held .last-one (h .1 refl .1))
 
-  t-line-judged : (place : ℕ) (v : Words) → length v ≡ 3 + q .n
+  t-line-judged : (v : Words) → length v ≡ 3 + q .n
       → t-line document-01 q place count f v ≡ judged (t-number q count r before (padded 16 v)) place (more (padded 16 v))
   unfolding guarded
-  t-line-judged place v l =
+  t-line-judged v l =
       (λ i. guarded (ltb count most-rows) ((eqb (first i) (suc (held .elements i)) || (eqb (first i) (held .elements i) and not (none-yet i)))
       and leb (first i) most-elements)
       (term-in-range? document-01 q (term i)) (eqb (first i) (suc (held .elements i)) || below? (q .code) (last-term (last f)) (term i)) place
@@ -132,12 +156,12 @@ module _ (q : Parameters) (few : q .n ≤ 8) (count : ℕ) (f : Level) (r : ℕ)
       none-yet : empty? f ≡ eqb r 0
       none-yet = empty-is f ∙ ap (λ n. eqb n 0) (held .elements)
 
-  -- ## The lines after R's
+  -- ## The lines behind the head
 
   -- how the definitions go on behind a line
   abbrev pub goes-on : Said → Result Level
   goes-on none = done f
-  goes-on (some line) = body document-01 q (count + 3) (suc count) (with-term (begins? r (getD (line .0) 0 0)) f (term-in (line .0))) (lines (line .1))
+  goes-on (some line) = body document-01 q (place + 1) (suc count) (with-term (begins? r (getD (line .0) 0 0)) f (term-in (line .0))) (lines (line .1))
 
   abbrev paired : Bytes → Option Words → Option (Words × Bytes)
   paired rest o = o then λ v. some (v, rest)
@@ -148,36 +172,36 @@ module _ (q : Parameters) (few : q .n ≤ 8) (count : ℕ) (f : Level) (r : ℕ)
 
   -- a T line that has the shape
   term-step : (v : Words) (rest : Bytes) → length v ≡ 3 + q .n
-      → (t-line document-01 q (count + 2) count f v >>= λ grown. body document-01 q (suc (count + 2)) (suc count) grown (lines rest))
-      ≡ (t-judged q count r before (padded 16 v, rest) >>= goes-on)
-  term-step v rest l = ap (λ x. x >>= λ grown. body document-01 q (suc (count + 2)) (suc count) grown (lines rest)) (t-line-judged (count + 2) v l)
+      → (t-line document-01 q place count f v >>= λ grown. body document-01 q (suc place) (suc count) grown (lines rest))
+      ≡ (t-judged q place count r before (padded 16 v, rest) >>= goes-on)
+  term-step v rest l = ap (λ x. x >>= λ grown. body document-01 q (suc place) (suc count) grown (lines rest)) (t-line-judged v l)
       ∙ go (t-number q count r before (padded 16 v))
     where
-      next : suc (count + 2) ≡ count + 3
+      next : suc place ≡ place + 1
       next = omega arith
 
-      go : (number : ℕ) → (judged number (count + 2) (more (padded 16 v))
-          >>= λ grown. body document-01 q (suc (count + 2)) (suc count) grown (lines rest))
-          ≡ (judged {A = Said} number (count + 2) (some (padded 16 v, rest)) >>= goes-on)
+      go : (number : ℕ) → (judged number place (more (padded 16 v))
+          >>= λ grown. body document-01 q (suc place) (suc count) grown (lines rest))
+          ≡ (judged {A = Said} number place (some (padded 16 v, rest)) >>= goes-on)
       go zero = ap (λ place. body document-01 q place (suc count) (more (padded 16 v)) (lines rest)) next
       go (suc number) = refl
 
   -- an E line that has the shape
-  end-step : (v : Words) (rest : Bytes) → e-line (count + 2) count (lines rest) f (some v) ≡ (e-judged count (padded 16 v, rest) >>= goes-on)
+  end-step : (v : Words) (rest : Bytes) → e-line place count (lines rest) f (some v) ≡ (e-judged place count (padded 16 v, rest) >>= goes-on)
   end-step v rest =
       (λ i. ends (not (eqb (sym (getD-padded v 0) i) 0) and eqb (sym (getD-padded v 0) i) count) (lines-none rest i) (next i))
       ∙ go (not (eqb (getD (padded 16 v) 0 0) 0) and eqb (getD (padded 16 v) 0 0) count) (empty? rest)
     where
-      next : suc (count + 2) ≡ count + 3
+      next : suc place ≡ place + 1
       next = omega arith
 
       ends : Bool → Bool → ℕ → Result Level
-      ends t u place = unless-refused t 7 (count + 2) >>= λ u₁. unless-refused u 1 place >>= λ u₂. done f
+      ends t u after = unless-refused t 7 place >>= λ u₁. unless-refused u 1 after >>= λ u₂. done f
 
       said : Bool → Bool → Result Said
-      said t u = unless-refused t 7 (count + 2) >>= λ u₁. unless-refused u 1 (count + 3) >>= λ u₂. done none
+      said t u = unless-refused t 7 place >>= λ u₁. unless-refused u 1 (place + 1) >>= λ u₂. done none
 
-      go : (t u : Bool) → ends t u (count + 3) ≡ (said t u >>= goes-on)
+      go : (t u : Bool) → ends t u (place + 1) ≡ (said t u >>= goes-on)
       go false u = refl
       go true false = refl
       go true true = refl
@@ -191,51 +215,51 @@ module _ (q : Parameters) (few : q .n ≤ 8) (count : ℕ) (f : Level) (r : ℕ)
     other letter n h d = unpaired (behind (b ∷ bytes)) (shaped 65535 letter n line) (sym (first letter n) ∙ letter-differs 65535 letter n h b bytes d)
 
     abbrev stepped : Option Words → Result Level
-    stepped o = by-shape o document-01 q (count + 2) count f line (lines (behind (b ∷ bytes)))
-        (λ grown. body document-01 q (suc (count + 2)) (suc count) grown (lines (behind (b ∷ bytes))))
+    stepped o = by-shape o document-01 q place count f line (lines (behind (b ∷ bytes)))
+        (λ grown. body document-01 q (suc place) (suc count) grown (lines (behind (b ∷ bytes))))
 
     abbrev decided : Bool → Bool → Result Level
-    decided t u = by-letter t u (t-first q count r before (b ∷ bytes)) (e-first count (b ∷ bytes)) (refused 1 (count + 2) []) >>= goes-on
+    decided t u = by-letter t u (t-first q place count r before (b ∷ bytes)) (e-first place count (b ∷ bytes)) (refused 1 place []) >>= goes-on
 
-    refused-here : shaped 65535 69 1 line ≡ none → stepped none ≡ refused 1 (count + 2) []
-    refused-here d = ap (e-line (count + 2) count (lines (behind (b ∷ bytes))) f) d
+    refused-here : shaped 65535 69 1 line ≡ none → stepped none ≡ refused 1 place []
+    refused-here d = ap (e-line place count (lines (behind (b ∷ bytes))) f) d
 
-    on-T : b ≡ 84 → stepped (shaped 65535 84 (3 + q .n) line) ≡ (t-first q count r before (b ∷ bytes) >>= goes-on)
+    on-T : b ≡ 84 → stepped (shaped 65535 84 (3 + q .n) line) ≡ (t-first q place count r before (b ∷ bytes) >>= goes-on)
     on-T t =
         go (shaped 65535 84 (3 + q .n) line) (subst (If-some (λ (p : Words × Bytes). length (p .0) ≡ 3 + q .n)) (first 84 (3 + q .n))
         (shaped-count 65535 84 (3 + q .n) (omega arith) (b ∷ bytes)))
-        ∙ ap (λ o. with-shape (in-sixteen o) (count + 2) (t-judged q count r before) >>= goes-on) (sym (first 84 (3 + q .n)))
+        ∙ ap (λ o. with-shape (in-sixteen o) place (t-judged q place count r before) >>= goes-on) (sym (first 84 (3 + q .n)))
       where
         go : (o : Option Words) → If-some (λ (p : Words × Bytes). length (p .0) ≡ 3 + q .n) (paired (behind (b ∷ bytes)) o)
-            → stepped o ≡ (with-shape (in-sixteen (paired (behind (b ∷ bytes)) o)) (count + 2) (t-judged q count r before) >>= goes-on)
+            → stepped o ≡ (with-shape (in-sixteen (paired (behind (b ∷ bytes)) o)) place (t-judged q place count r before) >>= goes-on)
         go none l = refused-here (other 69 1 (omega arith) (λ d. omega arith))
         go (some v) l = term-step v (behind (b ∷ bytes)) l
 
-    on-E : (b ≡ 84 → ⊥) → stepped (shaped 65535 84 (3 + q .n) line) ≡ (e-first count (b ∷ bytes) >>= goes-on)
+    on-E : (b ≡ 84 → ⊥) → stepped (shaped 65535 84 (3 + q .n) line) ≡ (e-first place count (b ∷ bytes) >>= goes-on)
     on-E t =
         ap stepped (other 84 (3 + q .n) (omega arith) t) ∙ go (shaped 65535 69 1 line)
-        ∙ ap (λ o. with-shape (in-sixteen o) (count + 2) (e-judged count) >>= goes-on) (sym (first 69 1))
+        ∙ ap (λ o. with-shape (in-sixteen o) place (e-judged place count) >>= goes-on) (sym (first 69 1))
       where
-        go : (o : Option Words) → e-line (count + 2) count (lines (behind (b ∷ bytes))) f o
-            ≡ (with-shape (in-sixteen (paired (behind (b ∷ bytes)) o)) (count + 2) (e-judged count) >>= goes-on)
+        go : (o : Option Words) → e-line place count (lines (behind (b ∷ bytes))) f o
+            ≡ (with-shape (in-sixteen (paired (behind (b ∷ bytes)) o)) place (e-judged place count) >>= goes-on)
         go none = refl
         go (some v) = end-step v (behind (b ∷ bytes))
 
-    on-none : (b ≡ 84 → ⊥) → (b ≡ 69 → ⊥) → stepped (shaped 65535 84 (3 + q .n) line) ≡ refused 1 (count + 2) []
+    on-none : (b ≡ 84 → ⊥) → (b ≡ 69 → ⊥) → stepped (shaped 65535 84 (3 + q .n) line) ≡ refused 1 place []
     on-none t d = ap stepped (other 84 (3 + q .n) (omega arith) t) ∙ refused-here (other 69 1 (omega arith) d)
 
-    by-byte : Dec (b ≡ 84) → Dec (b ≡ 69) → stepped (shaped 65535 84 (3 + q .n) line) ≡ (line-first q count r before (b ∷ bytes) >>= goes-on)
+    by-byte : Dec (b ≡ 84) → Dec (b ≡ 69) → stepped (shaped 65535 84 (3 + q .n) line) ≡ (line-first q place count r before (b ∷ bytes) >>= goes-on)
     by-byte (yes t) d = on-T t ∙ sym (λ i. decided (eq-eqb b 84 t i) (eqb b 69))
     by-byte (no t) (yes d) = on-E t ∙ sym (λ i. decided (ne-eqb b 84 t i) (eq-eqb b 69 d i))
     by-byte (no t) (no d) = on-none t d ∙ sym (λ i. decided (ne-eqb b 84 t i) (ne-eqb b 69 d i))
 
-  pub body-step : (bytes : Bytes) → body document-01 q (count + 2) count f (lines bytes) ≡ (line-first q count r before bytes >>= goes-on)
+  pub body-step : (bytes : Bytes) → body document-01 q place count f (lines bytes) ≡ (line-first q place count r before bytes >>= goes-on)
   body-step [] = refl
   body-step (b ∷ bytes) = parted (first-of b bytes)
     where
-      parted : (line : Line) × (lines (b ∷ bytes) ≡ line ∷ lines (behind (b ∷ bytes))) → body document-01 q (count + 2) count f (lines (b ∷ bytes))
-          ≡ (line-first q count r before (b ∷ bytes) >>= goes-on)
-      parted (line, e) = ap (body document-01 q (count + 2) count f) e ∙ by-byte b bytes line e (ℕ-discrete b 84) (ℕ-discrete b 69)
+      parted : (line : Line) × (lines (b ∷ bytes) ≡ line ∷ lines (behind (b ∷ bytes))) → body document-01 q place count f (lines (b ∷ bytes))
+          ≡ (line-first q place count r before (b ∷ bytes) >>= goes-on)
+      parted (line, e) = ap (body document-01 q place count f) e ∙ by-byte b bytes line e (ℕ-discrete b 84) (ℕ-discrete b 69)
 
 -- ## What a term that is taken has passed
 
@@ -249,101 +273,118 @@ fits-in-range q t e =
     true-is (fits? most-exponent (t .1 .0)) (and-right (between 1 (t .1 .1) (q .s)) (fits? most-exponent (t .1 .0))
     (and-right (between 1 (t .0) (q .p - 1)) (between 1 (t .1 .1) (q .s) and fits? most-exponent (t .1 .0)) (is-true e)))
 
-module _ (q : Parameters) (count r : ℕ) (before : Words) where
-  judged-passed : (line : Words × Bytes) → If-done (Passed count r) (t-judged q count r before line)
+module _ (q : Parameters) (place count r : ℕ) (before : Words) where
+  judged-passed : (line : Words × Bytes) → If-done (Passed count r) (t-judged q place count r before line)
   judged-passed line =
       go (ltb count most-rows) refl (follows? r (getD (line .0) 0 0)) refl (term-in-range? document-01 q (term-in (line .0))) refl
       (unless (descends? (q .code) r before (line .0)) 6 0)
     where
       go : (a : Bool) → ltb count most-rows ≡ a → (b : Bool) → follows? r (getD (line .0) 0 0) ≡ b → (c : Bool)
           → term-in-range? document-01 q (term-in (line .0)) ≡ c → (n : ℕ)
-          → If-done (Passed count r) (judged (unless a 8 (unless b 5 (unless c 4 n))) (count + 2) (some line))
+          → If-done (Passed count r) (judged (unless a 8 (unless b 5 (unless c 4 n))) place (some line))
       go false e b k c t n = tt
       go true e false k c t n = tt
       go true e true k false t n = tt
       go true e true k true t zero = (e, k, fits-in-range q (term-in (line .0)) t)
       go true e true k true t (suc n) = tt
 
-  shape-passed : (o : Option (Words × Bytes)) → If-done (Passed count r) (with-shape o (count + 2) (t-judged q count r before))
+  shape-passed : (o : Option (Words × Bytes)) → If-done (Passed count r) (with-shape o place (t-judged q place count r before))
   shape-passed none = tt
   shape-passed (some line) = judged-passed line
 
-  end-passed : (o : Option (Words × Bytes)) → If-done (Passed count r) (with-shape o (count + 2) (e-judged count))
+  end-passed : (o : Option (Words × Bytes)) → If-done (Passed count r) (with-shape o place (e-judged place count))
   end-passed none = tt
   end-passed (some line) = go (not (eqb (getD (line .0) 0 0) 0) and eqb (getD (line .0) 0 0) count) (empty? (line .1))
     where
-      go : (t u : Bool) → If-done (Passed count r) (unless-refused t 7 (count + 2) >>= λ u₁. unless-refused u 1 (count + 3) >>= λ u₂. done none)
+      go : (t u : Bool) → If-done (Passed count r) (unless-refused t 7 place >>= λ u₁. unless-refused u 1 (place + 1) >>= λ u₂. done none)
       go false u = tt
       go true false = tt
       go true true = tt
 
-  pub line-passed : (bytes : Bytes) → If-done (Passed count r) (line-first q count r before bytes)
+  pub line-passed : (bytes : Bytes) → If-done (Passed count r) (line-first q place count r before bytes)
   line-passed [] = tt
   line-passed (b ∷ bytes) = go (eqb b 84) (eqb b 69)
     where
-      go : (t e : Bool) → If-done (Passed count r) (by-letter t e (t-first q count r before (b ∷ bytes)) (e-first count (b ∷ bytes))
-          (refused 1 (count + 2) []))
+      go : (t e : Bool) → If-done (Passed count r) (by-letter t e (t-first q place count r before (b ∷ bytes)) (e-first place count (b ∷ bytes))
+          (refused 1 place []))
       go true e = shape-passed (in-sixteen (shaped-first 65535 84 (3 + q .n) (b ∷ bytes)))
       go false true = end-passed (in-sixteen (shaped-first 65535 69 1 (b ∷ bytes)))
       go false false = tt
 
 -- ## The R line
 
--- how the definitions go on behind it
-abbrev pub goes-on-body : Parameters × Bytes → Result (Parameters × Level)
-goes-on-body a = body document-01 (a .0) 2 0 [] (lines (a .1)) >>= λ f. done (a .0, f)
+-- what the definitions read from the lines behind it, and behind the head
+abbrev pub read-from : Head → Result (Parameters × Level)
+read-from h = body document-01 (h .parameters) (h .place) 0 [] (h .later) >>= λ f. done (h .parameters, f)
+
+abbrev pub goes-on-head : Parameters × Bytes → Result (Parameters × Level)
+goes-on-head a = d-first document-01 (head-of (a .0) (lines (a .1))) (lines (a .1)) >>= read-from
 
 -- the tests in a row
 r-guarded : Bool → Bool → Parameters → Result Parameters
 r-guarded a b q = unless-refused a 2 1 >>= λ u. unless-refused b 3 1 >>= λ u′. done q
 
-r-step : (v : Words) (rest : Bytes) → (r-line document-01 v >>= λ q. body document-01 q 2 0 [] (lines rest) >>= λ f. done (q, f))
-    ≡ (r-judged (padded 16 v, rest) >>= goes-on-body)
+r-step : (v : Words) (rest : Bytes)
+    → ((r-line document-01 v >>= λ q. d-first document-01 (head-of q (lines rest)) (lines rest)) >>= read-from)
+    ≡ (r-judged (padded 16 v, rest) >>= goes-on-head)
 unfolding r-guarded
 r-step v rest =
-    ap (λ (q : Parameters). r-guarded (prime-in-range? document-01 (q .p)) (in-ranges? document-01 q) q >>= λ q. body document-01 q 2 0 [] (lines rest)
-    >>= λ f. done (q, f)) (sym (parameters-padded v))
+    ap (λ (q : Parameters). (r-guarded (prime-in-range? document-01 (q .p)) (in-ranges? document-01 q) q
+    >>= λ q. d-first document-01 (head-of q (lines rest)) (lines rest)) >>= read-from) (sym (parameters-padded v))
     ∙ go (parameters-of (padded 16 v)) (prime-in-range? document-01 (getD (padded 16 v) 0 0)) (in-ranges? document-01 (parameters-of (padded 16 v)))
   where
-    go : (q : Parameters) (a b : Bool) → (r-guarded a b q >>= λ q. body document-01 q 2 0 [] (lines rest) >>= λ f. done (q, f))
-        ≡ (judged (unless a 2 (unless b 3 0)) 1 (q, rest) >>= goes-on-body)
+    go : (q : Parameters) (a b : Bool) → ((r-guarded a b q >>= λ q. d-first document-01 (head-of q (lines rest)) (lines rest)) >>= read-from)
+        ≡ (judged (unless a 2 (unless b 3 0)) 1 (q, rest) >>= goes-on-head)
     go q false b = refl
     go q true false = refl
     go q true true = refl
 
-pub first-step : (file : Bytes) → first-line document-01 (lines file) ≡ (r-first file >>= goes-on-body)
+pub first-step : (file : Bytes) → (first-line document-01 (lines file) >>= read-from) ≡ (r-first file >>= goes-on-head)
 first-step [] = refl
 first-step (b ∷ bytes) = parted (first-of b bytes)
   where
-    parted : (line : Line) × (lines (b ∷ bytes) ≡ line ∷ lines (behind (b ∷ bytes))) → first-line document-01 (lines (b ∷ bytes))
-        ≡ (r-first (b ∷ bytes) >>= goes-on-body)
+    parted : (line : Line) × (lines (b ∷ bytes) ≡ line ∷ lines (behind (b ∷ bytes))) → (first-line document-01 (lines (b ∷ bytes)) >>= read-from)
+        ≡ (r-first (b ∷ bytes) >>= goes-on-head)
     parted (line, e) =
-        ap (first-line document-01) e ∙ go (shaped 65535 82 4 line)
-        ∙ ap (λ ls. with-shape (in-sixteen (shaped-of 65535 82 4 ls then λ v. some (v, behind (b ∷ bytes)))) 1 r-judged >>= goes-on-body) (sym e)
+        ap (λ ls. first-line document-01 ls >>= read-from) e ∙ go (shaped 65535 82 4 line)
+        ∙ ap (λ ls. with-shape (in-sixteen (shaped-of 65535 82 4 ls then λ v. some (v, behind (b ∷ bytes)))) 1 r-judged >>= goes-on-head) (sym e)
       where
-        go : (o : Option Words) → after-r document-01 (lines (behind (b ∷ bytes))) o
-            ≡ (with-shape (in-sixteen (o then λ v. some (v, behind (b ∷ bytes)))) 1 r-judged >>= goes-on-body)
+        go : (o : Option Words) → (after-r document-01 (lines (behind (b ∷ bytes))) o >>= read-from)
+            ≡ (with-shape (in-sixteen (o then λ v. some (v, behind (b ∷ bytes)))) 1 r-judged >>= goes-on-head)
         go none = refl
         go (some v) = r-step v (behind (b ∷ bytes))
 
 pub too-long : (file : Bytes) → file-length < length file → problem document-01 file ≡ refused 1 0 []
-too-long file h = λ i. unless-refused (lt-leb (length file) file-length h i) 1 0 >>= λ u. first-line document-01 (lines file)
+too-long file h = λ i. (unless-refused (lt-leb (length file) file-length h i) 1 0 >>= λ u. first-line document-01 (lines file)) >>= read-from
 
-pub problem-step : (file : Bytes) → length file ≤ file-length → problem document-01 file ≡ (r-first file >>= goes-on-body)
-problem-step file h = (λ i. unless-refused (le-leb (length file) file-length h i) 1 0 >>= λ u. first-line document-01 (lines file)) ∙ first-step file
+pub problem-step : (file : Bytes) → length file ≤ file-length → problem document-01 file ≡ (r-first file >>= goes-on-head)
+problem-step file h =
+    (λ i. (unless-refused (le-leb (length file) file-length h i) 1 0 >>= λ u. first-line document-01 (lines file)) >>= read-from) ∙ first-step file
 
--- n is in range in what the R line says
-pub few-variables : (file : Bytes) → If-done (λ (a : Parameters × Bytes). a .0 .n ≤ 8) (r-first file)
-few-variables file = shape (in-sixteen (shaped-first 65535 82 4 file))
+-- what the R line says is in range
+pub record Ranged (q : Parameters) : Type 0 where
+  pub variables : q .n ≤ most-variables
+  pub components : q .s ≤ most-components
+
+ranged : (q : Parameters) → T (in-ranges? document-01 q) → Ranged q
+ranged q t =
+    let u = and-right (between 1 (q .n) most-variables) (between 1 (q .code) 3 and between 1 (q .s) most-components) t in
+    record {
+      variables = between-high 1 (q .n) most-variables (and-left (between 1 (q .n) most-variables)
+          (between 1 (q .code) 3 and between 1 (q .s) most-components) t);
+      components = between-high 1 (q .s) most-components (and-right (between 1 (q .code) 3) (between 1 (q .s) most-components) u);
+    }
+
+pub first-ranged : (file : Bytes) → If-done (λ (a : Parameters × Bytes). Ranged (a .0)) (r-first file)
+first-ranged file = shape (in-sixteen (shaped-first 65535 82 4 file))
   where
     judge : (q : Parameters) (rest : Bytes) (a b : Bool) → in-ranges? document-01 q ≡ b
-        → If-done (λ (a : Parameters × Bytes). a .0 .n ≤ 8) (judged (unless a 2 (unless b 3 0)) 1 (q, rest))
+        → If-done (λ (a : Parameters × Bytes). Ranged (a .0)) (judged (unless a 2 (unless b 3 0)) 1 (q, rest))
     judge q rest false b e = tt
     judge q rest true false e = tt
-    judge q rest true true e = between-high 1 (q .n) most-variables (and-left (between 1 (q .n) most-variables)
-        (between 1 (q .code) 3 and between 1 (q .s) most-components) (is-true e))
+    judge q rest true true e = ranged q (is-true e)
 
-    shape : (o : Option (Words × Bytes)) → If-done (λ (a : Parameters × Bytes). a .0 .n ≤ 8) (with-shape o 1 r-judged)
+    shape : (o : Option (Words × Bytes)) → If-done (λ (a : Parameters × Bytes). Ranged (a .0)) (with-shape o 1 r-judged)
     shape none = tt
     shape (some line) = judge (parameters-of (line .0)) (line .1) (prime-in-range? document-01 (getD (line .0) 0 0))
         (in-ranges? document-01 (parameters-of (line .0))) refl

@@ -4,7 +4,7 @@ use mathlib.Core.Bool.{Bool, true, false}
 use Prim.Native.Nat.{ℕ, zero, suc, _-_, _<_, _≤_}
 use native.Mathlib.Omega.{arith}
 use native.Mathlib.Decide.{ℕ-discrete}
-use lib.Dec.{T, leb}
+use lib.Dec.{T}
 use lib.ListN.{length, getD, drop}
 use lib.Seq.{drop-nil}
 use Rattle.definitions.specs.Limits.{document-01}
@@ -13,8 +13,9 @@ use Rattle.definitions.specs.Order.{compare-over}
 use Rattle.definitions.specs.Stage.{highest}
 use Rattle.definitions.specs.State.{State, empty, sound?, up-to}
 use Rattle.definitions.specs.Layout.{Words, level-at, levels-at, decode, words-sound?, all-words-sound?, holds-state?, meant}
-use Rattle.laws.proofs.Tests.{and-left, and-right}
-use Rattle.definitions.specs.Places.{all-levels, state-length}
+use Rattle.laws.proofs.Tests.{and-right}
+use Rattle.definitions.specs.Places.{state-length}
+use Rattle.laws.proofs.Degrees.{holds-says}
 use Rattle.orders.specs.Images.{table-of, table-order}
 use Rattle.orders.proofs.Induced.{All-led, no-levels, table-order-is, sound-led}
 use Rattle.state.specs.soundness.Places.{parameters-at, count-at, count-below}
@@ -54,9 +55,7 @@ meant-is s t = go (holds-state? document-01 s) t
     go false t = absurd t
 
 pub holds-sound : (s : Words) → T (holds-state? document-01 s) → T (sound? document-01 (decode document-01 s))
-holds-sound s t =
-    and-right (all-words-sound? document-01 s (getD s 4 0)) (sound? document-01 (decode document-01 s))
-    (and-right (leb (getD s 4 0) all-levels) (all-words-sound? document-01 s (getD s 4 0) and sound? document-01 (decode document-01 s)) t)
+holds-sound s t = holds-says document-01 s t .sound
 
 module _ (s : Words) (long : state-length ≤ length s) (t : T (holds-state? document-01 s)) where
   -- how many vectors a complete level has
@@ -66,9 +65,7 @@ module _ (s : Words) (long : state-length ≤ length s) (t : T (holds-state? doc
   -- the words of the levels below level k
   pub words-below : (k : ℕ) → k ≤ getD s 4 0 → T (all-words-sound? document-01 s k)
   words-below k h =
-      go (getD s 4 0) k h
-      (and-left (all-words-sound? document-01 s (getD s 4 0)) (sound? document-01 (decode document-01 s))
-      (and-right (leb (getD s 4 0) all-levels) (all-words-sound? document-01 s (getD s 4 0) and sound? document-01 (decode document-01 s)) t))
+      go (getD s 4 0) k h (holds-says document-01 s t .words)
     where
       go : (h k : ℕ) → k ≤ h → T (all-words-sound? document-01 s h) → T (all-words-sound? document-01 s k)
       go zero k l u = let z : 0 ≡ k = omega arith in subst (λ n. T (all-words-sound? document-01 s n)) z u

@@ -24,6 +24,15 @@ pub and-false : (a b : Bool) → b ≡ false → (a and b) ≡ false
 and-false true b e = e
 and-false false b e = refl
 
+-- two tests that come first hold, or one of them does not
+pub basis-on : (a b c : Bool) → (a and b) ≡ true → (a and b and c) ≡ c
+basis-on true b c e = λ i. e i and c
+basis-on false b c e = absurd (subst T (sym e) tt)
+
+pub basis-fails : (a b c : Bool) → (a and b) ≡ false → (a and b and c) ≡ false
+basis-fails true b c e = λ i. e i and c
+basis-fails false b c e = refl
+
 module _ {A : Type 0} (f : A → Bool) where
   pub every-all : (l : List A) (d : A) → ((i : ℕ) → i < length l → T (f (getD l i d))) → T (every f l)
   every-all [] d h = tt

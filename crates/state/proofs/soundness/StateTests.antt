@@ -1,5 +1,6 @@
 -- All levels of a state, as the code tests them and as the definitions do: the two tests are one.
 use mathlib.Core.Path.{_≡_, refl, sym, ap, _∙_, subst}
+use mathlib.Core.Bool.{Bool}
 use mathlib.Core.List.{List, []}
 use Prim.Native.Nat.{ℕ, zero, suc, _<_, _≤_}
 use native.Mathlib.Omega.{arith}
@@ -11,11 +12,12 @@ use Rattle.definitions.specs.Lists.{_and_, every, between}
 use Rattle.definitions.specs.Monomial.{Monomial, Level}
 use Rattle.definitions.specs.Order.{Comparison, compare-over}
 use Rattle.definitions.specs.Problem.{Parameters, prime-in-range?, in-ranges?}
-use Rattle.definitions.specs.State.{vector-sound?, levels-sound?, terms-of, sound?}
-use Rattle.definitions.specs.Layout.{Words, ends-at, level-at, levels-at, decode, ascending?, words-sound?, all-words-sound?}
+use Rattle.definitions.specs.State.{vector-sound?, levels-sound?, degrees-sound?, terms-of, sound?}
+use Rattle.definitions.specs.Layout.{Words, ends-at, level-at, levels-at, ascending?, words-sound?, all-words-sound?}
 use Rattle.definitions.specs.Layout.{holds-state?}
 use Rattle.laws.proofs.Tests.{and-left, and-right, and-both, between-low, between-high, between-shown}
 use Rattle.laws.proofs.Sound.{basis-says, basis-shown, level-says, level-shown, sound-says, sound-shown}
+use Rattle.laws.proofs.Degrees.{holds-says}
 use Rattle.definitions.specs.Places.{most-elements, most-vectors, most-rows, most-terms, all-levels, state-length, count-offset}
 use Rattle.orders.specs.Images.{table-order}
 use Rattle.orders.specs.Levels.{images}
@@ -23,6 +25,7 @@ use Rattle.orders.proofs.Induced.{All-led, no-levels, table-order-is, sound-led
 use Rattle.state.specs.declared.soundness.Bounds.{Bounds}
 use Rattle.state.specs.soundness.Places.{parameters-at, count-at, rows-from, ends-from}
 use Rattle.state.specs.soundness.Holding.{bounds-of, vectors-hold?, level-holds?, levels-hold?}
+use Rattle.state.specs.degrees.Carrying.{carried-right?}
 use Rattle.state.proofs.soundness.VectorTests.{ascends-within, terms-cut, length-vectors}
 use Rattle.state.proofs.soundness.VectorTests.{vectors-ascend, vectors-said, vectors-shown}
 use Rattle.state.proofs.soundness.LevelByLevel.{own-test?}
@@ -100,10 +103,10 @@ module _ (s : Words) (long : state-length ≤ length s) where
   own-words zero t = level-words 1 most-elements most-rows (getD s 3 0) (O 0) 0 t (omega arith)
   own-words (suc k) t = level-words 0 most-vectors most-terms (count-at s k) (O (suc k)) (suc k) t (omega arith)
 
-  own-few : (k : ℕ) → T (own-test? s k) → count-at s k ≤ most-vectors
+  pub own-few : (k : ℕ) → T (own-test? s k) → count-at s k ≤ most-vectors
   own-few k t = words-parts k (own-words k t) .0
 
-  up-words : (k : ℕ) → T (levels-hold? s k) → T (all-words-sound? document-01 s k)
+  pub up-words : (k : ℕ) → T (levels-hold? s k) → T (all-words-sound? document-01 s k)
   up-words zero t = tt
   up-words (suc k) t =
       and-both (words-sound? document-01 s k) (all-words-sound? document-01 s k) (own-words k (and-right (levels-hold? s k) (own-test? s k) t))
@@ -161,36 +164,35 @@ module _ (s : Words) (long : state-length ≤ length s) where
 
   -- ## The state
 
-  length-levels : (k : ℕ) → length (levels-at document-01 s k) ≡ k
+  pub length-levels : (k : ℕ) → length (levels-at document-01 s k) ≡ k
   length-levels zero = refl
   length-levels (suc k) = ap suc (length-levels k)
 
+  -- what soundness asks of the parameters and of levels 0 to n − 1, and what their degrees must be
+  abbrev Rest : ℕ → Bool
+  Rest n = sound? document-01 (record { parameters = q; levels = levels-at document-01 s n }) and carried-right? s n
+
   pub holds-shown : (h : ℕ) → getD s 4 0 ≡ h → 1 ≤ h → h ≤ all-levels → T (prime-in-range? document-01 (getD s 0 0))
-      → T (in-ranges? document-01 (parameters-at s)) → T (levels-hold? s h) → T (holds-state? document-01 s)
-  holds-shown zero e l m p r t = absurd (omega arith)
-  holds-shown (suc k) e l m p r t = subst (λ n. T (leb n all-levels and all-words-sound? document-01 s n
-      and sound? document-01 (record { parameters = parameters-at s; levels = levels-at document-01 s n }))) (sym e)
-      (and-both (leb (suc k) all-levels) (all-words-sound? document-01 s (suc k)
-      and sound? document-01 (record { parameters = q; levels = levels-at document-01 s (suc k) })) (le→leb (suc k) all-levels m)
-      (and-both (all-words-sound? document-01 s (suc k)) (sound? document-01 (record { parameters = q; levels = levels-at document-01 s (suc k) }))
-      (up-words (suc k) t)
+      → T (in-ranges? document-01 (parameters-at s)) → T (levels-hold? s h) → T (degrees-sound? (parameters-at s)) → T (carried-right? s h)
+      → T (holds-state? document-01 s)
+  holds-shown zero e l m p r t d x = absurd (omega arith)
+  holds-shown (suc k) e l m p r t d x = subst (λ n. T (leb n all-levels and all-words-sound? document-01 s n and Rest n)) (sym e)
+      (and-both (leb (suc k) all-levels) (all-words-sound? document-01 s (suc k) and Rest (suc k)) (le→leb (suc k) all-levels m)
+      (and-both (all-words-sound? document-01 s (suc k)) (Rest (suc k)) (up-words (suc k) t)
+      (and-both (sound? document-01 (record { parameters = q; levels = levels-at document-01 s (suc k) })) (carried-right? s (suc k))
       (sound-shown document-01 (record { parameters = q; levels = levels-at document-01 s (suc k) })
-      (record { prime = p; ranges = r; height = omega (arith, length-levels (suc k)); levels = up-levels k m t }))))
+      (record { prime = p; ranges = r; degrees = d; height = omega (arith, length-levels (suc k)); levels = up-levels k m t })) x)))
 
   pub holds-said : T (holds-state? document-01 s) → (1 ≤ getD s 4 0) × (getD s 4 0 ≤ all-levels) × T (prime-in-range? document-01 (getD s 0 0))
-      × T (in-ranges? document-01 (parameters-at s)) × T (levels-hold? s (getD s 4 0))
-  holds-said t = go (getD s 4 0) (leb→le (getD s 4 0) all-levels (and-left (leb (getD s 4 0) all-levels)
-      (all-words-sound? document-01 s (getD s 4 0) and sound? document-01 (decode document-01 s)) t))
-      (and-left (all-words-sound? document-01 s (getD s 4 0)) (sound? document-01 (decode document-01 s)) u)
-      (and-right (all-words-sound? document-01 s (getD s 4 0)) (sound? document-01 (decode document-01 s)) u)
+      × T (in-ranges? document-01 (parameters-at s)) × T (levels-hold? s (getD s 4 0)) × T (degrees-sound? (parameters-at s))
+      × T (carried-right? s (getD s 4 0))
+  holds-said t = let u = holds-says document-01 s t in
+      go (getD s 4 0) (leb→le (getD s 4 0) all-levels (u .complete)) (u .words) (u .sound) (u .carries)
     where
-      u : T (all-words-sound? document-01 s (getD s 4 0) and sound? document-01 (decode document-01 s))
-      u = and-right (leb (getD s 4 0) all-levels) (all-words-sound? document-01 s (getD s 4 0) and sound? document-01 (decode document-01 s)) t
-
       go : (n : ℕ) → n ≤ all-levels → T (all-words-sound? document-01 s n)
-          → T (sound? document-01 (record { parameters = parameters-at s; levels = levels-at document-01 s n }))
+          → T (sound? document-01 (record { parameters = parameters-at s; levels = levels-at document-01 s n })) → T (carried-right? s n)
           → (1 ≤ n) × (n ≤ all-levels) × T (prime-in-range? document-01 (getD s 0 0)) × T (in-ranges? document-01 (parameters-at s))
-          × T (levels-hold? s n)
-      go zero h w x = absurd (sound-says document-01 (record { parameters = parameters-at s; levels = [] }) x .levels)
-      go (suc n) h w x = let y = sound-says document-01 (record { parameters = parameters-at s; levels = levels-at document-01 s (suc n) }) x in
-          (omega arith, h, y .prime, y .ranges, down-levels n h w (y .levels))
+          × T (levels-hold? s n) × T (degrees-sound? (parameters-at s)) × T (carried-right? s n)
+      go zero h w x r = absurd (sound-says document-01 (record { parameters = parameters-at s; levels = [] }) x .levels)
+      go (suc n) h w x r = let y = sound-says document-01 (record { parameters = parameters-at s; levels = levels-at document-01 s (suc n) }) x in
+          (omega arith, h, y .prime, y .ranges, down-levels n h w (y .levels), y .degrees, r)

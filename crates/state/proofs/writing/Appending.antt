@@ -14,8 +14,8 @@ use Rattle.definitions.specs.Layout.{Words, rows, rows-of, vectors-at, ascendin
 use Rattle.laws.proofs.Tests.{and-left, and-right, and-both}
 use Rattle.laws.proofs.Rows.{Eights, length-rows-of, rows-spelled}
 use Rattle.definitions.specs.Places.{most-vectors, most-rows, all-levels, row-length, header-length}
-use Rattle.definitions.specs.Places.{state-length, count-offset, rows-offset}
-use Rattle.vectors.proofs.terms.Moving.{getD-paste-in, getD-paste-below}
+use Rattle.definitions.specs.Places.{degrees-start, state-length, count-offset, rows-offset}
+use Rattle.vectors.proofs.terms.Moving.{getD-paste-in, getD-paste-below, getD-paste-above}
 use Rattle.reducers.specs.tables.Cuts.{start-of}
 use Rattle.state.specs.soundness.Places.{rows-from, ends-from}
 use Rattle.state.proofs.soundness.VectorTests.{end-of}
@@ -85,6 +85,10 @@ module _ (s : Words) (k count used : ℕ) (v : Vector) (n : ℕ) (long : state-l
 
   pub appended-front : Same (appended s k count used v n) s 0 header-length
   appended-front i x y = under i (omega arith) (λ e. omega arith)
+
+  -- the degrees
+  pub appended-degrees : Same (appended s k count used v n) s degrees-start (length s)
+  appended-degrees i x y = set-other i (λ e. omega arith) ∙ getD-paste-above s a (rows-of v) m i 0 (omega arith) (omega (arith, spelled)) (omega arith)
 
   pub appended-below : T (all-words-sound? document-01 s k) → (levels-at document-01 (appended s k count used v n) k ≡ levels-at document-01 s k)
       × T (all-words-sound? document-01 (appended s k count used v n) k)

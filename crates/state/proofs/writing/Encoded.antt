@@ -5,57 +5,25 @@ use mathlib.Core.List.{List, [], _∷_, _++_, append-assoc, append-nil, reverse,
 use Prim.Native.Nat.{ℕ, zero, suc, _+_, _-_, _*_, _<_, _≤_}
 use native.Mathlib.Omega.{arith}
 use lib.Dec.{T, ltb, ltb→lt, nltb→le}
-use lib.ListN.{length, take, drop, getD, replicate, length-append, length-drop, length-replicate, take-append-drop, List·getD-append, List·getD-eq-default}
-use lib.Seq.{take-add, drop-drop, ext-getD, getD-take, getD-drop, getD-append-add, length-take-le}
+use lib.ListN.{length, take, drop, getD, replicate, length-append, length-drop, take-append-drop}
+use lib.Seq.{take-add, drop-drop, getD-take, getD-drop, length-take-le}
 use Rattle.definitions.specs.Limits.{document-01}
 use Rattle.definitions.specs.Monomial.{Level}
-use Rattle.definitions.specs.Layout.{Words, rows-of, padded, joined, counts-of, all-counts, all-rows, encode, decode, ends-at, level-at, levels-at}
-use Rattle.definitions.specs.Layout.{words-sound?, all-words-sound?}
+use Rattle.definitions.specs.Layout.{Words, rows-of, padded, joined, counts-of, all-counts, all-rows, all-carried, encode, decode, ends-at, level-at, levels-at}
+use Rattle.definitions.specs.Layout.{words-sound?, all-words-sound?, degrees-at}
+use Rattle.definitions.specs.Degrees.{carried}
 use Rattle.laws.proofs.RoundTrip.{length-padded}
 use Rattle.definitions.specs.Places.{most-vectors, all-levels, row-length, header-length, counts-length, rows-start, level-length, state-length, count-offset}
-use Rattle.definitions.specs.Places.{rows-offset}
+use Rattle.definitions.specs.Places.{most-components, degrees-start, rows-offset, carried-offset}
 use Rattle.words.specs.Slices.{Sixteen-bits}
-use Rattle.vectors.specs.terms.Rows.{cleared}
-use Rattle.reducers.proofs.tables.Spanning.{zero-everywhere}
-use Rattle.state.specs.soundness.Places.{count-at, rows-from, ends-from}
-use Rattle.state.proofs.soundness.StateTests.{level-count}
-use Rattle.state.specs.writing.LevelSoFar.{block-cleared}
-use Rattle.state.specs.writing.Zeroed.{Same, Zero, used-at, Tidy, Tidied-to}
-use Rattle.state.proofs.writing.Blocks.{Sized, length-cleared, cleared-under, cleared-over, length-block, block-under, block-zero, block-over}
+use Rattle.state.specs.soundness.Places.{parameters-at, count-at, rows-from, ends-from}
+use Rattle.state.specs.degrees.Carrying.{carried-right?}
+use Rattle.state.proofs.soundness.StateTests.{level-count, words-parts}
+use Rattle.state.specs.writing.Zeroed.{used-at, Few, Tidy, Tidy-degrees, Levels-tidy, Degrees-tidy, Levels-settled, Degrees-settled}
+use Rattle.state.proofs.writing.Blocks.{Sized}
+use Rattle.state.proofs.writing.Wordwise.{part-is, getD-padded, getD-taken, zeros-are}
+use Rattle.state.proofs.writing.EncodedDegrees.{degrees-are}
 use Rattle.state.proofs.writing.Spelled.{sound-sized, level-ends, level-rows-back, all-sound-at}
-
--- ## Parts of a list by their words
-
-part-is : (z w : Words) (a n : ℕ) → a + n ≤ length z → length w ≡ n → ((i : ℕ) → i < n → getD z (a + i) 0 ≡ getD w i 0) → take n (drop a z) ≡ w
-part-is z w a n h e f =
-    let l : length (take n (drop a z)) ≡ n = length-take-le n (drop a z) (omega (arith, length-drop a z)) in
-    ext-getD 0 (take n (drop a z)) w (l ∙ sym e) (λ i m. getD-take n (drop a z) i 0 (omega arith) ∙ getD-drop a z i 0 ∙ f i (omega arith))
-
--- zeros behind a list do not show
-getD-padded : (n : ℕ) (l : Words) (i : ℕ) → getD (padded n l) i 0 ≡ getD l i 0
-getD-padded n l i = go (ltb i (length l)) (ltb→lt i (length l)) (nltb→le i (length l))
-  where
-    go : (b : Bool) → (T b → i < length l) → (T (not b) → length l ≤ i) → getD (padded n l) i 0 ≡ getD l i 0
-    go true f g = List·getD-append l (replicate (n - length l) 0) 0 i (f tt)
-    go false f g =
-        let h : length l ≤ i = g tt in
-        let z : i ≡ length l + (i - length l) = omega arith in
-        ap (λ j. getD (padded n l) j 0) z ∙ getD-append-add l (replicate (n - length l) 0) (i - length l) 0
-        ∙ zero-everywhere (n - length l) (i - length l) ∙ sym (List·getD-eq-default l 0 h)
-
--- the first r words, zeros behind them
-getD-taken : (r : ℕ) (l : Words) (i : ℕ) → r ≤ length l → (i < r → ⊥) → getD (take r l) i 0 ≡ 0
-getD-taken r l i h n = let m : length (take r l) ≤ i = omega (arith, length-take-le r l h, n) in List·getD-eq-default (take r l) 0 m
-
-zeros-are : (z : Words) (a n : ℕ) → a + n ≤ length z → Zero z a (a + n) → take n (drop a z) ≡ replicate n 0
-zeros-are z a n h f = part-is z (replicate n 0) a n h (length-replicate {A = ℕ} n 0)
-    (λ i l. f (a + i) (omega arith) (omega arith) ∙ sym (zero-everywhere n i))
-
-zeros-rest : (z : Words) (a : ℕ) → a ≤ length z → Zero z a (length z) → drop a z ≡ replicate (length z - a) 0
-zeros-rest z a h f =
-    let l : length (drop a z) ≡ length z - a = length-drop a z in
-    ext-getD 0 (drop a z) (replicate (length z - a) 0) (l ∙ sym (length-replicate {A = ℕ} (length z - a) 0))
-    (λ i m. getD-drop a z i 0 ∙ f (a + i) (omega arith) (omega arith) ∙ sym (zero-everywhere (length z - a) i))
 
 -- ## The words of one level
 
@@ -159,6 +127,9 @@ module _ (s z : Words) (long : state-length ≤ length s) (same-long : length z 
       ∙ sym (ap (all-rows document-01) (reverse-cons (level-at document-01 s h) (levels-at document-01 s h))
       ∙ rows-last (reverse (levels-at document-01 s h)) (level-at document-01 s h))
 
+all-few : (s : Words) → state-length ≤ length s → (h : ℕ) → T (all-words-sound? document-01 s h) → Few s h
+all-few s long h t j l = words-parts s long j (all-sound-at s h t j l) .0
+
 length-levels : (s : Words) (k : ℕ) → length (levels-at document-01 s k) ≡ k
 length-levels s zero = refl
 length-levels s (suc k) = ap suc (length-levels s k)
@@ -166,9 +137,8 @@ length-levels s (suc k) = ap suc (length-levels s k)
 -- ## The whole
 
 module _ (s z : Words) (h : ℕ) (long : state-length ≤ length s) (same-long : length z ≡ length s) (known : Sixteen-bits s)
-    (l : h ≤ all-levels) (e : getD s 4 0 ≡ h) (t : T (all-words-sound? document-01 s h))
-    (front : Same z s 0 header-length) (made : (j : ℕ) → j < h → Tidy s z j) (no-counts : Zero z (count-offset h) rows-start)
-    (no-terms : Zero z (rows-offset h) (length s)) where
+    (l : h ≤ all-levels) (e : getD s 4 0 ≡ h) (components : getD s 3 0 ≤ most-components) (t : T (all-words-sound? document-01 s h))
+    (right : T (carried-right? s h)) (low : Levels-tidy s z h) (high : Degrees-tidy s z h) where
   abbrev ls : List Level
   ls = levels-at document-01 s h
 
@@ -180,18 +150,18 @@ module _ (s z : Words) (h : ℕ) (long : state-length ≤ length s) (same-long :
     where
       word : (i : ℕ) → i < header-length → getD z (0 + i) 0 ≡ getD (getD s 0 0 ∷ getD s 1 0 ∷ getD s 2 0 ∷ getD s 3 0
           ∷ length (levels-at document-01 s h) ∷ []) i 0
-      word zero m = front 0 (omega arith) (omega arith)
-      word (suc zero) m = front 1 (omega arith) (omega arith)
-      word (suc (suc zero)) m = front 2 (omega arith) (omega arith)
-      word (suc (suc (suc zero))) m = front 3 (omega arith) (omega arith)
-      word (suc (suc (suc (suc zero)))) m = front 4 (omega arith) (omega arith) ∙ e ∙ sym (length-levels s h)
+      word zero m = low .front 0 (omega arith) (omega arith)
+      word (suc zero) m = low .front 1 (omega arith) (omega arith)
+      word (suc (suc zero)) m = low .front 2 (omega arith) (omega arith)
+      word (suc (suc (suc zero))) m = low .front 3 (omega arith) (omega arith)
+      word (suc (suc (suc (suc zero)))) m = low .front 4 (omega arith) (omega arith) ∙ e ∙ sym (length-levels s h)
       word (suc (suc (suc (suc (suc i))))) m = absurd (omega arith)
 
   abbrev header : Words
   header = five ++ all-counts document-01 (reverse ls)
 
   head-is : take (count-offset h) z ≡ header
-  head-is = take-add header-length (h * counts-length) z ∙ (λ i. first-five i ++ counts-blocks s z long same-long known h l t made i)
+  head-is = take-add header-length (h * counts-length) z ∙ (λ i. first-five i ++ counts-blocks s z long same-long known h l t (low .made) i)
 
   head-long : length header ≡ count-offset h
   head-long = sym (ap length head-is) ∙ length-take-le (count-offset h) z (omega arith)
@@ -201,97 +171,110 @@ module _ (s z : Words) (h : ℕ) (long : state-length ≤ length s) (same-long :
       let y : rows-start ≡ count-offset h + (rows-start - (count-offset h)) = omega arith in
       let n : rows-start - (count-offset h) ≡ rows-start - length header = omega (arith, head-long) in
       ap (λ k. take k z) y ∙ take-add (count-offset h) (rows-start - (count-offset h)) z
-      ∙ (λ i. head-is i ++ zeros-are z (count-offset h) (rows-start - (count-offset h)) (omega arith) (λ j a b. no-counts j a (omega arith)) i)
+      ∙ (λ i. head-is i ++ zeros-are z (count-offset h) (rows-start - (count-offset h)) (omega arith) (λ j a b. low .no-counts j a (omega arith)) i)
       ∙ ap (λ k. header ++ replicate k 0) n
 
   abbrev tail : Words
   tail = all-rows document-01 (reverse ls)
 
   tail-long : length tail ≡ h * level-length
-  tail-long = sym (ap length (rows-blocks s z long same-long known h l t made))
+  tail-long = sym (ap length (rows-blocks s z long same-long known h l t (low .made)))
       ∙ length-take-le (h * level-length) (drop rows-start z) (omega (arith, length-drop rows-start z))
 
-  high-is : drop rows-start z ≡ tail ++ replicate (length s - (rows-offset h)) 0
-  high-is =
-      sym (take-append-drop (h * level-length) (drop rows-start z))
-      ∙ (λ i. rows-blocks s z long same-long known h l t made i ++ (drop-drop (h * level-length) rows-start z
-      ∙ zeros-rest z (rows-offset h) (omega arith) (λ j a b. no-terms j a (omega arith)) ∙ ap (λ k. replicate (k - (rows-offset h)) 0) same-long) i)
+  -- all words up to the degrees
+  rows-are : take (degrees-start - rows-start) (drop rows-start z) ≡ tail ++ replicate (degrees-start - (rows-offset h)) 0
+  rows-are =
+      let y : degrees-start - rows-start ≡ h * level-length + (degrees-start - (rows-offset h)) = omega arith in
+      ap (λ n. take n (drop rows-start z)) y ∙ take-add (h * level-length) (degrees-start - (rows-offset h)) (drop rows-start z)
+      ∙ (λ i. rows-blocks s z long same-long known h l t (low .made) i ++ (ap (take (degrees-start - (rows-offset h)))
+      (drop-drop (h * level-length) rows-start z)
+      ∙ zeros-are z (rows-offset h) (degrees-start - (rows-offset h)) (omega arith) (λ j a b. low .no-terms j a (omega arith))) i)
 
-  pub settled-encodes : z
-      ≡ encode document-01 (length s) (record {
-        parameters = Rattle.state.specs.soundness.Places.parameters-at s;
-        levels =
-            levels-at document-01 s h;
-      })
+  abbrev levels : Words
+  levels = padded rows-start header ++ tail
+
+  levels-long : length (padded rows-start header ++ tail) ≡ rows-offset h
+  levels-long =
+      length-append (padded rows-start header) tail ∙ omega (arith, length-padded rows-start header (omega (arith, head-long)), tail-long)
+
+  low-all : take degrees-start z ≡ padded degrees-start levels
+  low-all =
+      let y : degrees-start ≡ rows-start + (degrees-start - rows-start) = omega arith in
+      let n : degrees-start - (rows-offset h) ≡ degrees-start - length levels = omega (arith, levels-long) in
+      ap (λ k. take k z) y ∙ take-add rows-start (degrees-start - rows-start) z ∙ (λ i. low-is i ++ rows-are i)
+      ∙ sym (append-assoc (padded rows-start header) tail (replicate (degrees-start - (rows-offset h)) 0)) ∙ ap (λ k. levels ++ replicate k 0) n
+
+  abbrev degrees : Words
+  degrees = padded most-components (degrees-at document-01 s) ++ all-carried document-01 (reverse (carried (degrees-at document-01 s) ls))
+
+  pub settled-encodes : z ≡ encode document-01 (length s) (record { parameters = parameters-at s; levels = levels-at document-01 s h })
   settled-encodes =
-      let n : length s - (rows-offset h) ≡ length s - length (padded rows-start header ++ tail) =
-      omega (arith, length-append (padded rows-start header) tail, length-padded rows-start header (omega (arith, head-long)), tail-long) in
-      sym (take-append-drop rows-start z) ∙ (λ i. low-is i ++ high-is i)
-      ∙ sym (append-assoc (padded rows-start header) tail (replicate (length s - (rows-offset h)) 0))
-      ∙ ap (λ k. (padded rows-start header ++ tail) ++ replicate k 0) n
+      let y = degrees-are s z h long same-long l components (all-few s long h t) right high in
+      let n : length s - (carried-offset h) ≡ length s - length (padded degrees-start levels ++ degrees) = omega (
+        arith,
+        length-append (padded degrees-start levels) degrees,
+        length-padded degrees-start levels (omega (arith, levels-long)),
+        y .1,
+      ) in
+      sym (take-append-drop degrees-start z) ∙ (λ i. low-all i ++ y .0 i)
+      ∙ sym (append-assoc (padded degrees-start levels) degrees (replicate (length s - (carried-offset h)) 0))
+      ∙ ap (λ k. (padded degrees-start levels ++ degrees) ++ replicate k 0) n
 
--- what clearing the words behind the counts and behind the rows of tidied levels leaves
-pub settled-by : (s z : Words) (h : ℕ) → state-length ≤ length s → Sixteen-bits s → h ≤ all-levels → getD s 4 0 ≡ h → T (all-words-sound? document-01 s h)
-    → Tidied-to s z h
-    → cleared (block-cleared (count-offset h) (rows-start - (count-offset h)) 0 z) (rows-offset h)
-    ≡ encode document-01 (length s) (decode document-01 s)
-settled-by s z h long known l e t d =
-    settled-encodes s out h long (out-long ∙ mid-long ∙ d .long) known l e t
-    (λ i a b. under i (omega arith) ∙ mid-under i (omega arith) ∙ d .front i a b)
-    made
-    (λ i a b. under i (omega arith) ∙ block-zero A N 0 z fit (omega arith) i (omega arith) (omega arith))
-    (λ i a b. cleared-over mid B wide i a)
-    ∙ (λ i. encode document-01 (length s) (record {
-      parameters = Rattle.state.specs.soundness.Places.parameters-at s;
-      levels =
-          levels-at document-01 s (sym e i);
-    }))
+-- the counts stay when the levels are settled
+pub few-settled : (s m : Words) (h : ℕ) → state-length ≤ length s → h ≤ all-levels → T (all-words-sound? document-01 s h) → Levels-settled s m h → Few m h
+few-settled s m h long l t low j a =
+    omega (arith, low .levels .made j a .counts (count-offset j) (omega arith) (omega arith), all-few s long h t j a)
+
+-- levels settled first, then the degrees
+pub settled-by : (s m z : Words) (h : ℕ) → state-length ≤ length s → Sixteen-bits s → h ≤ all-levels → getD s 4 0 ≡ h → getD s 3 0 ≤ most-components
+    → T (all-words-sound? document-01 s h) → T (carried-right? s h) → Levels-settled s m h → Degrees-settled m z h
+    → z ≡ encode document-01 (length s) (decode document-01 s)
+settled-by s m z h long known l e components t right low high =
+    settled-encodes s z h long (high .long ∙ low .long) known l e components t right low-here high-here
+    ∙ (λ i. encode document-01 (length s) (record { parameters = parameters-at s; levels = levels-at document-01 s (sym e i) }))
   where
-    A : ℕ
-    A = count-offset h
+    same-s : getD m 3 0 ≡ getD s 3 0
+    same-s = low .levels .front 3 (omega arith) (omega arith)
 
-    N : ℕ
-    N = rows-start - (count-offset h)
+    sized : (j : ℕ) → j < h → Sized s j
+    sized j a = sound-sized s long j (omega arith) (all-sound-at s h t j a)
 
-    B : ℕ
-    B = rows-offset h
+    same-count : (j : ℕ) → j < h → count-at m j ≡ count-at s j
+    same-count j a = low .levels .made j a .counts (count-offset j) (omega arith) (omega arith)
 
-    mid : Words
-    mid = block-cleared (count-offset h) (rows-start - (count-offset h)) 0 z
+    low-here : Levels-tidy s z h
+    low-here = record {
+      front = λ i a b. high .front i a (omega arith) ∙ low .levels .front i a b;
+      made = λ j n. level j n;
+      no-counts = λ i a b. high .front i (omega arith) (omega arith) ∙ low .levels .no-counts i a b;
+      no-terms = λ i a b. high .front i (omega arith) b ∙ low .levels .no-terms i a b;
+    }
+      where
+        level : (j : ℕ) → j < h → Tidy s z j
+        level j n =
+            let o = low .levels .made j n in
+            let c = sized j n in
+            record {
+              counts = λ i a b. high .front i (omega arith) (omega arith) ∙ o .counts i a b;
+              no-counts = λ i a b. high .front i (omega arith) (omega arith) ∙ o .no-counts i a b;
+              terms = λ i a b. high .front i (omega arith) (omega arith) ∙ o .terms i a b;
+              no-terms = λ i a b. high .front i (omega arith) (omega arith) ∙ o .no-terms i a b;
+            }
 
-    out : Words
-    out = cleared (block-cleared (count-offset h) (rows-start - (count-offset h)) 0 z) (rows-offset h)
-
-    fit : count-offset h + (rows-start - (count-offset h)) ≤ length z
-    fit = omega (arith, d .long)
-
-    mid-long : length (block-cleared (count-offset h) (rows-start - (count-offset h)) 0 z) ≡ length z
-    mid-long = length-block A N 0 z fit (omega arith)
-
-    wide : rows-offset h ≤ length (block-cleared (count-offset h) (rows-start - (count-offset h)) 0 z)
-    wide = omega (arith, mid-long, d .long)
-
-    out-long : length (cleared (block-cleared (count-offset h) (rows-start - (count-offset h)) 0 z) (rows-offset h))
-        ≡ length (block-cleared (count-offset h) (rows-start - (count-offset h)) 0 z)
-    out-long = length-cleared mid B wide
-
-    under : (i : ℕ) → i < rows-offset h → getD (cleared (block-cleared (count-offset h) (rows-start - (count-offset h)) 0 z) (rows-offset h)) i 0
-        ≡ getD (block-cleared (count-offset h) (rows-start - (count-offset h)) 0 z) i 0
-    under i a = cleared-under mid B wide i a
-
-    mid-under : (i : ℕ) → i < count-offset h → getD (block-cleared (count-offset h) (rows-start - (count-offset h)) 0 z) i 0 ≡ getD z i 0
-    mid-under i a = block-under A N 0 z fit (omega arith) i (omega arith)
-
-    mid-over : (i : ℕ) → rows-start ≤ i → getD (block-cleared (count-offset h) (rows-start - (count-offset h)) 0 z) i 0 ≡ getD z i 0
-    mid-over i a = block-over A N 0 z fit (omega arith) i (omega arith)
-
-    made : (j : ℕ) → j < h → Tidy s (cleared (block-cleared (count-offset h) (rows-start - (count-offset h)) 0 z) (rows-offset h)) j
-    made j m =
-        let o = d .made j m in
-        let c = sound-sized s long j (omega arith) (all-sound-at s h t j m) in
-        record {
-          counts = λ i a b. under i (omega arith) ∙ mid-under i (omega arith) ∙ o .counts i a b;
-          no-counts = λ i a b. under i (omega arith) ∙ mid-under i (omega arith) ∙ o .no-counts i a b;
-          terms = λ i a b. under i (omega arith) ∙ mid-over i (omega arith) ∙ o .terms i a b;
-          no-terms = λ i a b. under i (omega arith) ∙ mid-over i (omega arith) ∙ o .no-terms i a b;
-        }
+    high-here : Degrees-tidy s z h
+    high-here = record {
+      components = λ i a b. high .degrees .components i a (omega (arith, same-s)) ∙ low .left i a (omega arith);
+      no-components = λ i a b. high .degrees .no-components i (omega (arith, same-s)) b;
+      made = λ j n. level j n;
+      no-carried = λ i a b. high .degrees .no-carried i a (omega (arith, low .long));
+    }
+      where
+        level : (j : ℕ) → j < h → Tidy-degrees s z j
+        level j n =
+            let o = high .degrees .made j n in
+            let c = sized j n in
+            let d = same-count j n in
+            record {
+              carried = λ i a b. o .carried i a (omega arith) ∙ low .left i (omega arith) (omega arith);
+              no-carried = λ i a b. o .no-carried i (omega arith) b;
+            }

@@ -11,13 +11,13 @@ use Rattle.definitions.specs.Limits.{document-01}
 use Rattle.definitions.specs.Lists.{_and_, between}
 use Rattle.definitions.specs.Monomial.{Monomial, vector-of}
 use Rattle.definitions.specs.Order.{Comparison}
-use Rattle.definitions.specs.State.{sound?}
-use Rattle.definitions.specs.Layout.{Words, rows, rows-of, padded, vectors-at, ascending?, ends-at, level-at, levels-at, decode, words-sound?, all-words-sound?}
+use Rattle.definitions.specs.Layout.{Words, rows, rows-of, padded, vectors-at, ascending?, ends-at, level-at, levels-at, words-sound?}
 use Rattle.definitions.specs.Layout.{holds-state?}
 use Rattle.laws.proofs.Tests.{and-left, and-right}
 use Rattle.definitions.specs.Places.{most-vectors, most-rows, most-terms, all-levels, row-length, state-length, rows-offset}
 use Rattle.orders.specs.Images.{table-order}
 use Rattle.orders.specs.Levels.{images}
+use Rattle.laws.proofs.Degrees.{holds-says}
 use Rattle.words.specs.Slices.{Sixteen-bits}
 use Rattle.vectors.specs.terms.Rows.{cleared}
 use Rattle.reducers.specs.tables.Cuts.{start-of, Cut}
@@ -32,7 +32,7 @@ use Rattle.state.proofs.soundness.StateTests.{words-parts}
 use Rattle.state.proofs.soundness.VectorTests.{end-of, ascends-past}
 use Rattle.state.proofs.writing.Spelled.{sixteen-from, rows-back, all-sound-at}
 
-vector-from : (s : Words) (a : ℕ) (es : Words) (i : ℕ) → i < length es → getD (vectors-at s a es) i []
+pub vector-from : (s : Words) (a : ℕ) (es : Words) (i : ℕ) → i < length es → getD (vectors-at s a es) i []
     ≡ rows s (begin-from a es i) (getD es i 0 - begin-from a es i)
 vector-from s a [] i h = absurd (not-suc-le-zero h)
 vector-from s a (e ∷ es) zero h = refl
@@ -49,7 +49,7 @@ vectors-short b most order s a (e ∷ es) t (suc zero) h = vectors-short b most 
 vectors-short b most order s a (e ∷ es) t (suc (suc i)) h = vectors-short b most order s e es
     (and-right (vector-holds? b most order s a e) (vectors-hold? b most order s e es) t) (suc i) (le-of-suc-le-suc h)
 
-begin-taken : (ends : Words) (r j : ℕ) → j < r → begin-from 0 (take r ends) j ≡ start-of ends j
+pub begin-taken : (ends : Words) (r j : ℕ) → j < r → begin-from 0 (take r ends) j ≡ start-of ends j
 begin-taken ends r zero h = refl
 begin-taken ends r (suc j) h = getD-take r ends j 0 (omega arith)
 
@@ -65,8 +65,7 @@ each-end limit a (e ∷ es) t (suc i) h = each-end limit e es (and-right (leb e 
 module _ (s : Words) (long : state-length ≤ length s) (t : T (holds-state? document-01 s)) where
   pub complete-words : (k : ℕ) → k < getD s 4 0 → T (words-sound? document-01 s k)
   complete-words k h =
-      all-sound-at s (getD s 4 0) (and-left (all-words-sound? document-01 s (getD s 4 0)) (sound? document-01 (decode document-01 s))
-      (and-right (leb (getD s 4 0) all-levels) (all-words-sound? document-01 s (getD s 4 0) and sound? document-01 (decode document-01 s)) t)) k h
+      all-sound-at s (getD s 4 0) (holds-says document-01 s t .words) k h
 
   module _ (k : ℕ) (high : k < getD s 4 0) (j : ℕ) (inside : j < count-at s k) where
     abbrev ends : Words

@@ -1,25 +1,28 @@
 -- A level depends on its own words only.
 use mathlib.Core.Path.{_≡_, refl, sym, ap, _∙_, subst}
-use mathlib.Core.List.{[], _∷_}
+use mathlib.Core.List.{List, [], _∷_}
 use Prim.Native.Nat.{ℕ, zero, suc, _+_, _-_, _*_, _<_, _≤_}
 use native.Mathlib.Omega.{arith}
 use lib.Dec.{T, leb, ltb, leb→le, le→leb, ltb→lt}
 use lib.ListN.{length, take, drop, getD, set, length-drop, length-set}
-use lib.Seq.{ext-getD, getD-take, getD-drop, getD-set-same, getD-set-other, drop-set-lt, length-take-le}
+use lib.Seq.{ext-getD, getD-take, getD-drop, getD-set-same, getD-set-other, drop-set-lt, drop-drop, length-take-le}
 use Rattle.definitions.specs.Limits.{document-01}
 use Rattle.definitions.specs.Lists.{_and_}
 use Rattle.definitions.specs.Layout.{Words, row-at, vectors-at, ascending?, ends-at, level-at, levels-at, decode, words-sound?}
-use Rattle.definitions.specs.Layout.{all-words-sound?}
+use Rattle.definitions.specs.Layout.{all-words-sound?, degrees-at, carries?}
+use Rattle.definitions.specs.Degrees.{carried}
+use Rattle.definitions.specs.Monomial.{same-exponents?}
 use Rattle.laws.proofs.Tests.{and-left, and-right, and-both}
 use Rattle.laws.proofs.Rows.{rows-same}
 use Rattle.definitions.specs.Places.{most-vectors, most-rows, all-levels, row-length, header-length, rows-start, level-length}
-use Rattle.definitions.specs.Places.{state-length, count-offset, rows-offset}
+use Rattle.definitions.specs.Places.{most-components, degrees-start, state-length, count-offset, rows-offset, carried-offset}
 use Rattle.vectors.proofs.terms.Stored.{same-row}
 use Rattle.state.specs.soundness.Places.{count-at, rows-from, ends-from}
 use Rattle.state.proofs.soundness.VectorTests.{end-of, ascends-past, ascends-within}
 use Rattle.state.proofs.soundness.StateTests.{words-parts}
 use Rattle.state.specs.writing.LevelSoFar.{words-so-far?, finished}
 use Rattle.state.specs.writing.Zeroed.{Same}
+use Rattle.state.specs.degrees.Carrying.{carried-right?}
 
 -- ## Rows that stay
 
@@ -96,6 +99,30 @@ module _ (s z : Words) (long : state-length ≤ length s) (same-long : length z 
             (q .1),
       )
 
+-- ## Degrees
+
+-- all words from the degrees on stay
+carries-tail : (s z : Words) (dss : List Words) → drop degrees-start z ≡ drop degrees-start s → T (carries? document-01 s dss) → T (carries? document-01 z dss)
+carries-tail s z [] e t = tt
+carries-tail s z (ds ∷ dss) e t =
+    and-both (same-exponents? (take (length ds) (drop (carried-offset (length dss)) z)) ds) (carries? document-01 z dss)
+    (subst (λ w. T (same-exponents? (take (length ds) w) ds)) (sym words)
+    (and-left (same-exponents? (take (length ds) (drop (carried-offset (length dss)) s)) ds) (carries? document-01 s dss) t))
+    (carries-tail s z dss e (and-right (same-exponents? (take (length ds) (drop (carried-offset (length dss)) s)) ds) (carries? document-01 s dss) t))
+  where
+    words : drop (carried-offset (length dss)) z ≡ drop (carried-offset (length dss)) s
+    words =
+        let a : carried-offset (length dss) ≡ degrees-start + (most-components + length dss * most-vectors) = omega arith in
+        ap (λ n. drop n z) a ∙ sym (drop-drop (most-components + length dss * most-vectors) degrees-start z)
+        ∙ ap (drop (most-components + length dss * most-vectors)) e
+        ∙ drop-drop (most-components + length dss * most-vectors) degrees-start s ∙ sym (ap (λ n. drop n s) a)
+
+pub carried-tail : (s z : Words) (k : ℕ) → drop degrees-start z ≡ drop degrees-start s → degrees-at document-01 z ≡ degrees-at document-01 s
+    → levels-at document-01 z k ≡ levels-at document-01 s k → T (carried-right? s k) → T (carried-right? z k)
+carried-tail s z k e d ls t =
+    subst T (sym (λ i. carries? document-01 z (carried (d i) (ls i))))
+    (carries-tail s z (carried (degrees-at document-01 s) (levels-at document-01 s k)) e t)
+
 -- ## The count and the number of complete levels written
 
 module _ (s : Words) (k count : ℕ) (long : state-length ≤ length s) (inside : k < all-levels) (below : T (all-words-sound? document-01 s k))
@@ -138,6 +165,19 @@ module _ (s : Words) (k count : ℕ) (long : state-length ≤ length s) (inside 
       here : T (words-sound? document-01 (set (set s (count-offset k) count) 4 (k + 1)) k)
       here = subst T (sym (λ i. leb (new-count i) most-vectors and ascending? most-rows 0 (take (new-count i) (ends-kept i)))) so-far
 
+  pub new-tail : drop degrees-start (set (set s (count-offset k) count) 4 (k + 1)) ≡ drop degrees-start s
+  new-tail = beyond degrees-start (omega arith)
+
+  new-degrees : degrees-at document-01 (set (set s (count-offset k) count) 4 (k + 1)) ≡ degrees-at document-01 s
+  new-degrees = λ i. take (other 3 (λ e. omega arith) (λ e. omega arith) i) (new-tail i)
+
+  pub new-below : levels-at document-01 (set (set s (count-offset k) count) 4 (k + 1)) k ≡ levels-at document-01 s k
+  new-below = under .0
+
+  -- the levels below carry their degrees still
+  pub new-carried : T (carried-right? s k) → T (carried-right? (set (set s (count-offset k) count) 4 (k + 1)) k)
+  new-carried = carried-tail s z k new-tail new-degrees new-below
+
   pub new-state : decode document-01 (set (set s (count-offset k) count) 4 (k + 1)) ≡ finished s k count
   new-state =
       let y : k + 1 ≡ suc k = omega arith in
@@ -148,6 +188,7 @@ module _ (s : Words) (k count : ℕ) (long : state-length ≤ length s) (inside 
           code =
               other 2 (λ e. omega arith) (λ e. omega arith) i;
           s = other 3 (λ e. omega arith) (λ e. omega arith) i;
+          degrees = new-degrees i;
         };
         levels = (ap (levels-at document-01 z) (new-height ∙ y) ∙ (λ j. vectors-at (rows-kept j) 0 (take (new-count j) (ends-kept j)) ∷ under .0 j)) i;
       })

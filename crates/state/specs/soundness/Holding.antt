@@ -9,12 +9,13 @@ use Rattle.definitions.specs.Lists.{_and_, between, choose}
 use Rattle.definitions.specs.Monomial.{Exponents, Monomial, divides?}
 use Rattle.definitions.specs.Order.{Comparison, greater?}
 use Rattle.definitions.specs.Packed.{unpack, pack}
+use Rattle.definitions.specs.Problem.{prime-in-range?, in-ranges?}
 use Rattle.definitions.specs.Layout.{Words, long-at, row-at, ends-at, levels-at}
 use Rattle.definitions.specs.Places.{most-exponent, most-elements, most-vectors, most-rows, most-terms, row-length, component-offset, exponents-offset}
 use Rattle.orders.specs.Images.{Table, table-order}
 use Rattle.orders.specs.Levels.{images}
 use Rattle.state.specs.declared.soundness.Bounds.{Bounds}
-use Rattle.state.specs.soundness.Places.{count-at, rows-from}
+use Rattle.state.specs.soundness.Places.{parameters-at, count-at, rows-from}
 
 -- an exponent is at most 255, one past n is zero
 abbrev pub limit-at : ℕ → ℕ → ℕ
@@ -65,3 +66,7 @@ level-test? s (suc k) T = level-holds? 0 most-vectors most-terms (bounds-of (get
 abbrev pub levels-hold? : Words → ℕ → Bool
 levels-hold? s zero = true
 levels-hold? s (suc k) = levels-hold? s k and level-test? s k (images (levels-at document-01 s k))
+
+-- the four numbers and levels 0 to h − 1
+abbrev pub basis-holds? : Words → ℕ → Bool
+basis-holds? s h = prime-in-range? document-01 (getD s 0 0) and in-ranges? document-01 (parameters-at s) and levels-hold? s h

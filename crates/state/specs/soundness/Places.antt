@@ -1,12 +1,16 @@
 -- Where a state's numbers stand, with document 01's limits.
 use Prim.Native.Nat.{ℕ, zero, suc}
-use lib.ListN.{getD, drop}
+use lib.ListN.{getD, drop, replicate}
 use Rattle.definitions.specs.Limits.{document-01}
 use Rattle.definitions.specs.Problem as definition
-use Rattle.definitions.specs.Layout.{Words, count-place, rows-place}
+use Rattle.definitions.specs.Layout.{Words, count-place, rows-place, degrees-at}
 
 abbrev pub parameters-at : Words → definition.Parameters
-parameters-at s = record { p = getD s 0 0; n = getD s 1 0; code = getD s 2 0; s = getD s 3 0 }
+parameters-at s = record { p = getD s 0 0; n = getD s 1 0; code = getD s 2 0; s = getD s 3 0; degrees = degrees-at document-01 s }
+
+-- the four numbers alone, as of a file without degrees
+abbrev pub numbers-at : Words → definition.Parameters
+numbers-at s = record { p = getD s 0 0; n = getD s 1 0; code = getD s 2 0; s = getD s 3 0; degrees = replicate (getD s 3 0) 0 }
 
 -- how many vectors level k has
 abbrev pub count-at : Words → ℕ → ℕ

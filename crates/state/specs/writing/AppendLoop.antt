@@ -6,7 +6,7 @@ use lib.ListN.{length}
 use Rattle.definitions.specs.Limits.{document-01}
 use Rattle.definitions.specs.Monomial.{Level}
 use Rattle.definitions.specs.Layout.{Words, levels-at, all-words-sound?}
-use Rattle.definitions.specs.Places.{header-length}
+use Rattle.definitions.specs.Places.{header-length, degrees-start}
 use Rattle.reducers.specs.tables.Cuts.{start-of}
 use Rattle.state.specs.soundness.Places.{ends-from}
 use Rattle.state.specs.writing.LevelSoFar.{level-so-far, words-so-far?}
@@ -16,6 +16,7 @@ use Rattle.state.specs.writing.Zeroed.{Same}
 pub record Grown (s z : Words) (k count used : ℕ) (f : Level) : Type 0 where
   pub long : length z ≡ length s
   pub front : Same z s 0 header-length
+  pub degrees : Same z s degrees-start (length s)
   pub below : levels-at document-01 z k ≡ levels-at document-01 s k
   pub words-below : T (all-words-sound? document-01 z k)
   pub words : T (words-so-far? z k count)

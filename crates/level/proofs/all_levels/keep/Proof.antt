@@ -1,10 +1,9 @@
 use borrow.Author.Needs.{needs}
 use native.Mathlib.Omega.{arith}
 use mathlib.Core.Path.{subst}
-use Prim.Native.Nat.{_-_}
 use Rattle.state.proofs.preparing.Complete.{words-below}
 use Rattle.level.specs.all_levels.Level.{Settles}
-use Rattle.level.proofs.all_levels.Lifting.{kept-words, kept-none}
+use Rattle.level.proofs.all_levels.Lifting.{liftable-carried, kept-words, kept-none}
 use Rattle.level.proofs.all_levels.keep.Statement.{statement}
 use Rattle.level.proofs.all_levels.keep.Tie as tie
 
@@ -15,11 +14,14 @@ add-level-requires : tie.Need-add-level-requires
 add-level-requires c κs =
     let a = c .before .before .before .before .before .before .args in
     let P = c .before .before .before .before .before .before .pre in
-    let b = P .0 .base in (
+    let b = P .0 .base in
+    let st = subst (λ y. Settles (a .state .now) (a .k) y (a .out .now)) (c .before .before .x .given .1) (P .1) in (
       b .long,
       omega (arith, P .0 .high),
       words-below (a .state .now) (b .long) (b .holds) (a .k) (omega (arith, b .has)),
-      subst (λ y. Settles y (a .out .now)) (c .before .before .x .given .1) (P .1),
+      st .0,
+      st .1,
+      liftable-carried (a .state .now) (a .k) (P .0),
     )
 
 enum-known-x-2 : tie.Need-enum-known-x-2
@@ -49,7 +51,7 @@ returns-2 c =
 returns-3 : tie.Need-returns-3
 returns-3 c =
     let a = c .before .before .before .before .before .args in
-    absurd (subst (λ y. Settles y (a .out .now)) (c .before .x3 .given .1) (c .before .before .before .before .before .pre .1))
+    absurd (subst (λ y. Settles (a .state .now) (a .k) y (a .out .now)) (c .before .x3 .given .1) (c .before .before .before .before .before .pre .1))
 
 pub keep-spec : {M : Type 1} → statement M
 keep-spec =

@@ -44,7 +44,7 @@ keep-requires c κs =
     let v = L .ensures .0 .1 in
     let e = L .ensures .0 .2 ∙ ap (λ x. lift-over x s (a .k - 1) hybrid-2 n) (m .before .before .before .before .usual .ensures) in
     let r = run-way s (a .k - 1) b (L .last .0) (omega arith) hybrid-2 (by-picks refl refl) n (L .result) v e in
-    (P .0, way-settles s (a .k - 1) b (L .last .0) (omega arith) (by-hybrid 2) n (L .result) v r (L .ensures .1))
+    (P .0, way-settles s (a .k) (P .0) (L .last .0) (omega arith) (by-hybrid 2) n (L .result) v r (L .ensures .1))
 
 same-length : tie.Need-same-length
 same-length c = search needs

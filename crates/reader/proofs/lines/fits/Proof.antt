@@ -4,7 +4,7 @@ use Prim.Native.Nat.{ℕ, _+_, _-_, _≤_}
 use lib.ListN.{length, getD}
 use lib.Dec.{ltb}
 use Rattle.lists.specs.Marking.{Marked, marked-none, marked-more}
-use Rattle.monomial.proofs.Scans.{fits-marked}
+use Rattle.reader.proofs.lines.LineTests.{fits-marked}
 use mathlib.Core.Bool.{Bool}
 use Rattle.reader.proofs.lines.fits.Statement.{statement}
 use Rattle.reader.proofs.lines.fits.Tie as tie
@@ -42,7 +42,7 @@ loop-again c =
 returns : tie.Need-returns Inv-loop μ-loop
 returns c =
     let l = c .before .loop in let x = c .before .before .args .t1 in let e : l .j ≡ 8 = omega arith in
-    fits-marked most-exponent x (l .mark) (l .inv .1) (subst (λ n. Marked (λ k. ltb most-exponent (getD x k 0)) n (l .mark)) e (l .inv .2))
+    fits-marked 8 most-exponent x (l .mark) (l .inv .1) (subst (λ n. Marked (λ k. ltb most-exponent (getD x k 0)) n (l .mark)) e (l .inv .2))
 
 pub fits-spec : {M : Type 1} → statement M
 fits-spec =

@@ -27,9 +27,6 @@ enum-known-end c = search needs
 enum-told : tie.Need-enum-told
 enum-told c = search needs
 
-add-refused : tie.Need-add-refused
-add-refused c = search needs
-
 refused-requires : tie.Need-refused-requires
 refused-requires c κs = search needs
 
@@ -39,15 +36,12 @@ returns c =
     c .before .before .before .before .line-at in
     let said : line-as (l .result) file ≡ in-sixteen (shaped-first 65535 84 (3 + q .n) (drop (a .at) file)) = l .ensures
     ∙ ap (λ n. in-sixteen (shaped-first 65535 84 (3 + n) (drop (a .at) file))) (c .before .before .before .before .before .size-of .ensures) in
-    refused-as (c .refused .result) file 1 (a .count + 2) (c .refused .ensures)
-    ∙ no-shape (in-sixteen (shaped-first 65535 84 (3 + q .n) (drop (a .at) file))) (a .count + 2)
-    (t-judged q (a .count) (a .elements) (a .before)) file (l .result) said (c .before .enum-told .given .1)
+    refused-as (c .refused .result) file 1 (a .place) (c .refused .ensures)
+    ∙ no-shape (in-sixteen (shaped-first 65535 84 (3 + q .n) (drop (a .at) file))) (a .place)
+    (t-judged q (a .place) (a .count) (a .elements) (a .before)) file (l .result) said (c .before .enum-told .given .1)
 
 term-refusal-requires : tie.Need-term-refusal-requires
 term-refusal-requires c κs = search needs
-
-add-refused-2 : tie.Need-add-refused-2
-add-refused-2 c = search needs
 
 refused-requires-2 : tie.Need-refused-requires-2
 refused-requires-2 c κs = search needs
@@ -61,10 +55,10 @@ returns-2 c =
     ∙ ap (λ n. in-sixteen (shaped-first 65535 84 (3 + n) (drop (a .at) file)))
     (c .before .before .before .before .before .before .before .before .size-of .ensures) in
     let w = l .result .numbers in let next = c .before .before .before .before .end .given .0 .0 in let r = c .before .before .term-refusal in
-    refused-as (c .refused2 .result) file (r .result) (a .count + 2) (c .refused2 .ensures)
-    ∙ judged-refused (a .count + 2) (some (w, drop next file)) (r .result) (t-number q (a .count) (a .elements) (a .before) w) (r .ensures)
-    (λ e. omega arith) ∙ has-shape (in-sixteen (shaped-first 65535 84 (3 + q .n) (drop (a .at) file))) (a .count + 2)
-    (t-judged q (a .count) (a .elements) (a .before)) file (l .result) said next (c .before .before .before .before .end .given .1)
+    refused-as (c .refused2 .result) file (r .result) (a .place) (c .refused2 .ensures)
+    ∙ judged-refused (a .place) (some (w, drop next file)) (r .result) (t-number q (a .count) (a .elements) (a .before) w) (r .ensures)
+    (λ e. omega arith) ∙ has-shape (in-sixteen (shaped-first 65535 84 (3 + q .n) (drop (a .at) file))) (a .place)
+    (t-judged q (a .place) (a .count) (a .elements) (a .before)) file (l .result) said next (c .before .before .before .before .end .given .1)
 
 returns-3 : tie.Need-returns-3
 returns-3 c =
@@ -75,9 +69,9 @@ returns-3 c =
     ∙ ap (λ n. in-sixteen (shaped-first 65535 84 (3 + n) (drop (a .at) file)))
     (c .before .before .before .before .before .before .before .size-of .ensures) in
     let w = l .result .numbers in let next = c .before .before .before .end .given .0 .0 in let r = c .before .term-refusal in
-    judged-done (a .count + 2) (some (w, drop next file)) (r .result) (t-number q (a .count) (a .elements) (a .before) w) (r .ensures) (omega arith)
-    ∙ has-shape (in-sixteen (shaped-first 65535 84 (3 + q .n) (drop (a .at) file))) (a .count + 2)
-    (t-judged q (a .count) (a .elements) (a .before)) file (l .result) said next (c .before .before .before .end .given .1)
+    judged-done (a .place) (some (w, drop next file)) (r .result) (t-number q (a .count) (a .elements) (a .before) w) (r .ensures) (omega arith)
+    ∙ has-shape (in-sixteen (shaped-first 65535 84 (3 + q .n) (drop (a .at) file))) (a .place)
+    (t-judged q (a .place) (a .count) (a .elements) (a .before)) file (l .result) said next (c .before .before .before .end .given .1)
 
 pub term-line-spec : {M : Type 1} → statement M
 term-line-spec =
@@ -88,11 +82,9 @@ term-line-spec =
     line-at-requires
     enum-known-end
     enum-told
-    add-refused
     refused-requires
     returns
     term-refusal-requires
-    add-refused-2
     refused-requires-2
     returns-2
     returns-3)

@@ -1,6 +1,9 @@
 use borrow.Author.Needs.{needs}
 use native.Mathlib.Omega.{arith}
 use lib.ListN.{length-set}
+use mathlib.Core.Path.{_∙_}
+use Rattle.words.specs.parameters.Values.{parameters-of}
+use Rattle.reader.proofs.problem.LevelWords.{length-headed}
 use Rattle.reader.proofs.problem.begin.Statement.{statement}
 use Rattle.reader.proofs.problem.begin.Tie as tie
 
@@ -19,11 +22,18 @@ slice-write-state-4 c = simp length-set (omega arith)
 slice-write-state-5 : tie.Need-slice-write-state-5
 slice-write-state-5 c = simp length-set (omega arith)
 
+slice-aggregate-copy : tie.Need-slice-aggregate-copy
+slice-aggregate-copy c = search needs
+
+copy-requires : tie.Need-copy-requires
+copy-requires c κs = simp length-set (omega arith)
+
 same-length : tie.Need-same-length
-same-length c = search needs
+same-length c = let a = c .before .before .before .before .before .before .args in c .before .before .copy .kept .0
+    ∙ length-headed (a .state .now) (parameters-of (a .q))
 
 returns : tie.Need-returns
-returns c = search needs
+returns c = (c .before .before .copy .ensures, search needs)
 
 pub begin-spec : {M : Type 1} → statement M
 begin-spec =
@@ -34,5 +44,7 @@ begin-spec =
     slice-write-state-3
     slice-write-state-4
     slice-write-state-5
+    slice-aggregate-copy
+    copy-requires
     same-length
     returns)

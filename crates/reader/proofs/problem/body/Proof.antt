@@ -18,7 +18,7 @@ use Rattle.reader.specs.lines.Tests.{term-in, begins?}
 use Rattle.laws.proofs.Results.{if-done-says}
 use Rattle.definitions.specs.Problem.{with-term}
 use Rattle.definitions.specs.Result.{done}
-use Rattle.definitions.specs.Places.{most-rows}
+use Rattle.definitions.specs.Places.{most-rows, degrees-start}
 use borrow.Author.Tests.{ltb-true}
 use lib.ListN.{replicate}
 use mathlib.Core.Option.{some}
@@ -26,24 +26,28 @@ use Rattle.reader.proofs.problem.body.Statement.{statement}
 use Rattle.reader.proofs.problem.body.Tie as tie
 
 abbrev Inv-loop : tie.InvT-loop
-Inv-loop file from q state₀ at₀ count₀ elements₀ before₀ state at count elements before =
-    (count ≤ most-rows) × (length state ≡ length state₀) × ((f : Level) × So-far (parameters-of q) (length state₀) f count elements before state
-    × (body document-01 (parameters-of q) 2 0 [] (lines (drop from file))
-    ≡ body document-01 (parameters-of q) (count + 2) count f (lines (drop at file))))
+Inv-loop file from first q state₀ at₀ count₀ elements₀ before₀ state at count elements before =
+    (count ≤ most-rows) × (length state ≡ length state₀) × ((f : Level) × So-far (parameters-of q) (drop degrees-start state₀) f count elements before state
+    × (body document-01 (parameters-of q) first 0 [] (lines (drop from file))
+    ≡ body document-01 (parameters-of q) (count + first) count f (lines (drop at file))))
 
 abbrev μ-loop : tie.MeasureT-loop
-μ-loop file from q state₀ at₀ count₀ elements₀ before₀ state at count elements before = most-rows - count
+μ-loop file from first q state₀ at₀ count₀ elements₀ before₀ state at count elements before = most-rows - count
 
 loop-holds : tie.Need-loop-holds Inv-loop μ-loop
-loop-holds c = let a = c .before .before .args in (
-  omega arith,
-  refl,
-  (
-    [],
-    none-so-far (parameters-of (a .q)) (length (a .state .now)) (replicate 16 0) (a .state .now) (omega arith) (c .before .before .pre .2),
-    refl,
-  ),
-)
+loop-holds c =
+    let a = c .before .before .args in let q = parameters-of (a .q) in let z : a .first ≡ 0 + a .first = omega arith in (
+      omega arith,
+      refl,
+      (
+        [],
+        none-so-far q (drop degrees-start (a .state .now)) (replicate 16 0) (a .state .now) (c .before .before .pre .3),
+        ap (λ n. body document-01 q n 0 [] (lines (drop (a .from) (a .file .now)))) z,
+      ),
+    )
+
+add-next-line : tie.Need-add-next-line Inv-loop μ-loop
+add-next-line c = omega arith
 
 next-line-requires : tie.Need-next-line-requires Inv-loop μ-loop
 next-line-requires c κs = omega arith
@@ -55,14 +59,14 @@ store-requires : tie.Need-store-requires Inv-loop μ-loop
 store-requires c κs =
     let at-8 = c .before .before .before .before .before .before .before .before in
     let a = at-8 .before .args in let l = c .before .before .before .before .before .before .loop in let file = a .file .now in let q =
-    parameters-of (a .q) in let t = c .before .before .before .before .before .next-line .result in let w = t .numbers in let size =
-    length (a .state .now) in
+    parameters-of (a .q) in let t = c .before .before .before .before .before .next-line .result in let w = t .numbers in let behind =
+    drop degrees-start (a .state .now) in
     let next = c .before .before .step .given .0 .0 in
-    let said : line-first q (l .count) (l .elements) (l .before) (drop (l .at) file)
+    let said : line-first q (l .count + a .first) (l .count) (l .elements) (l .before) (drop (l .at) file)
     ≡ done (some (w, drop next file)) = sym (c .before .before .before .before .before .next-line .ensures)
     ∙ ap (λ (x : Step). step-as x w file) (c .before .before .step .given .1) in
-    let passed = if-done-says (Passed (l .count) (l .elements)) (line-first q (l .count) (l .elements) (l .before) (drop (l .at) file))
-    (line-passed q (l .count) (l .elements) (l .before) (drop (l .at) file)) (some (w, drop next file)) said in
+    let passed = if-done-says (Passed (l .count) (l .elements)) (line-first q (l .count + a .first) (l .count) (l .elements) (l .before) (drop (l .at) file))
+    (line-passed q (l .count + a .first) (l .count) (l .elements) (l .before) (drop (l .at) file)) (some (w, drop next file)) said in
     let room : l .count < most-rows = ltb-true (l .count) most-rows (passed .0) in
     (omega arith, omega arith, follows-says (l .elements) (getD w 0 0) (begins? (l .elements) (getD w 0 0)) refl (passed .1) .2, passed .2)
 
@@ -76,14 +80,14 @@ loop-less : tie.Need-loop-less Inv-loop μ-loop
 loop-less c =
     let at-8 = c .before .before .before .before .before .before .before .before in
     let a = at-8 .before .before .before .before .args in let l = at-8 .before .loop in let file = a .file .now in let q = parameters-of (a .q) in
-    let t = c .before .before .before .before .before .before .before .before .next-line .result in let w = t .numbers in let size =
-    length (a .state .now) in
+    let t = c .before .before .before .before .before .before .before .before .next-line .result in let w = t .numbers in let behind =
+    drop degrees-start (a .state .now) in
     let next = c .before .before .before .before .before .step .given .0 .0 in
-    let said : line-first q (l .count) (l .elements) (l .before) (drop (l .at) file)
+    let said : line-first q (l .count + a .first) (l .count) (l .elements) (l .before) (drop (l .at) file)
     ≡ done (some (w, drop next file)) = sym (c .before .before .before .before .before .before .before .before .next-line .ensures)
     ∙ ap (λ (x : Step). step-as x w file) (c .before .before .before .before .before .step .given .1) in
-    let passed = if-done-says (Passed (l .count) (l .elements)) (line-first q (l .count) (l .elements) (l .before) (drop (l .at) file))
-    (line-passed q (l .count) (l .elements) (l .before) (drop (l .at) file)) (some (w, drop next file)) said in
+    let passed = if-done-says (Passed (l .count) (l .elements)) (line-first q (l .count + a .first) (l .count) (l .elements) (l .before) (drop (l .at) file))
+    (line-passed q (l .count + a .first) (l .count) (l .elements) (l .before) (drop (l .at) file)) (some (w, drop next file)) said in
     let room : l .count < most-rows = ltb-true (l .count) most-rows (passed .0) in
     omega arith
 
@@ -91,25 +95,25 @@ loop-again : tie.Need-loop-again Inv-loop μ-loop
 loop-again c =
     let at-8 = c .before .before .before .before .before .before .before .before in
     let a = at-8 .before .before .before .before .args in let l = at-8 .before .loop in let file = a .file .now in let q = parameters-of (a .q) in
-    let t = c .before .before .before .before .before .before .before .before .next-line .result in let w = t .numbers in let size =
-    length (a .state .now) in
+    let t = c .before .before .before .before .before .before .before .before .next-line .result in let w = t .numbers in let behind =
+    drop degrees-start (a .state .now) in
     let next = c .before .before .before .before .before .step .given .0 .0 in
-    let said : line-first q (l .count) (l .elements) (l .before) (drop (l .at) file)
+    let said : line-first q (l .count + a .first) (l .count) (l .elements) (l .before) (drop (l .at) file)
     ≡ done (some (w, drop next file)) = sym (c .before .before .before .before .before .before .before .before .next-line .ensures)
     ∙ ap (λ (x : Step). step-as x w file) (c .before .before .before .before .before .step .given .1) in
-    let passed = if-done-says (Passed (l .count) (l .elements)) (line-first q (l .count) (l .elements) (l .before) (drop (l .at) file))
-    (line-passed q (l .count) (l .elements) (l .before) (drop (l .at) file)) (some (w, drop next file)) said in
+    let passed = if-done-says (Passed (l .count) (l .elements)) (line-first q (l .count + a .first) (l .count) (l .elements) (l .before) (drop (l .at) file))
+    (line-passed q (l .count + a .first) (l .count) (l .elements) (l .before) (drop (l .at) file)) (some (w, drop next file)) said in
     let room : l .count < most-rows = ltb-true (l .count) most-rows (passed .0) in
     let f = l .inv .2 .0 in (
       omega arith,
       omega arith,
       (
         with-term (begins? (l .elements) (getD w 0 0)) f (term-in w),
-        subst (λ z. So-far q size (with-term (begins? (l .elements) (getD w 0 0)) f (term-in w)) (l .count + 1) (getD w 0 0) w z)
+        subst (λ z. So-far q behind (with-term (begins? (l .elements) (getD w 0 0)) f (term-in w)) (l .count + 1) (getD w 0 0) w z)
             (sym (c .before .before .store .ensures))
-            (one-more q size f (l .count) (l .elements) (l .before) (l .state) (l .inv .2 .1) (omega arith) w room (passed .1)),
-        goes-on-term q size f (l .count) (l .elements) (l .before) (l .state) (l .inv .2 .1) (omega arith)
-            (at-8 .before .before .before .before .pre .0) (l .inv .0) (drop (a .from) file) (drop (l .at) file) (l .inv .2 .2) w (drop next file) said,
+            (one-more q behind f (l .count) (l .elements) (l .before) (l .state) (l .inv .2 .1) w room (passed .1)),
+        goes-on-term q behind f (l .count) (l .elements) (l .before) (l .state) (l .inv .2 .1) (a .first)
+            (at-8 .before .before .before .before .pre .0) (drop (a .from) file) (drop (l .at) file) (l .inv .2 .2) w (drop next file) said,
       ),
     )
 
@@ -122,10 +126,10 @@ same-length c = omega arith
 returns : tie.Need-returns Inv-loop μ-loop
 returns c =
     let a = c .before .before .before .before .before .before .before .args in let l = c .before .before .before .before .loop in let file =
-    a .file .now in let q = parameters-of (a .q) in let t = c .before .before .before .next-line .result in let w = t .numbers in let size =
-    length (a .state .now) in
-    goes-on-end q size (l .inv .2 .0) (l .count) (l .elements) (l .before) (l .state) (l .inv .2 .1) (omega arith)
-    (c .before .before .before .before .before .before .before .pre .0) (l .inv .0) (drop (a .from) file) (drop (l .at) file) (l .inv .2 .2)
+    a .file .now in let q = parameters-of (a .q) in let t = c .before .before .before .next-line .result in let w = t .numbers in let behind =
+    drop degrees-start (a .state .now) in
+    goes-on-end q behind (l .inv .2 .0) (l .count) (l .elements) (l .before) (l .state) (l .inv .2 .1) (a .first)
+    (c .before .before .before .before .before .before .before .pre .0) (drop (a .from) file) (drop (l .at) file) (l .inv .2 .2)
     (sym (c .before .before .before .next-line .ensures) ∙ ap (λ (x : Step). step-as x w file) (c .enum-told .given .1))
 
 enum-known-step-2 : tie.Need-enum-known-step-2 Inv-loop μ-loop
@@ -138,10 +142,10 @@ returns-2 : tie.Need-returns-2 Inv-loop μ-loop
 returns-2 c =
     let a = c .before .before .before .before .before .before .before .before .args in let l = c .before .before .before .before .before .loop in
     let file = a .file .now in let q = parameters-of (a .q) in let t = c .before .before .before .before .next-line .result in let w = t .numbers in
-    let size = length (a .state .now) in
+    let behind = drop degrees-start (a .state .now) in
     let number = c .before .step2 .given .0 .0 in let place = c .before .step2 .given .0 .1 .0 in
-    goes-on-refused q size (l .inv .2 .0) (l .count) (l .elements) (l .before) (l .state) (l .inv .2 .1) (omega arith)
-    (c .before .before .before .before .before .before .before .before .pre .0) (l .inv .0) (drop (a .from) file) (drop (l .at) file)
+    goes-on-refused q behind (l .inv .2 .0) (l .count) (l .elements) (l .before) (l .state) (l .inv .2 .1) (a .first)
+    (c .before .before .before .before .before .before .before .before .pre .0) (drop (a .from) file) (drop (l .at) file)
     (l .inv .2 .2) number place
     (sym (c .before .before .before .before .next-line .ensures) ∙ ap (λ (x : Step). step-as x w file) (c .before .step2 .given .1))
 
@@ -152,6 +156,7 @@ body-spec =
     Inv-loop
     μ-loop
     loop-holds
+    add-next-line
     next-line-requires
     enum-known-step
     store-requires

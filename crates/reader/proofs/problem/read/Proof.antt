@@ -6,8 +6,7 @@ use Rattle.reader.specs.problem.Reading.{problem-words}
 use Rattle.definitions.specs.Problem.{problem}
 use Rattle.definitions.specs.Limits.{document-01}
 use lib.ListN.{replicate}
-use Rattle.reader.proofs.problem.Answering.{cleared-zeros, cleared-length, answer-done, answer-refused}
-use Rattle.reader.proofs.problem.Answering.{cleared-zeros, cleared-length, outcome-is, answer-done, answer-refused}
+use Rattle.reader.proofs.problem.Answering.{cleared-zeros, cleared-length, outcome-is, answer-weighable, answer-done, answer-refused}
 use Rattle.reader.proofs.problem.read.Statement.{statement}
 use Rattle.reader.proofs.problem.read.Tie as tie
 
@@ -21,6 +20,14 @@ read-lines-requires c κs = let s = c .before .before .before .before .before .b
 enum-told : tie.Need-enum-told
 enum-told c = search needs
 
+carry-requires : tie.Need-carry-requires
+carry-requires c κs =
+    let at-8 = c .before .before .before .before .before .before .before .before in
+    let start = at-8 .before .before .before .before .before in
+    let a = start .args in let s = a .state .now in let file = a .file .now in let l = c .before .before .before .before .before .read-lines in
+    answer-weighable (length s) (start .pre) file (l .last .1 .0)
+    (sym (outcome-is _ (c .before .enum-told .given .1)) ∙ l .ensures ∙ ap (λ n. problem-words n file) (cleared-length s _ (at-8 .before .clear .ensures)))
+
 enum-known-outcome : tie.Need-enum-known-outcome
 enum-known-outcome c = search needs
 
@@ -33,10 +40,11 @@ same-length c = search needs
 returns : tie.Need-returns
 returns c =
     let at-8 = c .before .before .before .before .before .before .before .before in
-    let a = at-8 .before .before .before .before .args in let s = a .state .now in let file = a .file .now in
-    answer-done (length s) (problem document-01 file) _
-    (sym (outcome-is _ (c .enum-told .given .1)) ∙ c .before .before .before .before .read-lines .ensures
-    ∙ ap (λ n. problem-words n file) (cleared-length s _ (c .before .before .before .before .before .before .before .before .clear .ensures)))
+    let at-16 = at-8 .before .before .before .before .before .before .before .before in
+    let a = at-16 .args in let s = a .state .now in let file = a .file .now in
+    answer-done (length s) (at-16 .pre) file (at-8 .read-lines .last .1 .0)
+    (sym (outcome-is _ (c .before .before .before .before .enum-told .given .1)) ∙ at-8 .read-lines .ensures
+    ∙ ap (λ n. problem-words n file) (cleared-length s _ (at-8 .before .before .before .before .clear .ensures))) _ (c .before .before .carry .ensures)
 
 same-length-2 : tie.Need-same-length-2
 same-length-2 c = search needs
@@ -62,6 +70,7 @@ read-spec =
     clear-requires
     read-lines-requires
     enum-told
+    carry-requires
     enum-known-outcome
     clear-requires-2
     same-length

@@ -1,12 +1,13 @@
 use borrow.Author.Needs.{needs}
 use native.Mathlib.Omega.{arith}
-use mathlib.Core.Path.{_≡_, _∙_}
-use Prim.Native.Nat.{_+_, _*_}
+use mathlib.Core.Path.{_≡_, sym, ap, _∙_, subst}
+use Prim.Native.Nat.{_+_}
 use lib.ListN.{length, set, length-set}
 use Rattle.definitions.specs.Limits.{document-01}
-use Rattle.definitions.specs.Layout.{encode}
+use Rattle.definitions.specs.Layout.{encode, decode}
 use Rattle.definitions.specs.Places.{count-offset}
-use Rattle.state.proofs.writing.Local.{so-far-few, new-height, new-words, new-state}
+use Rattle.state.proofs.writing.Local.{so-far-few}
+use Rattle.state.proofs.writing.Finished.{Settles, finish-weighable, finish-carried}
 use Rattle.state.proofs.writing.finish.Statement.{statement}
 use Rattle.state.proofs.writing.finish.Tie as tie
 
@@ -40,41 +41,41 @@ slice-write-state-2 c =
     ≡ length s = length-set (set s (count-offset (a .k)) (a .count)) 4 (a .k + 1) ∙ n in
     omega (arith, c .before .pre .0)
 
+carry-requires : tie.Need-carry-requires
+carry-requires c κs =
+    let a = c .before .before .args in
+    let p = c .before .before .pre in
+    finish-weighable (a .state .now) (a .k) (a .count) (p .0) (p .1) (p .2) (p .3) (p .4) (p .5)
+
 add-settle : tie.Need-add-settle
 add-settle c = search needs
 
 settle-requires : tie.Need-settle-requires
 settle-requires c κs =
-    let a = c .before .before .args in
-    let s = a .state .now in
-    let n : length (set s (count-offset (a .k)) (a .count)) ≡ length s = length-set s (count-offset (a .k)) (a .count) in
-    let m : length (set (set s (count-offset (a .k)) (a .count)) 4 (a .k + 1))
-    ≡ length s = length-set (set s (count-offset (a .k)) (a .count)) 4 (a .k + 1) ∙ n in (
-      omega (arith, c .before .before .pre .0),
-      omega (arith, c .before .before .pre .1),
-      new-height s (a .k) (a .count) (c .before .before .pre .0) (c .before .before .pre .1) (c .before .before .pre .2) (c .before .before .pre .3),
-      new-words s (a .k) (a .count) (c .before .before .pre .0) (c .before .before .pre .1) (c .before .before .pre .2) (c .before .before .pre .3),
-    )
+    let a = c .before .before .before .before .before .before .args in
+    let p = c .before .before .before .before .before .before .pre in
+    let f = finish-carried (a .state .now) (a .k) (a .count) (p .0) (p .1) (p .2) (p .3) (p .4) (p .5) in
+    subst (Settles (a .k)) (sym (c .before .before .before .carry .ensures)) (f .settles)
 
 same-length : tie.Need-same-length
 same-length c =
-    let a = c .before .before .before .before .before .args in
+    let at-8 = c .before .before .before .before .before .before .before .before in
+    let a = at-8 .before .args in
     let s = a .state .now in
     let n : length (set s (count-offset (a .k)) (a .count)) ≡ length s = length-set s (count-offset (a .k)) (a .count) in
     let m : length (set (set s (count-offset (a .k)) (a .count)) 4 (a .k + 1))
     ≡ length s = length-set (set s (count-offset (a .k)) (a .count)) 4 (a .k + 1) ∙ n in
-    omega (arith, c .before .before .settle .kept .0)
+    omega (arith, c .before .before .settle .kept .0, c .before .before .before .before .before .before .carry .kept .0)
 
 returns : tie.Need-returns
 returns c =
-    let a = c .before .before .before .before .before .args in
-    let s = a .state .now in
-    let n : length (set s (count-offset (a .k)) (a .count)) ≡ length s = length-set s (count-offset (a .k)) (a .count) in
-    let m : length (set (set s (count-offset (a .k)) (a .count)) 4 (a .k + 1))
-    ≡ length s = length-set (set s (count-offset (a .k)) (a .count)) 4 (a .k + 1) ∙ n in
-    c .before .before .settle .ensures ∙ (λ i. encode document-01 (m i)
-    (new-state s (a .k) (a .count) (c .before .before .before .before .before .pre .0) (c .before .before .before .before .before .pre .1)
-    (c .before .before .before .before .before .pre .2) (c .before .before .before .before .before .pre .3) i))
+    let at-8 = c .before .before .before .before .before .before .before .before in
+    let a = at-8 .before .args in
+    let p = at-8 .before .pre in
+    let f = finish-carried (a .state .now) (a .k) (a .count) (p .0) (p .1) (p .2) (p .3) (p .4) (p .5) in
+    c .before .before .settle .ensures ∙ ap (λ y. encode document-01 (length y) (decode document-01 y))
+    (c .before .before .before .before .before .before .carry .ensures)
+    ∙ (λ i. encode document-01 (f .long i) (f .means i))
 
 pub finish-spec : {M : Type 1} → statement M
 finish-spec =
@@ -88,6 +89,7 @@ finish-spec =
     mul-state-2
     slice-write-state
     slice-write-state-2
+    carry-requires
     add-settle
     settle-requires
     same-length

@@ -44,7 +44,7 @@ store-requires c κs =
     let L = m .lift-level in
     let room = length (a .cache .now) / row-length in
     let e = L .ensures .0 ∙ ap (λ x. tree-over x s (a .k - 1) room) (m .before .before .before .before .before .usual .ensures) in
-    (P .0, way-settles s (a .k - 1) b (L .last .0) (omega arith) (by-tree room) 0 (L .result) [] e (L .ensures .1))
+    (P .0, way-settles s (a .k) (P .0) (L .last .0) (omega arith) (by-tree room) 0 (L .result) [] e (L .ensures .1))
 
 same-length : tie.Need-same-length
 same-length c = search needs

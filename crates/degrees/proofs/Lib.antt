@@ -1,0 +1,9 @@
+pub mod Words
+pub mod Bounds
+pub mod Degrees
+pub mod Lines
+pub mod Alike
+pub mod Buffers
+pub mod Eighteen
+pub mod Same
+pub mod Cases
