@@ -34,9 +34,9 @@ extern "C" {
 
 /* How many bytes of stack a call finds enough, from where it is called, so that a thread of this size and what its own functions need is safe. Of the stack
  * alone the library can not tell you that it is too small: the process dies. All calls but the tree's have arrays of fixed length and do not call themselves:
- * lifting by division and by hybrid take 69 KiB, the sheet 52, reading 30, fetching 11 (measured on x86-64, the thread's own few KiB included), whatever
+ * lifting by division and by hybrid take 69 KiB, the sheet 52, reading 28, fetching 11 (measured on x86-64, the thread's own few KiB included), whatever
  * the file; the rest is for what runs beside them in the thread. The tree calls itself, 4,096 deep at the most, since each unfinished subtree holds a term of
- * the work area: 2,350 KiB measured at that depth. */
+ * the work area: 3,055 KiB measured at that depth. */
 #define TAGETESSASH_STACK_BYTES 262144
 #define TAGETESSASH_TREE_STACK_BYTES 4194304
 
