@@ -1,4 +1,4 @@
-/* The three calls of Tagetessash: read a problem file, lift a level, fetch a vector; and the sheet of a file in one call.
+/* The three calls of Tagetessash: read a problem file, lift a level, fetch a vector; and the sheet and the Betti page of a file, each in one call.
  *
  * A header of one version does not fit a library of another: if (tagetessash_version() != TAGETESSASH_VERSION) do not go on.
  *
@@ -28,6 +28,8 @@ extern "C" {
  *     1    an exponent has a word of its own, a row ten words
  *     2    the exponents are packed, a row has six words; what the accessors below give and what the sheet prints is as it was
  *     3    the state has degrees behind its rows, a D line is read, 18 is answered; all that a state of version 2 holds stands where it stood
+ * tagetessash_betti came later and changed nothing else: a program of version 3 that does not call it fits every library of version 3, and one that does is not
+ * linked with a library that has no such function.
  * Version 1's buffers are long enough for version 3: a program that was compiled with that header is refused nothing and reads other words. Only the version
  * tells it. One of version 2 lends a state that is too short: where it does not ask for the version, every call answers 16. */
 #define TAGETESSASH_VERSION 3
@@ -46,6 +48,7 @@ extern "C" {
 #define TAGETESSASH_TREE_WORK_WORDS 24576 /* to lift by the tree */
 #define TAGETESSASH_OUT_WORDS 3072
 #define TAGETESSASH_SHEET_BYTES 1400000   /* the sheet's out has bytes */
+#define TAGETESSASH_PAGE_BYTES 1508691    /* and so has the Betti page's */
 
 /* The most that there can be. A longer file is refused with 1, more variables or components with 3, T lines for more terms of level 0 with 8, more terms of a
  * vector or of the tree's work area with 14, more vectors or terms of a level above 0 with 15. */
@@ -57,6 +60,11 @@ extern "C" {
 #define TAGETESSASH_LEVEL_TERMS 2048
 #define TAGETESSASH_VECTOR_TERMS 512
 #define TAGETESSASH_TREE_TERMS 4096
+
+/* A Betti page: columns 0 to 10 behind a label, each of so many bytes, and byte 10; 20,666 rows and the totals at the most. */
+#define TAGETESSASH_PAGE_COLUMNS 11
+#define TAGETESSASH_PAGE_CELL_BYTES 6
+#define TAGETESSASH_PAGE_LINE_BYTES 73
 
 /* A term is a row of words: its coefficient, its component, its eight exponents in one number of 64 bits, a byte each. x1's is the top byte; those past the
  * last variable are zero. The number stands in four words, the lowest 16 bits first, so that on x86-64 these are its bytes in memory. */
@@ -122,7 +130,10 @@ enum {
     /* a limit; the place is the level, 0 while a basis is being accepted */
     TAGETESSASH_EXPONENT_LIMIT = 13, /* a product has an exponent above 255 */
     TAGETESSASH_TERM_LIMIT = 14,     /* a 513th term of a working value or vector, or a 4,097th in the tree's work area */
-    TAGETESSASH_LEVEL_LIMIT = 15     /* a 129th frame term, or a 2,049th term of a level above 0 */
+    TAGETESSASH_LEVEL_LIMIT = 15,    /* a 129th frame term, or a 2,049th term of a level above 0 */
+
+    /* No call returns this one: it stands in the X line that tagetessash_betti writes instead of a page, its place the first such element. */
+    TAGETESSASH_TWO_DEGREES = 17 /* an element has terms of two degrees */
 };
 
 /* Reads a problem file and accepts or refuses its basis. After 0 the state has level 0, the file's elements, and no other level. */
@@ -141,6 +152,14 @@ uint16_t tagetessash_fetch(const uint16_t *state, size_t state_words, uint16_t *
  * file, a refused one too (its X line says so), or 16, which changes no buffer and has length 0. After 0 state and work are zero: they are lent for the work
  * alone. It lifts by the hybrid way with the newest term, which on some files takes very long. */
 uint16_t tagetessash_sheet(const uint8_t *file, size_t file_bytes, uint16_t *state, size_t state_words, uint16_t *work, size_t work_words, uint8_t *out,
+    size_t out_bytes, size_t *length);
+
+/* Writes the Betti page of a problem file, the bytes that the program prints, into out, likewise: how many vectors of which degree each level has, levels
+ * lifted as for the sheet. A line has 72 bytes and byte 10: a label of 6, then columns 0 to 10 of 6 each, right-aligned, a dash for zero. Column 0 counts the
+ * components, column 1 the elements, column k + 1 the vectors of level k; the row is the degree minus the column, and the last line has the totals. For a
+ * refused file it writes the X line (and after X,9 the W lines) and nothing else; X,17 for an accepted one where an element has terms of two degrees. Returns 0
+ * for every file, or 16, as tagetessash_sheet does. */
+uint16_t tagetessash_betti(const uint8_t *file, size_t file_bytes, uint16_t *state, size_t state_words, uint16_t *work, size_t work_words, uint8_t *out,
     size_t out_bytes, size_t *length);
 
 /* The version of the library. */
@@ -280,6 +299,7 @@ static inline const char *tagetessash_meaning(uint16_t number)
     case TAGETESSASH_TERM_LIMIT: return "a working value, a vector or the tree's work area is full";
     case TAGETESSASH_LEVEL_LIMIT: return "a level has too many frame terms or too many terms";
     case TAGETESSASH_SHORT_BUFFER: return "a buffer is too short";
+    case TAGETESSASH_TWO_DEGREES: return "an element has terms of two degrees";
     case TAGETESSASH_BAD_DEGREE: return "a component's degree is above 255";
     default: return "no number of a call";
     }
@@ -294,6 +314,8 @@ static inline const char *tagetessash_place_name(uint16_t number)
         return "frame term";
     if (number >= TAGETESSASH_EXPONENT_LIMIT && number <= TAGETESSASH_LEVEL_LIMIT)
         return "level";
+    if (number == TAGETESSASH_TWO_DEGREES)
+        return "element";
     return NULL;
 }
 

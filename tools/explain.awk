@@ -1,7 +1,8 @@
-# What stands behind an X line, for people: the line of the file with the usual causes, found by looking; after 9 which frame term it is, and the value.
-# Unproved, and nothing rests on it: it reads the problem file, then the sheet, and prints lines for standard error.
+# What stands behind an X line, for people: the line of the file with the usual causes, found by looking; after 9 which frame term it is, and the value; after
+# 17 two terms of the element that have different degrees.
+# Unproved, and nothing rests on it: it reads the problem file, then the sheet or the page, and prints lines for standard error.
 #
-#     NAME=file ENDED=1 NUMBER=6 PLACE=3 awk -f explain.awk FILE SHEET     ENDED: whether FILE's last byte is 10
+#     NAME=file ENDED=1 NUMBER=6 PLACE=3 awk -f explain.awk FILE PRINTED     ENDED: whether FILE's last byte is 10
 
 BEGIN {
     name = ENVIRON["NAME"]; ended = ENVIRON["ENDED"]; number = ENVIRON["NUMBER"] + 0; place = ENVIRON["PLACE"] + 0
@@ -14,6 +15,7 @@ END {
     first_t = line[2] ~ /^D/ ? 3 : 2
     if ((number <= 8 || number == 18) && place > 0) print name ":" place ": " shown(line[place]) hint()
     if (number == 9) not_a_basis()
+    if (number == 17) two_degrees()
 }
 
 # control characters and bytes above 126 as ?, cut
@@ -135,6 +137,28 @@ function not_a_basis(    t, f, elements, e, i, j, k, x, m, found, count, first, 
     }
     if (terms > 12) text = text " .. (" terms " terms, all in the W lines)"
     print "the value, modulo " p ": " text
+}
+
+# Element PLACE's first term, and the first one after it that has another degree.
+function two_degrees(    t, f, first, leading, component) {
+    for (t = first_t; t < lines; t++) {
+        split(line[t], f, ",")
+        if (f[2] + 0 != place) continue
+        if (!first) { first = t; leading = degree(f); component = f[4] }
+        else if (degree(f) != leading) {
+            print name ":" first ": " shown(line[first]) "   <- degree " leading
+            print name ":" t ": " shown(line[t]) "   <- degree " degree(f) \
+                (f[4] != component && first_t == 2 ? "; without a D line both components have degree 0" : "")
+            return
+        }
+    }
+}
+
+# of a T line: its exponents and its component's degree
+function degree(f,    d, x, total) {
+    if (first_t == 3) { split(line[2], d, ","); total = d[f[4] + 1] }
+    for (x = 5; x <= n + 4; x++) total += f[x]
+    return total + 0
 }
 
 # two monomials as their exponents, each with a comma behind it

@@ -10,13 +10,14 @@
 //! - [`lifting`]: division, hybrid, tree, acceptance.
 //! - [`reckoning`]: the plain reckoning of a level and of a list of calls.
 //! - [`engine`]: the state and the three calls. [`buffers`]: the same on lent buffers.
-//! - [`sheet`], [`script`]: what the programs print.
+//! - [`sheet`], [`betti`], [`script`]: what the programs print.
 //! - [`invariants`]: Hilbert function and minimal Betti numbers from the levels.
 //! - [`random`], [`completion`], [`generate`]: seeded problem files and lists of calls.
 
 #![forbid(unsafe_code)]
 #![warn(missing_docs)]
 
+pub mod betti;
 pub mod buffers;
 pub mod completion;
 pub mod engine;

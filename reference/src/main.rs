@@ -2,8 +2,10 @@
 
 #![forbid(unsafe_code)]
 
-use reference::generate::cases::{calls_case, file_case, FILE_KINDS};
+use reference::betti::page;
+use reference::generate::cases::{calls_case, file_case, page_case, FILE_KINDS, PAGE_KINDS};
 use reference::generate::scripts::Reach;
+use reference::lifting::Usage;
 use reference::script::Script;
 use reference::sheet::sheet;
 use reference::Limits;
@@ -17,6 +19,9 @@ reference: a plain implementation of document 01
 reference sheet [FILE] [--budget N]
     Prints the sheet for the problem file FILE (or standard input). With a budget it gives up,
     with exit code 3 and nothing printed, when more than N products would be formed.
+
+reference betti [FILE] [--budget N]
+    Prints the Betti page for the problem file FILE (or standard input), and gives up as above.
 
 reference calls [--budget N]
     Reads a list of calls from standard input, one in a line:
@@ -43,6 +48,9 @@ reference generate KIND SEED COUNT DIR
     Writes COUNT cases to the directory DIR, which is made if it is missing; the same seed gives
     the same cases.
     small, bases, damaged, limits: problem files KIND-SEED-NUMBER.in with the sheets .out
+    graded, mixed, stopped, pages: problem files KIND-SEED-NUMBER.in with the Betti pages .page:
+        homogeneous ones; with an element of two degrees; refused while levels are lifted, or
+        almost; all of these, plain, damaged and edited files
     calls: lists of calls calls-SEED-NUMBER.calls with what they print, .answers
 
 reference help
@@ -67,11 +75,8 @@ fn main() -> ExitCode {
 fn run(words: &[&str]) -> Result<ExitCode, String> {
     let (words, budget) = split_budget(words)?;
     match words.as_slice() {
-        ["sheet"] => print_sheet(&read_input()?, budget),
-        ["sheet", name] => {
-            let file = std::fs::read(name).map_err(|error| format!("{name}: {error}"))?;
-            print_sheet(&file, budget)
-        }
+        ["sheet", file @ ..] if file.len() < 2 => print_of(sheet, file, budget),
+        ["betti", file @ ..] if file.len() < 2 => print_of(page, file, budget),
         ["calls"] => print_calls(&read_input()?, budget),
         ["generate", kind, seed, count, directory] => {
             let number = |word: &str| {
@@ -122,8 +127,16 @@ fn gave_up() -> Result<ExitCode, String> {
     Ok(ExitCode::from(GAVE_UP))
 }
 
-fn print_sheet(file: &[u8], budget: Option<u64>) -> Result<ExitCode, String> {
-    match sheet(&Limits::document_01(), file, budget) {
+/// What is printed of a file under limits and a budget, and what it took.
+type Printed = fn(&Limits, &[u8], Option<u64>) -> (Option<Vec<u8>>, Usage);
+
+/// Prints that of the file named, or of standard input.
+fn print_of(what: Printed, file: &[&str], budget: Option<u64>) -> Result<ExitCode, String> {
+    let file = match file {
+        [name, ..] => std::fs::read(name).map_err(|error| format!("{name}: {error}"))?,
+        [] => read_input()?,
+    };
+    match what(&Limits::document_01(), &file, budget) {
         (Some(printed), _) => print(&printed),
         (None, _) => gave_up(),
     }
@@ -138,7 +151,7 @@ fn print_calls(input: &[u8], budget: Option<u64>) -> Result<ExitCode, String> {
 }
 
 fn generate(kind: &str, seed: u64, count: u64, directory: &Path) -> Result<ExitCode, String> {
-    if kind != "calls" && !FILE_KINDS.contains(&kind) {
+    if kind != "calls" && !FILE_KINDS.contains(&kind) && !PAGE_KINDS.contains(&kind) {
         return Err(format!(
             "{kind} is no kind; `reference help` tells the kinds"
         ));
@@ -166,6 +179,9 @@ fn case_parts(kind: &str, seed: u64, case: u64) -> Vec<(&'static str, Vec<u8>)> 
             ("calls", script.text().into_bytes()),
             ("answers", run.text().into_bytes()),
         ];
+    }
+    if let Some((file, page)) = page_case(kind, seed, case) {
+        return vec![("in", file), ("page", page)];
     }
     file_case(kind, seed, case)
         .map(|case| vec![("in", case.file), ("out", case.sheet)])

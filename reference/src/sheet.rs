@@ -55,7 +55,8 @@ fn print(
     Some(())
 }
 
-fn answered(outcome: Outcome, usage: &mut Usage) -> Option<Answer> {
+/// The answer of a call that did not give up; adds up what the calls took.
+pub(crate) fn answered(outcome: Outcome, usage: &mut Usage) -> Option<Answer> {
     match outcome {
         Outcome::Answered(answer) => {
             *usage = usage.and(&answer.usage);
@@ -69,7 +70,7 @@ fn answered(outcome: Outcome, usage: &mut Usage) -> Option<Answer> {
 }
 
 /// `X,number,place`; "After X,9 the value follows as `W,coefficient,component,e1,..,en`".
-fn refused(answer: &Answer, n: usize, printed: &mut String) {
+pub(crate) fn refused(answer: &Answer, n: usize, printed: &mut String) {
     printed.push_str(&format!("X,{},{}\n", answer.number, answer.place));
     for term in &answer.vector {
         line("W", term, n, printed);

@@ -51,6 +51,31 @@ fn sheets() {
 }
 
 #[test]
+fn betti_pages() {
+    let problem = b"R,7,2,1,1\nT,1,1,1,2,0\nT,2,1,1,1,1\nT,3,1,1,0,2\nE,3\n";
+    let dashes = "     -".repeat(8);
+    let page = format!(
+        "    0:     1     -     -{dashes}\n    1:     -     3     2{dashes}\n total     1     3     2{dashes}\n"
+    );
+    assert_eq!(printed(&["betti"], problem), page);
+    let directory = directory("betti");
+    std::fs::create_dir_all(&directory).expect("a directory");
+    let file = directory.join("problem");
+    std::fs::write(&file, problem).expect("a file");
+    let name = file.to_str().expect("a name");
+    assert_eq!(printed(&["betti", name], b""), page);
+    assert_eq!(printed(&["betti", name, "--budget", "8"], b""), page);
+    assert_eq!(printed(&["betti"], b""), "X,1,1\n");
+    assert_eq!(printed(&["betti"], PROBLEM), "X,17,2\n");
+    let output = run(&["betti", "--budget", "7"], problem);
+    assert_eq!(output.status.code(), Some(3));
+    assert!(output.stdout.is_empty());
+    assert_eq!(run(&["betti", name, name], b"").status.code(), Some(2));
+    let missing = run(&["betti", "no such file"], b"");
+    assert_eq!(missing.status.code(), Some(2));
+}
+
+#[test]
 fn calls() {
     let text = "limits levels=1\nread -\nlift 1 division\nfetch 10 1\n";
     let expected = "1 1 -\n11 0 -\n11 0 -\nlevels 0\nreckoned 0\ndegrees 0\n";
@@ -62,10 +87,13 @@ fn calls() {
 fn generated_cases_agree_with_the_program() {
     let directory = directory("generated");
     let name = directory.to_str().expect("a name");
-    for kind in ["small", "bases", "damaged", "limits", "calls"] {
+    for kind in [
+        "small", "bases", "damaged", "limits", "calls", "graded", "mixed", "stopped", "pages",
+    ] {
         assert_eq!(printed(&["generate", kind, "5", "8", name], b""), "");
         let (command, input, output) = match kind {
             "calls" => ("calls", "calls", "answers"),
+            "graded" | "mixed" | "stopped" | "pages" => ("betti", "in", "page"),
             _ => ("sheet", "in", "out"),
         };
         for case in 1..=8 {
@@ -87,7 +115,7 @@ fn generated_cases_agree_with_the_program() {
 fn help() {
     let help = printed(&["help"], b"");
     for word in [
-        "sheet", "calls", "generate", "levels", "reckoned", "degrees", "--budget",
+        "sheet", "betti", "calls", "generate", "pages", "levels", "reckoned", "degrees", "--budget",
     ] {
         assert!(help.contains(word));
     }

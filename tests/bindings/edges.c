@@ -1,5 +1,5 @@
 /* What the header says beyond the answers that resolve prints: its numbers, packed rows, null with length 0, buffers one word too short, wrong numbers, altered
- * states, levels dropped, degrees, the accessors, the sheet. */
+ * states, levels dropped, degrees, the accessors, the sheet, the Betti page. */
 #include <stdio.h>
 #include <stdlib.h>
 #include <string.h>
@@ -28,6 +28,8 @@ HOLDS(carried_behind_degrees, TAGETESSASH_CARRIED_AT == TAGETESSASH_DEGREES_AT +
 HOLDS(the_state, TAGETESSASH_STATE_WORDS == TAGETESSASH_CARRIED_AT + LEVELS * TAGETESSASH_LEVEL_VECTORS);
 HOLDS(the_work_area, TAGETESSASH_WORK_WORDS == TAGETESSASH_VECTOR_TERMS * TAGETESSASH_ROW_WORDS);
 HOLDS(the_trees_work_area, TAGETESSASH_TREE_WORK_WORDS == TAGETESSASH_TREE_TERMS * TAGETESSASH_ROW_WORDS);
+HOLDS(a_pages_line, TAGETESSASH_PAGE_LINE_BYTES == (1 + TAGETESSASH_PAGE_COLUMNS) * TAGETESSASH_PAGE_CELL_BYTES + 1);
+HOLDS(whole_lines, TAGETESSASH_PAGE_BYTES % TAGETESSASH_PAGE_LINE_BYTES == 0);
 HOLDS(a_fetched_vector, TAGETESSASH_OUT_WORDS == TAGETESSASH_VECTOR_TERMS * TAGETESSASH_ROW_WORDS);
 
 static const char three[] = "R,7,3,3,1\nT,1,1,1,1,0,0\nT,2,1,1,0,1,0\nT,3,2,1,0,0,1\nE,3\n";
@@ -251,7 +253,7 @@ static void d_lines(void)
             CHECK(all(state, TAGETESSASH_STATE_WORDS, 0));
     }
     CHECK(strcmp(tagetessash_meaning(TAGETESSASH_BAD_DEGREE), "a component's degree is above 255") == 0);
-    CHECK(strcmp(tagetessash_place_name(TAGETESSASH_BAD_DEGREE), "line") == 0 && tagetessash_place_name(17) == NULL);
+    CHECK(strcmp(tagetessash_place_name(TAGETESSASH_BAD_DEGREE), "line") == 0 && tagetessash_place_name(19) == NULL);
 }
 
 static void null_with_length_0(void)
@@ -397,6 +399,62 @@ static void the_sheet(void)
     free(sheet);
 }
 
+/* What the file's page is, or its X line; zeros behind it, nothing left in the other buffers; 16 a byte or word too short, and then nothing is changed. */
+static void the_page_of(const char *text, const char *expected)
+{
+    const uint8_t *file = (const uint8_t *)text;
+    size_t bytes = strlen(text), length = 99, i;
+    uint8_t *page = malloc(TAGETESSASH_PAGE_BYTES);
+    if (page == NULL)
+        exit(2);
+    memset(page, 5, TAGETESSASH_PAGE_BYTES);
+    fill(state, TAGETESSASH_STATE_WORDS, 5);
+    fill(work, TAGETESSASH_WORK_WORDS, 5);
+    for (i = 0; i < 3; i++) {
+        length = 99;
+        CHECK(tagetessash_betti(file, bytes, state, TAGETESSASH_STATE_WORDS - (i == 0), work, TAGETESSASH_WORK_WORDS - (i == 1), page,
+            TAGETESSASH_PAGE_BYTES - (i == 2), &length) == TAGETESSASH_SHORT_BUFFER);
+        CHECK(length == 0 && all(state, TAGETESSASH_STATE_WORDS, 5) && all(work, TAGETESSASH_WORK_WORDS, 5));
+    }
+    for (i = 0; i < TAGETESSASH_PAGE_BYTES && page[i] == 5; i++)
+        ;
+    CHECK(i == TAGETESSASH_PAGE_BYTES);
+    CHECK(tagetessash_betti(file, bytes, state, TAGETESSASH_STATE_WORDS, work, TAGETESSASH_WORK_WORDS, page, TAGETESSASH_PAGE_BYTES, &length)
+        == TAGETESSASH_DONE);
+    CHECK(length == strlen(expected) && memcmp(page, expected, strlen(expected)) == 0);
+    for (i = length; i < TAGETESSASH_PAGE_BYTES && page[i] == 0; i++)
+        ;
+    CHECK(i == TAGETESSASH_PAGE_BYTES);
+    CHECK(all(state, TAGETESSASH_STATE_WORDS, 0) && all(work, TAGETESSASH_WORK_WORDS, 0));
+    free(page);
+}
+
+/* request A1's example; a module whose page has rows by the D line; without it 17; 9 before 17; a file that is not read; 17 in words */
+static void the_pages(void)
+{
+    the_page_of("R,7,2,3,1\nT,1,1,1,2,0\nT,2,1,1,1,1\nT,3,1,1,0,2\nE,3\n",
+        "    0:     1     -     -     -     -     -     -     -     -     -     -\n"
+        "    1:     -     3     2     -     -     -     -     -     -     -     -\n"
+        " total     1     3     2     -     -     -     -     -     -     -     -\n");
+    the_page_of("R,7,2,3,2\nD,0,1\nT,1,1,1,1,1\nT,2,1,1,2,0\nT,2,1,2,0,1\nT,3,1,2,0,2\nE,4\n",
+        "    0:     1     -     -     -     -     -     -     -     -     -     -\n"
+        "    1:     1     2     1     -     -     -     -     -     -     -     -\n"
+        "    2:     -     1     -     -     -     -     -     -     -     -     -\n"
+        " total     2     3     1     -     -     -     -     -     -     -     -\n");
+    the_page_of("R,7,1,1,1\nT,1,1,1,0\nT,2,1,1,0\nE,2\n",
+        "   -2:     -     -     1     -     -     -     -     -     -     -     -\n"
+        "   -1:     -     2     -     -     -     -     -     -     -     -     -\n"
+        "    0:     1     -     -     -     -     -     -     -     -     -     -\n"
+        " total     1     2     1     -     -     -     -     -     -     -     -\n");
+    the_page_of("R,7,2,3,2\nT,1,1,1,1,1\nT,2,1,1,2,0\nT,2,1,2,0,1\nT,3,1,2,0,2\nE,4\n", "X,17,2\n");
+    the_page_of("R,7,2,1,1\nT,1,1,1,2,0\nT,2,1,1,1,1\nT,2,1,1,0,1\nE,3\n", "X,9,1\nW,6,1,0,1\n");
+    the_page_of(no_basis, "X,9,1\nW,6,1,0,3\n");
+    the_page_of("R,7,1,1,2\nD,0,256\n", "X,18,2\n");
+    the_page_of("", "X,1,1\n");
+    CHECK(strcmp(tagetessash_meaning(TAGETESSASH_TWO_DEGREES), "an element has terms of two degrees") == 0);
+    CHECK(strcmp(tagetessash_place_name(TAGETESSASH_TWO_DEGREES), "element") == 0);
+}
+
 int main(void)
 {
     state = words(TAGETESSASH_STATE_WORDS);
@@ -417,6 +475,7 @@ int main(void)
     large_prime(65519);
     value_after_9();
     the_sheet();
+    the_pages();
     free(state);
     free(before);
     free(work);

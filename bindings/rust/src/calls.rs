@@ -43,6 +43,17 @@ extern "C" {
         out_bytes: usize,
         length: *mut usize,
     ) -> u16;
+    fn tagetessash_betti(
+        file: *const u8,
+        file_bytes: usize,
+        state: *mut u16,
+        state_words: usize,
+        work: *mut u16,
+        work_words: usize,
+        out: *mut u8,
+        out_bytes: usize,
+        length: *mut usize,
+    ) -> u16;
     fn tagetessash_version() -> u16;
 }
 
@@ -122,6 +133,26 @@ pub fn sheet(file: &[u8], state: &mut [u16], work: &mut [u16], out: &mut [u8]) -
     // SAFETY: each pointer and length are those of a slice that lives through the call; the slices do not overlap
     let number = unsafe {
         tagetessash_sheet(
+            file.as_ptr(),
+            file.len(),
+            state.as_mut_ptr(),
+            state.len(),
+            work.as_mut_ptr(),
+            work.len(),
+            out.as_mut_ptr(),
+            out.len(),
+            &mut length,
+        )
+    };
+    (number, length)
+}
+
+/// Number and how many bytes `out` has in front.
+pub fn betti(file: &[u8], state: &mut [u16], work: &mut [u16], out: &mut [u8]) -> (u16, usize) {
+    let mut length = usize::MAX;
+    // SAFETY: as above
+    let number = unsafe {
+        tagetessash_betti(
             file.as_ptr(),
             file.len(),
             state.as_mut_ptr(),

@@ -5,6 +5,7 @@ pub const WORK_WORDS: usize = 3_072;
 pub const TREE_WORK_WORDS: usize = 24_576;
 pub const OUT_WORDS: usize = 3_072;
 pub const SHEET_BYTES: usize = 1_400_000;
+pub const PAGE_BYTES: usize = 1_508_691;
 
 pub const VARIABLES: usize = 8;
 pub const LEVEL_VECTORS: usize = 128;

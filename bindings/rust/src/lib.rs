@@ -2,7 +2,7 @@
 //!
 //! An [`Engine`] owns the buffers that the engine's calls are lent. [`Engine::read`] takes a problem file, which [`Problem`] writes from terms,
 //! [`Engine::lift`] makes a level complete, [`Engine::vectors`] goes over its vectors, [`Engine::fetch`] gives one of them. [`sheet`] prints all levels of a
-//! file at once.
+//! file at once, [`betti`] the table of how many vectors of which degree they have.
 //!
 //! ```
 //! let file = b"R,7,2,1,1\nT,1,1,1,1,0\nT,1,1,1,0,1\nT,2,1,1,0,2\nT,2,1,1,0,0\nE,4\n";
@@ -364,6 +364,41 @@ pub fn sheet(file: &[u8]) -> Vec<u8> {
     fitting();
     let mut out = vec![0; SHEET_BYTES];
     let (_, length) = calls::sheet(
+        file,
+        &mut vec![0; STATE_WORDS],
+        &mut vec![0; WORK_WORDS],
+        &mut out,
+    );
+    out.truncate(length);
+    out
+}
+
+/// The Betti page of a problem file, the bytes that the program prints, for every file: how many vectors of which degree each level has, levels lifted
+/// as for [`sheet`]. A line has 72 bytes and byte 10: a label of 6, then columns 0 to 10 of 6 each, right-aligned, a dash for zero. Column 0 counts the
+/// components, column 1 the elements, column k + 1 the vectors of level k. The row is the degree minus the column, and the last line has the totals.
+///
+/// A refused file has an X line instead, and nothing else but the W lines after `X,9`: [`Refusal::printed`] reads it. An accepted file where an element has
+/// terms of two degrees has `X,17` ([`Refusal::TwoDegrees`]).
+///
+/// ```
+/// let squares = b"R,7,2,3,1\nT,1,1,1,2,0\nT,2,1,1,1,1\nT,3,1,1,0,2\nE,3\n";
+/// let page = tagetessash::betti(squares);
+/// assert_eq!(tagetessash::Refusal::printed(&page), None);
+/// assert_eq!(
+///     String::from_utf8(page).expect("digits, dashes and blanks"),
+///     "    0:     1     -     -     -     -     -     -     -     -     -     -\n".to_string()
+///         + "    1:     -     3     2     -     -     -     -     -     -     -     -\n"
+///         + " total     1     3     2     -     -     -     -     -     -     -     -\n"
+/// );
+/// ```
+///
+/// # Panics
+///
+/// If the library is of another version than this crate.
+pub fn betti(file: &[u8]) -> Vec<u8> {
+    fitting();
+    let mut out = vec![0; PAGE_BYTES];
+    let (_, length) = calls::betti(
         file,
         &mut vec![0; STATE_WORDS],
         &mut vec![0; WORK_WORDS],

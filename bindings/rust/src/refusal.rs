@@ -2,7 +2,7 @@
 
 use std::fmt;
 
-/// Why a call gave nothing, and where.
+/// Why a call gave nothing, or a sheet or a page was cut off, and where.
 #[derive(Clone, Copy, Debug, PartialEq, Eq, Hash)]
 #[non_exhaustive]
 pub enum Refusal {
@@ -74,12 +74,17 @@ pub enum Refusal {
     },
     /// 16: a buffer is too short
     ShortBuffer,
+    /// 17: an element has terms of two degrees. No call gives it; it is printed by [`crate::betti`] instead of a page.
+    TwoDegrees {
+        /// the first such element, from 1
+        element: usize,
+    },
     /// 18: a component's degree is above 255
     BadDegree {
         /// the file's line, from 1
         line: usize,
     },
-    /// a number that no call of this version gives
+    /// a number that this version does not know
     Other {
         /// the number
         number: u16,
@@ -91,6 +96,15 @@ pub enum Refusal {
 use Refusal::*;
 
 impl Refusal {
+    /// That of the X line of a sheet or of a Betti page; none where it has no such line.
+    pub fn printed(lines: &[u8]) -> Option<Refusal> {
+        let line = lines
+            .split(|byte| *byte == b'\n')
+            .find_map(|line| line.strip_prefix(b"X,"))?;
+        let (number, place) = std::str::from_utf8(line).ok()?.split_once(',')?;
+        Some(Refusal::new(number.parse().ok()?, place.parse().ok()?))
+    }
+
     /// From the number, not 0, and the place that a call gives.
     pub(crate) fn new(number: u16, place: usize) -> Refusal {
         match number {
@@ -110,12 +124,13 @@ impl Refusal {
             14 => TermLimit { level: place },
             15 => LevelLimit { level: place },
             16 => ShortBuffer,
+            17 => TwoDegrees { element: place },
             18 => BadDegree { line: place },
             _ => Other { number, place },
         }
     }
 
-    /// Document 01's number: 1 to 9 or 11 to 16, or 18.
+    /// Document 01's number: 1 to 9 or 11 to 16, or a request's: 17 or 18.
     pub fn number(&self) -> u16 {
         match self {
             FileTooLong | BadLine { .. } => 1,
@@ -133,12 +148,14 @@ impl Refusal {
             TermLimit { .. } => 14,
             LevelLimit { .. } => 15,
             ShortBuffer => 16,
+            TwoDegrees { .. } => 17,
             BadDegree { .. } => 18,
             Other { number, .. } => *number,
         }
     }
 
-    /// For 1 to 8 and 18 the file's line, for 9 the number of a frame term, for 13 to 15 the level (0 while a basis is being accepted), else 0.
+    /// For 1 to 8 and 18 the file's line, for 9 the number of a frame term, for 13 to 15 the level (0 while a basis is being accepted), for
+    /// 17 the element, else 0.
     pub fn place(&self) -> usize {
         match *self {
             BadLine { line } | BadPrime { line } | BadRing { line } | BadTerm { line } => line,
@@ -148,6 +165,7 @@ impl Refusal {
             | TooManyTerms { line }
             | BadDegree { line } => line,
             NoBasis { frame_term } => frame_term,
+            TwoDegrees { element } => element,
             ExponentLimit { level } | TermLimit { level } | LevelLimit { level } => level,
             Other { place, .. } => place,
             FileTooLong | NoLevel | BadNumber | ShortBuffer => 0,
@@ -172,6 +190,7 @@ impl Refusal {
             14 => "a working value, a vector or the tree's work area is full",
             15 => "a level has too many frame terms or too many terms",
             16 => "a buffer is too short",
+            17 => "an element has terms of two degrees",
             18 => "a component's degree is above 255",
             _ => "no number of a call",
         }
@@ -183,6 +202,7 @@ impl Refusal {
             1..=8 | 18 => Some("line"),
             9 => Some("frame term"),
             13..=15 => Some("level"),
+            17 => Some("element"),
             _ => None,
         }
     }

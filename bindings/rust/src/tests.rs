@@ -1,5 +1,6 @@
 use crate::{
-    calls, layout, sheet, Engine, Order, Pick, Problem, Refusal, Term, Way, HIGHEST_LEVEL, VERSION,
+    betti, calls, layout, sheet, Engine, Order, Pick, Problem, Refusal, Term, Way, HIGHEST_LEVEL,
+    VERSION,
 };
 
 const PRINTED: &[u8] = b"R,7,2,1,1\nT,1,1,1,1,0\nT,1,1,1,0,1\nT,2,1,1,0,2\nT,2,1,1,0,0\nE,4\n";
@@ -127,6 +128,118 @@ fn the_sheet_of_every_file() {
     assert_eq!(sheet(b""), b"X,1,1\n");
 }
 
+/// the page of request A1, and one whose degrees come from a D line; then 17, with D or without it, after acceptance
+#[test]
+fn the_page_of_every_file() {
+    let row = |label: &str, counts: &[u8]| {
+        let cells = (0..11).map(|column| match counts.get(column) {
+            None | Some(0) => "     -".to_string(),
+            Some(count) => format!("{count:6}"),
+        });
+        format!("{label:>6}{}\n", cells.collect::<String>())
+    };
+    let page = |rows: &[(&str, &[u8])]| {
+        let rows = rows.iter().map(|(label, counts)| row(label, counts));
+        rows.collect::<String>().into_bytes()
+    };
+    assert_eq!(
+        betti(b"R,7,2,3,1\nT,1,1,1,2,0\nT,2,1,1,1,1\nT,3,1,1,0,2\nE,3\n"),
+        concat!(
+            "    0:     1     -     -     -     -     -     -     -     -     -     -\n",
+            "    1:     -     3     2     -     -     -     -     -     -     -     -\n",
+            " total     1     3     2     -     -     -     -     -     -     -     -\n"
+        )
+        .as_bytes()
+    );
+    let module = "T,1,1,1,1,1\nT,2,1,1,2,0\nT,2,1,2,0,1\nT,3,1,2,0,2\nE,4\n";
+    assert_eq!(
+        betti(format!("R,7,2,3,2\nD,0,1\n{module}").as_bytes()),
+        page(&[
+            ("0:", &[1]),
+            ("1:", &[1, 2, 1]),
+            ("2:", &[0, 1]),
+            ("total", &[2, 3, 1])
+        ])
+    );
+    // 1, 1: rows −2 and −1 are in use
+    assert_eq!(
+        betti(b"R,7,1,1,1\nT,1,1,1,0\nT,2,1,1,0\nE,2\n"),
+        page(&[
+            ("-2:", &[0, 0, 1]),
+            ("-1:", &[0, 2]),
+            ("0:", &[1]),
+            ("total", &[1, 2, 1])
+        ])
+    );
+    for (file, printed) in [
+        (format!("R,7,2,3,2\n{module}"), "X,17,2\n"),
+        (format!("R,7,2,3,2\nD,1,0\n{module}"), "X,17,2\n"),
+        ("R,7,1,1,1\nT,1,1,1,1\nT,1,1,1,0\nE,2\n".into(), "X,17,1\n"),
+        // x² and xy + y are no basis: 9 comes first
+        (
+            "R,7,2,1,1\nT,1,1,1,2,0\nT,2,1,1,1,1\nT,2,1,1,0,1\nE,3\n".into(),
+            "X,9,1\nW,6,1,0,1\n",
+        ),
+        ("R,7,1,1,2\nD,0,256\n".into(), "X,18,2\n"),
+        ("".into(), "X,1,1\n"),
+    ] {
+        assert_eq!(betti(file.as_bytes()), printed.as_bytes(), "{file}");
+    }
+}
+
+/// a buffer that is a word or a byte too short: 16, and nothing is changed
+#[test]
+fn short_buffers_of_a_page() {
+    let file = b"R,7,1,1,1\nT,1,1,1,1\nE,1\n";
+    let lengths = (layout::STATE_WORDS, layout::WORK_WORDS, layout::PAGE_BYTES);
+    for (state, work, out) in [
+        (lengths.0 - 1, lengths.1, lengths.2),
+        (lengths.0, lengths.1 - 1, lengths.2),
+        (lengths.0, lengths.1, lengths.2 - 1),
+        (0, 0, 0),
+    ] {
+        let (mut state, mut work, mut out) = (vec![5; state], vec![5; work], vec![5; out]);
+        assert_eq!(calls::betti(file, &mut state, &mut work, &mut out), (16, 0));
+        assert!(state.iter().chain(&work).all(|word| *word == 5));
+        assert!(out.iter().all(|byte| *byte == 5));
+    }
+    let mut out = vec![5; lengths.2 + 9];
+    let (mut state, mut work) = (vec![5; lengths.0], vec![5; lengths.1]);
+    let (number, length) = calls::betti(file, &mut state, &mut work, &mut out);
+    assert_eq!((number, &out[..length]), (0, &betti(file)[..]));
+    assert!(out[length..].iter().all(|byte| *byte == 0));
+    assert!(state.iter().chain(&work).all(|word| *word == 0));
+}
+
+/// what an X line says, wherever it stands; 17 in words
+#[test]
+fn printed_refusals() {
+    assert_eq!(Refusal::printed(&sheet(PRINTED)), None);
+    let mixed = Refusal::printed(&betti(PRINTED));
+    assert_eq!(mixed, Some(Refusal::TwoDegrees { element: 2 }));
+    assert_eq!(
+        mixed.unwrap().to_string(),
+        "refused 17 at element 2: an element has terms of two degrees"
+    );
+    for (lines, refusal) in [
+        (&b"X,1,0\n"[..], Refusal::FileTooLong),
+        (b"Z,1,1\nX,15,2\n", Refusal::LevelLimit { level: 2 }),
+        (b"X,9,1\nW,6,1,0,3\n", Refusal::NoBasis { frame_term: 1 }),
+    ] {
+        assert_eq!(Refusal::printed(lines), Some(refusal));
+    }
+    for lines in [
+        &b""[..],
+        b"Z,1,0\n",
+        b"X,\n",
+        b"X,1\n",
+        b"X,a,1\n",
+        b"1X,1,1\n",
+    ] {
+        assert_eq!(Refusal::printed(lines), None);
+    }
+}
+
 /// a refusal for each number, and back; a number that no call gives is no success
 #[test]
 fn every_number_is_a_refusal() {
@@ -138,7 +251,7 @@ fn every_number_is_a_refusal() {
                 assert_eq!(refusal.place(), place);
             }
             let other = Refusal::Other { number, place };
-            let known = matches!(number, 1..=9 | 11..=16 | 18);
+            let known = matches!(number, 1..=9 | 11..=18);
             assert_eq!(refusal == other, !known);
         }
     }
@@ -172,7 +285,7 @@ fn the_layout_is_the_headers() {
             numbers += 1;
         }
     }
-    assert_eq!(numbers, 22);
+    assert_eq!(numbers, 23);
     assert_eq!(layout::count_at(HIGHEST_LEVEL + 1), layout::rows_at(0));
     assert_eq!(layout::rows_at(HIGHEST_LEVEL + 1), layout::DEGREES_AT);
     let behind = layout::carried_at(0) - layout::DEGREES_AT;

@@ -1,11 +1,12 @@
-// The three calls, and the sheet as one, for programs in other languages: include/tagetessash.h declares them.
-// Exists for: `tagetessash_read`, `tagetessash_lift`, `tagetessash_fetch`, `tagetessash_sheet`; `Making.all-calls`.
-// Knows: crates read_call, fetch_call, lift_call and sheet.
+// The three calls, and the sheet and the Betti page as one each, for programs in other languages: include/tagetessash.h declares them.
+// Exists for: `tagetessash_read`, `tagetessash_lift`, `tagetessash_fetch`, `tagetessash_sheet`, `tagetessash_betti`; `Making.all-calls`.
+// Knows: crates read_call, fetch_call, lift_call, sheet and betti_call.
 // A slice is a pointer and a length.
 ghost use mathlib.Core.Path.{_≡_};
 ghost use Prim.Native.Nat.{ℕ};
 ghost use Rattle.lift_call.specs.Codes.{coded-way};
 ghost use Rattle.sheet.specs.Sheets.{called};
+ghost use Rattle.betti_call.specs.Paged.{called as betti-called};
 ghost use Rattle.calls.specs.Version.{version};
 ghost use Rattle.calls.specs.Coded.{Read-says, Lift-says, Fetch-says, sheet-told};
 
@@ -76,6 +77,23 @@ pub extern "C" fn tagetessash_sheet(
     let r = sheet::sheet(file, state, work, out);
     *length = r.length;
     r.number
+}
+
+// "Betti page": 0, and its bytes are the first `length` of out; or 16.
+#[no_mangle]
+pub extern "C" fn tagetessash_betti(
+    file: &[u8],
+    state: &mut [u16],
+    work: &mut [u16],
+    out: &mut [u8],
+    length: &mut usize,
+) -> u16
+    ensures { λ x. ⌜ ((n : ℕ) × (sheet-told x (now (length .exit)) (now (state .exit)) (now (work .exit)) (now (out .exit))
+        ≡ betti-called n (now (file .entry)) (now (state .entry)) (now (work .entry)) (now (out .entry)))) ⌝ }
+{
+    let page = betti_call::betti(file, state, work, out);
+    *length = page.length;
+    page.number
 }
 
 // Which version of the calls, of the state's layout and of the sheet this library has.

@@ -5,3 +5,4 @@ pub mod Printed
 pub mod Edges
 pub mod Degrees
 pub mod Places
+pub mod Pages

@@ -13,7 +13,8 @@ use Rattle.definitions.specs.Places.{rows-start, level-length, state-len
 use Rattle.definitions.specs.Places.{vector-length, heads-length, images-length, spans-length, tables-spans, tables-ends, tables-below, tables-above}
 use Rattle.definitions.specs.Places.{most-image, tables-length, most-degree, most-carried, degrees-start, carried-start, carried-offset}
 use Rattle.definitions.specs.Places.{ends-length, lifted-length, grown-length, file-length, read-length, s-line-length, pair-line-length, s-lines-length}
-use Rattle.definitions.specs.Places.{level-lines-length, all-lines-length, sheet-length}
+use Rattle.definitions.specs.Places.{level-lines-length, all-lines-length, sheet-length, cell-length, page-columns, row-shift, page-line-length}
+use Rattle.definitions.specs.Places.{page-rows, page-length}
 
 -- ## The numbers
 
@@ -67,6 +68,11 @@ lines-are = (refl, refl, refl)
 
 sheet-fits : all-lines-length + pair-line-length ≤ sheet-length
 sheet-fits = omega arith
+
+-- of pages
+pages-are : (page-line-length ≡ suc (suc page-columns * cell-length)) × (suc row-shift ≡ page-columns) × (page-rows ≡ suc (most-carried + row-shift))
+    × (page-length ≡ suc page-rows * page-line-length)
+pages-are = (refl, refl, refl, refl)
 
 -- ## The laws
 

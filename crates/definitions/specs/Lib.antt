@@ -19,4 +19,7 @@ pub mod Degrees
 pub mod Calls
 pub mod Reckoning
 pub mod Sheet
+pub mod Program
+pub mod Pages
+pub mod Betti
 pub mod Layout

@@ -216,3 +216,29 @@ all-lines-length = 1_364_229
 -- the sheet
 abbrev pub sheet-length : ℕ
 sheet-length = 1_400_000
+
+-- ## Pages (A1)
+
+-- a cell, and a label
+abbrev pub cell-length : ℕ
+cell-length = 6
+
+-- columns 0 to 10
+abbrev pub page-columns : ℕ
+page-columns = 11
+
+-- rows are counted from minus this, the number of the last column
+abbrev pub row-shift : ℕ
+row-shift = 10
+
+-- a line with its end
+abbrev pub page-line-length : ℕ
+page-line-length = 73
+
+-- rows of a page at the most: degrees from 0 to most-carried, less a column from 0 to row-shift
+abbrev pub page-rows : ℕ
+page-rows = 20_666
+
+-- a page at the most: a line for each row, and one for the totals
+abbrev pub page-length : ℕ
+page-length = 1_508_691

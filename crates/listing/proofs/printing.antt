@@ -1,2 +1,2 @@
-pub mod Spelling
+pub mod Fields
 pub mod Listing

@@ -1,2 +1,3 @@
 pub mod printing
+pub mod reading
 pub mod whole

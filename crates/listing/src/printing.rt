@@ -19,47 +19,19 @@ ghost use Rattle.definitions.specs.Places.{
 };
 ghost use Rattle.vectors.specs.terms.Rows.{term-of};
 ghost use Rattle.reducers.specs.tables.Cuts.{Cut, cut-level};
-ghost use Rattle.listing.specs.printing.Lines.{Printed, listed, Short};
+ghost use Rattle.pages.specs.bytes.Printing.{Printed};
+ghost use Rattle.listing.specs.printing.Lines.{listed, Short};
+use pages::bytes;
 use vectors::terms;
 use vectors::terms::Term;
-
-fn byte(out: &mut [u8], at: usize, x: u8) -> usize
-    requires { ⌜ at < length (now out) ⌝ }
-    ensures { λ r. ⌜ Printed (now (out .entry)) (now (out .exit)) at r (x ∷ []) ⌝ }
-{
-    out[at] = x;
-    at + 1
-}
-
-fn digit(x: usize) -> u8
-    requires { ⌜ x < 10 ⌝ }
-    ensures { λ r. ⌜ r ≡ 48 + x ⌝ }
-{
-    let d = x as u8;
-    48 + d
-}
-
-// A number in base ten, without leading zeros.
-fn number(out: &mut [u8], at: usize, v: usize) -> usize
-    requires { ⌜ at + length (decimal v) ≤ length (now out) ⌝ }
-    ensures { λ r. ⌜ Printed (now (out .entry)) (now (out .exit)) at r (decimal v) ⌝ }
-{
-    if v < 10 {
-        let d = digit(v);
-        return byte(out, at, d);
-    }
-    let i = number(out, at, v / 10);
-    let d = digit(v % 10);
-    byte(out, i, d)
-}
 
 // A comma and a number.
 fn field(out: &mut [u8], at: usize, v: usize) -> usize
     requires { ⌜ at + 1 + length (decimal v) ≤ length (now out) ⌝ }
     ensures { λ r. ⌜ Printed (now (out .entry)) (now (out .exit)) at r (comma ∷ decimal v) ⌝ }
 {
-    let a = byte(out, at, 44);
-    number(out, a, v)
+    let a = bytes::byte(out, at, 44);
+    bytes::number(out, a, v)
 }
 
 // .. that is a word.
@@ -103,11 +75,11 @@ fn s_line(out: &mut [u8], at: usize, t: Term, n: usize, k: u16, v: u16) -> usize
     ensures { λ r. ⌜ Printed (now (out .entry)) (now (out .exit)) at r (printed letter-S (k ∷ v ∷ term-fields n (term-of t)))
         × (r ≤ at + s-line-length) ⌝ }
 {
-    let a = byte(out, at, 83);
+    let a = bytes::byte(out, at, 83);
     let b = word(out, a, k);
     let c = word(out, b, v);
     let d = term(out, c, t, n);
-    byte(out, d, 10)
+    bytes::byte(out, d, 10)
 }
 
 // `W,coefficient,component,e1,..,en`
@@ -115,9 +87,9 @@ fn w_line(out: &mut [u8], at: usize, t: Term, n: usize) -> usize
     requires { ⌜ (n ≤ 8) × (at + w-line-length ≤ length (now out)) ⌝ }
     ensures { λ r. ⌜ Printed (now (out .entry)) (now (out .exit)) at r (printed letter-W (term-fields n (term-of t))) × (r ≤ at + w-line-length) ⌝ }
 {
-    let a = byte(out, at, 87);
+    let a = bytes::byte(out, at, 87);
     let b = term(out, a, t, n);
-    byte(out, b, 10)
+    bytes::byte(out, b, 10)
 }
 
 // A letter and two numbers: `Z,level,count` or `X,number,place`.
@@ -125,10 +97,10 @@ pub fn pair_line(out: &mut [u8], at: usize, letter: u8, x: u16, y: usize) -> usi
     requires { ⌜ at + pair-line-length ≤ length (now out) ⌝ }
     ensures { λ r. ⌜ Printed (now (out .entry)) (now (out .exit)) at r (printed letter (x ∷ y ∷ [])) × (r ≤ at + pair-line-length) ⌝ }
 {
-    let a = byte(out, at, letter);
+    let a = bytes::byte(out, at, letter);
     let b = word(out, a, x);
     let c = field(out, b, y);
-    byte(out, c, 10)
+    bytes::byte(out, c, 10)
 }
 
 // The lines of the rows from row `from` up to row `to`: vector v of level k.

@@ -1,4 +1,4 @@
-// The sheet of a file printed into a buffer: reading, acceptance, all levels, then their lines.
+// The sheet of a file printed into a buffer: what was read and accepted, all levels, then their lines.
 // Knows: crate definitions' Sheet.
 // All levels are lifted in the state, then printed; nothing is zeroed.
 ghost use mathlib.Core.Path.{_≡_};
@@ -8,13 +8,12 @@ ghost use Rattle.definitions.specs.Limits.{document-01};
 ghost use Rattle.definitions.specs.Sheet.{sheet as sheet-definition};
 ghost use Rattle.definitions.specs.Places.{state-length, value-length, level-lines-length, all-lines-length, sheet-length};
 ghost use Rattle.level.specs.by_runs.Stages.{Base};
-ghost use Rattle.listing.specs.printing.Lines.{Printed};
-ghost use Rattle.listing.specs.whole.Listed.{Prints, lines-of, all-lines-of, levels-sheet, accepted-sheet};
+ghost use Rattle.pages.specs.bytes.Printing.{Printed};
+ghost use Rattle.listing.specs.whole.Listed.{Prints, lines-of, all-lines-of, levels-sheet};
 use crate::printing;
+use crate::reading;
+use crate::reading::Begun;
 use level::all_levels;
-use level::by_runs;
-use reader::problem;
-use runs::frame_terms::Accepted;
 use state::soundness;
 
 fn narrow(k: usize) -> u16
@@ -66,31 +65,13 @@ fn print_lifted(out: &mut [u8], state: &mut [u16], work: &mut [u16]) -> usize
     printing::pair_line(out, at, 88, number, e.place)
 }
 
-// A file that was read: accepted or refused.
-fn accept(out: &mut [u8], state: &mut [u16], work: &mut [u16]) -> usize
-    requires { ⌜ Base (now state) 0 × (getD (now state) 4 0 ≡ 1) × (value-length ≤ length (now work)) × (sheet-length ≤ length (now out)) ⌝ }
-    ensures { λ r. ⌜ Prints (λ n. accepted-sheet n (now (state .entry))) (now (out .entry)) (now (out .exit)) 0 r × (r ≤ sheet-length) ⌝ }
-{
-    match by_runs::accept_level(work, state) {
-        Accepted::Yes => print_lifted(out, state, work),
-        Accepted::Refused(number, place) => printing::pair_line(out, 0, 88, number, place),
-        Accepted::Stopped(place, m) => {
-            let n = words::place(state[1]);
-            let a = printing::pair_line(out, 0, 88, 9, place);
-            printing::w_lines(out, a, work, m, n)
-        }
-    }
-}
-
 // The sheet of a file, in front of out.
 pub fn print(file: &[u8], state: &mut [u16], work: &mut [u16], out: &mut [u8]) -> usize
     requires { ⌜ (state-length ≤ length (now state)) × (value-length ≤ length (now work)) × (sheet-length ≤ length (now out)) ⌝ }
     ensures { λ r. ⌜ Prints (λ n. sheet-definition document-01 n (now (file .entry))) (now (out .entry)) (now (out .exit)) 0 r × (r ≤ sheet-length) ⌝ }
 {
-    let r = problem::read(file, state);
-    let number = r.number;
-    if number == 0 {
-        return accept(out, state, work);
+    match reading::begin(file, state, work, out) {
+        Begun::Accepted => print_lifted(out, state, work),
+        Begun::Refused(length) => length,
     }
-    printing::pair_line(out, 0, 88, number, r.place)
 }

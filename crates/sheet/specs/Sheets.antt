@@ -1,4 +1,4 @@
--- What the call that prints a sheet returns and leaves.
+-- What the call that prints a sheet, or another program's page, returns and leaves.
 use mathlib.Core.Option.{Option, some}
 use Prim.Native.Nat.{ℕ}
 use lib.Dec.{leb}
@@ -18,8 +18,13 @@ Told = ℕ × ℕ × Words × Words × Bytes
 abbrev pub told : Answer → Words → Words → Bytes → Option Told
 told r state work out = some (r .number, r .length, state, work, out)
 
--- 16: "a lent buffer is shorter than its limit"; else the sheet, zeros after it and in the other buffers
+-- 16: "a lent buffer is shorter than its limit", for a program that prints so many bytes at the most; else what it prints, zeros after it and in the other
+-- buffers
+abbrev pub called-by : ℕ → (ℕ → Bytes → Option Bytes) → ℕ → Bytes → Words → Words → Bytes → Option Told
+called-by size prints n file state work out =
+    choose (leb state-length (length state) and leb value-length (length work) and leb size (length out))
+    (prints n file then λ bytes. some (0, length bytes, zeros state, zeros work, padded (length out) bytes)) (some (16, 0, state, work, out))
+
+-- the sheet
 abbrev pub called : ℕ → Bytes → Words → Words → Bytes → Option Told
-called n file state work out =
-    choose (leb state-length (length state) and leb value-length (length work) and leb sheet-length (length out))
-    (sheet document-01 n file then λ bytes. some (0, length bytes, zeros state, zeros work, padded (length out) bytes)) (some (16, 0, state, work, out))
+called = called-by sheet-length (sheet document-01)

@@ -1,5 +1,5 @@
 // The sheet of a file, for every file: the call's tests, and zeros in all that is not the sheet.
-// Exists for: `sheet`.
+// Exists for: `sheet`; `Answer` and `clear` for the calls of other programs.
 // Knows: crate definitions' Sheet; listing::whole prints it.
 // The buffers are zeroed once, at the end.
 ghost use mathlib.Core.Path.{_≡_};
@@ -16,7 +16,7 @@ pub struct Answer {
 }
 
 // Zeros from byte `from` on.
-fn clear(out: &mut [u8], from: usize)
+pub fn clear(out: &mut [u8], from: usize)
     ensures { λ _. ⌜ now (out .exit) ≡ cleared (now (out .entry)) from ⌝ }
 {
     let mut i = from;

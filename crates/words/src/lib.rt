@@ -59,6 +59,12 @@ ghost use Rattle.definitions.specs.Places.{
   level-lines-length,
   all-lines-length,
   sheet-length,
+  cell-length,
+  page-columns,
+  row-shift,
+  page-line-length,
+  page-rows,
+  page-length,
 };
 ghost use Rattle.words.specs.Slices.{Sixteen-bits};
 
@@ -176,15 +182,30 @@ pub const ALL_LINES_LENGTH: usize = MOST_LEVELS * LEVEL_LINES_LENGTH;
 
 pub const SHEET_LENGTH: usize = 1400000;
 
+// ## Pages
+
+pub const CELL_LENGTH: usize = 6;
+
+pub const PAGE_COLUMNS: usize = 11;
+
+pub const ROW_SHIFT: usize = PAGE_COLUMNS - 1;
+
+pub const PAGE_LINE_LENGTH: usize = (PAGE_COLUMNS + 1) * CELL_LENGTH + 1;
+
+pub const PAGE_ROWS: usize = 20666;
+
+pub const PAGE_LENGTH: usize = (PAGE_ROWS + 1) * PAGE_LINE_LENGTH;
+
 // ## Held to the definitions
 
-pub fn numbers() -> [usize; 45]
+pub fn numbers() -> [usize; 51]
     ensures { λ r. ⌜ r ≡ exponents-length ∷ most-vectors ∷ most-rows ∷ most-terms ∷ most-tree-terms ∷ most-levels ∷ all-levels ∷ component-offset
         ∷ exponents-offset ∷ rank-offset ∷ packed-length ∷ row-length ∷ image-length ∷ header-length ∷ counts-length ∷ ends-start ∷ rows-start ∷ level-length ∷
         degrees-start ∷ most-components ∷ carried-start ∷ state-length
         ∷ value-length ∷ tree-length ∷ vector-length ∷ heads-length ∷ images-length ∷ spans-length ∷ ends-length ∷ tables-spans ∷ tables-ends ∷ tables-below
         ∷ tables-above ∷ tables-length ∷ lifted-length ∷ grown-length ∷ file-length ∷ read-length ∷ s-line-length ∷ w-line-length ∷ pair-line-length
-        ∷ s-lines-length ∷ level-lines-length ∷ all-lines-length ∷ sheet-length ∷ [] ⌝ }
+        ∷ s-lines-length ∷ level-lines-length ∷ all-lines-length ∷ sheet-length ∷ cell-length ∷ page-columns ∷ row-shift ∷ page-line-length ∷ page-rows
+        ∷ page-length ∷ [] ⌝ }
 {
     [
         EXPONENTS_LENGTH,
@@ -232,6 +253,12 @@ pub fn numbers() -> [usize; 45]
         LEVEL_LINES_LENGTH,
         ALL_LINES_LENGTH,
         SHEET_LENGTH,
+        CELL_LENGTH,
+        PAGE_COLUMNS,
+        ROW_SHIFT,
+        PAGE_LINE_LENGTH,
+        PAGE_ROWS,
+        PAGE_LENGTH,
     ]
 }
 

@@ -1,6 +1,8 @@
 //! The kinds of `reference generate`.
 
+use crate::betti::page;
 use crate::generate::files::{damaged_file, limit_file, plain_file};
+use crate::generate::pages::{graded_file, mixed_file, page_file, stopped_file};
 use crate::generate::problems::{problem_file, random_basis, Size};
 use crate::generate::scripts::{random_script, with_small_limits, Reach};
 use crate::limits::Limits;
@@ -10,6 +12,9 @@ use crate::sheet::sheet;
 
 /// The kinds of problem files.
 pub const FILE_KINDS: [&str; 4] = ["small", "bases", "damaged", "limits"];
+
+/// The kinds of problem files for the Betti page.
+pub const PAGE_KINDS: [&str; 4] = ["graded", "mixed", "stopped", "pages"];
 
 /// Products that the sheet of a generated file may take.
 pub const SHEET_PRODUCTS: u64 = 300_000;
@@ -43,6 +48,27 @@ pub fn file_case(kind: &str, seed: u64, case: u64) -> Option<FileCase> {
         let too_long = kind == "small" && (lines(&file) > 25 || lines(&sheet) > 120);
         if !too_long {
             return Some(FileCase { file, sheet });
+        }
+    }
+}
+
+/// The problem file of a page's kind for a case of a seed, and its Betti page; `None` if there is
+/// no such kind.
+pub fn page_case(kind: &str, seed: u64, case: u64) -> Option<(Vec<u8>, Vec<u8>)> {
+    let mut random = Random::for_case(seed, case);
+    loop {
+        let file = match kind {
+            "graded" => graded_file(&mut random),
+            "mixed" => mixed_file(&mut random),
+            "stopped" => stopped_file(&mut random),
+            "pages" => page_file(&mut random),
+            _ => return None,
+        };
+        let (Some(page), _) = page(&Limits::document_01(), &file, Some(SHEET_PRODUCTS)) else {
+            continue;
+        };
+        if kind != "mixed" || page.starts_with(b"X,17,") {
+            return Some((file, page));
         }
     }
 }

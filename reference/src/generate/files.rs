@@ -327,7 +327,7 @@ fn long_level_file(random: &mut Random) -> Vec<u8> {
 }
 
 /// Many monomials, so that a frame has about 128 terms or more.
-fn large_frame_file(random: &mut Random) -> Vec<u8> {
+pub fn large_frame_file(random: &mut Random) -> Vec<u8> {
     let parameters = Parameters {
         p: *random.pick(&PRIMES),
         n: random.between(3, 8),

@@ -25,7 +25,8 @@ use Rattle.definitions.specs.Places.{most-levels, all-levels}
 use Rattle.demands.proofs.Lifts.{Lifted-to, one-more, limit-met, still-lifting, lifted-to, height-up-to}
 use Rattle.state.proofs.preparing.Complete.{length-levels, holds-sound}
 use Rattle.level.specs.by_runs.Stages.{Base}
-use Rattle.level.specs.all_levels.Levels.{unless-empty, lifted-from, lifted, Levels, unless-last, then-levels, reached-from, reached}
+use Rattle.definitions.specs.Program.{unless-empty, lifted-from, lifted}
+use Rattle.level.specs.all_levels.Levels.{Levels, unless-last, then-levels, reached-from, reached}
 use Rattle.level.specs.all_levels.Level.{Liftable, kept, told-of, Lifted-next}
 
 -- ## What a lifting leaves

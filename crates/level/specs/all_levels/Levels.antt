@@ -4,29 +4,13 @@ use mathlib.Core.Option.{Option, none, some}
 use Prim.Native.Nat.{ℕ, zero, suc}
 use Rattle.definitions.specs.Limits.{Limits}
 use Rattle.definitions.specs.Lists.{empty?}
-use Rattle.definitions.specs.Result.{Result, done, refused, unfinished, _>>=_}
+use Rattle.definitions.specs.Result.{Result, done, refused, unfinished}
 use Rattle.definitions.specs.Lifting.{by-hybrid}
 use Rattle.definitions.specs.State.{State}
 use Rattle.definitions.specs.Stage.{highest}
 use Rattle.definitions.specs.Calls.{lift}
 
--- ## All levels, or a refusal
-
--- the next level unless this one's count is 0
-abbrev pub unless-empty : Bool → State → (State → Result State) → Result State
-unless-empty true X go = done X
-unless-empty false X go = go X
-
--- so many levels from level k on; n bounds the steps of each run
-abbrev pub lifted-from : Limits → ℕ → ℕ → ℕ → State → Result State
-lifted-from lim n zero k X = done X
-lifted-from lim n (suc left) k X =
-    lift lim n X k (by-hybrid 2) >>= λ Y. unless-empty (empty? (highest (Y .levels))) Y (λ Z. lifted-from lim n left (suc k) Z)
-
-abbrev pub lifted : Limits → ℕ → State → Result State
-lifted lim n X = lifted-from lim n (lim .levels) 1 X
-
--- ## The same, with the levels that are complete where one is refused
+-- ## As `lifted`, with the levels that are complete where one is refused
 
 -- number and place of the refusal, 0 and 0 where there is none; the state with the levels that are complete
 abbrev pub Levels : Type 0

@@ -7,13 +7,11 @@ use lib.Dec.{eqb}
 use lib.ListN.{getD}
 use Rattle.definitions.specs.Limits.{document-01}
 use Rattle.definitions.specs.Lists.{choose}
-use Rattle.definitions.specs.Result.{done, _>>=_}
 use Rattle.definitions.specs.Problem.{Bytes}
 use Rattle.definitions.specs.Layout.{Words, decode, level-at}
-use Rattle.definitions.specs.Sheet.{printed, letter-X, level-lines, levels-from, sheet-of}
+use Rattle.definitions.specs.Sheet.{printed, letter-X, level-lines, levels-from}
 use Rattle.definitions.specs.Places.{most-levels}
-use Rattle.level.specs.by_runs.Stages.{accepted-over}
-use Rattle.listing.specs.printing.Lines.{Printed}
+use Rattle.pages.specs.bytes.Printing.{Printed}
 
 -- what a definition gives, within some bound, was printed
 pub record Prints (F : ℕ → Option Bytes) (before after : Bytes) (at r : ℕ) : Type 0 where
@@ -42,7 +40,3 @@ refusal-line number place = choose (eqb number 0) [] (printed letter-X (number �
 -- all levels over the state that the words hold
 abbrev pub levels-sheet : ℕ → Words → Option Bytes
 levels-sheet n s = levels-from document-01 n most-levels 1 (decode document-01 s)
-
--- the sheet of a state that was read, if it is accepted
-abbrev pub accepted-sheet : ℕ → Words → Option Bytes
-accepted-sheet n s = sheet-of document-01 n (getD s 1 0) (accepted-over s n >>= λ u. done (decode document-01 s))

@@ -2,7 +2,10 @@ use borrow.Author.Needs.{needs}
 use native.Mathlib.Omega.{arith}
 use mathlib.Core.Path.{_∙_}
 use Prim.Native.Nat.{_-_}
-use Rattle.sheet.proofs.Called.{short-state, short-work, short-out, whole-sheet}
+use Rattle.definitions.specs.Limits.{document-01}
+use Rattle.definitions.specs.Sheet.{sheet}
+use Rattle.definitions.specs.Places.{sheet-length}
+use Rattle.sheet.proofs.Called.{short-state, short-work, short-out, whole-call}
 use mathlib.Core.Option.{some}
 use Rattle.sheet.proofs.sheet.Statement.{statement}
 use Rattle.sheet.proofs.sheet.Tie as tie
@@ -10,17 +13,17 @@ use Rattle.sheet.proofs.sheet.Tie as tie
 returns : tie.Need-returns
 returns c =
     let a = c .before .before .before .before .before .args in
-    short-state (a .file .now) (a .state .now) (a .work .now) (a .out .now) (omega arith)
+    short-state sheet-length (sheet document-01) (a .file .now) (a .state .now) (a .work .now) (a .out .now) (omega arith)
 
 returns-2 : tie.Need-returns-2
 returns-2 c =
     let a = c .before .before .before .before .before .before .args in
-    short-work (a .file .now) (a .state .now) (a .work .now) (a .out .now) (omega arith) (omega arith)
+    short-work sheet-length (sheet document-01) (a .file .now) (a .state .now) (a .work .now) (a .out .now) (omega arith) (omega arith)
 
 returns-3 : tie.Need-returns-3
 returns-3 c =
     let a = c .before .before .before .before .before .before .before .args in
-    short-out (a .file .now) (a .state .now) (a .work .now) (a .out .now) (omega arith) (omega arith) (omega arith)
+    short-out sheet-length (sheet document-01) (a .file .now) (a .state .now) (a .work .now) (a .out .now) (omega arith) (omega arith) (omega arith)
 
 print-requires : tie.Need-print-requires
 print-requires c κs = search needs
@@ -57,7 +60,7 @@ returns-4 c =
     let clear-there =
     let at-8 = c .before .before .before .before .before .before .before .before in
     (at-8 .before .before) .clear in
-    let w = whole-sheet (a .file .now) (a .state .now) (a .work .now) (a .out .now) (omega arith) (omega arith) (omega arith) (R .ensures .0 .bound)
+    let w = whole-call sheet-length (sheet document-01) (a .file .now) (a .state .now) (a .work .now) (a .out .now) (omega arith) (omega arith) (omega arith) (R .ensures .0 .bound)
     (R .ensures .0 .bytes) (R .ensures .0 .gives) (R .result) (R .last .1 .0) (R .last .1 .1 .0) (R .last .1 .1 .1 .0) (R .ensures .0 .printed)
     (omega arith) (omega arith) (omega arith) in (
       w .0,

@@ -1,7 +1,10 @@
 use borrow.Author.Needs.{needs}
 use native.Mathlib.Omega.{arith}
 use Prim.Native.Nat.{_-_}
-use Rattle.syzygies.proofs.Front.{sheet-in-front}
+use Rattle.definitions.specs.Limits.{document-01}
+use Rattle.definitions.specs.Sheet.{sheet}
+use Rattle.definitions.specs.Places.{sheet-length}
+use Rattle.sheet.proofs.Front.{printed-in-front}
 use Rattle.syzygies.proofs.answer.Statement.{statement}
 use Rattle.syzygies.proofs.answer.Tie as tie
 
@@ -25,8 +28,8 @@ returns c =
     let a = S .args in
     let R = c .before .before .before .before .before .before .sheet in
     let f =
-    sheet-in-front (a .state .now) (a .work .now) (a .out .now) (R .result .number) (R .result .length) (R .last .1 .0) (R .last .1 .1 .0)
-    (R .last .1 .1 .1 .0) (R .ensures .0) (a .file .now)
+    printed-in-front (a .state .now) (a .work .now) (a .out .now) (R .result .number) (R .result .length) (R .last .1 .0) (R .last .1 .1 .0)
+    (R .last .1 .1 .1 .0) sheet-length (sheet document-01) (R .ensures .0) (a .file .now)
     (S .pre .0) (S .pre .1) (S .pre .2) (R .ensures .1) in
     (f .0, (R .ensures .0, f .1))
 

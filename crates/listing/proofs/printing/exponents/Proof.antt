@@ -2,8 +2,10 @@ use native.Mathlib.Omega.{arith}
 use mathlib.Core.Path.{_≡_, refl, ap}
 use Prim.Native.Nat.{_+_, _-_, _*_, _≤_}
 use lib.ListN.{length, take}
-use Rattle.listing.specs.printing.Lines.{Printed, listed}
-use Rattle.listing.proofs.printing.Spelling.{nothing, after, spelled, listed-more}
+use Rattle.pages.specs.bytes.Printing.{Printed}
+use Rattle.listing.specs.printing.Lines.{listed}
+use Rattle.pages.proofs.bytes.Spelling.{nothing, after, spelled}
+use Rattle.listing.proofs.printing.Fields.{listed-more}
 use Rattle.listing.proofs.printing.exponents.Statement.{statement}
 use Rattle.listing.proofs.printing.exponents.Tie as tie
 

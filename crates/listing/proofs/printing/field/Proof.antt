@@ -1,7 +1,7 @@
 use borrow.Author.Needs.{needs}
 use native.Mathlib.Omega.{arith}
 use Prim.Native.Nat.{_-_}
-use Rattle.listing.proofs.printing.Spelling.{after}
+use Rattle.pages.proofs.bytes.Spelling.{after}
 use Rattle.listing.proofs.printing.field.Statement.{statement}
 use Rattle.listing.proofs.printing.field.Tie as tie
 

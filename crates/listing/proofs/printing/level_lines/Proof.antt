@@ -6,7 +6,7 @@ use Prim.Native.Nat.{_+_, _-_}
 use Rattle.reducers.specs.tables.Cuts.{cut-level}
 use Rattle.definitions.specs.Sheet.{printed, vector-lines}
 use Rattle.listing.proofs.printing.Listing.{length-cut}
-use Rattle.listing.proofs.printing.Spelling.{after, spelled}
+use Rattle.pages.proofs.bytes.Spelling.{after, spelled}
 use Rattle.listing.proofs.printing.level_lines.Statement.{statement}
 use Rattle.listing.proofs.printing.level_lines.Tie as tie
 

@@ -5,7 +5,8 @@ use mathlib.Core.List.{_∷_, _++_}
 use Prim.Native.Nat.{_+_, _-_}
 use Rattle.vectors.specs.terms.Rows.{term-of}
 use Rattle.definitions.specs.Sheet.{decimal, term-fields}
-use Rattle.listing.proofs.printing.Spelling.{after, spelled, fields-listed}
+use Rattle.pages.proofs.bytes.Spelling.{after, spelled}
+use Rattle.listing.proofs.printing.Fields.{fields-listed}
 use Rattle.listing.proofs.printing.s_line.Statement.{statement}
 use Rattle.listing.proofs.printing.s_line.Tie as tie
 

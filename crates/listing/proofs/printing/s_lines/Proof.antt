@@ -8,9 +8,9 @@ use Rattle.vectors.specs.terms.Rows.{term-of}
 use Rattle.definitions.specs.Layout.{row-at, rows}
 use Rattle.definitions.specs.Sheet.{printed, term-fields, letter-S, s-lines}
 use Rattle.definitions.specs.Places.{s-line-length}
-use Rattle.listing.specs.printing.Lines.{Printed}
+use Rattle.pages.specs.bytes.Printing.{Printed}
 use Rattle.listing.proofs.printing.Listing.{s-lines-last}
-use Rattle.listing.proofs.printing.Spelling.{nothing, after, spelled}
+use Rattle.pages.proofs.bytes.Spelling.{nothing, after, spelled}
 use Rattle.listing.proofs.printing.Listing.{no-rows}
 use Rattle.listing.proofs.printing.s_lines.Statement.{statement}
 use Rattle.listing.proofs.printing.s_lines.Tie as tie

@@ -3,7 +3,7 @@ use native.Mathlib.Omega.{arith}
 use mathlib.Core.Path.{ap}
 use lib.ListN.{take}
 use Rattle.listing.specs.printing.Lines.{listed}
-use Rattle.listing.proofs.printing.Spelling.{after, spelled}
+use Rattle.pages.proofs.bytes.Spelling.{after, spelled}
 use Rattle.listing.proofs.printing.term.Statement.{statement}
 use Rattle.listing.proofs.printing.term.Tie as tie
 

@@ -7,9 +7,9 @@ use Rattle.reducers.specs.tables.Cuts.{start-of, cut-level}
 use Rattle.definitions.specs.Layout.{rows}
 use Rattle.definitions.specs.Sheet.{s-lines, vector-lines}
 use Rattle.definitions.specs.Places.{most-rows, s-line-length}
-use Rattle.listing.specs.printing.Lines.{Printed}
+use Rattle.pages.specs.bytes.Printing.{Printed}
 use Rattle.listing.proofs.printing.Listing.{vector-more}
-use Rattle.listing.proofs.printing.Spelling.{nothing, after, spelled}
+use Rattle.pages.proofs.bytes.Spelling.{nothing, after, spelled}
 use Rattle.listing.proofs.printing.vector_lines.Statement.{statement}
 use Rattle.listing.proofs.printing.vector_lines.Tie as tie
 

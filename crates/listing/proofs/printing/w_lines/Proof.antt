@@ -7,9 +7,9 @@ use Rattle.laws.proofs.Rows.{rows-last}
 use Rattle.definitions.specs.Layout.{row-at, rows}
 use Rattle.definitions.specs.Sheet.{printed, term-fields, letter-W, w-lines}
 use Rattle.definitions.specs.Places.{w-line-length}
-use Rattle.listing.specs.printing.Lines.{Printed}
+use Rattle.pages.specs.bytes.Printing.{Printed}
 use Rattle.listing.proofs.printing.Listing.{w-lines-last}
-use Rattle.listing.proofs.printing.Spelling.{nothing, after, spelled}
+use Rattle.pages.proofs.bytes.Spelling.{nothing, after, spelled}
 use Rattle.listing.proofs.printing.Listing.{no-rows}
 use Rattle.listing.proofs.printing.w_lines.Statement.{statement}
 use Rattle.listing.proofs.printing.w_lines.Tie as tie

@@ -1,7 +1,7 @@
 use borrow.Author.Needs.{needs}
 use native.Mathlib.Omega.{arith}
 use Prim.Native.Nat.{_-_}
-use Rattle.listing.proofs.printing.Spelling.{few-digits}
+use Rattle.pages.proofs.bytes.Spelling.{few-digits}
 use Rattle.listing.proofs.printing.word.Statement.{statement}
 use Rattle.listing.proofs.printing.word.Tie as tie
 

@@ -1,34 +1,33 @@
 use borrow.Author.Needs.{needs}
 use native.Mathlib.Omega.{arith}
-use mathlib.Core.Path.{_≡_, sym, ap, _∙_}
-use mathlib.Core.List.{[], _∷_}
-use Prim.Native.Nat.{_-_}
+use mathlib.Core.Path.{subst}
+use Prim.Native.Nat.{_+_}
 use lib.ListN.{length}
-use Rattle.definitions.specs.Sheet.{printed}
-use Rattle.reader.specs.problem.Reading.{read-as, words-read}
-use Rattle.reader.proofs.problem.Answering.{zero-is-read}
-use Rattle.level.proofs.all_levels.Basis.{based}
-use Rattle.listing.proofs.whole.Whole.{one-level, read-sheet, refused-sheet}
-use native.Mathlib.Nat.{not-suc-le-zero}
+use Rattle.definitions.specs.Limits.{document-01}
+use Rattle.definitions.specs.Problem.{problem}
+use Rattle.definitions.specs.Sheet.{x-lines, variables-of}
+use Rattle.listing.specs.reading.Beginning.{Begun-as}
+use Rattle.listing.proofs.whole.Whole.{accepted-sheet, refused-sheet}
 use Rattle.listing.proofs.whole.print.Statement.{statement}
 use Rattle.listing.proofs.whole.print.Tie as tie
 
-read-requires : tie.Need-read-requires
-read-requires c κs = search needs
+begin-requires : tie.Need-begin-requires
+begin-requires c κs = omega arith
 
-accept-requires : tie.Need-accept-requires
-accept-requires c κs =
-    let at-8 = c .before .before .before .before .before .before .before .before in
-    let a = at-8 .before .before .before .before .args in
-    let P = at-8 .before .before .before .before .pre in
-    let size = length (a .state .now) in
-    let file = a .file .now in
-    let r = c .before .before .before .before .before .before .read in
-    let zero = zero-is-read size file (sym (ap (λ t. t .0) (r .ensures)) ∙ (omega arith)) in
-    let f = zero .0 in
-    let s = r .last .1 .0 in
-    let words : s ≡ words-read size f = ap (λ t. t .2) (r .ensures ∙ ap (read-as size) (zero .1)) in
-    (based size (P .0) file f (zero .1) s words, one-level size (P .0) file f (zero .1) s words, omega (arith, P .1), omega (arith, P .2))
+enum-told : tie.Need-enum-told
+enum-told c = search needs
+
+print-lifted-requires : tie.Need-print-lifted-requires
+print-lifted-requires c κs =
+    let P = let at-8 = c .before .before .before .before .before .before .before .before in let at-16 = at-8 .before .before .before .before .before .before .before .before in (at-16 .before .before .before) .pre in
+    let a = let at-8 = c .before .before .before .before .before .before .before .before in let at-16 = at-8 .before .before .before .before .before .before .before .before in (at-16 .before .before .before) .args in
+    let b = let at-8 = c .before .before .before .before .before .before .before .before in (at-8 .before .before .before) .begin in
+    let told = c .before .before .before .enum-told .given .1 in
+    let B = subst (λ y. Begun-as y (a .file .now) (b .last .1 .0) (a .out .now) (b .last .1 .1 .1 .0)) told (b .ensures) in
+    (B .base, B .alone, omega (arith, P .1), omega (arith, P .2))
+
+enum-known-length : tie.Need-enum-known-length
+enum-known-length c = search needs
 
 same-length : tie.Need-same-length
 same-length c = search needs
@@ -41,36 +40,19 @@ same-length-3 c = search needs
 
 returns : tie.Need-returns
 returns c =
-    let a =
-    let at-8 = c .before .before .before .before .before .before .before .before in
-    let at-16 = at-8 .before .before .before .before .before .before .before .before in
-    (at-16 .before .before .before) .args in
-    let P =
-    let at-8 = c .before .before .before .before .before .before .before .before in
-    let at-16 = at-8 .before .before .before .before .before .before .before .before in
-    (at-16 .before .before .before) .pre in
-    let r =
-    let at-8 = c .before .before .before .before .before .before .before .before in
-    (at-8 .before .before .before .before .before) .read in
-    let size = length (a .state .now) in
-    let file = a .file .now in
-    let zero = zero-is-read size file (sym (ap (λ t. t .0) (r .ensures)) ∙ (omega arith)) in
-    let f = zero .0 in
-    let s = r .last .1 .0 in
-    let words : s ≡ words-read size f = ap (λ t. t .2) (r .ensures ∙ ap (read-as size) (zero .1)) in
-    let R = c .before .before .before .before .before .before .accept .ensures in (
+    let a = let at-8 = c .before .before .before .before .before .before .before .before in let at-16 = at-8 .before .before .before .before .before .before .before .before in let at-24 = at-16 .before .before .before .before .before .before .before .before in (at-24 .before .before) .args in
+    let b = let at-8 = c .before .before .before .before .before .before .before .before in let at-16 = at-8 .before .before .before .before .before .before .before .before in (at-16 .before .before) .begin in
+    let told = let at-8 = c .before .before .before .before .before .before .before .before in (at-8 .before .before) .enum-told .given .1 in
+    let B = subst (λ y. Begun-as y (a .file .now) (b .last .1 .0) (a .out .now) (b .last .1 .1 .1 .0)) told (b .ensures) in
+    let R = c .before .before .before .before .before .before .print-lifted .ensures in (
       record {
-        bound = R .0 .bound;
+        bound = B .bound + R .0 .bound;
         bytes = R .0 .bytes;
-        gives = R .0 .gives
-            ∙ read-sheet size (P .0) file f (zero .1) s words (R .0 .bound);
-        printed = R .0 .printed;
+        gives = accepted-sheet (a .file .now) (B .bound) (b .last .1 .0) (B .reads) (R .0 .bound) (R .0 .bytes) (R .0 .gives);
+        printed = record { front = R .0 .printed .front; ends = R .0 .printed .ends };
       },
       R .1,
     )
-
-pair-line-requires : tie.Need-pair-line-requires
-pair-line-requires c κs = omega arith
 
 same-length-4 : tie.Need-same-length-4
 same-length-4 c = search needs
@@ -78,40 +60,23 @@ same-length-4 c = search needs
 same-length-5 : tie.Need-same-length-5
 same-length-5 c = search needs
 
+same-length-6 : tie.Need-same-length-6
+same-length-6 c = search needs
+
 returns-2 : tie.Need-returns-2
 returns-2 c =
-    let a =
-    let at-8 = c .before .before .before .before .before .before .before .before in
-    (at-8 .before .before .before .before .before) .args in
-    let P =
-    let at-8 = c .before .before .before .before .before .before .before .before in
-    (at-8 .before .before .before .before .before) .pre in
-    let size = length (a .state .now) in
-    let file = a .file .now in
-    let r = c .before .before .before .before .before .before .before .read in
-    let q = c .before .before .pair-line .ensures in (
+    let a = let at-8 = c .before .before .before .before .before .before .before .before in let at-16 = at-8 .before .before .before .before .before .before .before .before in (at-16 .before) .args in
+    let b = let at-8 = c .before .before .before .before .before .before .before .before in (at-8 .before) .begin in
+    let g = c .before .length .given in
+    let S = subst (λ y. Begun-as y (a .file .now) (b .last .1 .0) (a .out .now) (b .last .1 .1 .1 .0)) (g .1) (b .ensures) in (
       record {
-        bound = 0;
-        bytes = printed 88 (r .result .number ∷ r .result .place ∷ []);
-        gives =
-            refused-sheet size file (r .result .number) (r .result .place) (r .last .1 .0) (λ z. not-suc-le-zero {n = 0} (omega (arith, z)))
-            (r .ensures);
-        printed = q .0;
+        bound = S .bound;
+        bytes = x-lines (variables-of (problem document-01 (a .file .now))) (S .number) (S .place) (S .value);
+        gives = refused-sheet (a .file .now) (S .bound) (S .number) (S .place) (S .value) (S .refuses);
+        printed = S .printed;
       },
-      omega (arith, q .1),
+      omega (arith, S .fits),
     )
 
 pub print-spec : {M : Type 1} → statement M
-print-spec =
-    tie.close
-    (tie.spec
-    read-requires
-    accept-requires
-    same-length
-    same-length-2
-    same-length-3
-    returns
-    pair-line-requires
-    same-length-4
-    same-length-5
-    returns-2)
+print-spec = tie.close (tie.spec begin-requires enum-told print-lifted-requires enum-known-length same-length same-length-2 same-length-3 returns same-length-4 same-length-5 same-length-6 returns-2)

@@ -5,7 +5,7 @@ use Prim.Native.Nat.{_+_, _-_, _*_, _≤_}
 use lib.ListN.{getD}
 use Rattle.definitions.specs.Sheet.{level-lines}
 use Rattle.definitions.specs.Places.{most-vectors, rows-offset}
-use Rattle.listing.proofs.printing.Spelling.{spelled}
+use Rattle.pages.proofs.bytes.Spelling.{spelled}
 use Rattle.listing.specs.printing.Lines.{Short}
 use Rattle.reducers.specs.tables.Cuts.{Cut, cut-level}
 use Rattle.level.proofs.by_runs.GroundOfLevel.{ends-part}

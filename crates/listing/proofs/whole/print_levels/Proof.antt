@@ -4,8 +4,8 @@ use mathlib.Core.Path.{_≡_, refl, ap}
 use Prim.Native.Nat.{ℕ, _+_, _-_, _*_, _<_, _≤_}
 use lib.ListN.{length, getD}
 use Rattle.state.proofs.soundness.SoundLevels as sounding
-use Rattle.listing.specs.printing.Lines.{Printed}
-use Rattle.listing.proofs.printing.Spelling.{nothing, after, spelled}
+use Rattle.pages.specs.bytes.Printing.{Printed}
+use Rattle.pages.proofs.bytes.Spelling.{nothing, after, spelled}
 use Rattle.listing.specs.whole.Listed.{lines-to}
 use Rattle.listing.proofs.whole.Levels.{next-lines}
 use Rattle.listing.proofs.whole.print_levels.Statement.{statement}

@@ -4,7 +4,7 @@ use native.Mathlib.Nat.{not-suc-le-zero}
 use mathlib.Core.List.{[], _∷_, _++_}
 use Prim.Native.Nat.{_-_}
 use Rattle.definitions.specs.Sheet.{printed}
-use Rattle.listing.proofs.printing.Spelling.{after}
+use Rattle.pages.proofs.bytes.Spelling.{after}
 use Rattle.listing.specs.whole.Listed.{all-lines-of}
 use Rattle.listing.proofs.whole.Levels.{whole-lines, refused-lines}
 use Rattle.listing.proofs.whole.print_lifted.Statement.{statement}

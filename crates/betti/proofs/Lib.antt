@@ -1,0 +1,15 @@
+pub mod Texts
+pub mod Columns
+pub mod Rows
+pub mod Lines
+pub mod Mixed
+pub mod Counting
+pub mod InUse
+pub mod Pages
+pub mod Ends
+pub mod Levels
+pub mod Heads
+pub mod Images
+pub mod Short
+pub mod FrameTerms
+pub mod Betti
