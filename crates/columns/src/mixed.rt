@@ -52,7 +52,8 @@ fn first_among(level: &[u16], ends: &[u16], r: usize, d: &[u16], n: usize) -> us
 // "the first such element" of a state's level 0, 0 where there is none.
 pub fn first_mixed(state: &[u16]) -> usize
     requires { ⌜ (state-length ≤ length (now state)) × T (holds-state? document-01 (now state)) ⌝ }
-    ensures { λ x. ⌜ x ≡ place-of (first-definition (same-degree? (degrees-at document-01 (now (state .entry)))) 1 (level-at document-01 (now (state .entry)) 0)) ⌝ }
+    ensures { λ x. ⌜ x ≡ place-of (first-definition (same-degree? (degrees-at document-01 (now (state .entry)))) 1 (level-at document-01 (now
+        (state .entry)) 0)) ⌝ }
 {
     let r = soundness::count_of(state, 0);
     let n = words::place(state[3]);

@@ -60,7 +60,8 @@ returns-4 c =
     let clear-there =
     let at-8 = c .before .before .before .before .before .before .before .before in
     (at-8 .before .before) .clear in
-    let w = whole-call page-length (betti document-01) (a .file .now) (a .state .now) (a .work .now) (a .out .now) (omega arith) (omega arith) (omega arith) (R .ensures .0 .bound)
+    let w = whole-call page-length (betti document-01) (a .file .now) (a .state .now) (a .work .now) (a .out .now) (omega arith) (omega arith) (omega arith)
+    (R .ensures .0 .bound)
     (R .ensures .0 .bytes) (R .ensures .0 .gives) (R .result) (R .last .1 .0) (R .last .1 .1 .0) (R .last .1 .1 .1 .0) (R .ensures .0 .printed)
     (omega arith) (omega arith) (omega arith) in (
       w .0,

@@ -23,8 +23,10 @@ same-length-3 c = search needs
 
 returns : tie.Need-returns
 returns c =
-    let s = let at-8 = c .before .before .before .before .before .before .before .before in (at-8 .before .before .before .before .before .before .before .before) .args .state .now in
-    let P = let at-8 = c .before .before .before .before .before .before .before .before in (at-8 .before .before .before .before .before .before .before .before) .pre in
+    let s = let at-8 = c .before .before .before .before .before .before .before .before in
+    (at-8 .before .before .before .before .before .before .before .before) .args .state .now in
+    let P = let at-8 = c .before .before .before .before .before .before .before .before in
+    (at-8 .before .before .before .before .before .before .before .before) .pre in
     let m = let at-8 = c .before .before .before .before .before .before .before .before in (at-8 .before .before .before) .first-mixed in
     let R = c .before .before .before .before .before .before .print-lifted .ensures in
     let zero = let at-8 = c .before .before .before .before .before .before .before .before in (at-8 .before .before) .if1 .taken in (
@@ -63,4 +65,6 @@ returns-2 c =
     )
 
 pub print-accepted-spec : {M : Type 1} → statement M
-print-accepted-spec = tie.close (tie.spec first-mixed-requires print-lifted-requires same-length same-length-2 same-length-3 returns pair-line-requires same-length-4 same-length-5 returns-2)
+print-accepted-spec = tie.close
+    (tie.spec first-mixed-requires print-lifted-requires same-length same-length-2 same-length-3 returns pair-line-requires same-length-4 same-length-5
+    returns-2)

@@ -29,7 +29,8 @@ same-length-3 c = search needs
 
 returns : tie.Need-returns
 returns c =
-    let s = let at-8 = c .before .before .before .before .before .before .before .before in (at-8 .before .before .before .before .before .before .before .before) .args .state .now in
+    let s = let at-8 = c .before .before .before .before .before .before .before .before in
+    (at-8 .before .before .before .before .before .before .before .before) .args .state .now in
     let L = let at-8 = c .before .before .before .before .before .before .before .before in (at-8 .before .before) .lift-levels in
     let t = L .last .0 in
     let R = L .ensures .0 in
@@ -45,7 +46,8 @@ returns c =
     )
 
 pair-line-requires : tie.Need-pair-line-requires
-pair-line-requires c κs = let long = let at-8 = c .before .before .before .before .before .before .before .before in (at-8 .before .before .before .before) .pre .2 in omega (arith, long)
+pair-line-requires c κs = let long = let at-8 = c .before .before .before .before .before .before .before .before in
+    (at-8 .before .before .before .before) .pre .2 in omega (arith, long)
 
 same-length-4 : tie.Need-same-length-4
 same-length-4 c = search needs
@@ -58,7 +60,8 @@ same-length-6 c = search needs
 
 returns-2 : tie.Need-returns-2
 returns-2 c =
-    let s = let at-8 = c .before .before .before .before .before .before .before .before in (at-8 .before .before .before .before .before .before .before) .args .state .now in
+    let s = let at-8 = c .before .before .before .before .before .before .before .before in
+    (at-8 .before .before .before .before .before .before .before) .args .state .now in
     let L = let at-8 = c .before .before .before .before .before .before .before .before in (at-8 .before) .lift-levels in
     let R = L .ensures .0 in
     let q = c .before .before .pair-line .ensures in
@@ -73,4 +76,6 @@ returns-2 c =
     )
 
 pub print-lifted-spec : {M : Type 1} → statement M
-print-lifted-spec = tie.close (tie.spec lift-levels-requires print-page-requires same-length same-length-2 same-length-3 returns pair-line-requires same-length-4 same-length-5 same-length-6 returns-2)
+print-lifted-spec = tie.close
+    (tie.spec lift-levels-requires print-page-requires same-length same-length-2 same-length-3 returns pair-line-requires same-length-4 same-length-5
+    same-length-6 returns-2)

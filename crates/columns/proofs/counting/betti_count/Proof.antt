@@ -50,4 +50,6 @@ returns c =
     ∙ ap (λ i. f (take (n .result) (drop i s))) (b .ensures .0) ∙ ap f (n .ensures .words)
 
 pub betti-count-spec : {M : Type 1} → statement M
-betti-count-spec = tie.close (tie.spec column-length-requires column-start-requires mul-count-degrees sub-count-degrees part-count-degrees-start part-count-degrees-end add-count-degrees count-degrees-requires returns)
+betti-count-spec = tie.close
+    (tie.spec column-length-requires column-start-requires mul-count-degrees sub-count-degrees part-count-degrees-start part-count-degrees-end
+    add-count-degrees count-degrees-requires returns)

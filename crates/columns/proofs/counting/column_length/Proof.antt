@@ -44,4 +44,5 @@ returns-3 c =
     (later-column (a .state .now) (P .0) (P .1) (a .c) (c .before .before .before .before .if1 .left) (omega (arith, c .before .before .place2 .ensures .0)))
 
 pub column-length-spec : {M : Type 1} → statement M
-column-length-spec = tie.close (tie.spec shared-slice-read-place place-requires returns shared-slice-read-place-2 place-requires-2 returns-2 sub-count-of count-of-requires returns-3)
+column-length-spec = tie.close
+    (tie.spec shared-slice-read-place place-requires returns shared-slice-read-place-2 place-requires-2 returns-2 sub-count-of count-of-requires returns-3)

@@ -38,8 +38,11 @@ loop-again c =
     let l = c .before .before .loop in
     let more : l .c + 1 ≤ 11 = omega arith in
     let w = c .with-column in
-    let e = w .ensures in
-    (more, so-far-more (c .before .before .before .before .before .before .args .state .now) _ (l .c) (l .low) (l .high) (w .result .low) (w .result .high) (l .inv .1) (e .0) (e .1) (e .2) (e .3))
+    let e = w .ensures in (
+      more,
+      so-far-more (c .before .before .before .before .before .before .args .state .now) _ (l .c) (l .low) (l .high) (w .result .low) (w .result .high)
+          (l .inv .1) (e .0) (e .1) (e .2) (e .3),
+    )
 
 returns : tie.Need-returns Inv-loop μ-loop
 returns c =
@@ -53,4 +56,5 @@ returns c =
     (rows-are s (P .0) (P .1) (l .low) (l .high) R, low-first s (P .0) (P .1) (l .low) (l .high) R, high-few s (P .0) (P .1) (l .low) (l .high) R)
 
 pub rows-in-use-spec : {M : Type 1} → statement M
-rows-in-use-spec = tie.close (tie.spec Inv-loop μ-loop shared-slice-read-place place-requires add-first loop-holds with-column-requires add-c loop-less loop-again returns)
+rows-in-use-spec = tie.close
+    (tie.spec Inv-loop μ-loop shared-slice-read-place place-requires add-first loop-holds with-column-requires add-c loop-less loop-again returns)

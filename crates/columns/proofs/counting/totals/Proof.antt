@@ -63,4 +63,5 @@ returns c =
     filled-list (map f all-columns) (l .counts) (l .inv .1) (subst (λ i. Filled (λ k. getD (map f all-columns) k 0) i (l .counts)) e (l .inv .2))
 
 pub totals-spec : {M : Type 1} → statement M
-totals-spec = tie.close (tie.spec Inv-loop μ-loop loop-holds column-length-requires narrow-requires mul-counts array-write-counts add-c loop-less loop-again returns)
+totals-spec = tie.close
+    (tie.spec Inv-loop μ-loop loop-holds column-length-requires narrow-requires mul-counts array-write-counts add-c loop-less loop-again returns)

@@ -74,4 +74,6 @@ returns c =
     )
 
 pub widened-spec : {M : Type 1} → statement M
-widened-spec = tie.close (tie.spec Inv-loop μ-loop loop-holds mul-place shared-slice-read-place place-requires add-x sub-x lower-requires higher-requires add-i loop-less loop-again returns)
+widened-spec = tie.close
+    (tie.spec Inv-loop μ-loop loop-holds mul-place shared-slice-read-place place-requires add-x sub-x lower-requires higher-requires add-i loop-less
+    loop-again returns)

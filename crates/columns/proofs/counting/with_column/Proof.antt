@@ -49,4 +49,5 @@ returns c =
     (w .0 ∙ ap (λ ds. smallest (a .low) (map g ds)) words, w .1 ∙ ap (λ ds. largest (a .high) (map g ds)) words, w .2, w .3)
 
 pub with-column-spec : {M : Type 1} → statement M
-with-column-spec = tie.close (tie.spec column-length-requires column-start-requires mul-widened sub-widened part-widened-start part-widened-end widened-requires returns)
+with-column-spec = tie.close
+    (tie.spec column-length-requires column-start-requires mul-widened sub-widened part-widened-start part-widened-end widened-requires returns)

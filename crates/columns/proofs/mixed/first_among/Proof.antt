@@ -87,4 +87,6 @@ returns-2 c =
     sym (ap place-of (l .inv .2 ∙ first-ends same (a .level .now) es (l .j + 1) (l .j) (l .from) (omega (arith, n))))
 
 pub first-among-spec : {M : Type 1} → statement M
-first-among-spec = tie.close (tie.spec Inv-loop μ-loop loop-holds mul-place shared-slice-read-place place-requires mixed-requires add-result returns add-j loop-less loop-again returns-2)
+first-among-spec = tie.close
+    (tie.spec Inv-loop μ-loop loop-holds mul-place shared-slice-read-place place-requires mixed-requires add-result returns add-j loop-less loop-again
+    returns-2)

@@ -56,8 +56,20 @@ first-among-requires c κs =
     let s = c .before .before .before .before .before .before .before .args .state .now in
     let P = c .before .before .before .before .before .before .before .pre in
     let h = complete-cut s (P .0) (P .1) 0 (holds-said s (P .0) (P .1) .0) in
-    let t = subst₃ (λ c l f. (c ≤ most-vectors) × Cut c l f) (sym (c .before .before .before .before .before .count-of .ensures)) (sym (whole-part rows-start s)) (sym (whole-part ends-start s)) h in
-    (t .0, t .1, omega (arith, ap length (whole-part degrees-start s), length-drop degrees-start s, few-components s (P .0) (P .1), c .before .before .before .place .ensures .0, P .0))
+    let t = subst₃ (λ c l f. (c ≤ most-vectors) × Cut c l f) (sym (c .before .before .before .before .before .count-of .ensures)) (sym
+    (whole-part rows-start s)) (sym (whole-part ends-start s)) h in (
+      t .0,
+      t .1,
+      omega (
+        arith,
+        ap length (whole-part degrees-start s),
+        length-drop degrees-start s,
+        few-components s (P .0)
+            (P .1),
+        c .before .before .before .place .ensures .0,
+        P .0,
+      ),
+    )
 
 returns : tie.Need-returns
 returns c =
@@ -68,4 +80,6 @@ returns c =
     (cut-level (r i) (whole-part rows-start s i) (whole-part ends-start s i))))
 
 pub first-mixed-spec : {M : Type 1} → statement M
-first-mixed-spec = tie.close (tie.spec count-of-requires shared-slice-read-place place-requires sub-first-among part-first-among-start part-first-among-end sub-first-among-2 part-first-among-start-2 part-first-among-end-2 sub-first-among-3 part-first-among-start-3 part-first-among-end-3 first-among-requires returns)
+first-mixed-spec = tie.close
+    (tie.spec count-of-requires shared-slice-read-place place-requires sub-first-among part-first-among-start part-first-among-end sub-first-among-2
+    part-first-among-start-2 part-first-among-end-2 sub-first-among-3 part-first-among-start-3 part-first-among-end-3 first-among-requires returns)

@@ -38,8 +38,10 @@ pair-line-requires-2 c κs = omega arith
 
 w-lines-requires : tie.Need-w-lines-requires
 w-lines-requires c κs =
-    let s = let at-8 = c .before .before .before .before .before .before .before .before in let at-16 = at-8 .before .before .before .before .before .before .before .before in (at-16 .before .before) .args .state .now in
-    let P = let at-8 = c .before .before .before .before .before .before .before .before in let at-16 = at-8 .before .before .before .before .before .before .before .before in (at-16 .before .before) .pre in
+    let s = let at-8 = c .before .before .before .before .before .before .before .before in
+    let at-16 = at-8 .before .before .before .before .before .before .before .before in (at-16 .before .before) .args .state .now in
+    let P = let at-8 = c .before .before .before .before .before .before .before .before in
+    let at-16 = at-8 .before .before .before .before .before .before .before .before in (at-16 .before .before) .pre in
     let x = let at-8 = c .before .before .before .before .before .before .before .before in (at-8 .before .before .before .before .before) .accept-level in
     let g = let at-8 = c .before .before .before .before .before .before .before .before in (at-8 .before) .place .given in
     let h = subst (λ y. Shown y (x .ensures .1) (x .last .0)) (g .1) (x .ensures .3) in (
@@ -79,8 +81,10 @@ same-length-5 c = search needs
 
 returns-3 : tie.Need-returns-3
 returns-3 c =
-    let s = let at-8 = c .before .before .before .before .before .before .before .before in let at-16 = at-8 .before .before .before .before .before .before .before .before in (at-16 .before .before .before .before .before) .args .state .now in
-    let x = let at-8 = c .before .before .before .before .before .before .before .before in (at-8 .before .before .before .before .before .before .before .before) .accept-level in
+    let s = let at-8 = c .before .before .before .before .before .before .before .before in
+    let at-16 = at-8 .before .before .before .before .before .before .before .before in (at-16 .before .before .before .before .before) .args .state .now in
+    let x = let at-8 = c .before .before .before .before .before .before .before .before in
+    (at-8 .before .before .before .before .before .before .before .before) .accept-level in
     let g = let at-8 = c .before .before .before .before .before .before .before .before in (at-8 .before .before .before .before) .place .given in
     let m = let at-8 = c .before .before .before .before .before .before .before .before in (at-8 .before) .place2 .ensures .0 in
     let v = x .ensures .1 in
@@ -98,4 +102,6 @@ returns-3 c =
     }
 
 pub accept-spec : {M : Type 1} → statement M
-accept-spec = tie.close (tie.spec accept-level-requires enum-told enum-known-number pair-line-requires enum-known-place shared-slice-read-place place-requires pair-line-requires-2 w-lines-requires same-length returns same-length-2 same-length-3 returns-2 same-length-4 same-length-5 returns-3)
+accept-spec = tie.close
+    (tie.spec accept-level-requires enum-told enum-known-number pair-line-requires enum-known-place shared-slice-read-place place-requires
+    pair-line-requires-2 w-lines-requires same-length returns same-length-2 same-length-3 returns-2 same-length-4 same-length-5 returns-3)

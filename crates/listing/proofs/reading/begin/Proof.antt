@@ -41,8 +41,10 @@ same-length-3 c = search needs
 
 returns : tie.Need-returns
 returns c =
-    let a = let at-8 = c .before .before .before .before .before .before .before .before in let at-16 = at-8 .before .before .before .before .before .before .before .before in (at-16 .before) .args in
-    let P = let at-8 = c .before .before .before .before .before .before .before .before in let at-16 = at-8 .before .before .before .before .before .before .before .before in (at-16 .before) .pre in
+    let a = let at-8 = c .before .before .before .before .before .before .before .before in
+    let at-16 = at-8 .before .before .before .before .before .before .before .before in (at-16 .before) .args in
+    let P = let at-8 = c .before .before .before .before .before .before .before .before in
+    let at-16 = at-8 .before .before .before .before .before .before .before .before in (at-16 .before) .pre in
     let r = let at-8 = c .before .before .before .before .before .before .before .before in (at-8 .before .before .before) .read in
     let b = c .before .before .before .before .accept in
     let size = length (a .state .now) in
@@ -73,4 +75,5 @@ returns-2 c =
     (r .ensures)) (q .0) (omega (arith, q .1))
 
 pub begin-spec : {M : Type 1} → statement M
-begin-spec = tie.close (tie.spec read-requires accept-requires same-length same-length-2 same-length-3 returns pair-line-requires same-length-4 same-length-5 returns-2)
+begin-spec = tie.close
+    (tie.spec read-requires accept-requires same-length same-length-2 same-length-3 returns pair-line-requires same-length-4 same-length-5 returns-2)

@@ -15,7 +15,12 @@ spaces-requires : tie.Need-spaces-requires
 spaces-requires c κs = omega arith
 
 byte-requires : tie.Need-byte-requires
-byte-requires c κs = omega (arith, c .before .before .before .before .before .before .before .pre, ends-spaces 5 32 (c .before .before .before .spaces .ensures))
+byte-requires c κs = omega (
+  arith,
+  c .before .before .before .before .before .before .before .pre,
+  ends-spaces 5 32
+      (c .before .before .before .spaces .ensures),
+)
 
 same-length : tie.Need-same-length
 same-length c = search needs
@@ -39,7 +44,15 @@ spaces-requires-2 c κs = omega (arith, c .before .before .before .before .pre)
 number-requires : tie.Need-number-requires
 number-requires c κs =
     let w = c .before .before .before .before .before .width in
-    omega (arith, c .before .before .before .before .before .before .before .before .pre, w .ensures, few-digits 4 (c .before .before .before .before .before .before .before .before .args .v) (omega arith), ends-spaces (6 - w .result) 32 (c .before .before .before .spaces2 .ensures))
+    omega (
+      arith,
+      c .before .before .before .before .before .before .before .before .pre,
+      w .ensures,
+      few-digits 4
+          (c .before .before .before .before .before .before .before .before .args .v) (omega arith),
+      ends-spaces (6 - w .result) 32
+          (c .before .before .before .spaces2 .ensures),
+    )
 
 same-length-2 : tie.Need-same-length-2
 same-length-2 c = search needs
@@ -52,9 +65,12 @@ returns-2 c =
     let v = let at-8 = c .before .before .before .before .before .before .before .before in (at-8 .before .before .before) .args .v in
     let n = w .ensures in
     let m = few-digits 4 v (omega arith) in (
-      spelled (aligned-is (6 - w .result) (decimal v) (omega (arith, n, m)) ∙ cell-some v (let at-8 = c .before .before .before .before .before .before .before .before in (at-8 .before) .if1 .left)) (after p q),
+      spelled (aligned-is (6 - w .result) (decimal v) (omega (arith, n, m)) ∙ cell-some v
+          (let at-8 = c .before .before .before .before .before .before .before .before in (at-8 .before) .if1 .left)) (after p q),
       omega (arith, n, m, ends-spaces (6 - w .result) 32 p, q .ends),
     )
 
 pub cell-spec : {M : Type 1} → statement M
-cell-spec = tie.close (tie.spec sub-spaces spaces-requires byte-requires same-length returns width-requires sub-spaces-2 spaces-requires-2 number-requires same-length-2 returns-2)
+cell-spec = tie.close
+    (tie.spec sub-spaces spaces-requires byte-requires same-length returns width-requires sub-spaces-2 spaces-requires-2 number-requires same-length-2
+    returns-2)

@@ -24,7 +24,15 @@ spaces-requires c κs = omega (arith, c .before .before .before .pre .0)
 number-requires : tie.Need-number-requires
 number-requires c κs =
     let w = c .before .before .before .before .before .width in
-    omega (arith, c .before .before .before .before .before .before .before .pre .0, w .ensures, few-digits 4 (c .before .before .before .before .before .before .before .args .y) (omega arith), ends-spaces (5 - w .result) 32 (c .before .before .before .spaces .ensures))
+    omega (
+      arith,
+      c .before .before .before .before .before .before .before .pre .0,
+      w .ensures,
+      few-digits 4
+          (c .before .before .before .before .before .before .before .args .y) (omega arith),
+      ends-spaces (5 - w .result) 32
+          (c .before .before .before .spaces .ensures),
+    )
 
 byte-requires : tie.Need-byte-requires
 byte-requires c κs =

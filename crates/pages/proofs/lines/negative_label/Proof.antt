@@ -24,7 +24,15 @@ spaces-requires c κs = omega (arith, c .before .before .before .pre .0)
 byte-requires : tie.Need-byte-requires
 byte-requires c κs =
     let w = c .before .before .before .before .before .width in
-    omega (arith, c .before .before .before .before .before .before .before .pre .0, w .ensures, few-digits 1 (c .before .before .before .before .before .before .before .args .y) (omega arith), ends-spaces (4 - w .result) 32 (c .before .before .before .spaces .ensures))
+    omega (
+      arith,
+      c .before .before .before .before .before .before .before .pre .0,
+      w .ensures,
+      few-digits 1
+          (c .before .before .before .before .before .before .before .args .y) (omega arith),
+      ends-spaces (4 - w .result) 32
+          (c .before .before .before .spaces .ensures),
+    )
 
 number-requires : tie.Need-number-requires
 number-requires c κs =
@@ -37,21 +45,36 @@ number-requires c κs =
 byte-requires-2 : tie.Need-byte-requires-2
 byte-requires-2 c κs =
     let w = let at-8 = c .before .before .before .before .before .before .before .before in (at-8 .before .before .before .before .before) .width in
-    let P = let at-8 = c .before .before .before .before .before .before .before .before in (at-8 .before .before .before .before .before .before .before) .pre in
-    let y = let at-8 = c .before .before .before .before .before .before .before .before in (at-8 .before .before .before .before .before .before .before) .args .y in
+    let P = let at-8 = c .before .before .before .before .before .before .before .before in
+    (at-8 .before .before .before .before .before .before .before) .pre in
+    let y = let at-8 = c .before .before .before .before .before .before .before .before in
+    (at-8 .before .before .before .before .before .before .before) .args .y in
     let p = let at-8 = c .before .before .before .before .before .before .before .before in (at-8 .before .before .before) .spaces .ensures in
     let b = c .before .before .before .before .before .before .before .byte .ensures in
-    omega (arith, P .0, w .ensures, few-digits 1 y (omega (arith, P .1)), ends-spaces (4 - w .result) 32 p, b .ends, c .before .before .before .number .ensures .ends)
+    omega (
+      arith,
+      P .0,
+      w .ensures,
+      few-digits 1 y (omega (arith, P .1)),
+      ends-spaces
+          (4 - w .result) 32 p,
+      b .ends,
+      c .before .before .before .number .ensures .ends,
+    )
 
 same-length : tie.Need-same-length
 same-length c = search needs
 
 returns : tie.Need-returns
 returns c =
-    let w = let at-8 = c .before .before .before .before .before .before .before .before in (at-8 .before .before .before .before .before .before .before .before) .width in
-    let P = let at-8 = c .before .before .before .before .before .before .before .before in let at-16 = at-8 .before .before .before .before .before .before .before .before in (at-16 .before .before) .pre in
-    let y = let at-8 = c .before .before .before .before .before .before .before .before in let at-16 = at-8 .before .before .before .before .before .before .before .before in (at-16 .before .before) .args .y in
-    let p = let at-8 = c .before .before .before .before .before .before .before .before in (at-8 .before .before .before .before .before .before) .spaces .ensures in
+    let w = let at-8 = c .before .before .before .before .before .before .before .before in
+    (at-8 .before .before .before .before .before .before .before .before) .width in
+    let P = let at-8 = c .before .before .before .before .before .before .before .before in
+    let at-16 = at-8 .before .before .before .before .before .before .before .before in (at-16 .before .before) .pre in
+    let y = let at-8 = c .before .before .before .before .before .before .before .before in
+    let at-16 = at-8 .before .before .before .before .before .before .before .before in (at-16 .before .before) .args .y in
+    let p = let at-8 = c .before .before .before .before .before .before .before .before in
+    (at-8 .before .before .before .before .before .before) .spaces .ensures in
     let b = let at-8 = c .before .before .before .before .before .before .before .before in (at-8 .before .before) .byte .ensures in
     let q = c .before .before .before .before .before .before .number .ensures in
     let d = c .before .before .byte2 .ensures in
@@ -63,4 +86,5 @@ returns c =
     )
 
 pub negative-label-spec : {M : Type 1} → statement M
-negative-label-spec = tie.close (tie.spec width-requires sub-spaces sub-spaces-2 spaces-requires byte-requires number-requires byte-requires-2 same-length returns)
+negative-label-spec = tie.close
+    (tie.spec width-requires sub-spaces sub-spaces-2 spaces-requires byte-requires number-requires byte-requires-2 same-length returns)
