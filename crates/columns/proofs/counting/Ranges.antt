@@ -12,7 +12,7 @@ use Rattle.definitions.specs.Layout.{Words, decode, degrees-at, holds-state?}
 use Rattle.definitions.specs.Betti.{rows-in-use, smallest, largest, all-rows}
 use Rattle.definitions.specs.Places.{most-carried, row-shift, page-columns, page-rows, degrees-start, state-length}
 use Rattle.laws.proofs.Members.{All, all-inside}
-use Rattle.betti.proofs.Rows.{Row, Few-rows, rows-few, length-from}
+use Rattle.betti.proofs.Rows.{Row, Few-rows, rows-few, columns-low, length-from}
 use Rattle.betti.proofs.Lines.{columns-are}
 use Rattle.state.proofs.preparing.Complete.{holds-sound}
 use Rattle.columns.specs.counting.Columns.{columns-of, column-of}
@@ -156,10 +156,10 @@ module _ (s : Words) (long : state-length ≤ length s) (holds : T (holds-state?
   pub high-few : high < page-rows
   high-few =
       let X = decode document-01 s in
-      let h = rows-few cs (columns-are document-01 tt X (holds-sound s holds)) in
-      let each = subst (All Row) rows-are (h .each) in
+      let h = rows-few most-carried cs (columns-low cs (columns-are document-01 tt X (holds-sound s holds))) in
+      let each = subst (All (Row most-carried)) rows-are (h .each) in
       let n = length-from low (suc high - low) in
       let inside : high - low < length (from low (suc high - low)) = omega (arith, n, low-first) in
       let at : getD (from low (suc high - low)) (high - low) 0 ≡ low + (high - low) = at-from low (suc high - low) (high - low) (omega (arith, low-first)) in
-      let last = all-inside Row 0 (from low (suc high - low)) (high - low) inside each in
+      let last = all-inside (Row most-carried) 0 (from low (suc high - low)) (high - low) inside each in
       omega (arith, last, at, low-first)
