@@ -1,4 +1,5 @@
-/* The three calls of Tagetessash: read a problem file, lift a level, fetch a vector; and the sheet and the Betti page of a file, each in one call.
+/* The three calls of Tagetessash: read a problem file, lift a level, fetch a vector; and the sheet, the Betti page and the bidegrees of a file, each in one
+ * call.
  *
  * A header of one version does not fit a library of another: if (tagetessash_version() != TAGETESSASH_VERSION) do not go on.
  *
@@ -10,9 +11,9 @@
  * length are not null. The library can not test any of this; whatever else the buffers hold, every call returns and keeps to them.
  *
  * Each of the three calls returns a number, 0 or a refusal's, and writes its place (see below). After
- *     11, 12, 16            no buffer is changed
- *     1 to 9, 13 to 15, 18  every buffer lent for writing is zero throughout, the state with it; but 9 leaves a value in the work area
- *     0                     the work area, the cache and what is unused of the state and of out are zero
+ *     11, 12, 16                no buffer is changed
+ *     1 to 9, 13 to 15, 18, 24  every buffer lent for writing is zero throughout, the state with it; but 9 leaves a value in the work area
+ *     0                         the work area, the cache and what is unused of the state and of out are zero
  */
 #ifndef TAGETESSASH_H
 #define TAGETESSASH_H
@@ -28,8 +29,9 @@ extern "C" {
  *     1    an exponent has a word of its own, a row ten words
  *     2    the exponents are packed, a row has six words; what the accessors below give and what the sheet prints is as it was
  *     3    the state has degrees behind its rows, a D line is read, 18 is answered; all that a state of version 2 holds stands where it stood
- * tagetessash_betti came later and changed nothing else: a program of version 3 that does not call it fits every library of version 3, and one that does is not
- * linked with a library that has no such function.
+ * tagetessash_betti and then tagetessash_bidegrees came later: a program of version 3 that does not call them fits every library of version 3, and one that
+ * does is not linked with a library that has no such function. With the latter came a file's G line, which was refused with 1, and 24: no state holds its
+ * weights, and every file that was read before is read as before.
  * Version 1's buffers are long enough for version 3: a program that was compiled with that header is refused nothing and reads other words. Only the version
  * tells it. One of version 2 lends a state that is too short: where it does not ask for the version, every call answers 16. */
 #define TAGETESSASH_VERSION 3
@@ -44,11 +46,12 @@ extern "C" {
 
 /* How many words a buffer has at the least; a shorter one is refused with 16, a longer one may be lent. The file and the cache may have any length. */
 #define TAGETESSASH_STATE_WORDS 125471
-#define TAGETESSASH_WORK_WORDS 3072       /* to read, and to lift by division or hybrid */
-#define TAGETESSASH_TREE_WORK_WORDS 24576 /* to lift by the tree */
+#define TAGETESSASH_WORK_WORDS 3072        /* to read, and to lift by division or hybrid */
+#define TAGETESSASH_TREE_WORK_WORDS 24576  /* to lift by the tree */
 #define TAGETESSASH_OUT_WORDS 3072
-#define TAGETESSASH_SHEET_BYTES 1400000   /* the sheet's out has bytes */
-#define TAGETESSASH_PAGE_BYTES 1508691    /* and so has the Betti page's */
+#define TAGETESSASH_SHEET_BYTES 1400000    /* the sheet's out has bytes */
+#define TAGETESSASH_PAGE_BYTES 1508691     /* and so has the Betti page's */
+#define TAGETESSASH_BIDEGREES_BYTES 32384  /* and that of the bidegrees */
 
 /* The most that there can be. A longer file is refused with 1, more variables or components with 3, T lines for more terms of level 0 with 8, more terms of a
  * vector or of the tree's work area with 14, more vectors or terms of a level above 0 with 15. */
@@ -65,6 +68,9 @@ extern "C" {
 #define TAGETESSASH_PAGE_COLUMNS 11
 #define TAGETESSASH_PAGE_CELL_BYTES 6
 #define TAGETESSASH_PAGE_LINE_BYTES 73
+
+/* A line of bidegrees, byte 10 included, has at the most so many bytes; there is one at the most for each generator of the same columns. */
+#define TAGETESSASH_BIDEGREES_LINE_BYTES 23
 
 /* A term is a row of words: its coefficient, its component, its eight exponents in one number of 64 bits, a byte each. x1's is the top byte; those past the
  * last variable are zero. The number stands in four words, the lowest 16 bits first, so that on x86-64 these are its bytes in memory. */
@@ -118,6 +124,7 @@ enum {
     TAGETESSASH_BAD_COUNT = 7,      /* E's count is 0 or not the number of T lines */
     TAGETESSASH_TOO_MANY_TERMS = 8, /* a 2,049th T line */
     TAGETESSASH_BAD_DEGREE = 18,    /* a component's degree is above 255 */
+    TAGETESSASH_BAD_WEIGHT = 24,    /* a variable's weight is above 15 */
 
     /* no Groebner basis: the place is the number of a frame term whose division stops, and the work area holds the value where it stops, in rows */
     TAGETESSASH_NO_BASIS = 9,
@@ -132,11 +139,18 @@ enum {
     TAGETESSASH_TERM_LIMIT = 14,     /* a 513th term of a working value or vector, or a 4,097th in the tree's work area */
     TAGETESSASH_LEVEL_LIMIT = 15,    /* a 129th frame term, or a 2,049th term of a level above 0 */
 
-    /* No call returns this one: it stands in the X line that tagetessash_betti writes instead of a page, its place the first such element. */
-    TAGETESSASH_TWO_DEGREES = 17 /* an element has terms of two degrees */
+    /* No call returns these: they stand in the X line that is written instead of a page, by tagetessash_betti and by tagetessash_bidegrees; the place is the
+     * first such element */
+    TAGETESSASH_TWO_DEGREES = 17,  /* an element has terms of two degrees */
+    TAGETESSASH_TWO_BIDEGREES = 25 /* an element has terms of two bidegrees */
 };
 
-/* Reads a problem file and accepts or refuses its basis. After 0 the state has level 0, the file's elements, and no other level. */
+/* Reads a problem file and accepts or refuses its basis. After 0 the state has level 0, the file's elements, and no other level. A file is lines of numbers:
+ *     R,p,n,order,s                               the ring: prime, variables, order code, components
+ *     D,d1,..,ds                                  or not at all: the degree of each component, 0 to 255
+ *     G,a1,b1,..,an,bn                            or not at all: two weights of each variable, 0 to 15, for tagetessash_bidegrees alone
+ *     T,element,coefficient,component,e1,..,en    a term, any number of them
+ *     E,count                                     how many T lines there are */
 uint16_t tagetessash_read(const uint8_t *file, size_t file_bytes, uint16_t *state, size_t state_words, uint16_t *work, size_t work_words, size_t *place);
 
 /* Forms the frame of a level, 1 to 9, and lifts all its terms; the level below must be complete. After 0 the level is complete and those above it are dropped.
@@ -160,6 +174,14 @@ uint16_t tagetessash_sheet(const uint8_t *file, size_t file_bytes, uint16_t *sta
  * refused file it writes the X line (and after X,9 the W lines) and nothing else; X,17 for an accepted one where an element has terms of two degrees. Returns 0
  * for every file, or 16, as tagetessash_sheet does. */
 uint16_t tagetessash_betti(const uint8_t *file, size_t file_bytes, uint16_t *state, size_t state_words, uint16_t *work, size_t work_words, uint8_t *out,
+    size_t out_bytes, size_t *length);
+
+/* Writes the bidegrees of a problem file, the bytes that the program prints, into out, likewise: a line B,column,a,b,count for each bidegree a, b of some
+ * generator of a column, by column, then a, then b, ascending. The columns are those of the Betti page. The bidegree of a term is two sums, of the exponents
+ * times the weights a and times the weights b of the file's G line, the degree of its component (D) added to the first; without a G line the weights are 1 and
+ * 0. A vector has that of its leading term's image. For a refused file it writes the X line (and after X,9 the W lines) and nothing else; X,25 for an accepted
+ * one where an element has terms of two bidegrees (17 is not tested). Returns 0 for every file, or 16, as tagetessash_sheet does. */
+uint16_t tagetessash_bidegrees(const uint8_t *file, size_t file_bytes, uint16_t *state, size_t state_words, uint16_t *work, size_t work_words, uint8_t *out,
     size_t out_bytes, size_t *length);
 
 /* The version of the library. */
@@ -301,6 +323,8 @@ static inline const char *tagetessash_meaning(uint16_t number)
     case TAGETESSASH_SHORT_BUFFER: return "a buffer is too short";
     case TAGETESSASH_TWO_DEGREES: return "an element has terms of two degrees";
     case TAGETESSASH_BAD_DEGREE: return "a component's degree is above 255";
+    case TAGETESSASH_BAD_WEIGHT: return "a variable's weight is above 15";
+    case TAGETESSASH_TWO_BIDEGREES: return "an element has terms of two bidegrees";
     default: return "no number of a call";
     }
 }
@@ -308,13 +332,13 @@ static inline const char *tagetessash_meaning(uint16_t number)
 /* What a number's place counts; null for numbers whose place is 0. */
 static inline const char *tagetessash_place_name(uint16_t number)
 {
-    if ((number >= TAGETESSASH_BAD_LINE && number <= TAGETESSASH_TOO_MANY_TERMS) || number == TAGETESSASH_BAD_DEGREE)
+    if ((number >= TAGETESSASH_BAD_LINE && number <= TAGETESSASH_TOO_MANY_TERMS) || number == TAGETESSASH_BAD_DEGREE || number == TAGETESSASH_BAD_WEIGHT)
         return "line";
     if (number == TAGETESSASH_NO_BASIS)
         return "frame term";
     if (number >= TAGETESSASH_EXPONENT_LIMIT && number <= TAGETESSASH_LEVEL_LIMIT)
         return "level";
-    if (number == TAGETESSASH_TWO_DEGREES)
+    if (number == TAGETESSASH_TWO_DEGREES || number == TAGETESSASH_TWO_BIDEGREES)
         return "element";
     return NULL;
 }

@@ -1,5 +1,5 @@
 # What stands behind an X line, for people: the line of the file with the usual causes, found by looking; after 9 which frame term it is, and the value; after
-# 17 two terms of the element that have different degrees.
+# 17 two terms of the element that have different degrees, after 25 two that have different bidegrees.
 # Unproved, and nothing rests on it: it reads the problem file, then the sheet or the page, and prints lines for standard error.
 #
 #     NAME=file ENDED=1 NUMBER=6 PLACE=3 awk -f explain.awk FILE PRINTED     ENDED: whether FILE's last byte is 10
@@ -11,11 +11,13 @@ FILENAME == ARGV[1] { line[++lines] = $0; next }
 /^W,/ { value[++terms] = $0 }
 END {
     if (lines > 0) { split(line[1], ring, ","); p = ring[2]; n = ring[3]; code = ring[4]; s = ring[5] }
-    # the first T line
-    first_t = line[2] ~ /^D/ ? 3 : 2
-    if ((number <= 8 || number == 18) && place > 0) print name ":" place ": " shown(line[place]) hint()
+    # the D line and the G line, 0 where there is none, and the first T line
+    d_line = line[2] ~ /^D/ ? 2 : 0
+    g_line = line[d_line ? 3 : 2] ~ /^G/ ? (d_line ? 3 : 2) : 0
+    first_t = 2 + (d_line > 0) + (g_line > 0)
+    if ((number <= 8 || number == 18 || number == 24) && place > 0) print name ":" place ": " shown(line[place]) hint()
     if (number == 9) not_a_basis()
-    if (number == 17) two_degrees()
+    if (number == 17 || number == 25) two_degrees()
 }
 
 # control characters and bytes above 126 as ?, cut
@@ -43,20 +45,21 @@ function shape(text,    fields, count, want, i) {
     if (text ~ /;/) return "it has ; for ,"
     if (text ~ /[ \t]/) return "it has a blank"
     if (text ~ /[-+]/) return "it has a sign; for -c write p - c"
-    if (text ~ /^[rdte],/) return "its letter is a small one"
-    if (text !~ /^[RDTE],/) return "it begins with none of R, D, T, E and a comma"
+    if (text ~ /^[rdgte],/) return "its letter is a small one"
+    if (text !~ /^[RDGTE],/) return "it begins with none of R, D, G, T, E and a comma"
     if (place == 1 && text !~ /^R/) return "the first line is R,p,n,order,s"
     if (place > 1 && text ~ /^R/) return "R stands on the first line alone"
     for (i = 2; i < place; i++) if (line[i] ~ /^E/) return "it stands after E; E,count is the last line"
     if (place > 2 && text ~ /^D/) return "D stands on the second line alone"
-    if (text !~ /^[RDTE](,[0-9]+)+$/) return "a field is no number"
+    if (place != g_line && text ~ /^G/) return "G stands once, behind R or D"
+    if (text !~ /^[RDGTE](,[0-9]+)+$/) return "a field is no number"
     if (text ~ /,0[0-9]/) return "a number has a leading zero"
     count = split(text, fields, ",") - 1
     for (i = 2; i <= count + 1; i++) if (length(fields[i]) > 5 || fields[i] + 0 > 65535) return "a number is above 65,535"
-    want = text ~ /^R/ ? 4 : text ~ /^D/ ? s + 0 : text ~ /^E/ ? 1 : n + 3
+    want = text ~ /^R/ ? 4 : text ~ /^D/ ? s + 0 : text ~ /^G/ ? 2 * n : text ~ /^E/ ? 1 : n + 3
     if (count != want)
         return "it has " count (count == 1 ? " number" : " numbers") ", and " want (want == 1 ? " is" : " are") " wanted" \
-            (text ~ /^T/ ? " for " n " variables" : text ~ /^D/ ? ", a degree for each component" : "")
+            (text ~ /^T/ ? " for " n " variables" : text ~ /^D/ ? ", a degree for each component" : text ~ /^G/ ? ", two weights for each variable" : "")
     return ""
 }
 
@@ -73,6 +76,10 @@ function range(text,    fields, before, i, count, better) {
     }
     if (number == 18) {
         for (i = 2; i in fields; i++) if (fields[i] + 0 > 255) return "component " i - 1 " has degree " fields[i]
+        return ""
+    }
+    if (number == 24) {
+        for (i = 2; i in fields; i++) if (fields[i] + 0 > 15) return "the " (i % 2 ? "second" : "first") " weight of x" int(i / 2) " is " fields[i]
         return ""
     }
     split(line[place - 1], before, ",")
@@ -139,26 +146,29 @@ function not_a_basis(    t, f, elements, e, i, j, k, x, m, found, count, first, 
     print "the value, modulo " p ": " text
 }
 
-# Element PLACE's first term, and the first one after it that has another degree.
+# Element PLACE's first term, and the first one after it that has another degree or, after 25, another bidegree.
 function two_degrees(    t, f, first, leading, component) {
     for (t = first_t; t < lines; t++) {
         split(line[t], f, ",")
         if (f[2] + 0 != place) continue
         if (!first) { first = t; leading = degree(f); component = f[4] }
         else if (degree(f) != leading) {
-            print name ":" first ": " shown(line[first]) "   <- degree " leading
-            print name ":" t ": " shown(line[t]) "   <- degree " degree(f) \
-                (f[4] != component && first_t == 2 ? "; without a D line both components have degree 0" : "")
+            print name ":" first ": " shown(line[first]) "   <- " leading
+            print name ":" t ": " shown(line[t]) "   <- " degree(f) \
+                (f[4] != component && !d_line ? "; without a D line both components have degree 0" : "") \
+                (number == 25 && !g_line ? "; without a G line every variable has the weights 1 and 0" : "")
             return
         }
     }
 }
 
-# of a T line: its exponents and its component's degree
-function degree(f,    d, x, total) {
-    if (first_t == 3) { split(line[2], d, ","); total = d[f[4] + 1] }
-    for (x = 5; x <= n + 4; x++) total += f[x]
-    return total + 0
+# of a T line, in words: its exponents and its component's degree; after 25 both sums by the weights
+function degree(f,    d, g, x, total, second) {
+    if (d_line) { split(line[d_line], d, ","); total = d[f[4] + 1] }
+    if (g_line && number == 25) split(line[g_line], g, ",")
+    else for (x = 1; x <= n; x++) { g[2 * x] = 1; g[2 * x + 1] = 0 }
+    for (x = 1; x <= n; x++) { total += g[2 * x] * f[x + 4]; second += g[2 * x + 1] * f[x + 4] }
+    return number == 25 ? "bidegree (" total + 0 ", " second + 0 ")" : "degree " total + 0
 }
 
 # two monomials as their exponents, each with a comma behind it

@@ -5,8 +5,10 @@
 -- and standard error says which was taken. Options, as in problem(G, Rank => 3):
 --     Rank => s            the rank of the free module, else that of the matrix's target
 --     Sort => true         elements with leading terms in one component ascend lexicographically by these; components ascend
---     Degrees => {0, 1}    the degrees of the components, else those of the matrix's target
--- Degrees are shifted so that the least is 0, and written (the D line) where they are not all the same then; standard error tells the shift.
+--     Degrees => {0, 1}    the degrees of the components, else those of the matrix's target, in a bigraded ring their first integers
+--     Weights => {{1, 0}, {0, 1}}    the two weights of each variable, 0 to 15, else its degree in a bigraded ring; Weights => {} none
+-- Degrees are shifted so that the least is 0, and written (the D line) where they are not all the same then; standard error tells the shift. Weights are
+-- written (the G line) where there are any.
 -- What a problem file can not say is an error: a file without it would be another problem. docs/GUIDE.md has examples.
 
 -- The order's code; an error in every ring but polynomial rings over ZZ/p with one of the three orders.
@@ -33,16 +35,30 @@ problemCode = R -> (
     if code === null then error("the ring's order is " | kept | "; it must be Lex, GLex or GRevLex (all degrees 1), with Position => Up last");
     code + 1)
 
+-- The two weights of each variable, or none: those that were asked for, else the degrees of a bigraded ring.
+problemWeights = (R, asked) -> (
+    w := if asked =!= null then asked else if degreeLength R == 2 then degrees R else {};
+    if #w != 0 and #w != numgens R then error("there are " | toString (#w) | " pairs of weights, and the ring has " | toString numgens R | " variables");
+    for i from 0 to #w - 1 do if any(w#i, x -> x < 0 or x > 15) then
+        error("variable " | toString R_i | " has weights " | toString w#i
+            | "; a G line takes 0 to 15: say others, as in Weights => {{1,0},{0,1}}, or Weights => {} for none");
+    w)
+
 -- The degrees of s components of F, or those that were asked for, shifted so that the least is 0, and the shift. They change no vector, so that those that are
--- all the same need no line.
-problemDegrees = (F, s, asked) -> (
+-- all the same need no line. Where the ring's own degrees are the weights, bigraded, the first of each two is taken: nothing is added to the second weight.
+problemDegrees = (F, s, asked, bigraded) -> (
     d := if asked === null then take(degrees F, s) else apply(asked, x -> {x});
     if #d != s and asked =!= null then error("there are " | toString (#d) | " degrees, and the free module has rank " | toString s);
     if #unique d <= 1 then return (toList (s : 0), 0);
     if #d != s then error("the target has degrees for " | toString (#d) | " components, not for " | toString s | "; say them all, as in Degrees => {0,1,1}");
-    if asked === null and degreeLength ring F != 1 then
-        error("the ring is multigraded: a degree has " | toString degreeLength ring F | " integers, and a D line takes one; say them, as in Degrees => {0,1}");
-    if asked === null and any(degrees ring F, x -> x != {1}) then
+    if asked === null and bigraded then (
+        for i from 1 to s - 1 do if d#i#1 != d#0#1 then
+            error("components 1 and " | toString (i + 1) | " have degrees " | toString d#0 | " and " | toString d#i
+                | "; a D line adds to the first sum alone, so that there are no bidegrees; for the sheet say Weights => {} and one degree for each");
+        d = apply(d, x -> {x#0}))
+    else if asked === null and degreeLength ring F != 1 then
+        error("the ring is multigraded: a degree has " | toString degreeLength ring F | " integers, and a D line takes one; say them, as in Degrees => {0,1}")
+    else if asked === null and any(degrees ring F, x -> x != {1}) then
         error("variables have degrees " | toString flatten degrees ring F | ", and a D line goes with variables of degree 1; say one, as in Degrees => {0,1}");
     d = flatten d;
     least := min d;
@@ -67,11 +83,14 @@ problem = arguments -> (
     s := rows;
     sorted := false;
     asked := null;
+    weights := null;
+    isWeights := w -> instance(w, List) and all(w, x -> instance(x, List) and #x == 2 and all(x, y -> instance(y, ZZ)));
     for a in drop(arguments, 1) do
         if instance(a, Option) and toString a#0 == "Rank" and instance(a#1, ZZ) then s = a#1
         else if instance(a, Option) and toString a#0 == "Sort" and instance(a#1, Boolean) then sorted = a#1
         else if instance(a, Option) and toString a#0 == "Degrees" and instance(a#1, List) and all(a#1, x -> instance(x, ZZ)) then asked = a#1
-        else error "the options are Rank => a number, Sort => true or false, and Degrees => a list of integers";
+        else if instance(a, Option) and toString a#0 == "Weights" and isWeights a#1 then weights = a#1
+        else error "the options are Rank => a number, Sort => true or false, Degrees => a list of integers, and Weights => a list of pairs of integers";
     used := 1 + max({-1} | apply(select(rows, i -> g^{i} != 0), i -> i));
     if s < used then error("component " | toString used | " occurs; the rank can not be " | toString s);
     if s > 16 then error("the free module has rank " | toString s | "; 16 is the most");
@@ -92,12 +111,15 @@ problem = arguments -> (
         if highest > 255 then error("generator " | toString (j + 1) | " has exponent " | toString highest | "; 255 is the largest"));
     count := sum(elements, x -> #x);
     if count > 2048 then error("there are " | toString count | " terms; 2048 are the most");
-    (d, shift) := problemDegrees(target g, s, asked);
+    w := problemWeights(R, weights);
+    (d, shift) := problemDegrees(target g, s, asked, weights === null and #w != 0);
     line := x -> concatenate(between(",", apply(x, toString)), "\n");
     stderr << "-- problem: " << took << ", " << #elements << (if #elements == 1 then " element" else " elements");
     if max d > 0 then stderr << ", components of degrees " << toString d << (if shift == 0 then "" else ", shifted by " | toString shift);
+    if #w != 0 then stderr << ", variables of weights " << toString w;
     stderr << endl;
     concatenate({line {"R", p, numgens R, code, s}}
         | (if max d > 0 then {line({"D"} | d)} else {})
+        | (if #w != 0 then {line({"G"} | flatten w)} else {})
         | flatten apply(#elements, j -> apply(elements#j, t -> line({"T", j + 1} | t)))
         | {line {"E", count}}))

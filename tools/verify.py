@@ -4,8 +4,9 @@
 Why a listing is its own certificate. Let f be the vectors of a level. If each frame term of f stands in front of a vector that maps to zero (the sum of its
 coefficients times the f_j is 0), then f is a Groebner basis, and these vectors are one of all syzygies of f (Schreyer's theorem). So level by level: find the
 frame anew, see what stands in front, multiply out. If no further term of a vector is a multiple of a frame term, these vectors are the reduced Groebner basis;
-there is only one, so no other listing is right. Refusals from 1 to 8 and 18 are found by reading FILE, 9 by dividing again. That 13, 14 or 15 was met
-is not found out, only that the levels before it are right. Degrees of components (the D line) are read and change nothing: a sheet does not show them.
+there is only one, so no other listing is right. Refusals from 1 to 8, 18 and 24 are found by reading FILE, 9 by dividing again. That 13, 14 or 15 was met
+is not found out, only that the levels before it are right. Degrees of components (the D line) and weights of variables (the G line) are read and change
+nothing: a sheet does not show them.
 Exit status: 0 verified, 1 not verified, 2 used wrongly, 3 verified but for 13 to 15."""
 import re
 import sys
@@ -26,16 +27,20 @@ def read(data):
     test(1, len(data) <= 65536)
     *lines, behind = data.split(b"\n")
     for place, line in enumerate(lines, 1):
-        test(1, re.fullmatch(rb"[RDTE](,(0|[1-9][0-9]{0,4}))+", line) and (line[:1] == b"R") == (place == 1) and (line[:1] != b"D" or place == 2))
+        letter = line[:1]
+        test(1, re.fullmatch(rb"[RDGTE](,(0|[1-9][0-9]{0,4}))+", line) and (letter == b"R") == (place == 1) and (letter != b"D" or place == 2))
+        test(1, letter != b"G" or place == 2 + lines[1].startswith(b"D"))
         numbers = [int(word) for word in line.split(b",")[1:]]
-        test(1, max(numbers) <= 65535 and len(numbers) == {b"R": 4, b"D": place > 1 and s, b"T": 3 + (place > 1 and n), b"E": 1}[line[:1]])
-        if line[:1] == b"R":
+        test(1, max(numbers) <= 65535 and len(numbers) == (4 if place == 1 else {b"D": s, b"G": 2 * n, b"T": 3 + n, b"E": 1}[letter]))
+        if letter == b"R":
             p, n, code, s = ring = numbers
             test(2, 2 <= p and all(p % d for d in range(2, 256) if d < p))
             test(3, 1 <= n <= 8 and 1 <= code <= 3 and 1 <= s <= 16)
-        elif line[:1] == b"D":
+        elif letter == b"D":
             test(18, max(numbers) <= 255)
-        elif line[:1] == b"T":
+        elif letter == b"G":
+            test(24, max(numbers) <= 15)
+        elif letter == b"T":
             element, c, i, *m = numbers
             count += 1
             test(8, count <= 2048)

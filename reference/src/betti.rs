@@ -3,13 +3,12 @@
 //! The degrees that elements and vectors carry are not looked at here: each frame term is walked
 //! down to level 0, level by level, and the counts stand in ordered maps.
 
-use crate::engine::{Basis, State};
+use crate::engine::Basis;
 use crate::frame::{frame, NUMBERING};
-use crate::lifting::{Usage, Way};
+use crate::lifting::Usage;
 use crate::limits::Limits;
 use crate::monomial::{degree, leading_monomial, multiply, Level, Monomial};
-use crate::reader::read_problem;
-use crate::sheet::{answered, refused};
+use crate::program::Program;
 use std::collections::{BTreeMap, BTreeSet};
 
 /// "columns 0 to 10"
@@ -24,41 +23,13 @@ pub type Counts = BTreeMap<i64, BTreeMap<u64, u64>>;
 /// The bytes of the Betti page for a file, or `None` when the budget of products (for the file
 /// together) is used up; and what the runs took.
 pub fn page(limits: &Limits, file: &[u8], budget: Option<u64>) -> (Option<Vec<u8>>, Usage) {
-    let mut usage = Usage::default();
-    let printed = print(limits, file, budget, &mut usage);
-    (printed.map(String::into_bytes), usage)
-}
-
-fn print(limits: &Limits, file: &[u8], budget: Option<u64>, usage: &mut Usage) -> Option<String> {
-    let mut printed = String::new();
-    let mut state = State::new();
-    let outcome = state.read(limits, file, budget);
-    let answer = answered(outcome, usage)?;
-    if answer.number != 0 {
-        let n = read_problem(limits, file).map_or(0, |problem| problem.parameters.n as usize);
-        refused(&answer, n, &mut printed);
-        return Some(printed);
-    }
     // "17, with the first such element as place, when some element has terms of two degrees,
     // tested after acceptance"
-    if let Some(number) = state.basis.as_ref().and_then(of_two_degrees) {
-        return Some(format!("X,17,{number}\n"));
-    }
-    // "Levels are lifted as for the sheet."
-    for k in 1..=limits.levels {
-        let left = budget.map(|budget| budget - usage.products);
-        let outcome = state.lift(limits, k, Way::Hybrid(2), 0, left);
-        let answer = answered(outcome, usage)?;
-        if answer.number != 0 {
-            // "A request's program prints nothing before the X line of a refusal."
-            refused(&answer, 0, &mut printed);
-            return Some(printed);
-        }
-        if state.levels()[k as usize].is_empty() {
-            break;
-        }
-    }
-    state.basis.as_ref().map(|basis| lines(&counts(basis)))
+    let program = Program {
+        refuses: |basis: &Basis| of_two_degrees(basis).map(|number| format!("X,17,{number}\n")),
+        prints: |basis: &Basis| lines(&counts(basis)),
+    };
+    program.run(limits, file, budget)
 }
 
 /// The number, from 1, of the first element that has terms of two degrees.

@@ -3,6 +3,7 @@
 //! All buffers but the file hold 16-bit words. Offsets and lengths are functions of the limits;
 //! with the limits of document 01 they are the numbers of that page.
 
+use crate::bidegrees::bidegrees;
 use crate::engine::{Answer, Basis, Outcome, State};
 use crate::lifting::Way;
 use crate::limits::Limits;
@@ -178,6 +179,50 @@ pub fn fetch_call(
         write_rows(&answer.vector, out);
     }
     (answer.number, answer.place)
+}
+
+/// The bytes that the lines of bidegrees need: "128 lines of 23 bytes for each of eleven columns".
+pub fn bidegrees_bytes(limits: &Limits) -> usize {
+    let columns = limits.levels as usize + 2;
+    23 * limits.elements.max(limits.vectors) as usize * columns
+}
+
+/// Prints the lines of bidegrees of a file; state and work "are lent for the work alone". Gives the
+/// number and "instead of a place the length of what is printed".
+pub fn bidegrees_call(
+    limits: &Limits,
+    file: &[u8],
+    state: &mut [u16],
+    work: &mut [u16],
+    out: &mut [u8],
+) -> (u64, u64) {
+    bidegrees_call_within(limits, file, state, work, out, None).expect("there is no budget")
+}
+
+/// As `bidegrees_call`, but gives up (`None`, no buffer changed) when the products are used up.
+pub fn bidegrees_call_within(
+    limits: &Limits,
+    file: &[u8],
+    state: &mut [u16],
+    work: &mut [u16],
+    out: &mut [u8],
+    budget: Option<u64>,
+) -> Option<(u64, u64)> {
+    // "After 16 .. no buffer is changed, and the length is 0."
+    let short = state.len() < state_words(limits)
+        || work.len() < work_words(limits, None)
+        || out.len() < bidegrees_bytes(limits);
+    if short {
+        return Some((16, 0));
+    }
+    let printed = bidegrees(limits, file, budget).0?;
+    // "out has the printed bytes, zeros after them to the end of the buffer, and state and work are
+    // all zero"
+    out.fill(0);
+    out[..printed.len()].copy_from_slice(&printed);
+    state.fill(0);
+    work.fill(0);
+    Some((0, printed.len() as u64))
 }
 
 /// What the words of a state say. The counts and ends are tested as far as finding the rows

@@ -122,6 +122,8 @@ impl State {
             parameters,
             degrees,
             elements,
+            // no state holds them
+            weights: _,
         } = match read_problem(limits, file) {
             Ok(problem) => problem,
             Err(refusal) => {

@@ -10,7 +10,7 @@
 //! - [`lifting`]: division, hybrid, tree, acceptance.
 //! - [`reckoning`]: the plain reckoning of a level and of a list of calls.
 //! - [`engine`]: the state and the three calls. [`buffers`]: the same on lent buffers.
-//! - [`sheet`], [`betti`], [`script`]: what the programs print.
+//! - [`sheet`], [`betti`], [`bidegrees`], [`script`]: what the programs print.
 //! - [`invariants`]: Hilbert function and minimal Betti numbers from the levels.
 //! - [`random`], [`completion`], [`generate`]: seeded problem files and lists of calls.
 
@@ -18,6 +18,7 @@
 #![warn(missing_docs)]
 
 pub mod betti;
+pub mod bidegrees;
 pub mod buffers;
 pub mod completion;
 pub mod engine;
@@ -29,6 +30,7 @@ pub mod lifting;
 pub mod limits;
 pub mod monomial;
 pub mod order;
+mod program;
 pub mod random;
 pub mod reader;
 pub mod reckoning;

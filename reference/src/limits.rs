@@ -41,6 +41,9 @@ pub struct Limits {
 /// "A line `D,d1,..,ds`, each 0 to 255" (request A5). It is no limit that a test can make smaller.
 pub const MOST_DEGREE: u64 = 255;
 
+/// "A line `G,a1,b1,..,an,bn`, weights 0 to 15" (request A14). Nor is this.
+pub const MOST_WEIGHT: u64 = 15;
+
 /// The names of the limits, in the order of the struct.
 pub const LIMIT_NAMES: [&str; 14] = [
     "prime_bound",

@@ -3,7 +3,10 @@
 #![forbid(unsafe_code)]
 
 use reference::betti::page;
-use reference::generate::cases::{calls_case, file_case, page_case, FILE_KINDS, PAGE_KINDS};
+use reference::bidegrees::bidegrees;
+use reference::generate::cases::{
+    bidegree_case, calls_case, file_case, page_case, BIDEGREE_KINDS, FILE_KINDS, PAGE_KINDS,
+};
 use reference::generate::scripts::Reach;
 use reference::lifting::Usage;
 use reference::script::Script;
@@ -22,6 +25,9 @@ reference sheet [FILE] [--budget N]
 
 reference betti [FILE] [--budget N]
     Prints the Betti page for the problem file FILE (or standard input), and gives up as above.
+
+reference bidegrees [FILE] [--budget N]
+    Prints how many generators of which bidegree each column of the Betti page has, likewise.
 
 reference calls [--budget N]
     Reads a list of calls from standard input, one in a line:
@@ -47,15 +53,23 @@ reference calls [--budget N]
 reference generate KIND SEED COUNT DIR
     Writes COUNT cases to the directory DIR, which is made if it is missing; the same seed gives
     the same cases.
-    small, bases, damaged, limits: problem files KIND-SEED-NUMBER.in with the sheets .out
+    small, bases, damaged, limits, weighted: problem files KIND-SEED-NUMBER.in with the sheets
+        .out; those of weighted have G lines, right and wrong, the others none
     graded, mixed, stopped, pages: problem files KIND-SEED-NUMBER.in with the Betti pages .page:
         homogeneous ones; with an element of two degrees; refused while levels are lifted, or
         almost; all of these, plain, damaged and edited files
-    calls: lists of calls calls-SEED-NUMBER.calls with what they print, .answers
+    bigraded, bimixed, bistopped, bidegrees: problem files KIND-SEED-NUMBER.in with their lines
+        .lines: bihomogeneous ones; with an element of two bidegrees; refused while levels are
+        lifted, or almost; all of these, plain, damaged and edited files
+    calls, weighted-calls: lists of calls KIND-SEED-NUMBER.calls with what they print, .answers;
+        in those of weighted-calls half of the files have G lines
 
 reference help
     Prints this.
 ";
+
+/// The kinds of lists of calls.
+const CALLS_KINDS: [&str; 2] = ["calls", "weighted-calls"];
 
 /// Exit code for a budget used up.
 const GAVE_UP: u8 = 3;
@@ -77,6 +91,7 @@ fn run(words: &[&str]) -> Result<ExitCode, String> {
     match words.as_slice() {
         ["sheet", file @ ..] if file.len() < 2 => print_of(sheet, file, budget),
         ["betti", file @ ..] if file.len() < 2 => print_of(page, file, budget),
+        ["bidegrees", file @ ..] if file.len() < 2 => print_of(bidegrees, file, budget),
         ["calls"] => print_calls(&read_input()?, budget),
         ["generate", kind, seed, count, directory] => {
             let number = |word: &str| {
@@ -151,7 +166,8 @@ fn print_calls(input: &[u8], budget: Option<u64>) -> Result<ExitCode, String> {
 }
 
 fn generate(kind: &str, seed: u64, count: u64, directory: &Path) -> Result<ExitCode, String> {
-    if kind != "calls" && !FILE_KINDS.contains(&kind) && !PAGE_KINDS.contains(&kind) {
+    let kinds = [&CALLS_KINDS[..], &FILE_KINDS, &PAGE_KINDS, &BIDEGREE_KINDS];
+    if !kinds.concat().contains(&kind) {
         return Err(format!(
             "{kind} is no kind; `reference help` tells the kinds"
         ));
@@ -173,8 +189,12 @@ fn generate(kind: &str, seed: u64, count: u64, directory: &Path) -> Result<ExitC
 
 /// The two files of a case, with the endings of their names.
 fn case_parts(kind: &str, seed: u64, case: u64) -> Vec<(&'static str, Vec<u8>)> {
-    if kind == "calls" {
-        let (script, run) = calls_case(seed, case, &Reach::tiny());
+    if CALLS_KINDS.contains(&kind) {
+        let reach = match kind {
+            "calls" => Reach::tiny(),
+            _ => Reach::tiny().weighted(),
+        };
+        let (script, run) = calls_case(seed, case, &reach);
         return vec![
             ("calls", script.text().into_bytes()),
             ("answers", run.text().into_bytes()),
@@ -182,6 +202,9 @@ fn case_parts(kind: &str, seed: u64, case: u64) -> Vec<(&'static str, Vec<u8>)> 
     }
     if let Some((file, page)) = page_case(kind, seed, case) {
         return vec![("in", file), ("page", page)];
+    }
+    if let Some((file, lines)) = bidegree_case(kind, seed, case) {
+        return vec![("in", file), ("lines", lines)];
     }
     file_case(kind, seed, case)
         .map(|case| vec![("in", case.file), ("out", case.sheet)])

@@ -49,6 +49,12 @@ pub struct Parameters {
     pub s: u64,
 }
 
+/// The weights a and b of a variable (request A14).
+pub type Weights = [u64; 2];
+
+/// "Without G the weights are 1 and 0".
+pub const PLAIN_WEIGHTS: Weights = [1, 0];
+
 impl Parameters {
     /// The file's order. The order code has to be 1, 2 or 3.
     pub fn file_order(&self) -> Order {

@@ -1,8 +1,8 @@
 //! The problem file.
 
 use crate::field::is_prime;
-use crate::limits::{Limits, MOST_DEGREE};
-use crate::monomial::{Level, Monomial, Parameters, Term, UNIT};
+use crate::limits::{Limits, MOST_DEGREE, MOST_WEIGHT};
+use crate::monomial::{Level, Monomial, Parameters, Term, Weights, PLAIN_WEIGHTS, UNIT};
 use crate::order::{Modules, Order};
 use std::cmp::Ordering;
 
@@ -22,22 +22,33 @@ pub struct Problem {
     pub parameters: Parameters,
     /// the degrees of components 1 to s, those of the D line; "files without D keep zeros"
     pub degrees: Vec<u64>,
+    /// the weights of variables 1 to n, those of the G line; "without G the weights are 1 and 0"
+    pub weights: Vec<Weights>,
     /// the elements of the T lines
     pub elements: Level,
 }
 
 impl Problem {
-    /// That of a file without a D line.
+    /// That of a file without D and G lines.
     pub fn new(parameters: Parameters, elements: Level) -> Problem {
         Problem {
             parameters,
             degrees: vec![0; parameters.s as usize],
+            weights: vec![PLAIN_WEIGHTS; parameters.n as usize],
             elements,
+        }
+    }
+
+    /// That of a file with a D line and without a G line.
+    pub fn with_degrees(parameters: Parameters, degrees: Vec<u64>, elements: Level) -> Problem {
+        Problem {
+            degrees,
+            ..Problem::new(parameters, elements)
         }
     }
 }
 
-/// Reads a file; a refusal has a number from 1 to 8, or 18, and the line as its place.
+/// Reads a file; a refusal has a number from 1 to 8, 18 or 24, and the line as its place.
 pub fn read_problem(limits: &Limits, file: &[u8]) -> Result<Problem, Refusal> {
     // "file too long (line 0, tested first)"
     if file.len() as u64 > limits.file {
@@ -54,12 +65,21 @@ pub fn read_problem(limits: &Limits, file: &[u8]) -> Result<Problem, Refusal> {
     let parameters = read_parameters(limits, &lines.next()?)?;
     let mut problem = Problem::new(parameters, Level::new());
     let mut t_lines = 0;
+    // "G .. may stand after R or, where there is one, D": the one line that may be it
+    let mut weights_line = 2;
     loop {
         let line = lines.next()?;
         match line.letter {
             // "Line 2 is a D line only if it has D's shape: the letter and exactly s numbers"
             b'D' if line.number == 2 && line.numbers.len() as u64 == parameters.s => {
                 problem.degrees = read_degrees(line)?;
+                weights_line = 3;
+            }
+            // "a G line only if it has G's shape: the letter and exactly 2n numbers"
+            b'G' if line.number == weights_line
+                && line.numbers.len() as u64 == 2 * parameters.n =>
+            {
+                problem.weights = read_weights(&line)?;
             }
             b'T' => {
                 t_lines += 1;
@@ -69,8 +89,8 @@ pub fn read_problem(limits: &Limits, file: &[u8]) -> Result<Problem, Refusal> {
                 read_end(t_lines, &line)?;
                 break;
             }
-            // "One that has not, a second D line and one after a T line are what any line is that
-            // is neither T nor E: 1."
+            // "One that has not, a second D or G line, D after G, and either after a T line are
+            // what any line is that is neither T nor E: 1."
             _ => return Err(line.refused(1)),
         }
     }
@@ -106,6 +126,14 @@ fn read_degrees(line: Line) -> Result<Vec<u64>, Refusal> {
         return Err(line.refused(18));
     }
     Ok(line.numbers)
+}
+
+/// `G,a1,b1,..,an,bn`: "24 when a weight is above 15, after its line's shape".
+fn read_weights(line: &Line) -> Result<Vec<Weights>, Refusal> {
+    if line.numbers.iter().any(|weight| *weight > MOST_WEIGHT) {
+        return Err(line.refused(24));
+    }
+    Ok(line.numbers.chunks(2).map(|ab| [ab[0], ab[1]]).collect())
 }
 
 /// `T,element,coefficient,component,e1,..,en`: "1, 8, 5, 4, 6 for T".

@@ -23,7 +23,7 @@ fn check_every_step(script: &Script, run: &Run) {
         match answer.number {
             11 | 12 => assert_eq!(state, before),
             0 => {}
-            1..=9 | 13..=15 | 18 => assert!(state.basis.is_none()),
+            1..=9 | 13..=15 | 18 | 24 => assert!(state.basis.is_none()),
             other => panic!("number {other}"),
         }
         if matches!(answer.number, 0 | 11 | 12) {
@@ -76,6 +76,35 @@ fn demand_3_longer_lists() {
         assert_eq!(run.levels, run.reckoned);
         check_every_step(&script, &run);
     }
+}
+
+#[test]
+fn demand_3_with_weights() {
+    let mut seen = [0; 25];
+    let (mut with, mut read) = (0, 0);
+    for case in 0..1_200 {
+        let reach = match case % 4 {
+            0 => Reach::small(),
+            _ => Reach::tiny(),
+        };
+        let (script, run) = calls_case(26, case, &reach.weighted());
+        assert_eq!(run.levels, run.reckoned);
+        check_every_step(&script, &run);
+        for (call, answer) in script.calls.iter().zip(&run.answers) {
+            seen[answer.number as usize] += 1;
+            let Call::Read { file } = call else {
+                continue;
+            };
+            if file.windows(3).any(|bytes| bytes == b"\nG,") {
+                with += 1;
+                read += u64::from(answer.number == 0);
+            }
+        }
+    }
+    for number in [0, 1, 2, 3, 4, 5, 6, 7, 8, 9, 11, 12, 13, 14, 15, 18, 24] {
+        assert!(seen[number] > 0, "refusal {number} is never met");
+    }
+    assert!(with > 500 && read > 300, "{with} {read}");
 }
 
 #[test]

@@ -53,6 +53,7 @@ fn check_sheet(file: &[u8], printed: &[u8]) -> u64 {
         1 => assert!(place <= file_lines + 1),
         2 | 3 => assert_eq!(place, 1),
         18 => assert_eq!(place, 2),
+        24 => assert!(place == 2 || place == 3),
         4..=8 => assert!((2..=file_lines).contains(&place)),
         9 => assert!((1..=128).contains(&place)),
         13..=15 => assert!(place == level || (level, place) == (1, 0)),
@@ -95,19 +96,19 @@ fn every_truncation_and_every_changed_byte() {
 
 #[test]
 fn all_kinds_of_generated_files() {
-    let mut seen = [0; 19];
+    let mut seen = [0; 25];
     for kind in FILE_KINDS {
         for case in 0..1_500 {
             let case = file_case(kind, 32, case).expect("a kind");
             let number = check_sheet(&case.file, &case.sheet);
             seen[number as usize] += 1;
             let lines = |text: &[u8]| text.iter().filter(|byte| **byte == 10).count();
-            if kind == "small" {
+            if kind == "small" || kind == "weighted" {
                 assert!(lines(&case.file) <= 25 && lines(&case.sheet) <= 120);
             }
         }
     }
-    for number in [0, 1, 2, 3, 4, 5, 6, 7, 8, 9, 13, 14, 15, 18] {
+    for number in [0, 1, 2, 3, 4, 5, 6, 7, 8, 9, 13, 14, 15, 18, 24] {
         assert!(seen[number] > 0, "refusal {number} is never met");
     }
     assert!(file_case("no such kind", 1, 1).is_none());
@@ -119,7 +120,7 @@ fn any_bytes_at_all() {
     let limits = Limits::document_01();
     for _ in 0..20_000 {
         let length = random.below(60);
-        let letters = b"RDTE0123456789,,,,\n\n\n \r";
+        let letters = b"RDGTE0123456789,,,,\n\n\n \r";
         let file: Vec<u8> = (0..length)
             .map(|_| {
                 if random.chance(97) {

@@ -76,6 +76,28 @@ fn betti_pages() {
 }
 
 #[test]
+fn bidegree_lines() {
+    let problem = b"R,7,4,3,1\nG,1,0,1,0,0,1,0,1\nT,1,1,1,1,0,1,0\nT,2,1,1,0,1,0,1\nE,2\n";
+    let lines = "B,0,0,0,1\nB,1,1,1,2\nB,2,2,2,1\n";
+    assert_eq!(printed(&["bidegrees"], problem), lines);
+    let directory = directory("bidegrees");
+    std::fs::create_dir_all(&directory).expect("a directory");
+    let file = directory.join("problem");
+    std::fs::write(&file, problem).expect("a file");
+    let name = file.to_str().expect("a name");
+    assert_eq!(printed(&["bidegrees", name], b""), lines);
+    assert_eq!(printed(&["bidegrees"], b""), "X,1,1\n");
+    assert_eq!(printed(&["bidegrees"], PROBLEM), "X,25,2\n");
+    assert_eq!(printed(&["sheet"], problem).lines().count(), 4);
+    let output = run(&["bidegrees", "--budget", "0"], problem);
+    assert_eq!(output.status.code(), Some(3));
+    assert!(output.stdout.is_empty());
+    assert_eq!(run(&["bidegrees", name, name], b"").status.code(), Some(2));
+    let missing = run(&["bidegrees", "no such file"], b"");
+    assert_eq!(missing.status.code(), Some(2));
+}
+
+#[test]
 fn calls() {
     let text = "limits levels=1\nread -\nlift 1 division\nfetch 10 1\n";
     let expected = "1 1 -\n11 0 -\n11 0 -\nlevels 0\nreckoned 0\ndegrees 0\n";
@@ -88,12 +110,27 @@ fn generated_cases_agree_with_the_program() {
     let directory = directory("generated");
     let name = directory.to_str().expect("a name");
     for kind in [
-        "small", "bases", "damaged", "limits", "calls", "graded", "mixed", "stopped", "pages",
+        "small",
+        "bases",
+        "damaged",
+        "limits",
+        "weighted",
+        "calls",
+        "weighted-calls",
+        "graded",
+        "mixed",
+        "stopped",
+        "pages",
+        "bigraded",
+        "bimixed",
+        "bistopped",
+        "bidegrees",
     ] {
         assert_eq!(printed(&["generate", kind, "5", "8", name], b""), "");
         let (command, input, output) = match kind {
-            "calls" => ("calls", "calls", "answers"),
+            "calls" | "weighted-calls" => ("calls", "calls", "answers"),
             "graded" | "mixed" | "stopped" | "pages" => ("betti", "in", "page"),
+            "bigraded" | "bimixed" | "bistopped" | "bidegrees" => ("bidegrees", "in", "lines"),
             _ => ("sheet", "in", "out"),
         };
         for case in 1..=8 {
@@ -115,7 +152,17 @@ fn generated_cases_agree_with_the_program() {
 fn help() {
     let help = printed(&["help"], b"");
     for word in [
-        "sheet", "betti", "calls", "generate", "pages", "levels", "reckoned", "degrees", "--budget",
+        "sheet",
+        "betti",
+        "bidegrees",
+        "calls",
+        "generate",
+        "pages",
+        "weighted",
+        "levels",
+        "reckoned",
+        "degrees",
+        "--budget",
     ] {
         assert!(help.contains(word));
     }

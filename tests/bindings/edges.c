@@ -1,5 +1,5 @@
 /* What the header says beyond the answers that resolve prints: its numbers, packed rows, null with length 0, buffers one word too short, wrong numbers, altered
- * states, levels dropped, degrees, the accessors, the sheet, the Betti page. */
+ * states, levels dropped, degrees, weights, the accessors, the sheet, the Betti page, the bidegrees. */
 #include <stdio.h>
 #include <stdlib.h>
 #include <string.h>
@@ -30,6 +30,7 @@ HOLDS(the_work_area, TAGETESSASH_WORK_WORDS == TAGETESSASH_VECTOR_TERMS * TAGETE
 HOLDS(the_trees_work_area, TAGETESSASH_TREE_WORK_WORDS == TAGETESSASH_TREE_TERMS * TAGETESSASH_ROW_WORDS);
 HOLDS(a_pages_line, TAGETESSASH_PAGE_LINE_BYTES == (1 + TAGETESSASH_PAGE_COLUMNS) * TAGETESSASH_PAGE_CELL_BYTES + 1);
 HOLDS(whole_lines, TAGETESSASH_PAGE_BYTES % TAGETESSASH_PAGE_LINE_BYTES == 0);
+HOLDS(lines_of_bidegrees, TAGETESSASH_BIDEGREES_BYTES == TAGETESSASH_PAGE_COLUMNS * TAGETESSASH_LEVEL_VECTORS * TAGETESSASH_BIDEGREES_LINE_BYTES);
 HOLDS(a_fetched_vector, TAGETESSASH_OUT_WORDS == TAGETESSASH_VECTOR_TERMS * TAGETESSASH_ROW_WORDS);
 
 static const char three[] = "R,7,3,3,1\nT,1,1,1,1,0,0\nT,2,1,1,0,1,0\nT,3,2,1,0,0,1\nE,3\n";
@@ -220,8 +221,8 @@ static void altered_degrees(void)
     CHECK(state[TAGETESSASH_CARRIED_AT + 5 * TAGETESSASH_LEVEL_VECTORS] == 0);
 }
 
-/* 18 at line 2, after the line's shape; what has not D's shape, a second D line and a later one are 1 */
-static void d_lines(void)
+/* 18 at line 2, after the line's shape; what has not D's shape, a second D line and a later one are 1. 24 behind R or D likewise; D behind G is 1. */
+static void d_and_g_lines(void)
 {
     static const struct {
         const char *lines;
@@ -240,6 +241,19 @@ static void d_lines(void)
         { "D,0,1\nD,0,1\nT,1,1,1,1\nE,1\n", TAGETESSASH_BAD_LINE, 3 },
         { "T,1,1,1,1\nD,0,1\nE,1\n", TAGETESSASH_BAD_LINE, 3 },
         { "D,0,1\nT,1,1,1,1\nE,2\n", TAGETESSASH_BAD_COUNT, 4 },
+        { "G,0,15\nT,1,1,1,1\nE,1\n", TAGETESSASH_DONE, 0 },
+        { "D,0,255\nG,15,0\nT,1,1,1,1\nE,1\n", TAGETESSASH_DONE, 0 },
+        { "G,16,0\nT,1,1,1,1\nE,1\n", TAGETESSASH_BAD_WEIGHT, 2 },
+        { "D,0,0\nG,0,65535\n", TAGETESSASH_BAD_WEIGHT, 3 },
+        { "D,0,256\nG,0,16\n", TAGETESSASH_BAD_DEGREE, 2 },
+        { "G,0,65536\nT,1,1,1,1\nE,1\n", TAGETESSASH_BAD_LINE, 2 },
+        { "G,16\nT,1,1,1,1\nE,1\n", TAGETESSASH_BAD_LINE, 2 },
+        { "G,1,0,1,0\nT,1,1,1,1\nE,1\n", TAGETESSASH_BAD_LINE, 2 },
+        { "G,1,0", TAGETESSASH_BAD_LINE, 2 },
+        { "G,1,0\nD,0,1\nT,1,1,1,1\nE,1\n", TAGETESSASH_BAD_LINE, 3 },
+        { "G,1,0\nG,1,0\nT,1,1,1,1\nE,1\n", TAGETESSASH_BAD_LINE, 3 },
+        { "T,1,1,1,1\nG,1,0\nE,1\n", TAGETESSASH_BAD_LINE, 3 },
+        { "D,0,1\nG,1,0\nT,1,1,1,1\nE,2\n", TAGETESSASH_BAD_COUNT, 5 },
     };
     char text[100];
     size_t i;
@@ -254,6 +268,8 @@ static void d_lines(void)
     }
     CHECK(strcmp(tagetessash_meaning(TAGETESSASH_BAD_DEGREE), "a component's degree is above 255") == 0);
     CHECK(strcmp(tagetessash_place_name(TAGETESSASH_BAD_DEGREE), "line") == 0 && tagetessash_place_name(19) == NULL);
+    CHECK(strcmp(tagetessash_meaning(TAGETESSASH_BAD_WEIGHT), "a variable's weight is above 15") == 0);
+    CHECK(strcmp(tagetessash_place_name(TAGETESSASH_BAD_WEIGHT), "line") == 0);
 }
 
 static void null_with_length_0(void)
@@ -367,67 +383,43 @@ static void value_after_9(void)
     CHECK(all(work + TAGETESSASH_ROW_WORDS, TAGETESSASH_WORK_WORDS - TAGETESSASH_ROW_WORDS, 0) && all(state, TAGETESSASH_STATE_WORDS, 0));
 }
 
-/* the bytes, zeros after them, nothing left in the other buffers; 16 a byte or word too short */
-static void the_sheet(void)
-{
-    static const char expected[] = "X,9,1\nW,6,1,0,3\n";
-    const uint8_t *file = (const uint8_t *)no_basis;
-    size_t bytes = strlen(no_basis), length = 99, i;
-    uint8_t *sheet = malloc(TAGETESSASH_SHEET_BYTES);
-    if (sheet == NULL)
-        exit(2);
-    memset(sheet, 5, TAGETESSASH_SHEET_BYTES);
-    fill(state, TAGETESSASH_STATE_WORDS, 5);
-    fill(work, TAGETESSASH_WORK_WORDS, 5);
-    CHECK(tagetessash_sheet(file, bytes, state, TAGETESSASH_STATE_WORDS - 1, work, TAGETESSASH_WORK_WORDS, sheet, TAGETESSASH_SHEET_BYTES, &length)
-        == TAGETESSASH_SHORT_BUFFER);
-    CHECK(tagetessash_sheet(file, bytes, state, TAGETESSASH_STATE_WORDS, work, TAGETESSASH_WORK_WORDS - 1, sheet, TAGETESSASH_SHEET_BYTES, &length)
-        == TAGETESSASH_SHORT_BUFFER);
-    CHECK(tagetessash_sheet(file, bytes, state, TAGETESSASH_STATE_WORDS, work, TAGETESSASH_WORK_WORDS, sheet, TAGETESSASH_SHEET_BYTES - 1, &length)
-        == TAGETESSASH_SHORT_BUFFER);
-    CHECK(length == 0 && all(state, TAGETESSASH_STATE_WORDS, 5) && all(work, TAGETESSASH_WORK_WORDS, 5));
-    for (i = 0; i < TAGETESSASH_SHEET_BYTES && sheet[i] == 5; i++)
-        ;
-    CHECK(i == TAGETESSASH_SHEET_BYTES);
-    CHECK(tagetessash_sheet(file, bytes, state, TAGETESSASH_STATE_WORDS, work, TAGETESSASH_WORK_WORDS, sheet, TAGETESSASH_SHEET_BYTES, &length)
-        == TAGETESSASH_DONE);
-    CHECK(length == strlen(expected) && memcmp(sheet, expected, strlen(expected)) == 0);
-    for (i = length; i < TAGETESSASH_SHEET_BYTES && sheet[i] == 0; i++)
-        ;
-    CHECK(i == TAGETESSASH_SHEET_BYTES);
-    CHECK(all(state, TAGETESSASH_STATE_WORDS, 0) && all(work, TAGETESSASH_WORK_WORDS, 0));
-    free(sheet);
-}
+/* a call that writes what it finds in a file */
+typedef uint16_t printing(const uint8_t *file, size_t file_bytes, uint16_t *state, size_t state_words, uint16_t *work, size_t work_words, uint8_t *out,
+    size_t out_bytes, size_t *length);
 
-/* What the file's page is, or its X line; zeros behind it, nothing left in the other buffers; 16 a byte or word too short, and then nothing is changed. */
-static void the_page_of(const char *text, const char *expected)
+/* What the call writes of the file, into room bytes; zeros behind it, nothing left in the other buffers; 16 a byte or word too short, and then nothing is
+ * changed. */
+static void prints(printing *call, size_t room, const char *text, const char *expected)
 {
     const uint8_t *file = (const uint8_t *)text;
     size_t bytes = strlen(text), length = 99, i;
-    uint8_t *page = malloc(TAGETESSASH_PAGE_BYTES);
+    uint8_t *page = malloc(room);
     if (page == NULL)
         exit(2);
-    memset(page, 5, TAGETESSASH_PAGE_BYTES);
+    memset(page, 5, room);
     fill(state, TAGETESSASH_STATE_WORDS, 5);
     fill(work, TAGETESSASH_WORK_WORDS, 5);
     for (i = 0; i < 3; i++) {
         length = 99;
-        CHECK(tagetessash_betti(file, bytes, state, TAGETESSASH_STATE_WORDS - (i == 0), work, TAGETESSASH_WORK_WORDS - (i == 1), page,
-            TAGETESSASH_PAGE_BYTES - (i == 2), &length) == TAGETESSASH_SHORT_BUFFER);
+        CHECK(call(file, bytes, state, TAGETESSASH_STATE_WORDS - (i == 0), work, TAGETESSASH_WORK_WORDS - (i == 1), page, room - (i == 2), &length)
+            == TAGETESSASH_SHORT_BUFFER);
         CHECK(length == 0 && all(state, TAGETESSASH_STATE_WORDS, 5) && all(work, TAGETESSASH_WORK_WORDS, 5));
     }
-    for (i = 0; i < TAGETESSASH_PAGE_BYTES && page[i] == 5; i++)
+    for (i = 0; i < room && page[i] == 5; i++)
         ;
-    CHECK(i == TAGETESSASH_PAGE_BYTES);
-    CHECK(tagetessash_betti(file, bytes, state, TAGETESSASH_STATE_WORDS, work, TAGETESSASH_WORK_WORDS, page, TAGETESSASH_PAGE_BYTES, &length)
-        == TAGETESSASH_DONE);
+    CHECK(i == room);
+    CHECK(call(file, bytes, state, TAGETESSASH_STATE_WORDS, work, TAGETESSASH_WORK_WORDS, page, room, &length) == TAGETESSASH_DONE);
     CHECK(length == strlen(expected) && memcmp(page, expected, strlen(expected)) == 0);
-    for (i = length; i < TAGETESSASH_PAGE_BYTES && page[i] == 0; i++)
+    for (i = length; i < room && page[i] == 0; i++)
         ;
-    CHECK(i == TAGETESSASH_PAGE_BYTES);
+    CHECK(i == room);
     CHECK(all(state, TAGETESSASH_STATE_WORDS, 0) && all(work, TAGETESSASH_WORK_WORDS, 0));
     free(page);
 }
+
+static void the_sheet_of(const char *text, const char *expected) { prints(tagetessash_sheet, TAGETESSASH_SHEET_BYTES, text, expected); }
+static void the_page_of(const char *text, const char *expected) { prints(tagetessash_betti, TAGETESSASH_PAGE_BYTES, text, expected); }
+static void the_bidegrees_of(const char *text, const char *expected) { prints(tagetessash_bidegrees, TAGETESSASH_BIDEGREES_BYTES, text, expected); }
 
 /* request A1's example; a module whose page has rows by the D line; without it 17; 9 before 17; a file that is not read; 17 in words */
 static void the_pages(void)
@@ -455,6 +447,34 @@ static void the_pages(void)
     CHECK(strcmp(tagetessash_place_name(TAGETESSASH_TWO_DEGREES), "element") == 0);
 }
 
+/* request A14's example, and without its G line; a module, the components' degrees in the first sum alone; the largest sums; 25 for one degree and two
+ * bidegrees, lines for the other way round; 9 before 25; files that are not read; 25 in words; no weight in a state */
+static void the_bidegrees(void)
+{
+#define PRODUCT "T,1,1,1,1,0,1,0\nT,2,1,1,0,1,0,1\nE,2\n"
+#define RELATIONS "T,1,1,1,2,0\nT,1,1,2,0,1\nE,2\n"
+    the_bidegrees_of("R,7,4,3,1\nG,1,0,1,0,0,1,0,1\n" PRODUCT, "B,0,0,0,1\nB,1,1,1,2\nB,2,2,2,1\n");
+    the_bidegrees_of("R,7,4,3,1\n" PRODUCT, "B,0,0,0,1\nB,1,2,0,2\nB,2,4,0,1\n");
+    the_bidegrees_of("R,7,2,3,2\nD,0,1\n" RELATIONS, "B,0,0,0,1\nB,0,1,0,1\nB,1,2,0,1\n");
+    the_bidegrees_of("R,7,2,3,2\nD,3,4\nG,1,1,1,2\n" RELATIONS, "B,0,3,0,1\nB,0,4,0,1\nB,1,5,2,1\n");
+    the_bidegrees_of("R,7,8,1,1\nD,255\nG,15,15,15,15,15,15,15,15,15,15,15,15,15,15,15,15\nT,1,1,1,255,255,255,255,255,255,255,255\nE,1\n",
+        "B,0,255,0,1\nB,1,30855,30600,1\n");
+    the_bidegrees_of("R,7,2,3,2\nD,0,1\nG,1,0,0,1\n" RELATIONS, "X,25,1\n");
+    the_bidegrees_of("R,7,2,3,2\n" RELATIONS, "X,25,1\n");
+    the_bidegrees_of("R,7,2,3,1\nG,1,0,2,0\nT,1,1,1,2,0\nT,1,1,1,0,1\nE,2\n", "B,0,0,0,1\nB,1,2,0,1\n");
+    the_bidegrees_of("R,7,2,1,1\nG,1,0,0,1\nT,1,1,1,2,0\nT,2,1,1,1,1\nT,2,1,1,0,1\nE,3\n", "X,9,1\nW,6,1,0,1\n");
+    the_bidegrees_of("R,7,1,1,2\nD,0,0\nG,0,16\n", "X,24,3\n");
+    the_bidegrees_of("", "X,1,1\n");
+    the_sheet_of("R,7,1,1,2\nG,16,0\n", "X,24,2\n");
+    the_page_of("R,7,1,1,2\nG,16,0\n", "X,24,2\n");
+    CHECK(strcmp(tagetessash_meaning(TAGETESSASH_TWO_BIDEGREES), "an element has terms of two bidegrees") == 0);
+    CHECK(strcmp(tagetessash_place_name(TAGETESSASH_TWO_BIDEGREES), "element") == 0);
+    CHECK(read_text("R,7,4,3,1\n" PRODUCT) == TAGETESSASH_DONE && lift(1, TAGETESSASH_DIVISION, 0) == TAGETESSASH_DONE);
+    memcpy(before, state, TAGETESSASH_STATE_WORDS * sizeof *state);
+    CHECK(read_text("R,7,4,3,1\nG,1,2,3,4,5,6,7,8\n" PRODUCT) == TAGETESSASH_DONE && lift(1, TAGETESSASH_DIVISION, 0) == TAGETESSASH_DONE);
+    CHECK(memcmp(before, state, TAGETESSASH_STATE_WORDS * sizeof *state) == 0);
+}
+
 int main(void)
 {
     state = words(TAGETESSASH_STATE_WORDS);
@@ -466,7 +486,7 @@ int main(void)
     past_the_last_variable();
     degrees();
     altered_degrees();
-    d_lines();
+    d_and_g_lines();
     null_with_length_0();
     without_a_basis();
     one_word_short();
@@ -474,8 +494,9 @@ int main(void)
     large_prime(65521);
     large_prime(65519);
     value_after_9();
-    the_sheet();
+    the_sheet_of(no_basis, "X,9,1\nW,6,1,0,3\n");
     the_pages();
+    the_bidegrees();
     free(state);
     free(before);
     free(work);

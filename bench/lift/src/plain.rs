@@ -1,5 +1,5 @@
-//! Plain Rust that does the same: reads a file, accepts its basis, and lifts level after level by each way, with the same limits and the same refusals 1 to 9
-//! and 13 to 15. It lends no buffers and zeroes none: levels are vectors of vectors of terms.
+//! Plain Rust that does the same: reads a file, accepts its basis, and lifts level after level by each way, with the same limits and the same refusals 1 to 9,
+//! 13 to 15, 18 and 24. It lends no buffers and zeroes none: levels are vectors of vectors of terms.
 
 use std::cmp::Ordering;
 use std::collections::HashMap;
@@ -61,18 +61,6 @@ impl Order {
         }
         key[9] = rank;
         key
-    }
-
-    #[inline]
-    fn compare(self, a: &Exponents, b: &Exponents) -> Ordering {
-        let degree = |e: &Exponents| e.iter().sum::<u16>();
-        match self {
-            Order::Lexicographic => a.cmp(b),
-            Order::Degree => degree(a).cmp(&degree(b)).then_with(|| a.cmp(b)),
-            Order::DegreeReverse => degree(a)
-                .cmp(&degree(b))
-                .then_with(|| b.iter().rev().cmp(a.iter().rev())),
-        }
     }
 }
 
@@ -264,7 +252,8 @@ impl<'a> Stage<'a> {
                         std::array::from_fn(|x| other[x].saturating_sub(lead.exponents[x]))
                     }),
             );
-            generators.sort_unstable_by(|a, b| self.below.order.compare(a, b));
+            // frame terms of a component are numbered lexicographically, whatever the order
+            generators.sort_unstable();
             let first = frame.len();
             for generator in &generators {
                 let needless = frame[first..]
@@ -643,15 +632,21 @@ fn read_problem(file: &[u8]) -> Result<Engine, Refused> {
     let module = Module::ground(order, s);
     let mut elements: Level = Vec::new();
     let mut t_lines = 0;
-    let mut degrees = false;
+    let (mut degrees, mut weights) = (false, false);
     loop {
         match fields_of(lines.next(), &mut fields)? {
-            // line 2; degrees of components take part in nothing that is lifted
-            b'D' if t_lines == 0 && !degrees && fields.len() == usize::from(s) => {
+            // D, then G, each once; degrees of components and weights of variables take part in nothing that is lifted
+            b'D' if t_lines == 0 && !degrees && !weights && fields.len() == usize::from(s) => {
                 if fields.iter().any(|degree| *degree > 255) {
                     return Err(18);
                 }
                 degrees = true;
+            }
+            b'G' if t_lines == 0 && !weights && fields.len() == 2 * usize::from(n) => {
+                if fields.iter().any(|weight| *weight > 15) {
+                    return Err(24);
+                }
+                weights = true;
             }
             b'T' => {
                 if fields.len() != 3 + usize::from(n) {

@@ -47,7 +47,15 @@ fn read_lines(file: &[u8], state: &mut [u16]) -> Result<(), (u16, usize)> {
         }
         state[DEGREES..][..COMPONENTS].copy_from_slice(&degrees);
         rest = behind;
-        first = 3;
+        first += 1;
+    }
+    // no state holds weights
+    if let Some((weights, behind)) = line(rest, b'G', 2 * q.n as usize) {
+        if weights.iter().any(|w| *w > 15) {
+            return Err((24, first));
+        }
+        rest = behind;
+        first += 1;
     }
     let mut before = Term::default();
     let mut elements = 0;

@@ -54,6 +54,17 @@ extern "C" {
         out_bytes: usize,
         length: *mut usize,
     ) -> u16;
+    fn tagetessash_bidegrees(
+        file: *const u8,
+        file_bytes: usize,
+        state: *mut u16,
+        state_words: usize,
+        work: *mut u16,
+        work_words: usize,
+        out: *mut u8,
+        out_bytes: usize,
+        length: *mut usize,
+    ) -> u16;
     fn tagetessash_version() -> u16;
 }
 
@@ -127,12 +138,31 @@ pub fn fetch(state: &[u16], out: &mut [u16], level: usize, vector: usize) -> (u1
     (number, place)
 }
 
-/// Number and how many bytes `out` has in front.
-pub fn sheet(file: &[u8], state: &mut [u16], work: &mut [u16], out: &mut [u8]) -> (u16, usize) {
+/// A call that prints what it finds in a file.
+type Printing = unsafe extern "C" fn(
+    *const u8,
+    usize,
+    *mut u16,
+    usize,
+    *mut u16,
+    usize,
+    *mut u8,
+    usize,
+    *mut usize,
+) -> u16;
+
+/// Number and how many bytes `out` has in front, by one of the calls above.
+fn printed(
+    call: Printing,
+    file: &[u8],
+    state: &mut [u16],
+    work: &mut [u16],
+    out: &mut [u8],
+) -> (u16, usize) {
     let mut length = usize::MAX;
     // SAFETY: each pointer and length are those of a slice that lives through the call; the slices do not overlap
     let number = unsafe {
-        tagetessash_sheet(
+        call(
             file.as_ptr(),
             file.len(),
             state.as_mut_ptr(),
@@ -148,21 +178,16 @@ pub fn sheet(file: &[u8], state: &mut [u16], work: &mut [u16], out: &mut [u8]) -
 }
 
 /// Number and how many bytes `out` has in front.
+pub fn sheet(file: &[u8], state: &mut [u16], work: &mut [u16], out: &mut [u8]) -> (u16, usize) {
+    printed(tagetessash_sheet, file, state, work, out)
+}
+
+/// Number and how many bytes `out` has in front.
 pub fn betti(file: &[u8], state: &mut [u16], work: &mut [u16], out: &mut [u8]) -> (u16, usize) {
-    let mut length = usize::MAX;
-    // SAFETY: as above
-    let number = unsafe {
-        tagetessash_betti(
-            file.as_ptr(),
-            file.len(),
-            state.as_mut_ptr(),
-            state.len(),
-            work.as_mut_ptr(),
-            work.len(),
-            out.as_mut_ptr(),
-            out.len(),
-            &mut length,
-        )
-    };
-    (number, length)
+    printed(tagetessash_betti, file, state, work, out)
+}
+
+/// Number and how many bytes `out` has in front.
+pub fn bidegrees(file: &[u8], state: &mut [u16], work: &mut [u16], out: &mut [u8]) -> (u16, usize) {
+    printed(tagetessash_bidegrees, file, state, work, out)
 }

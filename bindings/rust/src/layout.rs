@@ -6,6 +6,7 @@ pub const TREE_WORK_WORDS: usize = 24_576;
 pub const OUT_WORDS: usize = 3_072;
 pub const SHEET_BYTES: usize = 1_400_000;
 pub const PAGE_BYTES: usize = 1_508_691;
+pub const BIDEGREES_BYTES: usize = 32_384;
 
 pub const VARIABLES: usize = 8;
 pub const LEVEL_VECTORS: usize = 128;

@@ -2,7 +2,7 @@
 //!
 //! An [`Engine`] owns the buffers that the engine's calls are lent. [`Engine::read`] takes a problem file, which [`Problem`] writes from terms,
 //! [`Engine::lift`] makes a level complete, [`Engine::vectors`] goes over its vectors, [`Engine::fetch`] gives one of them. [`sheet`] prints all levels of a
-//! file at once, [`betti`] the table of how many vectors of which degree they have.
+//! file at once, [`betti`] the table of how many vectors of which degree they have, [`bidegrees`] how many of which bidegree.
 //!
 //! ```
 //! let file = b"R,7,2,1,1\nT,1,1,1,1,0\nT,1,1,1,0,1\nT,2,1,1,0,2\nT,2,1,1,0,0\nE,4\n";
@@ -361,16 +361,7 @@ fn fitting() {
 ///
 /// If the library is of another version than this crate.
 pub fn sheet(file: &[u8]) -> Vec<u8> {
-    fitting();
-    let mut out = vec![0; SHEET_BYTES];
-    let (_, length) = calls::sheet(
-        file,
-        &mut vec![0; STATE_WORDS],
-        &mut vec![0; WORK_WORDS],
-        &mut out,
-    );
-    out.truncate(length);
-    out
+    printed(calls::sheet, SHEET_BYTES, file)
 }
 
 /// The Betti page of a problem file, the bytes that the program prints, for every file: how many vectors of which degree each level has, levels lifted
@@ -396,9 +387,40 @@ pub fn sheet(file: &[u8]) -> Vec<u8> {
 ///
 /// If the library is of another version than this crate.
 pub fn betti(file: &[u8]) -> Vec<u8> {
+    printed(calls::betti, PAGE_BYTES, file)
+}
+
+/// The bidegrees of a problem file, the bytes that the program prints, for every file: a line `B,column,a,b,count` for each bidegree of some generator of a
+/// column, by column, then a, then b, ascending. The columns are those of [`betti`], levels are lifted as for [`sheet`]. The bidegree of a term is two sums, of
+/// the exponents times the weights a and times the weights b of the file's G line ([`Problem::weights`]), the degree of its component added to the first;
+/// without a G line the weights are 1 and 0. A vector has that of its leading term's image in level 0's module.
+///
+/// A refused file has an X line instead, and nothing else but the W lines after `X,9`: [`Refusal::printed`] reads it. An accepted file where an element has
+/// terms of two bidegrees has `X,25` ([`Refusal::TwoBidegrees`]).
+///
+/// ```
+/// // x1 y1 and x2 y2, where x1 and x2 have bidegree (1, 0), y1 and y2 (0, 1)
+/// let file = b"R,7,4,3,1\nG,1,0,1,0,0,1,0,1\nT,1,1,1,1,0,1,0\nT,2,1,1,0,1,0,1\nE,2\n";
+/// let lines = tagetessash::bidegrees(file);
+/// assert_eq!(tagetessash::Refusal::printed(&lines), None);
+/// assert_eq!(lines, b"B,0,0,0,1\nB,1,1,1,2\nB,2,2,2,1\n");
+/// ```
+///
+/// # Panics
+///
+/// If the library is of another version than this crate.
+pub fn bidegrees(file: &[u8]) -> Vec<u8> {
+    printed(calls::bidegrees, BIDEGREES_BYTES, file)
+}
+
+/// A call that prints what it finds in a file, over slices: number and how many bytes it wrote.
+type Printing = fn(&[u8], &mut [u16], &mut [u16], &mut [u8]) -> (u16, usize);
+
+/// What such a call prints, which has this room at the most.
+fn printed(call: Printing, room: usize, file: &[u8]) -> Vec<u8> {
     fitting();
-    let mut out = vec![0; PAGE_BYTES];
-    let (_, length) = calls::betti(
+    let mut out = vec![0; room];
+    let (_, length) = call(
         file,
         &mut vec![0; STATE_WORDS],
         &mut vec![0; WORK_WORDS],

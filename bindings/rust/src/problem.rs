@@ -24,6 +24,7 @@ pub struct Problem {
     order: Order,
     components: u16,
     degrees: Option<Vec<u16>>,
+    weights: Option<Vec<(u16, u16)>>,
     elements: Vec<Vec<Term>>,
 }
 
@@ -36,6 +37,7 @@ impl Problem {
             order,
             components,
             degrees: None,
+            weights: None,
             elements: Vec::new(),
         }
     }
@@ -55,6 +57,21 @@ impl Problem {
         self
     }
 
+    /// The two weights of each variable, from x1's on: a G line. They change nothing but what [`crate::bidegrees`] prints; without this they are 1 and 0.
+    ///
+    /// ```
+    /// use tagetessash::{Order, Problem, Term};
+    /// // x1 y2 - x2 y1 modulo 7, of bidegree (1, 1) where x1 and x2 have (1, 0), y1 and y2 (0, 1)
+    /// let mut problem = Problem::new(7, 4, Order::DegreeReverseLexicographic, 1);
+    /// problem.weights([(1, 0), (1, 0), (0, 1), (0, 1)]).element([Term::new(6, 1, &[0, 1, 1]), Term::new(1, 1, &[1, 0, 0, 1])]);
+    /// assert_eq!(problem.file(), b"R,7,4,3,1\nG,1,0,1,0,0,1,0,1\nT,1,6,1,0,1,1,0\nT,1,1,1,1,0,0,1\nE,2\n");
+    /// assert_eq!(tagetessash::bidegrees(&problem.file()), b"B,0,0,0,1\nB,1,1,1,1\n");
+    /// ```
+    pub fn weights(&mut self, weights: impl IntoIterator<Item = (u16, u16)>) -> &mut Problem {
+        self.weights = Some(weights.into_iter().collect());
+        self
+    }
+
     /// One more element, its terms in any order.
     pub fn element(&mut self, terms: impl IntoIterator<Item = Term>) -> &mut Problem {
         let mut terms: Vec<Term> = terms.into_iter().collect();
@@ -71,11 +88,11 @@ impl Problem {
         let _ = writeln!(text, "R,{p},{n},{},{s}", self.order.code());
         // not a degree for each component, or one above 255, is refused (1, 18)
         if let Some(degrees) = &self.degrees {
-            text.push('D');
-            for degree in degrees {
-                let _ = write!(text, ",{degree}");
-            }
-            text.push('\n');
+            line(&mut text, 'D', degrees.iter().copied());
+        }
+        // not two weights for each variable, or one above 15, is refused (1, 24)
+        if let Some(weights) = &self.weights {
+            line(&mut text, 'G', weights.iter().flat_map(|&(a, b)| [a, b]));
         }
         // a zero element has a term with coefficient 0, which is refused (4)
         let zero = [Term::new(0, 1, &[])];
@@ -102,6 +119,15 @@ impl Problem {
         let _ = writeln!(text, "E,{count}");
         text.into_bytes()
     }
+}
+
+/// A letter and numbers.
+fn line(text: &mut String, letter: char, numbers: impl Iterator<Item = u16>) {
+    text.push(letter);
+    for number in numbers {
+        let _ = write!(text, ",{number}");
+    }
+    text.push('\n');
 }
 
 impl Order {

@@ -84,6 +84,16 @@ pub enum Refusal {
         /// the file's line, from 1
         line: usize,
     },
+    /// 24: a variable's weight is above 15
+    BadWeight {
+        /// the file's line, from 1
+        line: usize,
+    },
+    /// 25: an element has terms of two bidegrees. No call gives it; it is printed by [`crate::bidegrees`] instead of lines.
+    TwoBidegrees {
+        /// the first such element, from 1
+        element: usize,
+    },
     /// a number that this version does not know
     Other {
         /// the number
@@ -96,7 +106,7 @@ pub enum Refusal {
 use Refusal::*;
 
 impl Refusal {
-    /// That of the X line of a sheet or of a Betti page; none where it has no such line.
+    /// That of the X line of a sheet, of a Betti page or of bidegrees; none where there is no such line.
     pub fn printed(lines: &[u8]) -> Option<Refusal> {
         let line = lines
             .split(|byte| *byte == b'\n')
@@ -126,11 +136,13 @@ impl Refusal {
             16 => ShortBuffer,
             17 => TwoDegrees { element: place },
             18 => BadDegree { line: place },
+            24 => BadWeight { line: place },
+            25 => TwoBidegrees { element: place },
             _ => Other { number, place },
         }
     }
 
-    /// Document 01's number: 1 to 9 or 11 to 16, or a request's: 17 or 18.
+    /// Document 01's number: 1 to 9 or 11 to 16, or a request's: 17, 18, 24 or 25.
     pub fn number(&self) -> u16 {
         match self {
             FileTooLong | BadLine { .. } => 1,
@@ -150,12 +162,14 @@ impl Refusal {
             ShortBuffer => 16,
             TwoDegrees { .. } => 17,
             BadDegree { .. } => 18,
+            BadWeight { .. } => 24,
+            TwoBidegrees { .. } => 25,
             Other { number, .. } => *number,
         }
     }
 
-    /// For 1 to 8 and 18 the file's line, for 9 the number of a frame term, for 13 to 15 the level (0 while a basis is being accepted), for
-    /// 17 the element, else 0.
+    /// For 1 to 8, 18 and 24 the file's line, for 9 the number of a frame term, for 13 to 15 the level (0 while a basis is being accepted), for
+    /// 17 and 25 the element, else 0.
     pub fn place(&self) -> usize {
         match *self {
             BadLine { line } | BadPrime { line } | BadRing { line } | BadTerm { line } => line,
@@ -163,9 +177,10 @@ impl Refusal {
             | NotDescending { line }
             | BadCount { line }
             | TooManyTerms { line }
-            | BadDegree { line } => line,
+            | BadDegree { line }
+            | BadWeight { line } => line,
             NoBasis { frame_term } => frame_term,
-            TwoDegrees { element } => element,
+            TwoDegrees { element } | TwoBidegrees { element } => element,
             ExponentLimit { level } | TermLimit { level } | LevelLimit { level } => level,
             Other { place, .. } => place,
             FileTooLong | NoLevel | BadNumber | ShortBuffer => 0,
@@ -192,6 +207,8 @@ impl Refusal {
             16 => "a buffer is too short",
             17 => "an element has terms of two degrees",
             18 => "a component's degree is above 255",
+            24 => "a variable's weight is above 15",
+            25 => "an element has terms of two bidegrees",
             _ => "no number of a call",
         }
     }
@@ -199,10 +216,10 @@ impl Refusal {
     /// What the place counts, for refusals that have one.
     pub fn place_name(&self) -> Option<&'static str> {
         match self.number() {
-            1..=8 | 18 => Some("line"),
+            1..=8 | 18 | 24 => Some("line"),
             9 => Some("frame term"),
             13..=15 => Some("level"),
-            17 => Some("element"),
+            17 | 25 => Some("element"),
             _ => None,
         }
     }

@@ -1,6 +1,6 @@
 use crate::{
-    betti, calls, layout, sheet, Engine, Order, Pick, Problem, Refusal, Term, Way, HIGHEST_LEVEL,
-    VERSION,
+    betti, bidegrees, calls, layout, sheet, Engine, Order, Pick, Printing, Problem, Refusal, Term,
+    Way, HIGHEST_LEVEL, VERSION,
 };
 
 const PRINTED: &[u8] = b"R,7,2,1,1\nT,1,1,1,1,0\nT,1,1,1,0,1\nT,2,1,1,0,2\nT,2,1,1,0,0\nE,4\n";
@@ -187,31 +187,113 @@ fn the_page_of_every_file() {
     }
 }
 
-/// a buffer that is a word or a byte too short: 16, and nothing is changed
+/// request A14's example; with components' degrees, added to the first sum alone; without a G line; then 25, 24 and what comes before them
 #[test]
-fn short_buffers_of_a_page() {
-    let file = b"R,7,1,1,1\nT,1,1,1,1\nE,1\n";
-    let lengths = (layout::STATE_WORDS, layout::WORK_WORDS, layout::PAGE_BYTES);
-    for (state, work, out) in [
-        (lengths.0 - 1, lengths.1, lengths.2),
-        (lengths.0, lengths.1 - 1, lengths.2),
-        (lengths.0, lengths.1, lengths.2 - 1),
-        (0, 0, 0),
+fn the_bidegrees_of_every_file() {
+    let product = "T,1,1,1,1,0,1,0\nT,2,1,1,0,1,0,1\nE,2\n";
+    let module = "T,1,1,1,1,1\nT,2,1,1,2,0\nT,2,1,2,0,1\nT,3,1,2,0,2\nE,4\n";
+    for (head, lines, printed) in [
+        (
+            "R,7,4,3,1\nG,1,0,1,0,0,1,0,1\n",
+            product,
+            "B,0,0,0,1\nB,1,1,1,2\nB,2,2,2,1\n",
+        ),
+        ("R,7,4,3,1\n", product, "B,0,0,0,1\nB,1,2,0,2\nB,2,4,0,1\n"),
+        (
+            "R,7,4,3,1\nD,9\nG,0,1,15,0,0,0,0,15\n",
+            product,
+            "B,0,9,0,1\nB,1,9,1,1\nB,1,24,15,1\nB,2,24,16,1\n",
+        ),
+        (
+            "R,7,2,3,2\nD,0,1\n",
+            module,
+            "B,0,0,0,1\nB,0,1,0,1\nB,1,2,0,2\nB,1,3,0,1\nB,2,3,0,1\n",
+        ),
+        // x1^2 and x2 have one bidegree and two degrees: 17 is not tested
+        (
+            "R,7,2,3,1\nG,1,0,2,0\n",
+            "T,1,1,1,2,0\nT,1,1,1,0,1\nE,2\n",
+            "B,0,0,0,1\nB,1,2,0,1\n",
+        ),
+        ("R,7,2,3,2\n", module, "X,25,2\n"),
+        ("R,7,2,3,2\nD,0,1\nG,1,0,0,1\n", module, "X,25,2\n"),
+        // one degree and two bidegrees
+        (
+            "R,7,2,3,1\nG,1,0,0,1\n",
+            "T,1,1,1,1,0\nT,1,1,1,0,1\nE,2\n",
+            "X,25,1\n",
+        ),
+        // x² and xy + y are no basis: 9 comes first
+        (
+            "R,7,2,1,1\nG,1,0,0,1\n",
+            "T,1,1,1,2,0\nT,2,1,1,1,1\nT,2,1,1,0,1\nE,3\n",
+            "X,9,1\nW,6,1,0,1\n",
+        ),
+        ("R,7,1,1,2\nG,0,16\n", "", "X,24,2\n"),
+        ("R,7,1,1,2\nD,0,0\nG,16,0\n", "", "X,24,3\n"),
+        ("R,7,1,1,2\nD,0,256\nG,16,0\n", "", "X,18,2\n"),
+        ("R,7,1,1,2\nG,0\n", "", "X,1,2\n"),
+        ("R,7,1,1,2\nG,0,0\nD,0,0\n", "", "X,1,3\n"),
+        ("", "", "X,1,1\n"),
     ] {
-        let (mut state, mut work, mut out) = (vec![5; state], vec![5; work], vec![5; out]);
-        assert_eq!(calls::betti(file, &mut state, &mut work, &mut out), (16, 0));
-        assert!(state.iter().chain(&work).all(|word| *word == 5));
-        assert!(out.iter().all(|byte| *byte == 5));
+        let file = format!("{head}{lines}");
+        let found = bidegrees(file.as_bytes());
+        assert_eq!(String::from_utf8_lossy(&found), printed, "{file}");
     }
-    let mut out = vec![5; lengths.2 + 9];
-    let (mut state, mut work) = (vec![5; lengths.0], vec![5; lengths.1]);
-    let (number, length) = calls::betti(file, &mut state, &mut work, &mut out);
-    assert_eq!((number, &out[..length]), (0, &betti(file)[..]));
-    assert!(out[length..].iter().all(|byte| *byte == 0));
-    assert!(state.iter().chain(&work).all(|word| *word == 0));
 }
 
-/// what an X line says, wherever it stands; 17 in words
+/// a G line changes no sheet and no page
+#[test]
+fn weights_change_nothing_else() {
+    let rest = "T,1,1,1,1,1\nT,2,1,1,2,0\nT,2,1,2,0,1\nT,3,1,2,0,2\nE,4\n";
+    for head in ["R,7,2,3,2\n", "R,7,2,3,2\nD,0,1\n"] {
+        let without = format!("{head}{rest}");
+        for weights in ["G,1,0,0,1\n", "G,15,15,0,0\n", "G,0,0,0,0\n"] {
+            let with = format!("{head}{weights}{rest}");
+            assert_eq!(sheet(with.as_bytes()), sheet(without.as_bytes()));
+            assert_eq!(betti(with.as_bytes()), betti(without.as_bytes()));
+            let mut engines = [Engine::new(), Engine::new()];
+            for (engine, file) in engines.iter_mut().zip([&with, &without]) {
+                engine.read(file.as_bytes()).expect("a Gröbner basis");
+                engine.lift(1, Way::Division).expect("no limit is met");
+            }
+            assert_eq!(engines[0].state, engines[1].state);
+        }
+    }
+}
+
+/// a buffer that is a word or a byte too short: 16, and nothing is changed
+#[test]
+fn short_buffers_of_pages() {
+    let file = b"R,7,1,1,1\nT,1,1,1,1\nE,1\n";
+    let pages: [(Printing, usize, Vec<u8>); 3] = [
+        (calls::sheet, layout::SHEET_BYTES, sheet(file)),
+        (calls::betti, layout::PAGE_BYTES, betti(file)),
+        (calls::bidegrees, layout::BIDEGREES_BYTES, bidegrees(file)),
+    ];
+    for (call, room, printed) in pages {
+        let lengths = (layout::STATE_WORDS, layout::WORK_WORDS, room);
+        for (state, work, out) in [
+            (lengths.0 - 1, lengths.1, lengths.2),
+            (lengths.0, lengths.1 - 1, lengths.2),
+            (lengths.0, lengths.1, lengths.2 - 1),
+            (0, 0, 0),
+        ] {
+            let (mut state, mut work, mut out) = (vec![5; state], vec![5; work], vec![5; out]);
+            assert_eq!(call(file, &mut state, &mut work, &mut out), (16, 0));
+            assert!(state.iter().chain(&work).all(|word| *word == 5));
+            assert!(out.iter().all(|byte| *byte == 5));
+        }
+        let mut out = vec![5; lengths.2 + 9];
+        let (mut state, mut work) = (vec![5; lengths.0], vec![5; lengths.1]);
+        let (number, length) = call(file, &mut state, &mut work, &mut out);
+        assert_eq!((number, &out[..length]), (0, &printed[..]));
+        assert!(out[length..].iter().all(|byte| *byte == 0));
+        assert!(state.iter().chain(&work).all(|word| *word == 0));
+    }
+}
+
+/// what an X line says, wherever it stands; 17 and 25 in words
 #[test]
 fn printed_refusals() {
     assert_eq!(Refusal::printed(&sheet(PRINTED)), None);
@@ -220,6 +302,12 @@ fn printed_refusals() {
     assert_eq!(
         mixed.unwrap().to_string(),
         "refused 17 at element 2: an element has terms of two degrees"
+    );
+    let mixed = Refusal::printed(&bidegrees(PRINTED));
+    assert_eq!(mixed, Some(Refusal::TwoBidegrees { element: 2 }));
+    assert_eq!(
+        mixed.unwrap().to_string(),
+        "refused 25 at element 2: an element has terms of two bidegrees"
     );
     for (lines, refusal) in [
         (&b"X,1,0\n"[..], Refusal::FileTooLong),
@@ -251,7 +339,7 @@ fn every_number_is_a_refusal() {
                 assert_eq!(refusal.place(), place);
             }
             let other = Refusal::Other { number, place };
-            let known = matches!(number, 1..=9 | 11..=18);
+            let known = matches!(number, 1..=9 | 11..=18 | 24 | 25);
             assert_eq!(refusal == other, !known);
         }
     }
@@ -285,7 +373,7 @@ fn the_layout_is_the_headers() {
             numbers += 1;
         }
     }
-    assert_eq!(numbers, 23);
+    assert_eq!(numbers, 24);
     assert_eq!(layout::count_at(HIGHEST_LEVEL + 1), layout::rows_at(0));
     assert_eq!(layout::rows_at(HIGHEST_LEVEL + 1), layout::DEGREES_AT);
     let behind = layout::carried_at(0) - layout::DEGREES_AT;
@@ -399,6 +487,36 @@ fn degrees_of_problems() {
     assert_eq!(
         read(&[0, 256]).unwrap_err().to_string(),
         "refused 18 at line 2: a component's degree is above 255"
+    );
+}
+
+/// 24 after the line's shape, behind a D line and without one; what has not G's shape is 1
+#[test]
+fn weights_of_problems() {
+    let read = |weights: &[(u16, u16)], degrees: bool| {
+        let mut problem = Problem::new(7, 2, Order::Lexicographic, 1);
+        problem.weights(weights.iter().copied());
+        if degrees {
+            problem.degrees([3]);
+        }
+        problem.element([Term::new(1, 1, &[1]), Term::new(1, 1, &[])]);
+        Engine::new().read(&problem.file())
+    };
+    for degrees in [false, true] {
+        let line = if degrees { 3 } else { 2 };
+        assert_eq!(read(&[(0, 15), (15, 0)], degrees), Ok(()));
+        for weights in [[(16, 0), (0, 0)], [(0, 0), (0, 65_535)]] {
+            let refused = read(&weights, degrees);
+            assert_eq!(refused, Err(Refusal::BadWeight { line }));
+        }
+        for weights in [&[(0, 0)][..], &[(16, 0)], &[(1, 1); 3], &[]] {
+            let refused = read(weights, degrees);
+            assert_eq!(refused, Err(Refusal::BadLine { line }));
+        }
+    }
+    assert_eq!(
+        read(&[(0, 0), (0, 16)], false).unwrap_err().to_string(),
+        "refused 24 at line 2: a variable's weight is above 15"
     );
 }
 

@@ -16,6 +16,7 @@ use Rattle.definitions.specs.State.{State, sound?}
 use Rattle.definitions.specs.Calls.{read}
 use Rattle.definitions.specs.Sheet.{printed, letter-X, w-lines, x-lines, levels-from, variables-of, sheet-of, sheet}
 use Rattle.definitions.specs.Program.{lifted, printed-or-refused}
+use Rattle.definitions.specs.Degrees.{degree-by}
 use Rattle.definitions.specs.Betti.{first-mixed, unless-mixed, same-degree?, column-degrees, rows-in-use, all-rows, betti-count, betti-page}
 use Rattle.definitions.specs.Betti.{betti-of, betti}
 use Rattle.definitions.specs.Places.{row-shift, page-line-length}
@@ -33,7 +34,7 @@ use Rattle.demands.proofs.Sheets.{Reading, taken, refused-reading, still-readin
 use Rattle.demands.proofs.Demand1.{demand-1}
 use Rattle.betti.specs.Notions.{paged?, First-mixed, Homogeneous}
 use Rattle.betti.specs.Betti.{Page-form, paged, mixed-element, cut-off, not-read, not-taken, Betti-right}
-use Rattle.betti.proofs.Mixed.{First-of, first-is, first-once}
+use Rattle.betti.proofs.Mixed.{First-of, first-by-degree, first-once}
 use Rattle.betti.proofs.Pages.{page-right}
 use Rattle.betti.proofs.Ends.{betti-steady, betti-ends}
 use Rattle.betti.proofs.Levels
@@ -80,7 +81,7 @@ module _ (lim : Limits) (o : T (sensible? lim)) where
     Form x = Holds (Page-form lim bytes) x
 
     -- an accepted file with homogeneous elements
-    goes : (q : Parameters) (f : Level) → Well-formed-file lim bytes q f → read lim n bytes ≡ done (basis-state (q, f)) → Homogeneous (q .degrees) f
+    goes : (q : Parameters) (f : Level) → Well-formed-file lim bytes q f → read lim n bytes ≡ done (basis-state (q, f)) → Homogeneous (degree-by (q .degrees)) f
         → {x : Result State} {y : Option Bytes} → Goes-on lim q f f [] x y → levels-from lim n (lim .levels) 1 (basis-state (q, f)) ≡ y
         → Form (printed-or-refused v (x >>= λ Y. done (betti-page Y)))
     unfolding v
@@ -97,9 +98,9 @@ module _ (lim : Limits) (o : T (sensible? lim)) where
     -- an accepted file
     accepted-form : (q : Parameters) (f : Level) → Well-formed-file lim bytes q f → Standing lim q f 0 (f ∷ []) → read lim n bytes ≡ done (basis-state (q, f))
         → Form (printed-or-refused v (betti-of lim n (basis-state (q, f))))
-    accepted-form q f w s r = go (first-mixed (same-degree? (q .degrees)) 1 f) (first-is (q .degrees) f)
+    accepted-form q f w s r = go (first-mixed (same-degree? (q .degrees)) 1 f) (first-by-degree (q .degrees) f)
       where
-        go : (i : Option ℕ) → First-of (q .degrees) f i
+        go : (i : Option ℕ) → First-of (degree-by (q .degrees)) f i
             → Form (printed-or-refused v (unless-mixed i 17 >>= λ u. lifted lim n (basis-state (q, f)) >>= λ Y. done (betti-page Y)))
         go none h = goes q f w r h (goes-on lim o q f n (lim .levels) f [] s (basis-filled q f (s .sound)) (omega arith)) refl
         go (some i) h =
@@ -174,7 +175,7 @@ module _ (lim : Limits) (o : T (sensible? lim)) where
 
     abbrev Accepted-mixed : Type 0
     Accepted-mixed =
-        (q : Parameters) × ((f : Level) × ((read lim n bytes ≡ done (record { parameters = q; levels = f ∷ [] })) × First-mixed (q .degrees) f i))
+        (q : Parameters) × ((f : Level) × ((read lim n bytes ≡ done (record { parameters = q; levels = f ∷ [] })) × First-mixed (degree-by (q .degrees)) f i))
 
     -- an X line with its value, of another number
     no-17 : (m number place : ℕ) (value : Vector) → ¬ (number ≡ 17) → ¬ (Is-17 (some (x-lines m number place value)))
@@ -187,7 +188,8 @@ module _ (lim : Limits) (o : T (sensible? lim)) where
       where
         line : {number : ℕ} → Line-number number → ¬ (number ≡ 17)
         line (inl (a, b)) k = omega (arith, b, k)
-        line (inr e) k = omega (arith, e, k)
+        line (inr (inl e)) k = omega (arith, e, k)
+        line (inr (inr e)) k = omega (arith, e, k)
     refused-other (not-accepted (no-basis b w d t s)) k = omega (arith, k)
     refused-other (not-accepted (limit-met {number = number} b w d l)) k = let h = between-high 13 number 15 l in omega (arith, h, k)
 
@@ -205,7 +207,7 @@ module _ (lim : Limits) (o : T (sensible? lim)) where
         lifted-no q f open-yet z = Option·none-ne-some _ z
 
         mixed : (q : Parameters) (f : Level) → Standing lim q f 0 (f ∷ []) → read lim n bytes ≡ done (basis-state (q, f)) → (j : Option ℕ)
-            → First-of (q .degrees) f j
+            → First-of (degree-by (q .degrees)) f j
             → Is-17 (printed-or-refused (variables-of (problem lim bytes))
             (unless-mixed j 17 >>= λ u. lifted lim n (basis-state (q, f)) >>= λ Y. done (betti-page Y)))
             → Accepted-mixed
@@ -213,11 +215,11 @@ module _ (lim : Limits) (o : T (sensible? lim)) where
             absurd (lifted-no q f (goes-on lim o q f n (lim .levels) f [] s (basis-filled q f (s .sound)) (omega arith)) z)
         mixed q f s r (some j) h z =
             let e = printed-once 17 j 17 i [] [] (Option·some-injective _ _ z ∙ sym (append-nil (printed letter-X (17 ∷ i ∷ [])))) .second in
-            (q, (f, (r, subst (First-mixed (q .degrees) f) e h)))
+            (q, (f, (r, subst (First-mixed (degree-by (q .degrees)) f) e h)))
 
         go : (x : Result State) → read lim n bytes ≡ x → Reading lim bytes x
             → Is-17 (printed-or-refused (variables-of (problem lim bytes)) (x >>= betti-of lim n)) → Accepted-mixed
-        go x e (taken {q} {f} w s) z = mixed q f s e (first-mixed (same-degree? (q .degrees)) 1 f) (first-is (q .degrees) f) z
+        go x e (taken {q} {f} w s) z = mixed q f s e (first-mixed (same-degree? (q .degrees)) 1 f) (first-by-degree (q .degrees) f) z
         go x e (refused-reading {number} {place} {value} r) z =
             absurd (no-17 (variables-of (problem lim bytes)) number place value (refused-other r) z)
         go x e still-reading z = absurd (Option·none-ne-some _ z)
@@ -226,14 +228,15 @@ module _ (lim : Limits) (o : T (sensible? lim)) where
     to-17 : Accepted-mixed → Is-17 (betti lim n bytes)
     to-17 (q, (f, (r, m))) =
         ap (λ x. printed-or-refused (variables-of (problem lim bytes)) (x >>= betti-of lim n)) r
-        ∙ go (first-mixed (same-degree? (q .degrees)) 1 f) (first-is (q .degrees) f)
+        ∙ go (first-mixed (same-degree? (q .degrees)) 1 f) (first-by-degree (q .degrees) f)
       where
-        go : (j : Option ℕ) → First-of (q .degrees) f j
+        go : (j : Option ℕ) → First-of (degree-by (q .degrees)) f j
             → Is-17 (printed-or-refused (variables-of (problem lim bytes))
             (unless-mixed j 17 >>= λ u. lifted lim n (basis-state (q, f)) >>= λ Y. done (betti-page Y)))
         go none h = absurd (h i (m .low) (m .high) (m .mixed))
         go (some j) h =
-            ap some (append-nil (printed letter-X (17 ∷ j ∷ []))) ∙ ap (λ k. some (printed letter-X (17 ∷ k ∷ []))) (first-once (q .degrees) f j i h m)
+            ap some (append-nil (printed letter-X (17 ∷ j ∷ [])))
+            ∙ ap (λ k. some (printed letter-X (17 ∷ k ∷ []))) (first-once (degree-by (q .degrees)) f j i h m)
 
   pub betti-right : T (paged? lim) → Betti-right lim
   betti-right p = record {

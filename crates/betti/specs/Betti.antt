@@ -62,14 +62,14 @@ pub data Page-form (lim : Limits) (bytes : Bytes) : Bytes → Type 0 where
   -- "Levels are lifted as for the sheet": the page of the levels that the sheet lists
   paged : {q : Parameters} {g : Level} {below : List Level} {out : Bytes} (bound : ℕ) (l : Listed lim bytes q g below)
       → sheet lim bound bytes ≡ some (printed-levels (q .n) (g ∷ below)) → (g ≡ []) ⊎ (length below ≡ lim .levels)
-      → Homogeneous (q .degrees) (l .basis) → Page-right q (g ∷ below) out → Page-form lim bytes out
+      → Homogeneous (degree-by (q .degrees)) (l .basis) → Page-right q (g ∷ below) out → Page-form lim bytes out
   -- "17, with the first such element as place, when some element has terms of two degrees, tested after acceptance"
-  mixed-element : {q : Parameters} {f : Level} {i : ℕ} → Well-formed-file lim bytes q f → Gröbner-basis q [] f → First-mixed (q .degrees) f i
+  mixed-element : {q : Parameters} {f : Level} {i : ℕ} → Well-formed-file lim bytes q f → Gröbner-basis q [] f → First-mixed (degree-by (q .degrees)) f i
       → Page-form lim bytes (printed letter-X (17 ∷ i ∷ []))
   -- 13 to 15 while lifting: the sheet's X line, alone
   cut-off : {q : Parameters} {g : Level} {below : List Level} (number bound : ℕ) (l : Listed lim bytes q g below)
       → sheet lim bound bytes ≡ some (printed-levels (q .n) (g ∷ below) ++ x-lines (q .n) number (suc (length below)) [])
-      → T (limit? number) → Homogeneous (q .degrees) (l .basis)
+      → T (limit? number) → Homogeneous (degree-by (q .degrees)) (l .basis)
       → Page-form lim bytes (x-lines (q .n) number (suc (length below)) [])
   -- the refusals of reading and of acceptance are the sheet's
   not-read : {number place : ℕ} → Refused-right lim bytes number place → Page-form lim bytes (printed letter-X (number ∷ place ∷ []))
@@ -87,7 +87,7 @@ pub record Betti-right (lim : Limits) : Type 0 where
   -- 17 exactly where the file is accepted and element i is the first with terms of two degrees, whatever lifting would give: the bound that
   -- suffices for reading suffices
   pub seventeen : (n : ℕ) (bytes : Bytes) (i : ℕ) → (betti lim n bytes ≡ some (printed letter-X (17 ∷ i ∷ [])))
-      ↔ ((q : Parameters) × ((f : Level) × ((read lim n bytes ≡ done (record { parameters = q; levels = f ∷ [] })) × First-mixed (q .degrees) f i)))
+      ↔ ((q : Parameters) × ((f : Level) × ((read lim n bytes ≡ done (record { parameters = q; levels = f ∷ [] })) × First-mixed (degree-by (q .degrees)) f i)))
   -- the image of a frame term is the least common multiple of two leading monomials' images, so that no degree is above 2,295: a file's page has
   -- at most 2,307 lines, 168,411 bytes
   pub few-lines : (n : ℕ) (bytes : Bytes) (X Y : State) → read lim n bytes ≡ done X → lifted lim n X ≡ done Y

@@ -7,9 +7,9 @@ use lib.Dec.{leb, ltb, eqb}
 use lib.ListN.{length}
 use Rattle.definitions.specs.Limits.{Limits}
 use Rattle.definitions.specs.Lists.{_and_, choose, count, from}
-use Rattle.definitions.specs.Monomial.{Term, Vector, Level, vector-of}
+use Rattle.definitions.specs.Monomial.{Monomial, Term, Vector, Level, vector-of}
 use Rattle.definitions.specs.Problem.{Line, Parameters}
-use Rattle.definitions.specs.Degrees.{component-degree, degree-by, degree-of}
+use Rattle.definitions.specs.Degrees.{component-degree, degree-of}
 use Rattle.definitions.specs.Places.{most-exponent, most-components, most-elements, most-vectors, most-levels, page-columns, row-shift, page-line-length}
 use Rattle.demands.specs.Notions.{Member}
 use Rattle.demands.specs.Demands.{level-of}
@@ -23,24 +23,25 @@ paged? lim =
 
 -- ## Elements
 
--- it "has terms of two degrees", the components' degrees being d
-pub record Two-degrees (d : List ℕ) (f : Vector) : Type 0 where
-  pub one : Term
-  pub other : Term
-  pub in-it : Member one f
-  pub too : Member other f
-  pub differ : ¬ (degree-by d (one .1) ≡ degree-by d (other .1))
+module _ {A : Type 0} (by : Monomial → A) where
+  -- it "has terms of two degrees"; a degree is a number, or two side by side (A14)
+  pub record Two-degrees (f : Vector) : Type 0 where
+    pub one : Term
+    pub other : Term
+    pub in-it : Member one f
+    pub too : Member other f
+    pub differ : ¬ (by (one .1) ≡ by (other .1))
 
--- element i is "the first such element"
-pub record First-mixed (d : List ℕ) (f : Level) (i : ℕ) : Type 0 where
-  pub low : 1 ≤ i
-  pub high : i ≤ length f
-  pub mixed : Two-degrees d (vector-of f i)
-  pub none-before : (j : ℕ) → 1 ≤ j → j < i → ¬ (Two-degrees d (vector-of f j))
+  -- element i is "the first such element"
+  pub record First-mixed (f : Level) (i : ℕ) : Type 0 where
+    pub low : 1 ≤ i
+    pub high : i ≤ length f
+    pub mixed : Two-degrees (vector-of f i)
+    pub none-before : (j : ℕ) → 1 ≤ j → j < i → ¬ (Two-degrees (vector-of f j))
 
--- there is none
-abbrev pub Homogeneous : List ℕ → Level → Type 0
-Homogeneous d f = (i : ℕ) → 1 ≤ i → i ≤ length f → ¬ (Two-degrees d (vector-of f i))
+  -- there is none
+  abbrev pub Homogeneous : Level → Type 0
+  Homogeneous f = (i : ℕ) → 1 ≤ i → i ≤ length f → ¬ (Two-degrees (vector-of f i))
 
 -- ## Columns and rows
 

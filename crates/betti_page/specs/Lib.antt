@@ -1,2 +1,1 @@
 pub mod page
-pub mod whole

@@ -5,11 +5,11 @@ ghost use mathlib.Core.Path.{_≡_};
 ghost use Prim.Native.Nat.{ℕ, _≤_};
 ghost use lib.ListN.{length, getD};
 ghost use Rattle.definitions.specs.Limits.{document-01};
-ghost use Rattle.definitions.specs.Betti.{betti as betti-definition};
+ghost use Rattle.definitions.specs.Betti.{betti-page, betti-of, betti as betti-definition};
 ghost use Rattle.definitions.specs.Places.{state-length, value-length, page-length};
 ghost use Rattle.level.specs.by_runs.Stages.{Base};
 ghost use Rattle.listing.specs.whole.Listed.{Prints};
-ghost use Rattle.betti_page.specs.whole.Paged.{Lifted-prints, Accepted-prints};
+ghost use Rattle.listing.specs.whole.Paged.{Lifted-prints, Accepted-prints};
 use crate::page;
 use columns::mixed;
 use level::all_levels;
@@ -20,7 +20,7 @@ use listing::reading::Begun;
 // "Levels are lifted as for the sheet."
 fn print_lifted(out: &mut [u8], state: &mut [u16], work: &mut [u16]) -> usize
     requires { ⌜ Base (now state) 0 × (value-length ≤ length (now work)) × (page-length ≤ length (now out)) ⌝ }
-    ensures { λ r. ⌜ Lifted-prints (now (state .entry)) (now (out .entry)) (now (out .exit)) r × (r ≤ page-length) ⌝ }
+    ensures { λ r. ⌜ Lifted-prints betti-page (now (state .entry)) (now (out .entry)) (now (out .exit)) r × (r ≤ page-length) ⌝ }
 {
     let e = all_levels::lift_levels(state, work);
     let number = e.number;
@@ -33,7 +33,7 @@ fn print_lifted(out: &mut [u8], state: &mut [u16], work: &mut [u16]) -> usize
 // "17, with the first such element as place, when some element has terms of two degrees, tested after acceptance."
 fn print_accepted(out: &mut [u8], state: &mut [u16], work: &mut [u16]) -> usize
     requires { ⌜ Base (now state) 0 × (getD (now state) 4 0 ≡ 1) × (value-length ≤ length (now work)) × (page-length ≤ length (now out)) ⌝ }
-    ensures { λ r. ⌜ Accepted-prints (now (state .entry)) (now (out .entry)) (now (out .exit)) r × (r ≤ page-length) ⌝ }
+    ensures { λ r. ⌜ Accepted-prints (betti-of document-01) (now (state .entry)) (now (out .entry)) (now (out .exit)) r × (r ≤ page-length) ⌝ }
 {
     let place = mixed::first_mixed(state);
     if place == 0 {

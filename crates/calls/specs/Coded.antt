@@ -1,11 +1,10 @@
 -- The calls' answers in the types of other languages.
 use mathlib.Core.Path.{_≡_}
-use mathlib.Core.Option.{Option, some}
+use mathlib.Core.Option.{some}
 use Prim.Native.Nat.{ℕ}
 use Rattle.definitions.specs.Limits.{document-01}
 use Rattle.definitions.specs.Problem.{Bytes}
 use Rattle.definitions.specs.Layout.{Words, Way, Read, Lift, Fetch, read-call, lift-call, fetch-call}
-use Rattle.sheet.specs.Sheets.{Told}
 
 abbrev pub read-told : ℕ → ℕ → Words → Words → Read
 read-told number place state work = (number, place, state, work)
@@ -15,9 +14,6 @@ lift-told number place state work cache = (number, place, state, work, cache)
 
 abbrev pub fetch-told : ℕ → ℕ → Words → Fetch
 fetch-told number place out = (number, place, out)
-
-abbrev pub sheet-told : ℕ → ℕ → Words → Words → Bytes → Option Told
-sheet-told number length state work out = some (number, length, state, work, out)
 
 -- ## What the contracts say, in one place: the functions' `ensures` and `Made` both cite these
 

@@ -1,14 +1,19 @@
-// The three calls, and the sheet and the Betti page as one each, for programs in other languages: include/tagetessash.h declares them.
-// Exists for: `tagetessash_read`, `tagetessash_lift`, `tagetessash_fetch`, `tagetessash_sheet`, `tagetessash_betti`; `Making.all-calls`.
-// Knows: crates read_call, fetch_call, lift_call, sheet and betti_call.
+// The three calls, and the sheet, the Betti page and the bidegrees as one each, for programs in other languages: include/tagetessash.h declares them.
+// Exists for: `tagetessash_read`, `tagetessash_lift`, `tagetessash_fetch`, `tagetessash_sheet`, `tagetessash_betti`, `tagetessash_bidegrees`;
+// `Making.all-calls`.
+// Knows: crates read_call, fetch_call, lift_call, sheet and page_calls.
 // A slice is a pointer and a length.
 ghost use mathlib.Core.Path.{_≡_};
 ghost use Prim.Native.Nat.{ℕ};
+ghost use Rattle.definitions.specs.Limits.{document-01};
+ghost use Rattle.definitions.specs.Sheet.{sheet as sheet-definition};
+ghost use Rattle.definitions.specs.Betti.{betti as betti-definition};
+ghost use Rattle.definitions.specs.Bidegrees.{bidegrees as bidegrees-definition};
+ghost use Rattle.definitions.specs.Places.{sheet-length, page-length, bidegrees-length};
 ghost use Rattle.lift_call.specs.Codes.{coded-way};
-ghost use Rattle.sheet.specs.Sheets.{called};
-ghost use Rattle.betti_call.specs.Paged.{called as betti-called};
+ghost use Rattle.lending.specs.Called.{told-of, called};
 ghost use Rattle.calls.specs.Version.{version};
-ghost use Rattle.calls.specs.Coded.{Read-says, Lift-says, Fetch-says, sheet-told};
+ghost use Rattle.calls.specs.Coded.{Read-says, Lift-says, Fetch-says};
 
 // "read a file and accept or refuse its basis"
 #[no_mangle]
@@ -71,8 +76,8 @@ pub extern "C" fn tagetessash_sheet(
     out: &mut [u8],
     length: &mut usize,
 ) -> u16
-    ensures { λ x. ⌜ ((n : ℕ) × (sheet-told x (now (length .exit)) (now (state .exit)) (now (work .exit)) (now (out .exit))
-        ≡ called n (now (file .entry)) (now (state .entry)) (now (work .entry)) (now (out .entry)))) ⌝ }
+    ensures { λ x. ⌜ ((n : ℕ) × (told-of x (now (length .exit)) (now (state .exit)) (now (work .exit)) (now (out .exit)) ≡ called sheet-length
+        (sheet-definition document-01) n (now (file .entry)) (now (state .entry)) (now (work .entry)) (now (out .entry)))) ⌝ }
 {
     let r = sheet::sheet(file, state, work, out);
     *length = r.length;
@@ -88,12 +93,29 @@ pub extern "C" fn tagetessash_betti(
     out: &mut [u8],
     length: &mut usize,
 ) -> u16
-    ensures { λ x. ⌜ ((n : ℕ) × (sheet-told x (now (length .exit)) (now (state .exit)) (now (work .exit)) (now (out .exit))
-        ≡ betti-called n (now (file .entry)) (now (state .entry)) (now (work .entry)) (now (out .entry)))) ⌝ }
+    ensures { λ x. ⌜ ((n : ℕ) × (told-of x (now (length .exit)) (now (state .exit)) (now (work .exit)) (now (out .exit)) ≡ called page-length
+        (betti-definition document-01) n (now (file .entry)) (now (state .entry)) (now (work .entry)) (now (out .entry)))) ⌝ }
 {
-    let page = betti_call::betti(file, state, work, out);
+    let page = page_calls::betti(file, state, work, out);
     *length = page.length;
     page.number
+}
+
+// "Two degrees side by side": 0, and the bytes of the lines are the first `length` of out; or 16.
+#[no_mangle]
+pub extern "C" fn tagetessash_bidegrees(
+    file: &[u8],
+    state: &mut [u16],
+    work: &mut [u16],
+    out: &mut [u8],
+    length: &mut usize,
+) -> u16
+    ensures { λ x. ⌜ ((n : ℕ) × (told-of x (now (length .exit)) (now (state .exit)) (now (work .exit)) (now (out .exit)) ≡ called bidegrees-length
+        (bidegrees-definition document-01) n (now (file .entry)) (now (state .entry)) (now (work .entry)) (now (out .entry)))) ⌝ }
+{
+    let lines = page_calls::bidegrees(file, state, work, out);
+    *length = lines.length;
+    lines.number
 }
 
 // Which version of the calls, of the state's layout and of the sheet this library has.

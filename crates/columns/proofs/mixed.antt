@@ -1,1 +1,3 @@
 pub mod Mixing
+pub mod Unless
+pub mod Alike

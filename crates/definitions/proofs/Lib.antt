@@ -6,3 +6,4 @@ pub mod Edges
 pub mod Degrees
 pub mod Places
 pub mod Pages
+pub mod Bidegrees

@@ -1,6 +1,6 @@
 -- The layout's numbers are what Layout's functions give with document 01's limits; levels and rows stand beside each other and fit.
 use mathlib.Core.Path.{_≡_, refl}
-use Prim.Native.Nat.{ℕ, suc, _+_, _*_, _<_, _≤_}
+use Prim.Native.Nat.{ℕ, suc, _+_, _*_, _^_, _<_, _≤_}
 use native.Mathlib.Omega.{arith}
 use Rattle.definitions.specs.Limits.{document-01}
 use lib.ListN.{length}
@@ -14,7 +14,7 @@ use Rattle.definitions.specs.Places.{vector-length, heads-length, images
 use Rattle.definitions.specs.Places.{most-image, tables-length, most-degree, most-carried, degrees-start, carried-start, carried-offset}
 use Rattle.definitions.specs.Places.{ends-length, lifted-length, grown-length, file-length, read-length, s-line-length, pair-line-length, s-lines-length}
 use Rattle.definitions.specs.Places.{level-lines-length, all-lines-length, sheet-length, cell-length, page-columns, row-shift, page-line-length}
-use Rattle.definitions.specs.Places.{page-rows, page-length}
+use Rattle.definitions.specs.Places.{page-rows, page-length, most-weight, most-weighted, weights-length, second-base, b-line-length, bidegrees-length}
 
 -- ## The numbers
 
@@ -73,6 +73,14 @@ sheet-fits = omega arith
 pages-are : (page-line-length ≡ suc (suc page-columns * cell-length)) × (suc row-shift ≡ page-columns) × (page-rows ≡ suc (most-carried + row-shift))
     × (page-length ≡ suc page-rows * page-line-length)
 pages-are = (refl, refl, refl, refl)
+
+-- of bidegrees: a number in 20 bits, and lines as `B,10,306255,306000,128`
+bidegrees-are : (weights-length ≡ 2 * most-variables) × (most-weighted ≡ most-weight * (most-exponent * (exponents-length * all-levels)))
+    × (second-base ≡ 2 ^ 20) × (bidegrees-length ≡ page-columns * (most-vectors * b-line-length))
+bidegrees-are = (refl, refl, refl, refl)
+
+second-fits : (most-weighted < second-base) × (most-weighted + most-degree < second-base)
+second-fits = (omega arith, omega arith)
 
 -- ## The laws
 

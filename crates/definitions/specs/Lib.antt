@@ -22,4 +22,6 @@ pub mod Sheet
 pub mod Program
 pub mod Pages
 pub mod Betti
+pub mod Columns
+pub mod Bidegrees
 pub mod Layout

@@ -20,6 +20,13 @@ most-degree = 255
 abbrev pub most-carried : ℕ
 most-carried = 20_655
 
+-- the largest weight of a variable (A14), and a weighted sum at the most: of eight exponents for each level
+abbrev pub most-weight : ℕ
+most-weight = 15
+
+abbrev pub most-weighted : ℕ
+most-weighted = 306_000
+
 -- variables, components, elements of a file
 abbrev pub most-variables : ℕ
 most-variables = 8
@@ -242,3 +249,20 @@ page-rows = 20_666
 -- a page at the most: a line for each row, and one for the totals
 abbrev pub page-length : ℕ
 page-length = 1_508_691
+
+-- ## Lines of bidegrees (A14)
+
+-- the numbers of a G line at the most: two weights for each variable
+abbrev pub weights-length : ℕ
+weights-length = 16
+
+-- a bidegree in one number: the first times this, and the second, which is below it
+abbrev pub second-base : ℕ
+second-base = 1_048_576
+
+-- a B line at the most, and all of them: one for each generator of eleven columns. A refusal's lines are no longer
+abbrev pub b-line-length : ℕ
+b-line-length = 23
+
+abbrev pub bidegrees-length : ℕ
+bidegrees-length = 32_384

@@ -1,4 +1,4 @@
--- "Problem file": the reader, with "Refusals from the input" 1 to 8, and 18 of request A5.
+-- "Problem file": the reader, with "Refusals from the input" 1 to 8, 18 of request A5 and 24 of request A14.
 use mathlib.Core.Bool.{Bool, true, false, not, _||_}
 use mathlib.Core.Option.{Option, none, some}
 use mathlib.Core.List.{List, [], _∷_, _++_}
@@ -7,7 +7,7 @@ use lib.Dec.{leb, ltb, eqb}
 use lib.ListN.{length, getD, drop, replicate}
 use Rattle.definitions.specs.Limits.{Limits}
 use Rattle.definitions.specs.Lists.{_and_, _then_, every, empty?, last, between}
-use Rattle.definitions.specs.Places.{most-degree}
+use Rattle.definitions.specs.Places.{most-degree, most-weight}
 use Rattle.definitions.specs.Field.{prime?}
 use Rattle.definitions.specs.Monomial.{Term, Vector, Level, fits?}
 use Rattle.definitions.specs.Order.{compare-over, greater?}
@@ -35,6 +35,9 @@ letter-E = 69
 
 abbrev pub letter-D : ℕ
 letter-D = 68
+
+abbrev pub letter-G : ℕ
+letter-G = 71
 
 abbrev pub onto : ℕ → List Bytes → List Bytes
 onto b [] = (b ∷ []) ∷ []
@@ -197,17 +200,20 @@ body lim q place count elements (line ∷ later) =
 -- what they say, the number of the next line, the lines from it on
 pub record Head : Type 0 where
   pub parameters : Parameters
+  -- the weights a and b of each variable (A14)
+  pub weights : List (ℕ × ℕ)
   pub place : ℕ
   pub later : List Line
 
--- after R
+-- after R: "Without G the weights are 1 and 0"
 abbrev pub head-of : Parameters → List Line → Head
-head-of q later = record { parameters = q; place = 2; later = later }
+head-of q later = record { parameters = q; weights = replicate (q .n) (1, 0); place = 2; later = later }
 
 -- a line more, with these degrees
 abbrev pub with-degrees : Head → List ℕ → List Line → Head
 with-degrees h v later = record {
   parameters = record { p = h .parameters .p; n = h .parameters .n; code = h .parameters .code; s = h .parameters .s; degrees = v };
+  weights = h .weights;
   place = suc (h .place);
   later = later;
 }
@@ -221,9 +227,29 @@ abbrev pub d-first : Limits → Head → List Line → Result Head
 d-first lim h [] = done h
 d-first lim h (line ∷ later) = d-line h later (shaped (lim .field) letter-D (h .parameters .s) line)
 
+-- a1,b1,..,an,bn: two by two
+abbrev pub pairs : List ℕ → List (ℕ × ℕ)
+pairs [] = []
+pairs (a ∷ []) = []
+pairs (a ∷ b ∷ v) = (a, b) ∷ pairs v
+
+-- a line more, with these weights
+abbrev pub with-weights : Head → List ℕ → List Line → Head
+with-weights h v later = record { parameters = h .parameters; weights = pairs v; place = suc (h .place); later = later }
+
+-- `G,a1,b1,..,an,bn`: 24 "when a weight is above 15, after its line's shape" (A14). A line without that shape is left to T and E
+abbrev pub g-line : Head → List Line → Option (List ℕ) → Result Head
+g-line h later none = done h
+g-line h later (some v) = unless-refused (fits? most-weight v) 24 (h .place) >>= λ u. done (with-weights h v later)
+
+-- "may stand after R or, where there is one, D"
+abbrev pub g-next : Limits → Head → List Line → Result Head
+g-next lim h [] = done h
+g-next lim h (line ∷ later) = g-line h later (shaped (lim .field) letter-G (2 * h .parameters .n) line)
+
 abbrev pub after-r : Limits → List Line → Option (List ℕ) → Result Head
 after-r lim later none = refused 1 1 []
-after-r lim later (some v) = r-line lim v >>= λ q. d-first lim (head-of q later) later
+after-r lim later (some v) = r-line lim v >>= λ q. d-first lim (head-of q later) later >>= λ h. g-next lim h (h .later)
 
 -- "`R,p,n,order,s`, first"
 abbrev pub first-line : Limits → List Line → Result Head

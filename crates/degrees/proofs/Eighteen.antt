@@ -13,8 +13,9 @@ use Rattle.definitions.specs.Result.{refused}
 use Rattle.definitions.specs.Problem.{Bytes, Line, Parameters, problem}
 use Rattle.definitions.specs.Places.{most-degree}
 use Rattle.laws.proofs.Members.{All}
+use Rattle.files.specs.Files.{Given}
 use Rattle.files.specs.Reasons.{Bad-term, too-many, out-of-sequence, out-of-range, not-below, Bad-later, absent, no-shape, bad-term, bad-count}
-use Rattle.files.specs.Reasons.{Reason, no-first, first-shape, first-prime, first-range, second-degree, later-line, after-end}
+use Rattle.files.specs.Reasons.{Reason, no-first, first-shape, first-prime, first-range, second-degree, head-weight, later-line, after-end}
 use Rattle.files.specs.Answers.{Refused-right, too-long, at-line, Answered}
 use Rattle.files.proofs.Because.{reason-refused}
 use Rattle.demands.specs.Notions.{Member}
@@ -32,7 +33,7 @@ some-above most (x ∷ v) n = go (leb x most) (leb→le x most) (nleb→lt x mos
     go false h k r = (x, inl refl, k tt)
     go true h k r = let m = r (λ a. n (h tt, a)) in (m .0, inr (m .1), m .2)
 
-none-above : (most : ℕ) (v : List ℕ) (x : ℕ) → Member x v → most < x → ¬ (All (λ x. x ≤ most) v)
+pub none-above : (most : ℕ) (v : List ℕ) (x : ℕ) → Member x v → most < x → ¬ (All (λ x. x ≤ most) v)
 none-above most [] x m l a = m
 none-above most (y ∷ v) x (inl e) l a = let h = a .0 in omega (arith, h, l, e)
 none-above most (y ∷ v) x (inr m) l a = none-above most v x m l (a .1)
@@ -44,9 +45,9 @@ term-number lim q f i t (out-of-sequence l n) = omega arith
 term-number lim q f i t (out-of-range l s n) = omega arith
 term-number lim q f i t (not-below l s r n) = omega arith
 
-later-number : (lim : Limits) (given : Bool) (q : Parameters) (f : Level) {ls : List Line} {number : ℕ} → Bad-later lim given q f ls number → number ≤ 8
+pub later-number : (lim : Limits) (given : Given) (q : Parameters) (f : Level) {ls : List Line} {number : ℕ} → Bad-later lim given q f ls number → number ≤ 8
 later-number lim given q f absent = omega arith
-later-number lim given q f (no-shape d t e) = omega arith
+later-number lim given q f (no-shape d g t e) = omega arith
 later-number lim given q f (bad-term i t l p s b) = term-number lim q f i t b
 later-number lim given q f (bad-count c s n) = omega arith
 
@@ -72,6 +73,7 @@ module _ (lim : Limits) (o : T (sensible? lim)) (bytes : Bytes) where
         one-of = m .1;
         above = m .2;
       }
+  by-reason e (head-weight n degrees p q w d tail t line later l v says h) = absurd (omega (arith, e, n))
   by-reason e (later-line given q f so tail t p b) = absurd (let l = later-number lim given q f b in omega (arith, e, l))
   by-reason e (after-end n given q f so m tail line later l t p) = absurd (omega (arith, e, n))
 

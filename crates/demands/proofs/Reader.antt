@@ -30,6 +30,7 @@ module _ (lim : Limits) (o : T (sensible? lim)) where
         exponent-in-field = omega (arith, small-exponents lim o);
         t-lines-in-field = at-most 4 (omega arith);
         degree-in-field = f;
+        weight-in-field = omega (arith, f);
       }
 
   roomy : Roomy lim

@@ -65,7 +65,7 @@ pub data Not-accepted (lim : Limits) (bytes : Bytes) (q : Parameters) : ℕ → 
   limit-met : {f : Level} {number : ℕ} (bound : ℕ) → Well-formed-file lim bytes q f → read lim bound bytes ≡ refused number 0 [] → T (limit? number)
       → Not-accepted lim bytes q number 0 []
 
--- the number, the place and the value with which reading is refused: 1 to 8, or 18, at the first bad line, for its reason, or as above
+-- the number, the place and the value with which reading is refused: 1 to 8, 18 or 24, at the first bad line, for its reason, or as above
 pub data Refused-reading (lim : Limits) (bytes : Bytes) : ℕ → ℕ → Vector → Type 0 where
   ill-formed : {number place : ℕ} → Refused-right lim bytes number place → Refused-reading lim bytes number place []
   not-accepted : {q : Parameters} {number place : ℕ} {value : Vector} → Not-accepted lim bytes q number place value

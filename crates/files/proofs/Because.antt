@@ -4,7 +4,7 @@ use mathlib.Core.Logic.{_⊎_, inl, inr}
 use mathlib.Core.Bool.{Bool, true, false, not}
 use mathlib.Core.Option.{Option, none, some}
 use mathlib.Core.List.{List, [], _∷_, _++_, append-nil}
-use Prim.Native.Nat.{ℕ, suc, _+_, _<_, _≤_}
+use Prim.Native.Nat.{ℕ, suc, _+_, _*_, _<_, _≤_}
 use native.Mathlib.Omega.{arith}
 use lib.Dec.{T, leb, ltb, eqb, le→leb, lt→ltb, ltb→lt, leb→le, eqb→eq, eqb-refl, not-T, T-not}
 use lib.ListN.{length, getD, replicate}
@@ -14,21 +14,22 @@ use Rattle.definitions.specs.Monomial.{Term, Level, fits?}
 use Rattle.definitions.specs.Order.{compare-over}
 use Rattle.definitions.specs.Result.{Result, done, refused, unless-refused, _>>=_}
 use Rattle.definitions.specs.Problem.{Bytes, Line, Parameters, comma, newline, lines, letter-R, letter-T, letter-E, shaped, prime-in-range?, in-ranges?}
-use Rattle.definitions.specs.Problem.{letter-D, head-of, with-degrees, d-line, d-first}
-use Rattle.definitions.specs.Places.{most-degree}
+use Rattle.definitions.specs.Problem.{letter-D, head-of, with-degrees, d-line, d-first, letter-G, with-weights, g-line, g-next}
+use Rattle.definitions.specs.Places.{most-degree, most-weight}
 use Rattle.definitions.specs.Problem.{term-of, next?, in-sequence?, term-in-range?, below?, last-term, descends?, with-term, t-line, e-line, by-shape, body}
-use Rattle.definitions.specs.Problem.{after-r, problem}
+use Rattle.definitions.specs.Problem.{problem}
 use Rattle.definitions.specs.State.{terms-of}
 use Rattle.definitions.specs.Sheet.{printed, term-fields}
 use Rattle.laws.proofs.Tests.{and-left, and-right, and-both}
 use Rattle.laws.proofs.Results.{If-some}
-use Rattle.files.specs.Files.{elements-lines, end-line, first-line-of, degrees-line, first-term-line, Well-formed-parameters, Wide}
+use Rattle.files.specs.Files.{Given, elements-lines, end-line, first-line-of, given-lines, behind-degrees, first-term-line, Well-formed-parameters, Wide}
 use Rattle.files.specs.Reasons.{So-far, Says, In-sequence, In-range, Below, Bad-term, too-many, out-of-sequence, out-of-range, not-below, Bad-later}
-use Rattle.files.specs.Reasons.{absent, no-shape, bad-term, bad-count}
-use Rattle.files.specs.Reasons.{Reason, no-first, first-shape, first-prime, first-range, second-degree, later-line, after-end}
+use Rattle.files.specs.Reasons.{absent, no-shape, bad-term, bad-count, Head-so-far, Second}
+use Rattle.files.specs.Reasons.{Reason, no-first, first-shape, first-prime, first-range, second-degree, head-weight, later-line, after-end}
 use Rattle.files.proofs.Lines.{listed, lines-printed, shaped-listed, other-letter, Shape, shaped-only}
 use Rattle.files.proofs.Forms.{greater-is, parameters-well, term-back}
-use Rattle.files.proofs.Heads.{passed, read-on, lines-read, problem-sized, No-D, terms-no-d, fits-says, plain, first-taken, head-taken}
+use Rattle.files.proofs.Heads.{passed, read-on, read-behind, lines-read, lines-head, behind-r, problem-sized, No-D, No-G, terms-none}
+use Rattle.files.proofs.Heads.{fits-says, plain, first-taken, degrees-read, degrees-taken, head-taken}
 use Rattle.files.proofs.Taken.{elements-taken}
 use Rattle.files.proofs.Why.{shape-says, or-says, same, sequence-says, sequence-tested, range-says, range-tested, prime-told, prime-shown}
 
@@ -104,10 +105,10 @@ module _ (lim : Limits) (wide : Wide lim) (q : Parameters) (wq : Well-formed-par
           ∙ guard-not (descends? (q .code) f i (term-of (q .n) v)) 6 place (λ u₄. done (with-term (next? f i) f (term-of (q .n) v)))
           (λ x. n (below-says f i t (subst (λ y. T (descends? (q .code) f i y)) back x)))
 
-  later-refused : (given : Bool) (here : ℕ) (f : Level) {ls : List Line} {number : ℕ} → Bad-later lim given q f ls number
+  later-refused : (given : Given) (here : ℕ) (f : Level) {ls : List Line} {number : ℕ} → Bad-later lim given q f ls number
       → body lim q here (terms-of f) f ls ≡ refused number here []
   later-refused given here f absent = refl
-  later-refused given here f (no-shape {line} {later} nd nt ne) =
+  later-refused given here f (no-shape {line} {later} nd ng nt ne) =
       ap (λ o. by-shape o lim q here (terms-of f) f line later (λ g. body lim q (suc here) (suc (terms-of f)) g later))
       (shaped-none lim letter-T (3 + q .n) line (λ e. omega (arith, e)) nt)
       ∙ ap (e-line here (terms-of f) later f) (shaped-none lim letter-E 1 line (λ e. omega (arith, e)) ne)
@@ -144,25 +145,39 @@ module _ (lim : Limits) (wide : Wide lim) (q : Parameters) (wq : Well-formed-par
       last-one : Line
       last-one = (letter-E ∷ listed (c ∷ []), true)
 
-  -- a bad line 2 is no D line
-  later-no-d : (given : Bool) (f : Level) {ls : List Line} {number : ℕ} → Bad-later lim given q f ls number → given ≡ false → f ≡ [] → No-D lim (q .s) ls
-  later-no-d given f absent g z = tt
-  later-no-d given f (no-shape {line} {later} nd nt ne) g z = shaped-none lim letter-D (q .s) line (λ e. omega (arith, e)) (nd (g, z))
-  later-no-d given f (bad-term {line} {later} {number} i t eight past says why) g z =
+  -- a bad line behind R is no D line, one behind R and D no G line
+  later-no-d : (given : Given) (f : Level) {ls : List Line} {number : ℕ} → Bad-later lim given q f ls number → Second given f → No-D lim (q .s) ls
+  later-no-d given f absent z = tt
+  later-no-d given f (no-shape {line} {later} nd ng nt ne) z = shaped-none lim letter-D (q .s) line (λ e. omega (arith, e)) (nd z)
+  later-no-d given f (bad-term {line} {later} {number} i t eight past says why) z =
       ap (shaped (lim .field) letter-D (q .s)) (says-line lim letter-T (3 + q .n) line (i ∷ term-fields (q .n) t) (λ e. omega (arith, e)) says)
       ∙ other-letter (lim .field) letter-T letter-D (q .s) (λ e. omega (arith, e)) (λ e. omega (arith, e)) (i ∷ term-fields (q .n) t)
-  later-no-d given f (bad-count {line} {later} c says n) g z =
+  later-no-d given f (bad-count {line} {later} c says n) z =
       ap (shaped (lim .field) letter-D (q .s)) (says-line lim letter-E 1 line (c ∷ []) (λ e. omega (arith, e)) says)
       ∙ other-letter (lim .field) letter-E letter-D (q .s) (λ e. omega (arith, e)) (λ e. omega (arith, e)) (c ∷ [])
 
-  -- after R, D where it is given, and the T lines of f
-  after-lines : (given : Bool) (f : Level) → So-far lim given q f → (tail : Bytes) (number place : ℕ)
-      → (given ≡ false → f ≡ [] → No-D lim (q .s) (lines tail))
+  later-no-g : (given : Given) (f : Level) {ls : List Line} {number : ℕ} → Bad-later lim given q f ls number → Head-so-far given f → No-G lim (q .n) ls
+  later-no-g given f absent z = tt
+  later-no-g given f (no-shape {line} {later} nd ng nt ne) z = shaped-none lim letter-G (2 * q .n) line (λ e. omega (arith, e)) (ng z)
+  later-no-g given f (bad-term {line} {later} {number} i t eight past says why) z =
+      ap (shaped (lim .field) letter-G (2 * q .n)) (says-line lim letter-T (3 + q .n) line (i ∷ term-fields (q .n) t) (λ e. omega (arith, e)) says)
+      ∙ other-letter (lim .field) letter-T letter-G (2 * q .n) (λ e. omega (arith, e)) (λ e. omega (arith, e)) (i ∷ term-fields (q .n) t)
+  later-no-g given f (bad-count {line} {later} c says n) z =
+      ap (shaped (lim .field) letter-G (2 * q .n)) (says-line lim letter-E 1 line (c ∷ []) (λ e. omega (arith, e)) says)
+      ∙ other-letter (lim .field) letter-E letter-G (2 * q .n) (λ e. omega (arith, e)) (λ e. omega (arith, e)) (c ∷ [])
+
+  -- after R, D and G where they are given, and the T lines of f
+  after-lines : (given : Given) (f : Level) → So-far lim given q f → (tail : Bytes) (number place : ℕ)
+      → (Second given f → No-D lim (q .s) (lines tail)) → (Head-so-far given f → No-G lim (q .n) (lines tail))
       → ((here : ℕ) → here ≡ terms-of f + first-term-line given → body lim q here (terms-of f) f (lines tail) ≡ refused number place [])
-      → lines-read lim (lines (first-line-of q ++ (degrees-line given q ++ (elements-lines (q .n) 1 f ++ tail)))) ≡ refused number place []
-  after-lines given f so tail number place nd k =
-      ap (λ r. r >>= read-on lim) (head-taken lim wide given q wq (so .degrees) (elements-lines (q .n) 1 f ++ tail)
-      (λ g. terms-no-d lim q f tail (so .elements) (nd g)))
+      → lines-read lim (lines (first-line-of q ++ (given-lines given q ++ (elements-lines (q .n) 1 f ++ tail)))) ≡ refused number place []
+  after-lines given f so tail number place nd ng k =
+      lines-head lim (lines (first-line-of q ++ (given-lines given q ++ (elements-lines (q .n) 1 f ++ tail))))
+      ∙ ap (λ r. r >>= read-on lim) (head-taken lim wide given q wq (so .degrees) (so .weights) (elements-lines (q .n) 1 f ++ tail)
+      (record {
+        no-d = λ d g. terms-none lim letter-D (q .s) (λ x. omega (arith, x)) q f tail (so .elements) (λ z. nd (d, (g, z)));
+        no-g = λ g. terms-none lim letter-G (2 * q .n) (λ x. omega (arith, x)) q f tail (so .elements) (λ z. ng (g, z));
+      }))
       ∙ ap (λ r. r >>= λ g. done (q, g))
       (elements-taken lim wide q wq (refused number place []) (first-term-line given) f [] (first-term-line given) 0 (terms-of f) tail (so .elements)
       (omega (arith, so .few)) (omega arith) (so .short) (omega arith) k)
@@ -173,39 +188,59 @@ lines-refused : (lim : Limits) → Wide lim → (bytes : Bytes) (number place : 
     → lines-read lim (lines bytes) ≡ refused number place []
 lines-refused lim wide bytes number place (no-first n p e) = ap (lines-read lim) e ∙ (λ i. refused (sym n i) (sym p i) [])
 lines-refused lim wide bytes number place (first-shape n p line later e s) =
-    ap (lines-read lim) e ∙ ap (λ o. after-r lim later o >>= read-on lim) (shaped-none lim letter-R 4 line (λ e. omega (arith, e)) s)
+    ap (lines-read lim) e ∙ ap (λ o. behind-r lim later o >>= read-behind lim) (shaped-none lim letter-R 4 line (λ e. omega (arith, e)) s)
     ∙ (λ i. refused (sym n i) (sym p i) [])
 lines-refused lim wide bytes number place (first-prime n p line later e x₁ x₂ x₃ x₄ s h) =
     let q : Parameters = record { p = x₁; n = x₂; code = x₃; s = x₄; degrees = replicate x₄ 0 } in
-    ap (lines-read lim) e ∙ ap (λ o. after-r lim later o >>= read-on lim)
+    ap (lines-read lim) e ∙ ap (λ o. behind-r lim later o >>= read-behind lim)
     (says-shaped lim letter-R 4 line (x₁ ∷ x₂ ∷ x₃ ∷ x₄ ∷ []) (λ e. omega (arith, e)) (λ e. omega (arith, e)) s)
-    ∙ ap (λ r. (r >>= λ q′. d-first lim (head-of q′ later) later) >>= read-on lim)
+    ∙ ap (λ r. (r >>= λ q′. d-first lim (head-of q′ later) later) >>= read-behind lim)
     (guard-not (prime-in-range? lim x₁) 2 1 (λ u. unless-refused (in-ranges? lim q) 3 1 >>= λ u′. done q) (λ t. h (prime-told lim wide bytes x₁ t)))
     ∙ (λ i. refused (sym n i) (sym p i) [])
 lines-refused lim wide bytes number place (first-range n p line later e x₁ x₂ x₃ x₄ s h w) =
     let q : Parameters = record { p = x₁; n = x₂; code = x₃; s = x₄; degrees = replicate x₄ 0 } in
-    ap (lines-read lim) e ∙ ap (λ o. after-r lim later o >>= read-on lim)
+    ap (lines-read lim) e ∙ ap (λ o. behind-r lim later o >>= read-behind lim)
     (says-shaped lim letter-R 4 line (x₁ ∷ x₂ ∷ x₃ ∷ x₄ ∷ []) (λ e. omega (arith, e)) (λ e. omega (arith, e)) s)
-    ∙ ap (λ r. (r >>= λ q′. d-first lim (head-of q′ later) later) >>= read-on lim)
+    ∙ ap (λ r. (r >>= λ q′. d-first lim (head-of q′ later) later) >>= read-behind lim)
     (passed (prime-in-range? lim x₁) 2 1 (λ u. unless-refused (in-ranges? lim q) 3 1 >>= λ u′. done q) (prime-shown lim wide bytes x₁ h)
     ∙ guard-not (in-ranges? lim q) 3 1 (λ u′. done q) (λ t. w (parameters-well lim q (prime-shown lim wide bytes x₁ h) t)))
     ∙ (λ i. refused (sym n i) (sym p i) [])
 lines-refused lim wide bytes number place (second-degree n p q w tail t line later e v says h) =
     let b = fits? most-degree v in
-    ap (λ z. lines-read lim (lines z)) t ∙ ap (λ r. r >>= read-on lim) (first-taken lim wide q w tail)
-    ∙ ap (λ l. d-first lim (head-of (plain q) l) l >>= read-on lim) e
-    ∙ ap (λ o. d-line (head-of (plain q) (line ∷ later)) later o >>= read-on lim)
+    ap (λ z. lines-read lim (lines z)) t ∙ ap (λ r. r >>= read-behind lim) (first-taken lim wide q w tail)
+    ∙ ap (λ l. d-first lim (head-of (plain q) l) l >>= read-behind lim) e
+    ∙ ap (λ o. d-line (head-of (plain q) (line ∷ later)) later o >>= read-behind lim)
     (says-shaped lim letter-D (q .s) line v (λ e. omega (arith, e)) (λ e. omega (arith, e)) says)
-    ∙ ap (λ r. r >>= read-on lim) (guard-not b 18 2 (λ u. done (with-degrees (head-of (plain q) (line ∷ later)) v later)) (λ x. h (fits-says v x)))
+    ∙ ap (λ r. r >>= read-behind lim)
+    (guard-not b 18 2 (λ u. done (with-degrees (head-of (plain q) (line ∷ later)) v later)) (λ x. h (fits-says most-degree v x)))
     ∙ (λ i. refused (sym n i) (sym p i) [])
+lines-refused lim wide bytes number place (head-weight n degrees p q w d tail t line later e v says h) =
+    let b = fits? most-weight v in
+    ap (λ z. lines-read lim (lines z)) t
+    ∙ ap (λ r. r >>= read-behind lim) (degrees-taken lim wide degrees q w d tail no-d)
+    ∙ ap (λ l. g-next lim (degrees-read degrees q l) l >>= read-on lim) e
+    ∙ ap (λ o. g-line (degrees-read degrees q (line ∷ later)) later o >>= read-on lim)
+    (says-shaped lim letter-G (2 * q .n) line v (λ e. omega (arith, e)) (λ e. omega (arith, e)) says)
+    ∙ ap (λ r. r >>= read-on lim)
+    (guard-not b 24 (behind-degrees degrees) (λ u. done (with-weights (degrees-read degrees q (line ∷ later)) v later)) (λ x. h (fits-says most-weight v x)))
+    ∙ (λ i. refused (sym n i) (sym p i) [])
+  where
+    -- G is no D
+    no-d : degrees ≡ false → No-D lim (q .s) (lines tail)
+    no-d g =
+        subst (No-D lim (q .s)) (sym e)
+        (ap (shaped (lim .field) letter-D (q .s)) (says-line lim letter-G (2 * q .n) line v (λ e. omega (arith, e)) says)
+        ∙ other-letter (lim .field) letter-G letter-D (q .s) (λ e. omega (arith, e)) (λ e. omega (arith, e)) v)
 lines-refused lim wide bytes number place (later-line given q f so tail t p b) =
     ap (λ z. lines-read lim (lines z)) t
     ∙ after-lines lim wide q (so .parameters) given f so tail number place (later-no-d lim wide q (so .parameters) given f b)
+    (later-no-g lim wide q (so .parameters) given f b)
     (λ here h. later-refused lim wide q (so .parameters) given here f b ∙ (let e : here ≡ place = omega (arith, h, p) in ap (λ x. refused number x []) e))
 lines-refused lim wide bytes number place (after-end n given q f so m tail line later e t p) =
     ap (λ z. lines-read lim (lines z)) t
     ∙ after-lines lim wide q (so .parameters) given f so (end-line f ++ tail) number place
-    (λ g z. absurd (let k : terms-of f ≡ 0 = ap terms-of z in omega (arith, m, k)))
+    (λ z. absurd (let k : terms-of f ≡ 0 = ap terms-of (z .1 .1) in omega (arith, m, k)))
+    (λ z. absurd (let k : terms-of f ≡ 0 = ap terms-of (z .1) in omega (arith, m, k)))
     (λ here h. end-refused lim wide q (so .parameters) here f tail line later m (so .short) e
     ∙ (let k : suc here ≡ place = omega (arith, h, p) in λ i. refused (sym n i) (k i) []))
 

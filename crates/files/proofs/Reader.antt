@@ -1,7 +1,7 @@
 -- The reader is right: what it takes, what it refuses and where.
 use mathlib.Core.Path.{_≡_, refl, sym, ap, _∙_, subst}
 use mathlib.Core.Bool.{Bool, true, false}
-use mathlib.Core.List.{List, [], _∷_}
+use mathlib.Core.List.{List, [], _∷_, _++_}
 use Prim.Native.Nat.{ℕ, zero, suc, _<_, _≤_}
 use native.Mathlib.Omega.{arith}
 use borrow.Author.Tests.{leb-true, leb-false}
@@ -10,12 +10,12 @@ use lib.ListN.{length, take}
 use Rattle.definitions.specs.Limits.{Limits, document-01}
 use Rattle.definitions.specs.Monomial.{Vector, Level}
 use Rattle.definitions.specs.Result.{Result, done, refused, unfinished, unless-refused, _>>=_}
-use Rattle.definitions.specs.Problem.{Bytes, Parameters, lines, problem}
-use Rattle.files.specs.Files.{file-of, Wide, Roomy, First-bad-line}
+use Rattle.definitions.specs.Problem.{Bytes, Parameters, Head, lines, first-line, head, problem}
+use Rattle.files.specs.Files.{Given, elements-lines, end-line, file-of, weights-of, Well-formed, Well-formed-file, Wide, Roomy, First-bad-line}
 use Rattle.files.specs.Answers
-use Rattle.files.specs.Answers.{Refused-right, too-long, at-line, Answered, Reader-right}
-use Rattle.files.proofs.Heads.{lines-read, problem-sized}
-use Rattle.files.proofs.Taken.{lines-taken, file-taken}
+use Rattle.files.specs.Answers.{Refused-right, too-long, at-line, Answered, Head-read, Reader-right}
+use Rattle.files.proofs.Heads.{lines-read, problem-sized, head-read}
+use Rattle.files.proofs.Taken.{lines-taken, file-taken, head-of-file, file-head}
 use Rattle.files.proofs.Only.{taken-only}
 use Rattle.files.proofs.First.{If-refused, Bad-lines, lines-bad}
 use Rattle.files.proofs.Why.{refusal-why}
@@ -30,10 +30,10 @@ not-both : {A : Type 0} {a : A} {number place : ℕ} {value : Vector} (r : Resul
 unfolding done?
 not-both r e k = subst (λ x. T (done? x)) (sym e ∙ k) tt
 
-done-only : (x y : Parameters × Level) → _≡_ {A = Result (Parameters × Level)} (done x) (done y) → x ≡ y
-done-only x y e = ap value e
+done-only : {A : Type 0} (x y : A) → _≡_ {A = Result A} (done x) (done y) → x ≡ y
+done-only {A} x y e = ap value e
   where
-    value : Result (Parameters × Level) → Parameters × Level
+    value : Result A → A
     value (done a) = a
     value (refused number place v) = x
     value unfinished = x
@@ -78,14 +78,38 @@ module _ (lim : Limits) (wide : Wide lim) (room : Roomy lim) where
   refuses bytes number place (too-long n p l) = too-long-refused lim bytes l ∙ (λ i. refused (sym n i) (sym p i) [])
   refuses bytes number place (at-line m l b r) = reason-refused lim wide bytes number place l r
 
+  -- what stands behind the head of a file
+  abbrev behind : Parameters → Level → Bytes
+  behind q f = elements-lines (q .n) 1 f ++ end-line f
+
+  weighed : (bytes : Bytes) (q : Parameters) (f : Level) (w : Well-formed-file lim bytes q f) → Head-read lim bytes q (weights-of (w .given) q)
+  weighed bytes q f w = record {
+    said = head-read (w .given) q (lines (behind q f));
+    read = subst (λ b. head lim b ≡ done (head-read (w .given) q (lines (behind q f)))) (sym (w .text))
+        (file-head lim wide (w .given) q f (w .well) (subst (λ b. length b ≤ lim .file) (w .text) (w .fits)));
+    parameters = refl;
+    weighed = refl;
+  }
+
+  same-weights : (given given′ : Given) (q r : Parameters) (f g : Level) → Well-formed lim given q f → Well-formed lim given′ r g
+      → file-of given q f ≡ file-of given′ r g → weights-of given q ≡ weights-of given′ r
+  same-weights given given′ q r f g w u e =
+      let x = head-read given q (lines (behind q f)) in
+      let y = head-read given′ r (lines (behind r g)) in
+      ap (λ (h : Head). h .weights)
+      (done-only x y (sym (head-of-file lim wide given q f w) ∙ ap (λ b. first-line lim (lines b)) e ∙ head-of-file lim wide given′ r g u))
+
   pub reader-right : Reader-right lim
   reader-right = record {
     taken = λ bytes q f w. subst (λ b. problem lim b ≡ done (q, f)) (sym (w .text))
         (file-taken lim wide (w .given) q f (w .well) (subst (λ b. length b ≤ lim .file) (w .text) (w .fits)));
+    weighed = weighed;
     refuses = refuses;
     answered = answered;
-    once = λ given given′ q r f g w u e. done-only (q, f) (r, g) (sym (lines-taken lim wide given q f w) ∙ ap (λ b. lines-read lim (lines b)) e
-        ∙ lines-taken lim wide given′ r g u);
+    once = λ given given′ q r f g w u e. (
+      done-only (q, f) (r, g) (sym (lines-taken lim wide given q f w) ∙ ap (λ b. lines-read lim (lines b)) e ∙ lines-taken lim wide given′ r g u),
+      same-weights given given′ q r f g w u e,
+    );
   }
 
 -- there is one first bad line
@@ -122,6 +146,7 @@ document-wide = record {
   exponent-in-field = lit≤ tt;
   t-lines-in-field = lit≤ tt;
   degree-in-field = lit≤ tt;
+  weight-in-field = lit≤ tt;
 }
 
 pub document-roomy : Roomy document-01

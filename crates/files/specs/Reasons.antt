@@ -1,28 +1,30 @@
--- "Refusals from the input" 1 to 8, each with its reason in plain notions; "1, then 2, 3 for R; 1, 8, 5, 4, 6 for T; 1, 7 for E". And 18 for D (A5).
+-- "Refusals from the input" 1 to 8, each with its reason in plain notions; "1, then 2, 3 for R; 1, 8, 5, 4, 6 for T; 1, 7 for E".
+-- And 18 for D (A5), 24 for G (A14).
 use mathlib.Core.Path.{_≡_}
 use mathlib.Core.Bool.{Bool, false}
 use mathlib.Core.Logic.{_⊎_}
-use mathlib.Core.Option.{some}
+use mathlib.Core.Option.{none, some}
 use mathlib.Core.List.{List, [], _∷_, _++_}
-use Prim.Native.Nat.{ℕ, suc, _+_, _≤_, _<_}
+use Prim.Native.Nat.{ℕ, suc, _+_, _*_, _≤_, _<_}
 use lib.ListN.{length, drop, replicate}
 use Rattle.definitions.specs.Limits.{Limits}
 use Rattle.definitions.specs.Lists.{last}
 use Rattle.definitions.specs.Monomial.{Term, Vector, Level}
 use Rattle.definitions.specs.Order.{greater, compare-over}
-use Rattle.definitions.specs.Problem.{Bytes, Line, Parameters, letter-R, letter-D, letter-T, letter-E, lines, last-term}
-use Rattle.definitions.specs.Places.{most-degree}
+use Rattle.definitions.specs.Problem.{Bytes, Line, Parameters, letter-R, letter-D, letter-G, letter-T, letter-E, lines, last-term}
+use Rattle.definitions.specs.Places.{most-degree, most-weight}
 use Rattle.definitions.specs.State.{terms-of}
 use Rattle.definitions.specs.Sheet.{printed, term-fields}
 use Rattle.laws.proofs.Modular.{Prime}
 use Rattle.laws.proofs.Members.{All}
-use Rattle.files.specs.Files.{elements-lines, end-line, first-line-of, degrees-line, first-term-line, Well-formed-parameters, Degrees-said}
-use Rattle.files.specs.Files.{Well-formed-element}
+use Rattle.files.specs.Files.{elements-lines, end-line, first-line-of, Given, degrees-line, given-lines, behind-degrees, first-term-line}
+use Rattle.files.specs.Files.{Well-formed-parameters, Degrees-said, Weights-said, Well-formed-element}
 
 -- the elements of the lines so far are in order
-pub record So-far (lim : Limits) (given : Bool) (q : Parameters) (f : Level) : Type 0 where
+pub record So-far (lim : Limits) (given : Given) (q : Parameters) (f : Level) : Type 0 where
   pub parameters : Well-formed-parameters lim q
-  pub degrees : Degrees-said given q
+  pub degrees : Degrees-said (given .degrees) q
+  pub weights : Weights-said (given .weights) q
   pub few : length f ≤ lim .elements
   pub short : terms-of f ≤ lim .t-lines
   pub elements : All (Well-formed-element lim q) f
@@ -56,14 +58,19 @@ pub data Bad-term (lim : Limits) (q : Parameters) (f : Level) (i : ℕ) (t : Ter
   out-of-range : terms-of f < lim .t-lines → In-sequence lim f i → ¬ (In-range lim q t) → Bad-term lim q f i t 4
   not-below : terms-of f < lim .t-lines → In-sequence lim f i → In-range lim q t → ¬ (Below (q .code) f i t) → Bad-term lim q f i t 6
 
--- the next line is line 2: there alone D may stand
-abbrev pub Second : Bool → Level → Type 0
-Second given f = (given ≡ false) × (f ≡ [])
+-- the next line is the one behind R, or behind R and D: there alone G may stand
+abbrev pub Head-so-far : Given → Level → Type 0
+Head-so-far given f = (given .weights ≡ none) × (f ≡ [])
 
--- the lines after R, D where it is given, and the T lines of f
-pub data Bad-later (lim : Limits) (given : Bool) (q : Parameters) (f : Level) : List Line → ℕ → Type 0 where
+-- the next line is line 2: there alone D may stand
+abbrev pub Second : Given → Level → Type 0
+Second given f = (given .degrees ≡ false) × Head-so-far given f
+
+-- the lines after R, after D and G where they are given, and the T lines of f
+pub data Bad-later (lim : Limits) (given : Given) (q : Parameters) (f : Level) : List Line → ℕ → Type 0 where
   absent : Bad-later lim given q f [] 1
   no-shape : {line : Line} {later : List Line} → (Second given f → (v : List ℕ) → ¬ (Says lim letter-D (q .s) line v))
+      → (Head-so-far given f → (v : List ℕ) → ¬ (Says lim letter-G (2 * q .n) line v))
       → ((v : List ℕ) → ¬ (Says lim letter-T (3 + q .n) line v))
       → ((v : List ℕ) → ¬ (Says lim letter-E 1 line v))
       → Bad-later lim given q f (line ∷ later) 1
@@ -90,10 +97,15 @@ pub data Reason (lim : Limits) (bytes : Bytes) (number place : ℕ) : Type 0 whe
   second-degree : number ≡ 18 → place ≡ 2 → (q : Parameters) → Well-formed-parameters lim q → (tail : Bytes) → bytes ≡ first-line-of q ++ tail
       → (line : Line) (later : List Line) → lines tail ≡ line ∷ later → (v : List ℕ) → Says lim letter-D (q .s) line v
       → ¬ (All (λ x. x ≤ most-degree) v) → Reason lim bytes number place
-  later-line : (given : Bool) (q : Parameters) (f : Level) → So-far lim given q f → (tail : Bytes)
-      → bytes ≡ first-line-of q ++ (degrees-line given q ++ (elements-lines (q .n) 1 f ++ tail))
+  -- "24 when a weight is above 15, after its line's shape" (A14)
+  head-weight : number ≡ 24 → (degrees : Bool) → place ≡ behind-degrees degrees → (q : Parameters) → Well-formed-parameters lim q
+      → Degrees-said degrees q → (tail : Bytes) → bytes ≡ first-line-of q ++ (degrees-line degrees q ++ tail)
+      → (line : Line) (later : List Line) → lines tail ≡ line ∷ later → (v : List ℕ) → Says lim letter-G (2 * q .n) line v
+      → ¬ (All (λ x. x ≤ most-weight) v) → Reason lim bytes number place
+  later-line : (given : Given) (q : Parameters) (f : Level) → So-far lim given q f → (tail : Bytes)
+      → bytes ≡ first-line-of q ++ (given-lines given q ++ (elements-lines (q .n) 1 f ++ tail))
       → place ≡ first-term-line given + terms-of f → Bad-later lim given q f (lines tail) number → Reason lim bytes number place
-  after-end : number ≡ 1 → (given : Bool) (q : Parameters) (f : Level) → So-far lim given q f → 1 ≤ terms-of f
+  after-end : number ≡ 1 → (given : Given) (q : Parameters) (f : Level) → So-far lim given q f → 1 ≤ terms-of f
       → (tail : Bytes) (line : Line) (later : List Line) → lines tail ≡ line ∷ later
-      → bytes ≡ first-line-of q ++ (degrees-line given q ++ (elements-lines (q .n) 1 f ++ (end-line f ++ tail)))
+      → bytes ≡ first-line-of q ++ (given-lines given q ++ (elements-lines (q .n) 1 f ++ (end-line f ++ tail)))
       → place ≡ suc (first-term-line given) + terms-of f → Reason lim bytes number place

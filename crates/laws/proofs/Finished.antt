@@ -2,7 +2,7 @@
 use mathlib.Core.Bool.{Bool, true, false, not}
 use mathlib.Core.Option.{Option, none, some}
 use mathlib.Core.List.{List, [], _∷_}
-use Prim.Native.Nat.{ℕ, zero, suc, _+_, _-_}
+use Prim.Native.Nat.{ℕ, zero, suc, _+_, _-_, _*_}
 use lib.Dec.{T, leb, ltb, eqb}
 use lib.ListN.{length, getD}
 use Rattle.definitions.specs.Limits.{Limits}
@@ -23,8 +23,9 @@ use Rattle.definitions.specs.Tree.{open-subtree, or-open, lift-by, lift-term, i
 use Rattle.definitions.specs.Lifting.{Lifted, add-vector, with-vector, if-few, limited-frame}
 use Rattle.definitions.specs.Problem.{Bytes, Line, Parameters, lines, shaped, letter-R, letter-T, letter-E, prime-in-range?, in-ranges?}
 use Rattle.definitions.specs.Problem.{parameters-of, r-line, term-of, next?, in-sequence?, term-in-range?, descends?, with-term, t-line, e-line}
-use Rattle.definitions.specs.Problem.{by-shape, body, Head, head-of, letter-D, with-degrees, d-line, d-first, after-r, first-line, head, problem}
-use Rattle.definitions.specs.Places.{most-degree}
+use Rattle.definitions.specs.Problem.{by-shape, body, Head, head-of, letter-D, with-degrees, d-line, d-first, letter-G, with-weights, g-line, g-next}
+use Rattle.definitions.specs.Problem.{after-r, first-line, head, problem}
+use Rattle.definitions.specs.Places.{most-degree, most-weight}
 use Rattle.laws.proofs.Results.{bind-finished, unless-refused-finished}
 
 -- ## A step
@@ -257,13 +258,23 @@ d-first-finished : (lim : Limits) (h : Head) (ls : List Line) → T (finished? (
 d-first-finished lim h [] = tt
 d-first-finished lim h (line ∷ later) = d-line-finished h later (shaped (lim .field) letter-D (h .parameters .s) line)
 
+g-line-finished : (h : Head) (later : List Line) (o : Option (List ℕ)) → T (finished? (g-line h later o))
+g-line-finished h later none = tt
+g-line-finished h later (some v) = guard-finished (fits? most-weight v) 24 (h .place) (λ u. done (with-weights h v later)) (λ u. tt)
+
+g-next-finished : (lim : Limits) (h : Head) (ls : List Line) → T (finished? (g-next lim h ls))
+g-next-finished lim h [] = tt
+g-next-finished lim h (line ∷ later) = g-line-finished h later (shaped (lim .field) letter-G (2 * h .parameters .n) line)
+
 pub head-finished : (lim : Limits) (bytes : Bytes) → T (finished? (head lim bytes))
 head-finished lim bytes = guard-finished (leb (length bytes) (lim .file)) 1 0 (λ u. first-line lim (lines bytes)) (λ u. first (lines bytes))
   where
     after : (later : List Line) (o : Option (List ℕ)) → T (finished? (after-r lim later o))
     after later none = tt
-    after later (some v) = bind-finished (r-line lim v) (λ q. d-first lim (head-of q later) later) (r-line-finished lim v)
-        (λ q. d-first-finished lim (head-of q later) later)
+    after later (some v) =
+        bind-finished (r-line lim v) (λ q. d-first lim (head-of q later) later >>= λ h. g-next lim h (h .later)) (r-line-finished lim v) λ q.
+        bind-finished (d-first lim (head-of q later) later) (λ h. g-next lim h (h .later)) (d-first-finished lim (head-of q later) later)
+        (λ h. g-next-finished lim h (h .later))
 
     first : (ls : List Line) → T (finished? (first-line lim ls))
     first [] = tt

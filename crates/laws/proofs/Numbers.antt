@@ -1,9 +1,9 @@
--- By which numbers each part refuses: a run by 13, 14 or, where it stops, 9; the lifting of a level by 13 to 15; reading by 1 to 9, 13 to 15 and 18.
+-- By which numbers each part refuses: a run by 13, 14 or, where it stops, 9; the lifting of a level by 13 to 15; reading by 1 to 9, 13 to 15, 18 and 24.
 use mathlib.Core.Path.{_≡_, sym, subst}
 use mathlib.Core.Bool.{Bool, true, false, not, _||_}
 use mathlib.Core.Option.{Option, none, some}
 use mathlib.Core.List.{List, [], _∷_}
-use Prim.Native.Nat.{ℕ, zero, suc, _+_, _-_, _≤_}
+use Prim.Native.Nat.{ℕ, zero, suc, _+_, _-_, _*_, _≤_}
 use native.Mathlib.Omega.{arith}
 use lib.Dec.{T, leb, ltb, eqb, eqb→eq}
 use lib.ListN.{length, getD}
@@ -26,8 +26,8 @@ use Rattle.definitions.specs.Lifting.{Lifting, by-division, by-hybrid, by-tree,
 use Rattle.definitions.specs.Lifting.{at-frame-term, accept-from, accept}
 use Rattle.definitions.specs.Problem.{Bytes, Line, Parameters, shaped, letter-R, letter-T, letter-E, prime-in-range?, in-ranges?, parameters-of, r-line}
 use Rattle.definitions.specs.Problem.{term-of, in-sequence?, term-in-range?, descends?, t-line, e-line, by-shape, body, after-r, first-line, lines}
-use Rattle.definitions.specs.Problem.{letter-D, Head, head-of, d-line, d-first, head, problem}
-use Rattle.definitions.specs.Places.{most-degree}
+use Rattle.definitions.specs.Problem.{letter-D, letter-G, Head, head-of, d-line, d-first, g-line, g-next, head, problem}
+use Rattle.definitions.specs.Places.{most-degree, most-weight}
 use Rattle.definitions.specs.State.{State, up-to}
 use Rattle.definitions.specs.Calls.{read, lift}
 use Rattle.laws.proofs.Tests.{between-low, between-high, between-shown}
@@ -62,9 +62,9 @@ limit-number? n = between 13 n 15
 abbrev pub run-number? : ℕ → Bool
 run-number? n = eqb n 9 || between 13 n 15
 
--- the refusals of a line that requests add: 18 (A5)
+-- the refusals of a line that requests add: 18 (A5), 24 (A14)
 abbrev pub added-number? : ℕ → Bool
-added-number? n = eqb n 18
+added-number? n = eqb n 18 || eqb n 24
 
 -- "After 1 to 9 and 13 to 15", and "A refusal that a request adds leaves what 1 leaves"
 abbrev pub read-number? : ℕ → Bool
@@ -319,9 +319,18 @@ d-first-number : (lim : Limits) (h : Head) (ls : List Line) → Numbered line-nu
 d-first-number lim h [] = gives
 d-first-number lim h (line ∷ later) = d-line-number h later (shaped (lim .field) letter-D (h .parameters .s) line)
 
+g-line-number : (h : Head) (later : List Line) (o : Option (List ℕ)) → Numbered line-number? (g-line h later o)
+g-line-number h later none = gives
+g-line-number h later (some v) = numbered-then (unless-number (fits? most-weight v) 24 (h .place) tt) (λ u. gives)
+
+g-next-number : (lim : Limits) (h : Head) (ls : List Line) → Numbered line-number? (g-next lim h ls)
+g-next-number lim h [] = gives
+g-next-number lim h (line ∷ later) = g-line-number h later (shaped (lim .field) letter-G (2 * h .parameters .n) line)
+
 after-r-number : (lim : Limits) (later : List Line) (o : Option (List ℕ)) → Numbered line-number? (after-r lim later o)
 after-r-number lim later none = refuses tt
-after-r-number lim later (some v) = numbered-then (r-line-number lim v) (λ q. d-first-number lim (head-of q later) later)
+after-r-number lim later (some v) =
+    numbered-then (r-line-number lim v) (λ q. numbered-then (d-first-number lim (head-of q later) later) (λ h. g-next-number lim h (h .later)))
 
 first-line-number : (lim : Limits) (ls : List Line) → Numbered line-number? (first-line lim ls)
 first-line-number lim [] = refuses tt

@@ -4,22 +4,23 @@ use mathlib.Core.Path.{_≡_, refl, sym, ap, subst}
 use mathlib.Core.Bool.{Bool, true, false, not}
 use mathlib.Core.Option.{Option, none, some}
 use mathlib.Core.List.{List, [], _∷_}
-use Prim.Native.Nat.{ℕ, zero, suc, _+_, _≤_}
+use Prim.Native.Nat.{ℕ, zero, suc, _+_, _*_, _≤_}
 use native.Mathlib.Omega.{arith}
-use lib.Dec.{T, leb, ltb, eqb, ltb→lt, eqb→eq, eqb-refl, T-not}
+use lib.Dec.{T, leb, ltb, eqb, leb→le, ltb→lt, eqb→eq, eqb-refl, T-not}
 use lib.ListN.{length, getD, replicate, length-replicate}
 use Rattle.definitions.specs.Limits.{Limits}
 use Rattle.definitions.specs.Lists.{_and_, _then_, between, empty?}
 use Rattle.definitions.specs.Monomial.{Term, Level, fits?}
 use Rattle.definitions.specs.Result.{Result, done, unless-refused, _>>=_}
 use Rattle.definitions.specs.Problem.{Bytes, Line, Parameters, number, all-numbers, letter?, shaped-fields, shaped, split, comma, lines}
-use Rattle.definitions.specs.Problem.{letter-R, letter-D, letter-T, letter-E}
+use Rattle.definitions.specs.Problem.{letter-R, letter-D, letter-G, letter-T, letter-E}
 use Rattle.definitions.specs.Problem.{prime-in-range?, in-ranges?, parameters-of, r-line, term-of, next?, in-sequence?, term-in-range?}
 use Rattle.definitions.specs.Problem.{descends?, with-term, t-line, e-line, by-shape, body, after-r, first-line}
-use Rattle.definitions.specs.Problem.{Head, head-of, with-degrees, d-line, d-first, head, problem}
-use Rattle.definitions.specs.Places.{most-degree}
+use Rattle.definitions.specs.Problem.{Head, head-of, with-degrees, d-line, d-first, pairs, with-weights, g-line, g-next, head, problem}
+use Rattle.definitions.specs.Places.{most-degree, most-weight}
 use Rattle.definitions.specs.State.{State, degrees-sound?, levels-sound?, sound?}
 use Rattle.laws.proofs.Tests.{and-left, and-right, and-both, between-high}
+use Rattle.laws.proofs.Members.{All}
 use Rattle.laws.proofs.Results.{If-done, if-done-bind, guard-done, If-some, if-some-then, if-some-always}
 use Rattle.laws.proofs.Sound.{sound-shown}
 use Rattle.laws.proofs.Elements.{Elements, term-of-sound, with-term-elements, basis-sound}
@@ -127,11 +128,41 @@ module _ (lim : Limits) (q : Parameters) where
 abbrev pub basis-state : Parameters × Level → State
 basis-state f = record { parameters = f .0; levels = f .1 ∷ [] }
 
+-- a weight a and a weight b: "weights 0 to 15" (A14)
+abbrev pub Weights-fit : ℕ × ℕ → Type 0
+Weights-fit w = (w .0 ≤ most-weight) × (w .1 ≤ most-weight)
+
+-- two weights for each of n variables
+pub pairs-length : (n : ℕ) (v : List ℕ) → length v ≡ 2 * n → length (pairs v) ≡ n
+pairs-length zero [] e = refl
+pairs-length zero (a ∷ v) e = absurd (omega arith)
+pairs-length (suc n) [] e = absurd (omega arith)
+pairs-length (suc n) (a ∷ []) e = absurd (omega arith)
+pairs-length (suc n) (a ∷ b ∷ v) e = ap suc (pairs-length n v (omega arith))
+
+pub pairs-fit : (v : List ℕ) → T (fits? most-weight v) → All Weights-fit (pairs v)
+pairs-fit [] t = tt
+pairs-fit (a ∷ []) t = tt
+pairs-fit (a ∷ b ∷ v) t =
+    let u : T (fits? most-weight (b ∷ v)) = and-right (leb a most-weight) (fits? most-weight (b ∷ v)) t in (
+      (
+        leb→le a most-weight (and-left (leb a most-weight) (fits? most-weight (b ∷ v)) t),
+        leb→le b most-weight (and-left (leb b most-weight) (fits? most-weight v) u),
+      ),
+      pairs-fit v (and-right (leb b most-weight) (fits? most-weight v) u),
+    )
+
+ones-fit : (n : ℕ) → All Weights-fit (replicate n (1, 0))
+ones-fit zero = tt
+ones-fit (suc n) = ((omega arith, omega arith), ones-fit n)
+
 -- the lines before the first T line passed their tests
 pub record Ready (lim : Limits) (h : Head) : Type 0 where
   pub prime : T (prime-in-range? lim (h .parameters .p))
   pub ranges : T (in-ranges? lim (h .parameters))
   pub degrees : T (degrees-sound? (h .parameters))
+  pub weighed : length (h .weights) ≡ h .parameters .n
+  pub weights : All Weights-fit (h .weights)
 
 module _ (lim : Limits) where
   zeros-fit : (n : ℕ) → T (fits? most-degree (replicate n 0))
@@ -143,7 +174,8 @@ module _ (lim : Limits) where
   r-line-ready later v =
       let q = parameters-of v in
       guard-done (λ q. Ready lim (head-of q later)) (prime-in-range? lim (q .p)) 2 1 (λ u. unless-refused (in-ranges? lim q) 3 1 >>= λ u′. done q) λ t.
-      guard-done (λ q. Ready lim (head-of q later)) (in-ranges? lim q) 3 1 (λ u′. done q) (λ t′. record { prime = t; ranges = t′; degrees = plain })
+      guard-done (λ q. Ready lim (head-of q later)) (in-ranges? lim q) 3 1 (λ u′. done q) λ t′.
+      record { prime = t; ranges = t′; degrees = plain; weighed = length-replicate {A = ℕ × ℕ} (q .n) (1, 0); weights = ones-fit (q .n) }
     where
       s : ℕ
       s = getD v 3 0
@@ -163,6 +195,8 @@ module _ (lim : Limits) where
         ranges = r .ranges;
         degrees = and-both (eqb (length v) (h .parameters .s)) (fits? most-degree v)
             (subst (λ n. T (eqb n (h .parameters .s))) (sym l) (eqb-refl (h .parameters .s))) t;
+        weighed = r .weighed;
+        weights = r .weights;
       }
 
   pub d-first-ready : (h : Head) → Ready lim h → (ls : List Line) → If-done (Ready lim) (d-first lim h ls)
@@ -170,14 +204,28 @@ module _ (lim : Limits) where
   d-first-ready h r (line ∷ later) =
       d-line-ready h r later (shaped (lim .field) letter-D (h .parameters .s) line) (shaped-length (lim .field) letter-D (h .parameters .s) line)
 
+  g-line-ready : (h : Head) → Ready lim h → (later : List Line) (o : Option (List ℕ)) → If-some (Counts (2 * h .parameters .n)) o
+      → If-done (Ready lim) (g-line h later o)
+  g-line-ready h r later none l = r
+  g-line-ready h r later (some v) l =
+      guard-done (Ready lim) (fits? most-weight v) 24 (h .place) (λ u. done (with-weights h v later)) λ t.
+      record { prime = r .prime; ranges = r .ranges; degrees = r .degrees; weighed = pairs-length (h .parameters .n) v l; weights = pairs-fit v t }
+
+  pub g-next-ready : (h : Head) → Ready lim h → (ls : List Line) → If-done (Ready lim) (g-next lim h ls)
+  g-next-ready h r [] = r
+  g-next-ready h r (line ∷ later) =
+      g-line-ready h r later (shaped (lim .field) letter-G (2 * h .parameters .n) line) (shaped-length (lim .field) letter-G (2 * h .parameters .n) line)
+
   pub head-ready : (bytes : Bytes) → If-done (Ready lim) (head lim bytes)
   head-ready bytes = guard-done (Ready lim) (leb (length bytes) (lim .file)) 1 0 (λ u. first-line lim (lines bytes)) (λ t. first (lines bytes))
     where
       after : (later : List Line) (o : Option (List ℕ)) → If-done (Ready lim) (after-r lim later o)
       after later none = tt
       after later (some v) =
-          if-done-bind (λ q. Ready lim (head-of q later)) (Ready lim) (r-line lim v) (λ q. d-first lim (head-of q later) later) (r-line-ready later v)
-          (λ q r. d-first-ready (head-of q later) r later)
+          if-done-bind (λ q. Ready lim (head-of q later)) (Ready lim) (r-line lim v)
+          (λ q. d-first lim (head-of q later) later >>= λ h. g-next lim h (h .later)) (r-line-ready later v) λ q r.
+          if-done-bind (Ready lim) (Ready lim) (d-first lim (head-of q later) later) (λ h. g-next lim h (h .later)) (d-first-ready (head-of q later) r later)
+          (λ h k. g-next-ready h k (h .later))
 
       first : (ls : List Line) → If-done (Ready lim) (first-line lim ls)
       first [] = tt

@@ -1,4 +1,4 @@
--- "11, 12, 16 change no buffer and no state. After 1 to 9 and 13 to 15 the state is empty", and after 18: of the calls on buffers.
+-- "11, 12, 16 change no buffer and no state. After 1 to 9 and 13 to 15 the state is empty", and after 18 and 24: of the calls on buffers.
 use mathlib.Core.Path.{_≡_, refl, sym, ap, _∙_, subst}
 use mathlib.Core.Bool.{Bool, true, false, not, _||_}
 use mathlib.Core.Option.{Option, none, some, Option·some-injective}

@@ -1,7 +1,6 @@
 // The sheet's lines as bytes in a lent buffer.
 // Knows: crate definitions' Sheet.
 // Each function answers where its bytes end.
-ghost use mathlib.Core.Path.{_≡_};
 ghost use mathlib.Core.List.{[], _∷_};
 ghost use Prim.Native.Nat.{_+_, _-_, _*_, _≤_, _<_};
 ghost use lib.ListN.{length, take};
@@ -26,7 +25,7 @@ use vectors::terms;
 use vectors::terms::Term;
 
 // A comma and a number.
-fn field(out: &mut [u8], at: usize, v: usize) -> usize
+pub fn field(out: &mut [u8], at: usize, v: usize) -> usize
     requires { ⌜ at + 1 + length (decimal v) ≤ length (now out) ⌝ }
     ensures { λ r. ⌜ Printed (now (out .entry)) (now (out .exit)) at r (comma ∷ decimal v) ⌝ }
 {

@@ -2,7 +2,7 @@
 use mathlib.Core.Path.{_≡_, refl, sym, ap, _∙_}
 use mathlib.Core.Option.{Option, none, some}
 use mathlib.Core.List.{List, [], _∷_}
-use Prim.Native.Nat.{ℕ, suc, _+_, _≤_}
+use Prim.Native.Nat.{ℕ, suc, _+_, _*_, _≤_}
 use native.Mathlib.Omega.{arith}
 use lib.Dec.{leb, le→leb}
 use lib.ListN.{length, getD}
@@ -12,8 +12,9 @@ use Rattle.definitions.specs.Field.{prime?}
 use Rattle.definitions.specs.Monomial.{Level, fits?}
 use Rattle.definitions.specs.Result.{Result, done, refused, unfinished, unless-refused, _>>=_}
 use Rattle.definitions.specs.Problem.{Bytes, Line, Parameters, lines, shaped, letter-R, letter-T, parameters-of, prime-in-range?, in-ranges?, r-line, t-line}
-use Rattle.definitions.specs.Problem.{by-shape, body, letter-D, Head, head-of, with-degrees, d-line, d-first, after-r, first-line, head, problem}
-use Rattle.definitions.specs.Places.{most-degree}
+use Rattle.definitions.specs.Problem.{by-shape, body, letter-D, Head, head-of, with-degrees, d-line, d-first, letter-G, with-weights, g-line, g-next}
+use Rattle.definitions.specs.Problem.{after-r, first-line, head, problem}
+use Rattle.definitions.specs.Places.{most-degree, most-weight}
 use Rattle.definitions.specs.Lifting.{accept}
 use Rattle.definitions.specs.State.{State}
 use Rattle.definitions.specs.Calls.{accepted, read}
@@ -50,9 +51,13 @@ module _ (lim : Limits) (bound : ℕ) (l : lim .prime-bound ≤ bound) where
   d-same h [] = refl
   d-same h (line ∷ later) = refl
 
+  g-same : (h : Head) (ls : List Line) → g-next wide h ls ≡ g-next lim h ls
+  g-same h [] = refl
+  g-same h (line ∷ later) = refl
+
   after-same : (later : List Line) (o : Option (List ℕ)) → named o ≤ lim .prime-bound → after-r wide later o ≡ after-r lim later o
   after-same later none h = refl
-  after-same later (some v) h = λ i. r-same v h i >>= λ q. d-same (head-of q later) later i
+  after-same later (some v) h = λ i. r-same v h i >>= λ q. d-same (head-of q later) later i >>= λ h. g-same h (h .later) i
 
   first-same : (ls : List Line) → first-named lim ls ≤ lim .prime-bound → first-line wide ls ≡ first-line lim ls
   first-same [] h = refl
@@ -92,11 +97,21 @@ module _ (lim : Limits) (most : ℕ) where
       go none = w
       go (some v) = guard-done Head-within (fits? most-degree v) 18 (h .place) (λ u. done (with-degrees h v later)) (λ t. w)
 
+  g-within : (h : Head) → Head-within h → (ls : List Line) → If-done Head-within (g-next lim h ls)
+  g-within h w [] = w
+  g-within h w (line ∷ later) = go (shaped (lim .field) letter-G (2 * h .parameters .n) line)
+    where
+      go : (o : Option (List ℕ)) → If-done Head-within (g-line h later o)
+      go none = w
+      go (some v) = guard-done Head-within (fits? most-weight v) 24 (h .place) (λ u. done (with-weights h v later)) (λ t. w)
+
   after-within : (later : List Line) (o : Option (List ℕ)) → named o ≤ most → If-done Head-within (after-r lim later o)
   after-within later none h = tt
   after-within later (some v) h =
-      if-done-bind (λ q. q .p ≤ most) Head-within (r-line lim v) (λ q. d-first lim (head-of q later) later) (r-within v h)
-      (λ q w. d-within (head-of q later) w later)
+      if-done-bind (λ q. q .p ≤ most) Head-within (r-line lim v) (λ q. d-first lim (head-of q later) later >>= λ h. g-next lim h (h .later))
+      (r-within v h) λ q w.
+      if-done-bind Head-within Head-within (d-first lim (head-of q later) later) (λ h. g-next lim h (h .later)) (d-within (head-of q later) w later)
+      (λ h k. g-within h k (h .later))
 
   first-within : (ls : List Line) → first-named lim ls ≤ most → If-done Head-within (first-line lim ls)
   first-within [] h = tt

@@ -1,2 +1,3 @@
 pub mod LineTests
 pub mod LineAnswers
+pub mod HeadAnswers

@@ -1,7 +1,8 @@
 pub mod LevelWords
 pub mod OneTermMore
 pub mod LineByLine
-pub mod DegreesLine
+pub mod HeadLines
 pub mod WordsSoFar
 pub mod Carrying
+pub mod HeadWeights
 pub mod Answering

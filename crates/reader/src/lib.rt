@@ -1,4 +1,4 @@
-// The reader of a problem file, `problem::read`: from its bytes to a state's words, or a refusal from 1 to 8 or 18 with its place.
+// The reader of a problem file: `problem::read`, from its bytes to a state's words or a refusal with its place; `problem::weights`.
 // `fields` holds one line to its shape, `lines` has its tests, `problem` goes through the file.
 // Knows: crate definitions' Problem and the state's words in its Layout.
 pub mod fields;

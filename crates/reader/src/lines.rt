@@ -1,16 +1,16 @@
 // The lines of a problem file one by one: the tests of each in their order, and what it says.
-// Knows: crate definitions' Problem, tests and refusals of R, D, T and E lines.
-// The sequence of lines is decided by `first_line`, `degrees_line` and `next_line` alone.
+// Knows: crate definitions' Problem, tests and refusals of R, D, G, T and E lines.
+// The sequence of lines is decided by `head_lines` and `next_line` alone.
 ghost use mathlib.Core.Path.{_≡_};
 ghost use mathlib.Core.Bool.{true};
-ghost use Prim.Native.Nat.{_+_, _≤_};
+ghost use Prim.Native.Nat.{_+_, _≤_, _<_};
 ghost use lib.Dec.{ltb};
-ghost use lib.ListN.{take, drop};
+ghost use lib.ListN.{take, drop, replicate};
 ghost use Rattle.definitions.specs.Lists.{between};
 ghost use Rattle.definitions.specs.Limits.{document-01};
 ghost use Rattle.definitions.specs.Monomial.{fits?};
 ghost use Rattle.definitions.specs.Problem.{term-in-range?};
-ghost use Rattle.definitions.specs.Places.{most-exponent, most-degree, most-components, most-rows};
+ghost use Rattle.definitions.specs.Places.{most-exponent, most-variables, most-components, most-rows};
 ghost use Rattle.lists.specs.Marking.{mark-by};
 ghost use Rattle.words.specs.parameters.Values.{parameters-of};
 ghost use Rattle.vectors.specs.terms.Rows.{term-of};
@@ -23,7 +23,23 @@ ghost use Rattle.reader.specs.lines.Tests.{
   t-number,
   r-number,
 };
-ghost use Rattle.reader.specs.lines.Steps.{r-first, d-first, t-first, e-first, line-first, first-as, graded-as, taken-as};
+ghost use Rattle.reader.specs.lines.Steps.{
+  r-first,
+  optional,
+  d-first,
+  weights-words,
+  g-next,
+  behind-r,
+  head-first,
+  t-first,
+  e-first,
+  line-first,
+  first-as,
+  optional-as,
+  head-as,
+  taken-as,
+};
+ghost use Rattle.reader.specs.declared.lines.Opening.the-variants.{Refused as Opening-refused};
 ghost use Rattle.reader.specs.declared.lines.Step.the-variants.{Refused};
 use crate::fields;
 use crate::fields::End as LineEnd;
@@ -44,16 +60,24 @@ pub struct First {
     pub parameters: Parameters,
 }
 
-// Behind the head, the lines before the first T line: the position and the number of the line there; or D's refusal.
+// Behind lines of the head: the position and the number of the line there; or a refusal, with its line.
 pub enum Opening {
     At(usize, usize),
-    Refused(u16),
+    Refused(u16, usize),
 }
 
-// The degrees of the components, zeros behind them.
-pub struct Graded {
+// A line that may be left out: its numbers, or those that hold without it.
+pub struct Optional {
     pub opening: Opening,
+    pub numbers: [u16; 16],
+}
+
+// The head, the lines before the first T line; zeros behind the degrees of the components and behind the weights of the variables, two for each.
+pub struct Head {
+    pub opening: Opening,
+    pub parameters: Parameters,
     pub degrees: [u16; words::DEGREES_LENGTH],
+    pub weights: [u16; words::WEIGHTS_LENGTH],
 }
 
 // A T line, with the position behind it; the end; a refusal, with its line.
@@ -81,7 +105,7 @@ fn parameters_refusal(q: Parameters) -> u16
     2
 }
 
-pub fn first_line(file: &[u8]) -> First
+fn first_line(file: &[u8]) -> First
     ensures { λ r. ⌜ first-as r (now (file .entry)) ≡ r-first (now (file .entry)) ⌝ }
 {
     let line = fields::line_at(file, 0, b'R', 4);
@@ -112,42 +136,157 @@ pub fn first_line(file: &[u8]) -> First
     }
 }
 
-fn degrees_fit(d: [u16; words::DEGREES_LENGTH]) -> bool
-    ensures { λ r. ⌜ r ≡ fits? most-degree d ⌝ }
+fn numbers_fit(v: [u16; 16], most: u16) -> bool
+    ensures { λ r. ⌜ r ≡ fits? most v ⌝ }
 {
     let mut mark: u16 = 0;
     let mut j = 0;
-    while j < words::DEGREES_LENGTH {
-        mark = mark_above(mark, d[j], words::MOST_DEGREE);
+    while j < 16 {
+        mark = mark_above(mark, v[j], most);
         j += 1;
     }
     mark == 0
 }
 
-// The D line at a position, where it stands there: a line without its shape is left to `next_line`.
-pub fn degrees_line(file: &[u8], at: usize, s: u16) -> Graded
-    requires { ⌜ s ≤ most-components ⌝ }
-    ensures { λ r. ⌜ graded-as r (now (file .entry)) ≡ d-first s (drop at (now (file .entry))) ⌝ }
+// The line with this letter at a position, where it stands there; refused where a number is above the most. A line without its shape is left to what comes
+// behind: the numbers are those that hold without it.
+fn optional_line(
+    file: &[u8],
+    at: usize,
+    place: usize,
+    letter: u8,
+    count: usize,
+    most: u16,
+    refusal: u16,
+    without: [u16; 16],
+) -> Optional
+    requires { ⌜ (57 < letter) × (count ≤ 16) × (place ≤ 3) ⌝ }
+    ensures { λ r. ⌜ optional-as r (now (file .entry)) ≡ optional letter count most refusal without place (drop at (now (file .entry))) ⌝ }
 {
-    let n = size_of(s);
-    let line = fields::line_at(file, at, b'D', n);
-    let d = line.numbers;
+    let line = fields::line_at(file, at, letter, count);
+    let v = line.numbers;
     let end = line.end;
     let LineEnd::Behind(next) = end else {
-        return Graded {
-            opening: Opening::At(at, 2),
-            degrees: [0; words::DEGREES_LENGTH],
+        return Optional {
+            opening: Opening::At(at, place),
+            numbers: without,
         };
     };
-    if degrees_fit(d) {
-        return Graded {
-            opening: Opening::At(next, 3),
-            degrees: d,
+    if numbers_fit(v, most) {
+        return Optional {
+            opening: Opening::At(next, place + 1),
+            numbers: v,
         };
     }
-    Graded {
-        opening: Opening::Refused(18),
-        degrees: d,
+    Optional {
+        opening: Opening::Refused(refusal, place),
+        numbers: v,
+    }
+}
+
+fn degrees_line(file: &[u8], at: usize, s: u16) -> Optional
+    requires { ⌜ s ≤ most-components ⌝ }
+    ensures { λ r. ⌜ optional-as r (now (file .entry)) ≡ d-first s (drop at (now (file .entry))) ⌝ }
+{
+    let n = size_of(s);
+    optional_line(
+        file,
+        at,
+        2,
+        b'D',
+        n,
+        words::MOST_DEGREE,
+        18,
+        [0; words::DEGREES_LENGTH],
+    )
+}
+
+// 1 and 0 for each of n variables: the weights without a G line.
+fn plain_weights(n: usize) -> [u16; words::WEIGHTS_LENGTH]
+    requires { ⌜ n ≤ most-variables ⌝ }
+    ensures { λ r. ⌜ r ≡ weights-words (replicate n (1, 0)) ⌝ }
+{
+    let mut w = [0u16; words::WEIGHTS_LENGTH];
+    let mut j = 0;
+    while j < n {
+        w[2 * j] = 1;
+        j += 1;
+    }
+    w
+}
+
+fn weights_line(file: &[u8], at: usize, place: usize, n: u16) -> Optional
+    requires { ⌜ (n ≤ most-variables) × (place ≤ 3) ⌝ }
+    ensures { λ r. ⌜ optional-as r (now (file .entry)) ≡ g-next n place (drop at (now (file .entry))) ⌝ }
+{
+    let m = size_of(n);
+    let without = plain_weights(m);
+    optional_line(
+        file,
+        at,
+        place,
+        b'G',
+        2 * m,
+        words::MOST_WEIGHT,
+        24,
+        without,
+    )
+}
+
+// The head of a file that is refused there.
+fn barred(number: u16, place: usize) -> Head
+    ensures { λ r. ⌜ r .opening ≡ Opening-refused number place ⌝ }
+{
+    Head {
+        opening: Opening::Refused(number, place),
+        parameters: Parameters {
+            p: 0,
+            n: 0,
+            code: 0,
+            s: 0,
+        },
+        degrees: [0; words::DEGREES_LENGTH],
+        weights: [0; words::WEIGHTS_LENGTH],
+    }
+}
+
+// Behind R's line: D's, then G's.
+fn behind_first(file: &[u8], at: usize, q: Parameters) -> Head
+    requires { ⌜ (q .n ≤ most-variables) × (q .s ≤ most-components) ⌝ }
+    ensures { λ r. ⌜ head-as r (now (file .entry)) ≡ behind-r (parameters-of q) (drop at (now (file .entry))) ⌝ }
+{
+    let graded = degrees_line(file, at, q.s);
+    let d = graded.numbers;
+    let opening = graded.opening;
+    match opening {
+        Opening::At(next, place) => {
+            let weighted = weights_line(file, next, place, q.n);
+            let w = weighted.numbers;
+            let behind = weighted.opening;
+            Head {
+                opening: behind,
+                parameters: q,
+                degrees: d,
+                weights: w,
+            }
+        }
+        Opening::Refused(number, place) => barred(number, place),
+    }
+}
+
+// The head of a file, or its refusal.
+pub fn head_lines(file: &[u8]) -> Head
+    ensures { λ r. ⌜ head-as r (now (file .entry)) ≡ head-first (now (file .entry)) ⌝ }
+{
+    if words::FILE_LENGTH < file.len() {
+        return barred(1, 0);
+    }
+    let first = first_line(file);
+    let q = first.parameters;
+    let start = first.start;
+    match start {
+        Start::At(next) => behind_first(file, next, q),
+        Start::Refused(number) => barred(number, 1),
     }
 }
 
@@ -307,7 +446,7 @@ fn term_line(
 }
 
 fn end_line(file: &[u8], at: usize, place: usize, count: usize) -> Taken
-    requires { ⌜ place ≤ most-rows + 3 ⌝ }
+    requires { ⌜ place ≤ most-rows + 4 ⌝ }
     ensures { λ r. ⌜ taken-as r (now (file .entry)) ≡ e-first place count (drop at (now (file .entry))) ⌝ }
 {
     let line = fields::line_at(file, at, b'E', 1);
@@ -342,7 +481,7 @@ pub fn next_line(
     elements: u16,
     before: [u16; 16],
 ) -> Taken
-    requires { ⌜ (q .n ≤ 8) × (place ≤ most-rows + 3) ⌝ }
+    requires { ⌜ (q .n ≤ 8) × (place ≤ most-rows + 4) ⌝ }
     ensures { λ r. ⌜ taken-as r (now (file .entry)) ≡ line-first (parameters-of q) place count elements before (drop at (now (file .entry))) ⌝ }
 {
     if file.len() <= at {

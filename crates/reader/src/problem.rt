@@ -1,4 +1,4 @@
-// The reader: from the bytes of a problem file to the words of a state, or a refusal from 1 to 8 or 18 with its place.
+// The reader: from the bytes of a problem file to the words of a state, or a refusal from 1 to 8, 18 or 24 with its place.
 // Knows: crate definitions' Problem and the state's words in its Layout.
 // The state that it leaves is read, not accepted: only a call that goes on to accept it may use it.
 ghost use mathlib.Core.Path.{_≡_};
@@ -9,10 +9,11 @@ ghost use lib.ListN.{length, getD, take, drop, replicate};
 ghost use lib.Seq.{paste};
 ghost use Rattle.definitions.specs.Limits.{document-01};
 ghost use Rattle.definitions.specs.Monomial.{fits?};
-ghost use Rattle.definitions.specs.Problem.{problem as problem-definition};
+ghost use Rattle.definitions.specs.Problem.{head, problem as problem-definition};
 ghost use Rattle.definitions.specs.Layout.{row-of};
 ghost use Rattle.definitions.specs.Places.{
   most-exponent,
+  most-weight,
   most-components,
   most-elements,
   most-vectors,
@@ -28,20 +29,19 @@ ghost use Rattle.reader.specs.lines.Tests.{term-in};
 ghost use Rattle.reader.specs.problem.Reading.{
   laid-level,
   body-words,
-  behind-words,
   problem-words,
   read-as,
   stored,
   begun,
+  head-weights,
   Weighable,
-  weights,
+  carried,
   carrying,
   outcome-as,
   answer-as,
 };
 use crate::lines;
 use crate::lines::Opening;
-use crate::lines::Start;
 use crate::lines::Step;
 use reducers::tables;
 use vectors::terms;
@@ -98,7 +98,7 @@ fn begin(state: &mut [u16], q: Parameters, d: [u16; words::DEGREES_LENGTH])
 
 // The lines behind the head, the first with this number, into a state with no element yet.
 fn body(file: &[u8], from: usize, first: usize, q: Parameters, state: &mut [u16]) -> Outcome
-    requires { ⌜ (q .n ≤ 8) × (first ≤ 3) × (state-length ≤ length (now state))
+    requires { ⌜ (q .n ≤ 8) × (first ≤ 4) × (state-length ≤ length (now state))
         × (now state ≡ laid-level (parameters-of q) [] (drop degrees-start (now state))) ⌝ }
     ensures { λ r. ⌜ outcome-as r (now (state .exit))
         ≡ body-words (drop degrees-start (now (state .entry))) (parameters-of q) first (drop from (now (file .entry))) ⌝ }
@@ -125,44 +125,28 @@ fn body(file: &[u8], from: usize, first: usize, q: Parameters, state: &mut [u16]
     }
 }
 
-// The lines behind R's, into a state of zeros.
-fn behind_first(file: &[u8], at: usize, q: Parameters, state: &mut [u16]) -> Outcome
-    requires { ⌜ (q .n ≤ 8) × (q .s ≤ most-components) × (state-length ≤ length (now state)) × (now state ≡ replicate (length (now state)) 0) ⌝ }
-    ensures { λ r. ⌜ outcome-as r (now (state .exit)) ≡ behind-words (length (now (state .entry))) (parameters-of q) (drop at (now (file .entry))) ⌝ }
-{
-    let graded = lines::degrees_line(file, at, q.s);
-    let d = graded.degrees;
-    let opening = graded.opening;
-    match opening {
-        Opening::At(next, first) => {
-            begin(state, q, d);
-            body(file, next, first, q, state)
-        }
-        Opening::Refused(number) => Outcome::Refused(number, 2),
-    }
-}
-
 // The file, into a state of zeros; what a refused one leaves there is to be zeroed.
 fn read_lines(file: &[u8], state: &mut [u16]) -> Outcome
     requires { ⌜ (state-length ≤ length (now state)) × (now state ≡ replicate (length (now state)) 0) ⌝ }
     ensures { λ r. ⌜ outcome-as r (now (state .exit)) ≡ problem-words (length (now (state .entry))) (now (file .entry)) ⌝ }
 {
-    if words::FILE_LENGTH < file.len() {
-        return Outcome::Refused(1, 0);
-    }
-    let first = lines::first_line(file);
-    let q = first.parameters;
-    let start = first.start;
-    match start {
-        Start::At(next) => behind_first(file, next, q, state),
-        Start::Refused(number) => Outcome::Refused(number, 1),
+    let head = lines::head_lines(file);
+    let q = head.parameters;
+    let d = head.degrees;
+    let opening = head.opening;
+    match opening {
+        Opening::At(next, first) => {
+            begin(state, q, d);
+            body(file, next, first, q, state)
+        }
+        Opening::Refused(number, place) => Outcome::Refused(number, place),
     }
 }
 
 // The degrees of the elements in a state.
 fn weigh(d: &mut [u16], state: &[u16])
     requires { ⌜ (most-vectors ≤ length (now d)) × Weighable (now state) ⌝ }
-    ensures { λ _. ⌜ take (getD (now (state .entry)) header-length 0) (now (d .exit)) ≡ weights (now (state .entry)) ⌝ }
+    ensures { λ _. ⌜ take (getD (now (state .entry)) header-length 0) (now (d .exit)) ≡ carried (now (state .entry)) ⌝ }
 {
     let r = words::place(state[words::HEADER_LENGTH]);
     let n = words::place(state[3]);
@@ -207,5 +191,18 @@ pub fn read(file: &[u8], state: &mut [u16]) -> Reading
             terms::clear(state, 0);
             Reading { number, place }
         }
+    }
+}
+
+// The weights of a file's variables, two for each: no state holds them. Zeros where the head is refused.
+pub fn weights(file: &[u8]) -> [u16; words::WEIGHTS_LENGTH]
+    ensures { λ r. ⌜ (r ≡ head-weights (head document-01 (now (file .entry)))) × (fits? most-weight r ≡ true) ⌝ }
+{
+    let head = lines::head_lines(file);
+    let w = head.weights;
+    let opening = head.opening;
+    match opening {
+        Opening::At(_, _) => w,
+        Opening::Refused(_, _) => [0; words::WEIGHTS_LENGTH],
     }
 }

@@ -1,7 +1,7 @@
 // The numbers of the layout as the code names them, and what every crate does with a word: it is a place, a wider number, a part of a longer one; it
 // is in a range.
 // Knows: crate definitions' Places, whose names these are, in capitals.
-// `numbers` and `word_numbers` hold each of them to the definitions' one.
+// `numbers`, `word_numbers` and `long_numbers` hold each of them to the definitions' one.
 // `parameters` has the four numbers of a problem.
 ghost use mathlib.Core.Path.{_≡_};
 ghost use mathlib.Core.List.{_∷_, []};
@@ -13,6 +13,7 @@ ghost use Rattle.definitions.specs.Places.{
   exponents-length,
   most-exponent,
   most-degree,
+  most-weight,
   most-variables,
   most-components,
   most-elements,
@@ -65,6 +66,10 @@ ghost use Rattle.definitions.specs.Places.{
   page-line-length,
   page-rows,
   page-length,
+  weights-length,
+  second-base,
+  b-line-length,
+  bidegrees-length,
 };
 ghost use Rattle.words.specs.Slices.{Sixteen-bits};
 
@@ -77,6 +82,8 @@ pub const EXPONENTS_LENGTH: usize = 8;
 pub const MOST_EXPONENT: u16 = 255;
 
 pub const MOST_DEGREE: u16 = 255;
+
+pub const MOST_WEIGHT: u16 = 15;
 
 pub const MOST_VARIABLES: u16 = 8;
 
@@ -196,16 +203,26 @@ pub const PAGE_ROWS: usize = 20666;
 
 pub const PAGE_LENGTH: usize = (PAGE_ROWS + 1) * PAGE_LINE_LENGTH;
 
+// ## Lines of bidegrees
+
+pub const WEIGHTS_LENGTH: usize = 2 * EXPONENTS_LENGTH;
+
+pub const SECOND_BASE: u64 = 1048576;
+
+pub const B_LINE_LENGTH: usize = 23;
+
+pub const BIDEGREES_LENGTH: usize = PAGE_COLUMNS * MOST_VECTORS * B_LINE_LENGTH;
+
 // ## Held to the definitions
 
-pub fn numbers() -> [usize; 51]
+pub fn numbers() -> [usize; 54]
     ensures { λ r. ⌜ r ≡ exponents-length ∷ most-vectors ∷ most-rows ∷ most-terms ∷ most-tree-terms ∷ most-levels ∷ all-levels ∷ component-offset
         ∷ exponents-offset ∷ rank-offset ∷ packed-length ∷ row-length ∷ image-length ∷ header-length ∷ counts-length ∷ ends-start ∷ rows-start ∷ level-length ∷
         degrees-start ∷ most-components ∷ carried-start ∷ state-length
         ∷ value-length ∷ tree-length ∷ vector-length ∷ heads-length ∷ images-length ∷ spans-length ∷ ends-length ∷ tables-spans ∷ tables-ends ∷ tables-below
         ∷ tables-above ∷ tables-length ∷ lifted-length ∷ grown-length ∷ file-length ∷ read-length ∷ s-line-length ∷ w-line-length ∷ pair-line-length
         ∷ s-lines-length ∷ level-lines-length ∷ all-lines-length ∷ sheet-length ∷ cell-length ∷ page-columns ∷ row-shift ∷ page-line-length ∷ page-rows
-        ∷ page-length ∷ [] ⌝ }
+        ∷ page-length ∷ weights-length ∷ b-line-length ∷ bidegrees-length ∷ [] ⌝ }
 {
     [
         EXPONENTS_LENGTH,
@@ -259,20 +276,30 @@ pub fn numbers() -> [usize; 51]
         PAGE_LINE_LENGTH,
         PAGE_ROWS,
         PAGE_LENGTH,
+        WEIGHTS_LENGTH,
+        B_LINE_LENGTH,
+        BIDEGREES_LENGTH,
     ]
 }
 
-pub fn word_numbers() -> [u16; 6]
-    ensures { λ r. ⌜ r ≡ most-exponent ∷ most-degree ∷ most-variables ∷ most-components ∷ most-elements ∷ most-vectors ∷ [] ⌝ }
+pub fn word_numbers() -> [u16; 7]
+    ensures { λ r. ⌜ r ≡ most-exponent ∷ most-degree ∷ most-weight ∷ most-variables ∷ most-components ∷ most-elements ∷ most-vectors ∷ [] ⌝ }
 {
     [
         MOST_EXPONENT,
         MOST_DEGREE,
+        MOST_WEIGHT,
         MOST_VARIABLES,
         MOST_COMPONENTS,
         MOST_ELEMENTS,
         MOST_VECTORS_U16,
     ]
+}
+
+pub fn long_numbers() -> [u64; 1]
+    ensures { λ r. ⌜ r ≡ second-base ∷ [] ⌝ }
+{
+    [SECOND_BASE]
 }
 
 // ## Words

@@ -1,20 +1,26 @@
 //! The kinds of `reference generate`.
 
 use crate::betti::page;
+use crate::bidegrees::bidegrees;
+use crate::generate::bigraded::{bidegree_file, bigraded_file, bimixed_file, bistopped_file};
 use crate::generate::files::{damaged_file, limit_file, plain_file};
 use crate::generate::pages::{graded_file, mixed_file, page_file, stopped_file};
 use crate::generate::problems::{problem_file, random_basis, Size};
 use crate::generate::scripts::{random_script, with_small_limits, Reach};
+use crate::generate::weight_lines::weighted_file;
 use crate::limits::Limits;
 use crate::random::Random;
 use crate::script::{Run, Script};
 use crate::sheet::sheet;
 
 /// The kinds of problem files.
-pub const FILE_KINDS: [&str; 4] = ["small", "bases", "damaged", "limits"];
+pub const FILE_KINDS: [&str; 5] = ["small", "bases", "damaged", "limits", "weighted"];
 
 /// The kinds of problem files for the Betti page.
 pub const PAGE_KINDS: [&str; 4] = ["graded", "mixed", "stopped", "pages"];
+
+/// The kinds of problem files for bidegrees.
+pub const BIDEGREE_KINDS: [&str; 4] = ["bigraded", "bimixed", "bistopped", "bidegrees"];
 
 /// Products that the sheet of a generated file may take.
 pub const SHEET_PRODUCTS: u64 = 300_000;
@@ -40,12 +46,14 @@ pub fn file_case(kind: &str, seed: u64, case: u64) -> Option<FileCase> {
             ),
             "damaged" => (damaged_file(&mut random), SHEET_PRODUCTS),
             "limits" => (limit_file(&mut random), SHEET_PRODUCTS),
+            "weighted" => (weighted_file(&mut random, &Size::small()), 20_000),
             _ => return None,
         };
         let (Some(sheet), _) = sheet(&Limits::document_01(), &file, Some(products)) else {
             continue;
         };
-        let too_long = kind == "small" && (lines(&file) > 25 || lines(&sheet) > 120);
+        let short = ["small", "weighted"].contains(&kind);
+        let too_long = short && (lines(&file) > 25 || lines(&sheet) > 120);
         if !too_long {
             return Some(FileCase { file, sheet });
         }
@@ -69,6 +77,28 @@ pub fn page_case(kind: &str, seed: u64, case: u64) -> Option<(Vec<u8>, Vec<u8>)>
         };
         if kind != "mixed" || page.starts_with(b"X,17,") {
             return Some((file, page));
+        }
+    }
+}
+
+/// The problem file of a kind for bidegrees for a case of a seed, and its lines; `None` if there is
+/// no such kind.
+pub fn bidegree_case(kind: &str, seed: u64, case: u64) -> Option<(Vec<u8>, Vec<u8>)> {
+    let mut random = Random::for_case(seed, case);
+    loop {
+        let file = match kind {
+            "bigraded" => bigraded_file(&mut random),
+            "bimixed" => bimixed_file(&mut random),
+            "bistopped" => bistopped_file(&mut random),
+            "bidegrees" => bidegree_file(&mut random),
+            _ => return None,
+        };
+        let (Some(lines), _) = bidegrees(&Limits::document_01(), &file, Some(SHEET_PRODUCTS))
+        else {
+            continue;
+        };
+        if kind != "bimixed" || lines.starts_with(b"X,25,") {
+            return Some((file, lines));
         }
     }
 }

@@ -4,7 +4,7 @@ use crate::generate::problems::{degree_line, random_degrees};
 use crate::limits::MOST_DEGREE;
 use crate::random::Random;
 
-/// One way to spoil a file by a D line.
+/// One way to spoil a file by a D line, or by a G line.
 #[derive(Clone, Debug, PartialEq, Eq)]
 pub struct Spoiled {
     /// what is wrong
@@ -12,9 +12,9 @@ pub struct Spoiled {
     /// number and place of the refusal, where the file without this line is read
     pub refused: (u64, u64),
     /// lines that are put in, each with the place that it then has, the first being 0
-    lines: Vec<(usize, String)>,
+    pub(crate) lines: Vec<(usize, String)>,
     /// whether the file ends with the last of them
-    cut: bool,
+    pub(crate) cut: bool,
 }
 
 /// What may stand for a degree, whether it is a number of a file, and so what is refused.
@@ -73,7 +73,7 @@ pub fn spoiled_degree_lines(file_lines: usize, degrees: &[u64]) -> Vec<Spoiled> 
         ("two letters", format!("D{good}")),
         ("a blank before the letter", format!(" {good}")),
         ("a carriage return at the end", format!("{good}\r")),
-        ("another letter", format!("G{}", &good[1..])),
+        ("another letter", format!("H{}", &good[1..])),
         ("no letter", good[1..].to_string()),
         ("an empty line", String::new()),
     ] {
@@ -152,7 +152,7 @@ fn with_degree(degrees: &[u64], at: usize, text: &str) -> String {
 }
 
 impl Spoiled {
-    /// The file, which has no D line, spoiled in this way.
+    /// The file, which has no such line, spoiled in this way.
     pub fn file(&self, file: &[u8]) -> Vec<u8> {
         let mut lines: Vec<&[u8]> = file.split_inclusive(|byte| *byte == 10).collect();
         for (at, line) in &self.lines {
@@ -175,8 +175,13 @@ pub fn components_of(file: &[u8]) -> u64 {
 
 /// The file without the lines that begin with D.
 pub fn without_degree_lines(file: &[u8]) -> Vec<u8> {
+    without_lines(file, b'D')
+}
+
+/// The file without the lines that begin with this letter.
+pub(crate) fn without_lines(file: &[u8], letter: u8) -> Vec<u8> {
     file.split_inclusive(|byte| *byte == 10)
-        .filter(|line| !line.starts_with(b"D"))
+        .filter(|line| line[0] != letter)
         .collect::<Vec<&[u8]>>()
         .concat()
 }

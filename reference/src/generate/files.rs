@@ -26,11 +26,11 @@ pub fn plain_file(random: &mut Random, size: &Size) -> Vec<u8> {
 
 /// The file of these elements, at times with a D line.
 fn file_with(random: &mut Random, parameters: Parameters, elements: Level) -> Vec<u8> {
-    problem_file(&Problem {
+    problem_file(&Problem::with_degrees(
         parameters,
-        degrees: random_degrees(random, parameters.s),
+        random_degrees(random, parameters.s),
         elements,
-    })
+    ))
 }
 
 /// A file that stands at a limit or passes one.
@@ -51,7 +51,13 @@ pub fn limit_file(random: &mut Random) -> Vec<u8> {
 
 /// A small file in which one number, or two, is at or past its limit.
 pub fn edited_file(random: &mut Random) -> Vec<u8> {
-    let mut lines = fields_of(&plain_file(random, &Size::small()));
+    let file = plain_file(random, &Size::small());
+    edit(random, &file)
+}
+
+/// The file with one number, or two, at or past its limit.
+pub fn edit(random: &mut Random, file: &[u8]) -> Vec<u8> {
+    let mut lines = fields_of(file);
     for _ in 0..random.between(1, 2) {
         let line = match random.below(4) {
             0 => 0,
@@ -110,6 +116,7 @@ fn bounds_of(letter: &str, field: usize) -> &'static [u64] {
         ("R", 3) => &[0, 1, 2, 3, 4, 5, 65_535],
         ("R", _) => &[0, 1, 2, 15, 16, 17, 65_535],
         ("D", _) => &[0, 1, 127, 128, 254, 255, 256, 257, 511, 512, 65_535],
+        ("G", _) => &[0, 1, 7, 8, 14, 15, 16, 17, 31, 32, 255, 65_535],
         ("T", 1) => &[0, 1, 2, 3, 4, 63, 64, 65, 66, 65_535],
         ("T", 2) => &[
             0, 1, 2, 6, 7, 8, 100, 101, 250, 251, 32_002, 32_003, 32_748, 32_749, 65_535,
@@ -156,11 +163,8 @@ pub fn exact_length_file(random: &mut Random, length: usize) -> Vec<u8> {
         }
         elements.push(element_with(&parameters, component, &monomials, 100));
     }
-    let mut problem = Problem {
-        parameters,
-        degrees: random_degrees(random, parameters.s),
-        elements,
-    };
+    let mut problem =
+        Problem::with_degrees(parameters, random_degrees(random, parameters.s), elements);
     set_length(&mut problem, length);
     problem_file(&problem)
 }

@@ -2,12 +2,13 @@
 //!
 //! - [`problems`]: random Gröbner bases and random sets of elements.
 //! - [`files`]: files at and past the limits, and damaged files.
-//! - [`degree_lines`]: files with D lines, and every way to spoil one.
-//! - [`pages`]: files for the Betti page.
+//! - [`degree_lines`], [`weight_lines`]: files with D and G lines, and every way to spoil one.
+//! - [`pages`]: files for the Betti page. [`bigraded`]: files for bidegrees.
 //! - [`states`]: the words of a state that hold degrees, altered.
 //! - [`scripts`]: lists of calls, also with limits close to what a run needs.
 //! - [`cases`]: the kinds of `reference generate`.
 
+pub mod bigraded;
 pub mod cases;
 pub mod degree_lines;
 pub mod files;
@@ -15,3 +16,4 @@ pub mod pages;
 pub mod problems;
 pub mod scripts;
 pub mod states;
+pub mod weight_lines;

@@ -122,47 +122,12 @@ impl<'a> Graded<'a> {
             let unit = self.term(UNIT, component);
             elements.push(vec![unit]);
         }
-        let caps = Caps {
-            elements: 24,
-            terms: 60,
-            exponent: 255,
-            products: 10_000,
-        };
-        let mut completion = Completion::new(&self.parameters, caps);
-        elements = completion.complete(elements)?;
-        if self.random.chance(40) {
-            elements = completion.reduced(&elements)?;
-        }
-        while !elements.is_empty() && self.random.chance(15) {
-            // a multiple of another element, or that element again
-            let extra = self.multiple(&elements);
-            elements.push(extra);
-        }
-        match self.random.below(4) {
-            0 => {}
-            1 => self.random.shuffle(&mut elements),
-            ascending => {
-                let modules = Modules::new(self.parameters.file_order(), &[]);
-                elements.sort_by(|a, b| {
-                    let order = modules.compare(0, leading_monomial(a), leading_monomial(b));
-                    if ascending == 2 {
-                        order
-                    } else {
-                        order.reverse()
-                    }
-                });
-            }
-        }
-        let mut exponents = elements
-            .iter()
-            .flatten()
-            .flat_map(|term| term.monomial.exponents);
-        let fits = !elements.is_empty() && elements.len() <= 64 && exponents.all(|e| e <= 255);
-        fits.then_some(Problem {
-            parameters: self.parameters,
-            degrees: self.degrees,
+        let elements = completed(self.random, &self.parameters, elements)?;
+        Some(Problem::with_degrees(
+            self.parameters,
+            self.degrees,
             elements,
-        })
+        ))
     }
 
     fn component(&mut self) -> u64 {
@@ -180,21 +145,7 @@ impl<'a> Graded<'a> {
     }
 
     fn power_product(&mut self, degree: u64) -> Exponents {
-        let mut exponents = UNIT;
-        for _ in 0..degree {
-            exponents[self.random.below(self.parameters.n) as usize] += 1;
-        }
-        exponents
-    }
-
-    fn multiple(&mut self, elements: &[Vector]) -> Vector {
-        let mut element = self.random.pick(elements).clone();
-        let degree = self.random.below(3);
-        let factor = self.power_product(degree);
-        for term in &mut element {
-            term.monomial.exponents = multiply(&factor, &term.monomial.exponents);
-        }
-        element
+        power_product(self.random, self.parameters.n, degree)
     }
 
     fn monomials(&mut self) -> Level {
@@ -268,6 +219,65 @@ impl<'a> Graded<'a> {
             })
             .collect()
     }
+}
+
+fn power_product(random: &mut Random, n: u64, degree: u64) -> Exponents {
+    let mut exponents = UNIT;
+    for _ in 0..degree {
+        exponents[random.below(n) as usize] += 1;
+    }
+    exponents
+}
+
+/// A Gröbner basis of the elements' module, reduced or not, at times with multiples of elements,
+/// in any sequence; `None` if it is too large.
+pub(crate) fn completed(
+    random: &mut Random,
+    parameters: &Parameters,
+    elements: Level,
+) -> Option<Level> {
+    let caps = Caps {
+        elements: 24,
+        terms: 60,
+        exponent: 255,
+        products: 10_000,
+    };
+    let mut completion = Completion::new(parameters, caps);
+    let mut elements = completion.complete(elements)?;
+    if random.chance(40) {
+        elements = completion.reduced(&elements)?;
+    }
+    while !elements.is_empty() && random.chance(15) {
+        // a multiple of another element, or that element again
+        let mut extra = random.pick(&elements).clone();
+        let degree = random.below(3);
+        let factor = power_product(random, parameters.n, degree);
+        for term in &mut extra {
+            term.monomial.exponents = multiply(&factor, &term.monomial.exponents);
+        }
+        elements.push(extra);
+    }
+    match random.below(4) {
+        0 => {}
+        1 => random.shuffle(&mut elements),
+        ascending => {
+            let modules = Modules::new(parameters.file_order(), &[]);
+            elements.sort_by(|a, b| {
+                let order = modules.compare(0, leading_monomial(a), leading_monomial(b));
+                if ascending == 2 {
+                    order
+                } else {
+                    order.reverse()
+                }
+            });
+        }
+    }
+    let mut exponents = elements
+        .iter()
+        .flatten()
+        .flat_map(|term| term.monomial.exponents);
+    let fits = !elements.is_empty() && elements.len() <= 64 && exponents.all(|e| e <= 255);
+    fits.then_some(elements)
 }
 
 /// Degrees of components: none, small ones, or some far from the others.
@@ -438,11 +448,7 @@ pub fn multiples_of_one(random: &mut Random, count: u64, first: u64) -> Problem 
         powers.into_iter().map(&mut term).collect()
     };
     let elements = (1..=count).map(&mut multiple).collect();
-    Problem {
-        parameters,
-        degrees: random_degrees(random, 1),
-        elements,
-    }
+    Problem::with_degrees(parameters, random_degrees(random, 1), elements)
 }
 
 /// A file that is accepted and then stopped by 13 to 15 while levels are lifted, or almost; about
@@ -513,11 +519,7 @@ pub fn large_product(random: &mut Random) -> Problem {
     let last: [(u64, u64, &[u64]); 2] = [(1, 1, &[0, 1, w, 0, 0]), (1, 2, &[0, 0, 0, 0, b])];
     elements.push(element(&parameters, &last));
     elements.push(h(0, 0, 0, 2));
-    Problem {
-        parameters,
-        degrees,
-        elements,
-    }
+    Problem::with_degrees(parameters, degrees, elements)
 }
 
 /// Powers of 3 to 5 variables in component 1 with tails in component 2, which has the variables
@@ -578,9 +580,5 @@ pub fn graded_tails(random: &mut Random) -> Problem {
         exponents[x] = power;
         elements.push(vec![term(2, exponents)]);
     }
-    Problem {
-        parameters,
-        degrees,
-        elements,
-    }
+    Problem::with_degrees(parameters, degrees, elements)
 }

@@ -6,7 +6,8 @@ use crate::frame::frame;
 use crate::lifting::Sum;
 use crate::limits::MOST_DEGREE;
 use crate::monomial::{
-    leading_monomial, multiply, Exponents, Level, Monomial, Parameters, Term, Vector, UNIT,
+    leading_monomial, multiply, Exponents, Level, Monomial, Parameters, Term, Vector, Weights,
+    PLAIN_WEIGHTS, UNIT,
 };
 use crate::order::Modules;
 use crate::random::Random;
@@ -142,12 +143,22 @@ pub fn degree_line(degrees: &[u64]) -> String {
     format!("D{}", numbers.collect::<String>())
 }
 
-/// The bytes of a problem's file. It has a D line where some component's degree is not 0.
+/// `G,a1,b1,..,an,bn`, without byte 10.
+pub fn weight_line(weights: &[Weights]) -> String {
+    let numbers = weights.iter().map(|[a, b]| format!(",{a},{b}"));
+    format!("G{}", numbers.collect::<String>())
+}
+
+/// The bytes of a problem's file. It has a D line where some component's degree is not 0, and a G
+/// line where some variable's weights are not 1 and 0.
 pub fn problem_file(problem: &Problem) -> Vec<u8> {
     let Parameters { p, n, order, s } = problem.parameters;
     let mut file = format!("R,{p},{n},{order},{s}\n");
     if problem.degrees.iter().any(|degree| *degree != 0) {
         file.push_str(&format!("{}\n", degree_line(&problem.degrees)));
+    }
+    if problem.weights.iter().any(|own| *own != PLAIN_WEIGHTS) {
+        file.push_str(&format!("{}\n", weight_line(&problem.weights)));
     }
     let mut lines = 0;
     for (number, element) in (1..).zip(&problem.elements) {
@@ -271,11 +282,7 @@ impl<'a> Maker<'a> {
                 .flatten()
                 .all(|term| term.monomial.exponents.iter().all(|e| *e <= 255));
         let degrees = random_degrees(self.random, self.parameters.s);
-        fits.then_some(Problem {
-            parameters: self.parameters,
-            degrees,
-            elements,
-        })
+        fits.then_some(Problem::with_degrees(self.parameters, degrees, elements))
     }
 
     /// A combination of the elements.

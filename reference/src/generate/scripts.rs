@@ -5,6 +5,7 @@ use crate::engine::State;
 use crate::generate::degree_lines::spoil_degree_line;
 use crate::generate::files::{damage, plain_file};
 use crate::generate::problems::Size;
+use crate::generate::weight_lines::{damage_weights, with_random_weights};
 use crate::lifting::{Usage, Way};
 use crate::limits::Limits;
 use crate::random::Random;
@@ -22,6 +23,9 @@ pub struct Reach {
     pub levels: u64,
     /// products of all calls together
     pub products: u64,
+    /// files, of a hundred, that have a G line or are damaged by one; without any, files are made
+    /// as they were before request A14
+    pub weights: u64,
 }
 
 impl Reach {
@@ -32,6 +36,7 @@ impl Reach {
             calls: 8,
             levels: 3,
             products: 300,
+            weights: 0,
         }
     }
 
@@ -42,6 +47,15 @@ impl Reach {
             calls: 14,
             levels: 9,
             products: 20_000,
+            weights: 0,
+        }
+    }
+
+    /// With G lines in half of the files.
+    pub fn weighted(self) -> Reach {
+        Reach {
+            weights: 50,
+            ..self
         }
     }
 }
@@ -112,9 +126,15 @@ fn random_call(random: &mut Random, reach: &Reach, state: &State, first: bool) -
 }
 
 fn random_read(random: &mut Random, reach: &Reach, damaged: u64) -> Call {
-    let good = plain_file(random, &reach.size);
+    let mut good = plain_file(random, &reach.size);
+    let weighted = reach.weights > 0 && random.chance(reach.weights);
+    if weighted {
+        good = with_random_weights(random, &good);
+    }
     let mut file = good.clone();
-    if random.chance(damaged) {
+    if weighted && random.chance(2 * damaged) {
+        damage_weights(random, &mut file);
+    } else if random.chance(damaged) {
         damage(random, &mut file);
     } else if random.chance(3) {
         spoil_degree_line(random, &mut file);

@@ -1,7 +1,7 @@
 //! One file through the program and the unrelated implementation: the page's bytes.
 
-use crate::program::{By, Program};
-use common::report::shown;
+use common::program::{By, Program};
+use common::report::{shown, NUMBERS};
 use reference::betti::page;
 use reference::Limits;
 use std::collections::BTreeSet;
@@ -37,13 +37,14 @@ pub struct Compare {
     pub files: u64,
     pub left_out: u64,
     /// files so far by the number of their X line, 0 for a page
-    pub met: [u64; 19],
+    pub met: [u64; NUMBERS],
     /// 13 to 15 by number and level
     pub stops: BTreeSet<(u64, u64)>,
     /// the places that 17 had
     pub places: BTreeSet<u64>,
-    /// pages with a D line in the file, with a negative row, with an empty row in the middle
+    /// pages with a D line in the file, with a G line, with a negative row, with an empty row in the middle
     pub with_degrees: u64,
+    pub with_weights: u64,
     pub negative: u64,
     pub gaps: u64,
     /// the last column in use, by column
@@ -61,10 +62,11 @@ impl Compare {
             program,
             files: 0,
             left_out: 0,
-            met: [0; 19],
+            met: [0; NUMBERS],
             stops: BTreeSet::new(),
             places: BTreeSet::new(),
             with_degrees: 0,
+            with_weights: 0,
             negative: 0,
             gaps: 0,
             columns: [0; 11],
@@ -137,6 +139,7 @@ impl Compare {
         self.negative += u64::from(rows[0][..6].contains('-'));
         self.gaps += u64::from(rows.iter().any(empty));
         self.with_degrees += u64::from(file.windows(3).any(|bytes| bytes == b"\nD,"));
+        self.with_weights += u64::from(file.windows(3).any(|bytes| bytes == b"\nG,"));
         self.longest = self.longest.max(lines.len());
     }
 

@@ -8,16 +8,16 @@
 //! The program is target/bin/betti_numbers, or what the environment variable BETTI says.
 
 mod compare;
-mod program;
 
 use common::arguments::{asked, words};
 use common::examples::examples;
 use common::files::{
-    changed_at, damage_some, many_monomials, random_problem, random_size, with_each_field, WRITTEN,
+    changed_at, damage_some, many_monomials, random_problem, random_size, with_each_field,
+    with_some_weights, WRITTEN,
 };
+use common::program::{By, Program};
 use common::report::counts;
 use compare::{Compare, SPOILS};
-use program::{By, Program};
 use reference::generate::files::{exact_length_file, exact_t_lines_file, limit_file};
 use reference::generate::pages::{
     graded_file, graded_tails, large_product, multiples_of_one, page_file, stopped_file,
@@ -37,7 +37,7 @@ const EXAMPLE_BUDGET: u64 = 10_000_000;
 
 fn main() {
     let (mut wanted, seed, spoil) = asked(&words(), "files", (FILES, SEED), &SPOILS);
-    let mut compare = Compare::new(Program::new());
+    let mut compare = Compare::new(Program::new("betti_numbers", "BETTI"));
     compare.spoil = spoil.map(|what| (70, what));
     let mut random = Random::new(seed);
     if spoil.is_some() {
@@ -66,8 +66,10 @@ fn main() {
     );
     println!("  {}", counts(&compare.met).join(", "));
     println!(
-        "  pages: {} with a D line, {} with a negative row, {} with an empty row in the middle, the longest of {} lines; the last column in use: {}",
+        "  pages: {} with a D line, {} with a G line, {} with a negative row, {} with an empty row in the middle, the longest of {} lines; \
+         the last column in use: {}",
         compare.with_degrees,
+        compare.with_weights,
         compare.negative,
         compare.gaps,
         compare.longest,
@@ -82,7 +84,7 @@ fn main() {
         return;
     }
     // a run in which something hardly comes tests too little
-    for number in [0, 1, 2, 3, 4, 5, 6, 7, 8, 9, 13, 14, 15, 17, 18] {
+    for number in [0, 1, 2, 3, 4, 5, 6, 7, 8, 9, 13, 14, 15, 17, 18, 24] {
         assert!(compare.met[number] >= 10, "number {number} came too seldom");
     }
     assert!((1..=64).all(|place| compare.places.contains(&place)));
@@ -100,7 +102,8 @@ fn main() {
     }
     assert!(compare.columns[1..10].iter().all(|count| *count >= 3));
     assert_eq!(compare.columns[10], 0, "level 9 is not empty");
-    assert!(compare.with_degrees >= 1_000 && compare.negative >= 500 && compare.gaps >= 500);
+    assert!(compare.with_degrees >= 1_000 && compare.with_weights >= 1_000);
+    assert!(compare.negative >= 500 && compare.gaps >= 500);
     assert!(compare.longest > 2_294);
 }
 
@@ -209,6 +212,7 @@ fn random_file(compare: &mut Compare, random: &mut Random) {
         2 => graded_file(random),
         _ => page_file(random),
     };
+    with_some_weights(random, &mut file);
     if random.chance(5) {
         damage_some(random, &mut file);
     }

@@ -1,9 +1,9 @@
-//! One call on two sets of buffers: number, place and every word of every buffer.
+//! One call on two sets of buffers: number, place (or length) and every word of every buffer.
 
 use crate::proved;
-use common::buffers::{OUT, ROW, STATE, TREE_WORK, WORK};
-use common::report::shown;
-use reference::buffers::{fetch_call, lift_call_within, read_call_within};
+use common::buffers::{BIDEGREES, OUT, ROW, STATE, TREE_WORK, WORK};
+use common::report::{shown, NUMBERS};
+use reference::buffers::{bidegrees_call_within, fetch_call, lift_call_within, read_call_within};
 use reference::lifting::Way;
 use reference::random::Random;
 use reference::Limits;
@@ -20,6 +20,8 @@ pub struct Buffers {
     pub work: Vec<u16>,
     pub cache: Vec<u16>,
     pub out: Vec<u16>,
+    /// out of a call that prints
+    pub printed: Vec<u8>,
 }
 
 impl Buffers {
@@ -29,6 +31,7 @@ impl Buffers {
             work: vec![0; TREE_WORK + MORE],
             cache: vec![0; CACHE + MORE],
             out: vec![0; OUT + MORE],
+            printed: vec![0; BIDEGREES + MORE],
         }
     }
 }
@@ -40,6 +43,7 @@ pub struct Lent {
     pub work: usize,
     pub cache: usize,
     pub out: usize,
+    pub printed: usize,
 }
 
 /// As much as any call needs.
@@ -48,6 +52,7 @@ pub const WHOLE: Lent = Lent {
     work: TREE_WORK,
     cache: CACHE,
     out: OUT,
+    printed: BIDEGREES,
 };
 
 /// A call with its arguments.
@@ -56,6 +61,7 @@ pub enum Call<'a> {
     Read(&'a [u8]),
     Lift { level: usize, way: u16, pick: u16 },
     Fetch { level: usize, vector: usize },
+    Bidegrees(&'a [u8]),
 }
 
 /// What `spoil` changes in one answer of the proved calls, so that the comparison itself is tried.
@@ -67,24 +73,27 @@ pub enum Spoiled {
     Work,
     Cache,
     Out,
+    Printed,
 }
 
-pub const SPOILS: [(&str, Spoiled); 6] = [
+pub const SPOILS: [(&str, Spoiled); 7] = [
     ("number", Spoiled::Number),
     ("place", Spoiled::Place),
     ("state", Spoiled::State),
     ("work", Spoiled::Work),
     ("cache", Spoiled::Cache),
     ("out", Spoiled::Out),
+    ("printed", Spoiled::Printed),
 ];
 
-pub const KINDS: [&str; 6] = [
+pub const KINDS: [&str; 7] = [
     "read",
     "lift by division",
     "lift by hybrid",
     "lift by the tree",
     "lift by no way",
     "fetch",
+    "bidegrees",
 ];
 
 pub struct Compare {
@@ -97,7 +106,9 @@ pub struct Compare {
     pub calls: u64,
     pub left_out: u64,
     /// by kind and number
-    pub met: [[u64; 19]; KINDS.len()],
+    pub met: [[u64; NUMBERS]; KINDS.len()],
+    /// calls that printed lines, no refusal
+    pub lines: u64,
     pub spoil: Option<(u64, Spoiled)>,
 }
 
@@ -110,7 +121,8 @@ impl Compare {
             theirs: Buffers::new(),
             calls: 0,
             left_out: 0,
-            met: [[0; 19]; KINDS.len()],
+            met: [[0; NUMBERS]; KINDS.len()],
+            lines: 0,
             spoil: None,
         }
     }
@@ -125,11 +137,12 @@ impl Compare {
     pub fn call(&mut self, call: &Call, lent: &Lent, budget: u64) -> Option<u64> {
         self.dirt();
         let theirs = &mut self.theirs;
-        let (state, work, cache, out) = (
+        let (state, work, cache, out, printed) = (
             &mut theirs.state[..lent.state],
             &mut theirs.work[..lent.work],
             &mut theirs.cache[..lent.cache],
             &mut theirs.out[..lent.out],
+            &mut theirs.printed[..lent.printed],
         );
         let limits = &self.limits;
         let expected = match *call {
@@ -147,22 +160,27 @@ impl Compare {
             Call::Fetch { level, vector } => {
                 Some(fetch_call(limits, state, level as u64, vector as u64, out))
             }
+            Call::Bidegrees(file) => {
+                bidegrees_call_within(limits, file, state, work, printed, Some(budget))
+            }
         };
         let Some(expected) = expected else {
             self.left_out += 1;
             return None;
         };
         let ours = &mut self.ours;
-        let (state, work, cache, out) = (
+        let (state, work, cache, out, printed) = (
             &mut ours.state[..lent.state],
             &mut ours.work[..lent.work],
             &mut ours.cache[..lent.cache],
             &mut ours.out[..lent.out],
+            &mut ours.printed[..lent.printed],
         );
         let mut answer = match *call {
             Call::Read(file) => proved::read(file, state, work),
             Call::Lift { level, way, pick } => proved::lift(state, work, cache, level, way, pick),
             Call::Fetch { level, vector } => proved::fetch(state, out, level, vector),
+            Call::Bidegrees(file) => proved::bidegrees(file, state, work, printed),
         };
         if let Some((at, what)) = self.spoil {
             if at == self.calls {
@@ -173,6 +191,7 @@ impl Compare {
                     Spoiled::Work => self.ours.work[WORK - 1] ^= 1,
                     Spoiled::Cache => self.ours.cache[0] ^= 1,
                     Spoiled::Out => self.ours.out[OUT] ^= 1,
+                    Spoiled::Printed => self.ours.printed[BIDEGREES] ^= 1,
                 }
             }
         }
@@ -193,22 +212,35 @@ impl Compare {
                 self.differ(call, lent, expected, &format!("{name} differs at {at:?}"));
             }
         }
+        if ours.printed != theirs.printed {
+            let mut pairs = ours.printed.iter().zip(&theirs.printed);
+            let at = pairs.position(|(a, b)| a != b);
+            let what = format!("what is printed differs at {at:?}");
+            self.differ(call, lent, expected, &what);
+        }
         let kind = match call {
             Call::Read(_) => 0,
             Call::Lift { way, .. } => 1 + usize::from((*way).min(3)),
             Call::Fetch { .. } => 5,
+            Call::Bidegrees(_) => 6,
         };
+        let lines = kind == 6 && expected.0 == 0 && theirs.printed[0] == b'B';
+        self.lines += u64::from(lines);
         self.met[kind][expected.0 as usize] += 1;
         Some(expected.0)
     }
 
-    /// What stands in work, cache and out before a call must not matter.
+    /// What stands in work, cache, out and what was printed before a call must not matter.
     fn dirt(&mut self) {
         let word = self.random.bits() as u16;
         let at: [usize; 4] = std::array::from_fn(|_| self.random.bits() as usize);
         self.both(|buffers| {
             let Buffers {
-                work, cache, out, ..
+                work,
+                cache,
+                out,
+                printed,
+                ..
             } = buffers;
             for (buffer, at) in [(&mut *work, at[0]), (cache, at[1]), (out, at[2])] {
                 let length = buffer.len();
@@ -216,6 +248,9 @@ impl Compare {
                 buffer[at % 64] = word;
             }
             work[at[3] % WORK] = word;
+            let length = printed.len();
+            printed[at[3] % length] = word as u8;
+            printed[at[0] % 64] = word as u8;
         });
     }
 
@@ -225,7 +260,9 @@ impl Compare {
             self.calls
         );
         match call {
-            Call::Read(file) => println!("read {}", shown(file, 2_000)),
+            Call::Read(file) | Call::Bidegrees(file) => {
+                println!("read or printed: {}", shown(file, 2_000));
+            }
             _ => println!("{call:?}"),
         }
         println!("state from {:?}", &self.theirs.state[..6]);

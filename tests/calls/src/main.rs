@@ -2,16 +2,18 @@
 //!
 //!     test-calls [CALLS [SEED]]                                  at least so many calls (1,000,000 without it)
 //!     test-calls primes [FILES [SEED]]                           so many files over 65,521, 65,519 and 32,771 (50,000), every level and vector of each
-//!     test-calls spoil number|place|state|work|cache|out         spoils one answer: the run must find it and exit with 1
+//!     test-calls spoil number|place|state|work|cache|out|printed     spoils one answer: the run must find it and exit with 1
 
 mod compare;
 mod proved;
 
 use common::arguments::{asked, words};
-use common::buffers::{self, DEGREES, OUT, ROW, STATE, WORK};
+use common::buffers::{self, BIDEGREES, DEGREES, OUT, ROW, STATE, WORK};
 use common::deep::{deep, on_small_stack, DEEPEST};
 use common::examples::examples;
-use common::files::{basis_or_set, damage_some, long_tails, many_monomials, random_size, WRITTEN};
+use common::files::{
+    basis_or_set, damage_some, long_tails, many_monomials, random_size, with_some_weights, WRITTEN,
+};
 use common::report::counts;
 use common::states::{
     alter, basis_of, degree_is_free, degree_words, leading_variable, random_basis as random_state,
@@ -20,12 +22,16 @@ use common::states::{
 use compare::{Call, Compare, Lent, Spoiled, CACHE, KINDS, MORE, SPOILS, WHOLE};
 use reference::buffers::read_state;
 use reference::engine::Basis;
+use reference::generate::bigraded::{bidegree_file, bigraded_file};
 use reference::generate::degree_lines::{
     components_of, spoiled_degree_lines, with_degrees, without_degree_lines,
 };
 use reference::generate::files::{edited_file, limit_file};
 use reference::generate::problems::{problem_file, random_basis, random_degrees, Size as FileSize};
 use reference::generate::states::{carry, with_other_degrees};
+use reference::generate::weight_lines::{
+    random_weights, spoiled_weight_lines, variables_of, with_weights, without_weight_lines,
+};
 use reference::random::Random;
 use reference::reader::read_problem;
 use reference::Limits;
@@ -58,8 +64,13 @@ impl Lists {
         compare.spoil = spoil;
         let files = (0..if spoil.is_some() { 100 } else { 4_000 })
             .map(|_| {
+                if random.chance(10) {
+                    return bigraded_file(&mut random);
+                }
                 let size = random_size(&mut random, 6);
-                problem_file(&basis_or_set(&mut random, &size))
+                let mut file = problem_file(&basis_or_set(&mut random, &size));
+                with_some_weights(&mut random, &mut file);
+                file
             })
             .collect();
         let mut long_files: Vec<Vec<u8>> = (0..200).map(|_| limit_file(&mut random)).collect();
@@ -195,6 +206,7 @@ impl Lists {
                 };
                 self.fetch(level, vector)
             }
+            92 | 93 => self.bidegrees(),
             // levels that are not there
             _ => {
                 let level =
@@ -226,21 +238,37 @@ impl Lists {
             work: self.length(work),
             cache,
             out: self.length(OUT),
+            printed: self.length(BIDEGREES),
         }
     }
 
-    fn read(&mut self) -> Option<u64> {
-        let (long, mut file) = match self.random.below(200) {
-            0..=7 => (true, self.random.pick(&self.long_files).clone()),
-            8..=27 => (false, edited_file(&mut self.random)),
-            _ => (false, self.random.pick(&self.files).clone()),
+    /// Any file, and what it may take.
+    fn file(&mut self) -> (Vec<u8>, u64) {
+        let (mut file, budget) = match self.random.below(200) {
+            0..=7 => (self.random.pick(&self.long_files).clone(), LONG_BUDGET),
+            8..=27 => (edited_file(&mut self.random), BUDGET),
+            _ => (self.random.pick(&self.files).clone(), BUDGET),
         };
         if self.random.chance(20) {
             damage_some(&mut self.random, &mut file);
         }
+        (file, budget)
+    }
+
+    fn read(&mut self) -> Option<u64> {
+        let (file, budget) = self.file();
         let lent = self.lent(WORK, 0);
-        let budget = if long { LONG_BUDGET } else { BUDGET };
         self.compare.call(&Call::Read(&file), &lent, budget)
+    }
+
+    /// The state is lent for the work alone: nothing is held afterwards.
+    fn bidegrees(&mut self) -> Option<u64> {
+        let (file, budget) = match self.random.chance(60) {
+            true => (bidegree_file(&mut self.random), BUDGET),
+            false => self.file(),
+        };
+        let lent = self.lent(WORK, 0);
+        self.compare.call(&Call::Bidegrees(&file), &lent, budget)
     }
 
     fn lift(&mut self, level: u64) -> Option<u64> {
@@ -348,6 +376,49 @@ fn degree_lines(lists: &mut Lists) {
                     break;
                 }
             }
+        }
+    }
+}
+
+/// G lines (request A14): every way to spoil one, and right ones: the state is that of the file without the line, and the bidegrees are printed.
+fn weight_lines(lists: &mut Lists) {
+    let mut files: Vec<Vec<u8>> = WRITTEN.map(|file| file.as_bytes().to_vec()).to_vec();
+    files.extend((0..20).map(|_| bigraded_file(&mut lists.random)));
+    for file in files {
+        let bare = without_weight_lines(&file);
+        let lines = bare.iter().filter(|byte| **byte == 10).count();
+        let has_degrees = bare.windows(3).any(|bytes| bytes == b"\nD,");
+        let degrees = random_degrees(&mut lists.random, components_of(&bare));
+        let weights = random_weights(&mut lists.random, variables_of(&bare));
+        for spoiled in spoiled_weight_lines(lines, has_degrees, &weights, &degrees) {
+            let file = spoiled.file(&bare);
+            lists.compare.call(&Call::Read(&file), &WHOLE, LONG_BUDGET);
+        }
+        let mut held = Vec::new();
+        for file in [&bare, &with_weights(&bare, &weights), &file] {
+            let call = Call::Bidegrees(file);
+            lists.compare.call(&call, &WHOLE, LONG_BUDGET);
+            let number = lists.compare.call(&Call::Read(file), &WHOLE, LONG_BUDGET);
+            held.push((number, lists.compare.ours.state[..STATE].to_vec()));
+        }
+        // no state holds weights
+        assert!(held.iter().all(|one| *one == held[0]));
+        for (state, work, printed) in [
+            (STATE - 1, WORK, BIDEGREES),
+            (STATE, WORK - 1, BIDEGREES),
+            (STATE, WORK, BIDEGREES - 1),
+            (0, 0, 0),
+        ] {
+            let lent = Lent {
+                state,
+                work,
+                printed,
+                ..WHOLE
+            };
+            let number = lists
+                .compare
+                .call(&Call::Bidegrees(&file), &lent, LONG_BUDGET);
+            assert_eq!(number, Some(16));
         }
     }
 }
@@ -605,6 +676,7 @@ fn calls(wanted: u64, seed: u64, spoil: Option<Spoiled>) {
     if spoil.is_none() {
         lists.whole_examples();
         degree_lines(&mut lists);
+        weight_lines(&mut lists);
         degrees = altered_degrees(&mut lists);
     }
     let systematic = lists.compare.calls;
@@ -614,13 +686,14 @@ fn calls(wanted: u64, seed: u64, spoil: Option<Spoiled>) {
     let compare = &lists.compare;
     println!(
         "calls: {} calls agree in number, place and every word \
-         ({systematic} on the files of the field, with D lines and with {degrees} degrees altered, then {} lists, {} of them with altered \
+         ({systematic} on the files of the field, with D and G lines and with {degrees} degrees altered, then {} lists, {} of them with altered \
          states; {} calls left out; seed {seed})",
         compare.calls, lists.lists, lists.altered, compare.left_out
     );
     for (kind, met) in KINDS.iter().zip(&compare.met) {
         println!("  {kind}: {}", counts(met).join(", "));
     }
+    println!("  {} calls printed lines of bidegrees", compare.lines);
     let stack = on_small_stack(deepest);
     println!("  the tree at depth {DEEPEST} agrees, {stack}");
     if wanted < CALLS / 4 {
@@ -629,16 +702,18 @@ fn calls(wanted: u64, seed: u64, spoil: Option<Spoiled>) {
     // a run in which a number hardly comes tests too little
     let lifts: &[usize] = &[0, 11, 12, 13, 14, 15, 16];
     let expected: [&[usize]; KINDS.len()] = [
-        &[0, 1, 2, 3, 4, 5, 6, 7, 8, 9, 13, 14, 15, 16, 18],
+        &[0, 1, 2, 3, 4, 5, 6, 7, 8, 9, 13, 14, 15, 16, 18, 24],
         lifts,
         lifts,
         lifts,
         &[11, 12, 16],
         &[0, 11, 12, 16],
+        &[0, 16],
     ];
     for ((kind, met), numbers) in KINDS.iter().zip(&compare.met).zip(expected) {
         for number in numbers {
             assert!(met[*number] > 0, "{number} did not come by {kind}");
         }
     }
+    assert!(compare.lines >= 1_000);
 }

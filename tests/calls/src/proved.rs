@@ -22,6 +22,16 @@ pub fn lift(
     wide(calls::lift(state, work, cache, level, way, pick))
 }
 
+/// Number and length.
+pub fn bidegrees(
+    file: &[u8],
+    state: &mut [u16],
+    work: &mut [u16],
+    printed: &mut [u8],
+) -> (u64, u64) {
+    wide(calls::bidegrees(file, state, work, printed))
+}
+
 pub fn fetch(state: &[u16], out: &mut [u16], level: usize, vector: usize) -> (u64, u64) {
     wide(calls::fetch(state, out, level, vector))
 }

@@ -38,11 +38,13 @@ pub const TREE_WORK: usize = ROW * 4_096;
 pub const OUT: usize = ROW * 512;
 /// The sheet's, in bytes.
 pub const SHEET: usize = 1_400_000;
+/// That of the bidegrees.
+pub const BIDEGREES: usize = 11 * VECTORS * 23;
 
 // as the page has them
 const _: () = assert!(ROW == 6 && rows(0) == 1_295 && LEVEL_ROWS == 12_288 && STATE == 125_471);
 const _: () = assert!(DEGREES == 124_175 && carried(0) == 124_191 && carried(9) == 125_343);
-const _: () = assert!(WORK == 3_072 && TREE_WORK == 24_576 && OUT == 3_072);
+const _: () = assert!(WORK == 3_072 && TREE_WORK == 24_576 && OUT == 3_072 && BIDEGREES == 32_384);
 
 /// The word that holds how many vectors level k has; the ends of its vectors stand behind it.
 pub const fn count(k: usize) -> usize {

@@ -1,15 +1,15 @@
 //! Problem files: some written out, some random; and every way to damage one at a byte.
 
-use reference::generate::files::damage;
 use reference::generate::problems::{element_of, random_basis, random_degrees, random_set, Size};
+use reference::generate::weight_lines::{damage_weights, spoil_weight_line, with_random_weights};
 use reference::monomial::{Level, Monomial, Parameters, Term, UNIT};
 use reference::order::Modules;
 use reference::random::Random;
 use reference::reader::Problem;
 use std::cmp::Ordering;
 
-/// Small files that are read, with all codes, 1 to 8 variables, with and without a D line, and numbers at their limits.
-pub const WRITTEN: [&str; 14] = [
+/// Small files that are read, with all codes, 1 to 8 variables, with and without D and G lines, and numbers at their limits.
+pub const WRITTEN: [&str; 19] = [
     "R,7,2,1,1\nT,1,1,1,1,0\nT,1,1,1,0,1\nT,2,1,1,0,2\nT,2,1,1,0,0\nE,4\n",
     "R,2,1,1,1\nT,1,1,1,255\nE,1\n",
     "R,32749,1,2,16\nT,1,32748,16,255\nT,1,1,15,255\nT,1,10000,16,0\nE,3\n",
@@ -24,6 +24,11 @@ pub const WRITTEN: [&str; 14] = [
     "R,3,1,2,1\nD,255\nT,1,2,1,255\nT,1,1,1,0\nE,2\n",
     "R,65521,2,3,16\nD,0,1,2,3,4,5,6,7,8,9,10,99,100,199,254,255\nT,1,65520,16,255,255\nT,1,1,3,0,1\nT,2,1,1,0,0\nE,3\n",
     "R,13,2,1,3\nD,0,0,0\nE,0\n",
+    "R,7,4,3,1\nG,1,0,1,0,0,1,0,1\nT,1,1,1,1,0,1,0\nT,2,1,1,0,1,0,1\nE,2\n",
+    "R,7,2,1,2\nD,0,1\nG,1,0,2,15\nT,1,1,1,2,0\nT,1,1,2,1,0\nT,2,1,2,0,1\nE,3\n",
+    "R,2,1,2,2\nG,0,15\nT,1,1,1,2\nE,1\n",
+    "R,65521,8,2,1\nG,0,1,2,3,4,5,6,7,8,9,10,11,12,13,14,15\nT,1,1,1,0,0,0,0,0,0,0,255\nT,2,1,1,0,0,0,0,0,0,1,0\nE,2\n",
+    "R,13,1,1,1\nD,7\nG,0,0\nE,0\n",
 ];
 
 /// What a field may be changed to: numbers about every limit, and what is no number.
@@ -149,11 +154,7 @@ pub fn random_problem(random: &mut Random) -> Problem {
         terms.dedup_by(|a, b| order(a, b) == Ordering::Equal);
         elements.push(terms);
     }
-    Problem {
-        parameters,
-        degrees: random_degrees(random, parameters.s),
-        elements,
-    }
+    Problem::with_degrees(parameters, random_degrees(random, parameters.s), elements)
 }
 
 /// Monomials whose frame has about 128 terms or more; where it has fewer, that of the next level may have more.
@@ -179,11 +180,7 @@ pub fn many_monomials(random: &mut Random) -> Problem {
             }]
         })
         .collect();
-    Problem {
-        parameters,
-        degrees: random_degrees(random, parameters.s),
-        elements,
-    }
+    Problem::with_degrees(parameters, random_degrees(random, parameters.s), elements)
 }
 
 /// x, y, z with tails of so many terms in other variables: a vector of level 2 has three terms more than three tails.
@@ -219,11 +216,7 @@ pub fn long_tails(random: &mut Random, tail: usize) -> Problem {
             element_of(&parameters, &terms)
         })
         .collect();
-    Problem {
-        parameters,
-        degrees: random_degrees(random, parameters.s),
-        elements,
-    }
+    Problem::with_degrees(parameters, random_degrees(random, parameters.s), elements)
 }
 
 /// The file with one of its fields changed.
@@ -261,7 +254,16 @@ pub fn with_each_field(file: &[u8], apart: usize, mut each: impl FnMut(&[u8])) {
 /// Damages the file once to three times.
 pub fn damage_some(random: &mut Random, file: &mut Vec<u8>) {
     for _ in 0..random.between(1, 3) {
-        damage(random, file);
+        damage_weights(random, file);
+    }
+}
+
+/// A third of the files get a G line: mostly a right one, some a spoiled one.
+pub fn with_some_weights(random: &mut Random, file: &mut Vec<u8>) {
+    match random.below(36) {
+        0..=9 => *file = with_random_weights(random, file),
+        10 | 11 => spoil_weight_line(random, file),
+        _ => {}
     }
 }
 
@@ -274,7 +276,7 @@ pub fn fields_of(file: &[u8]) -> Vec<usize> {
 
 /// Every file that one change at this byte gives: cut off there, flipped, deleted, doubled, replaced, inserted.
 pub fn changed_at(file: &[u8], at: usize, mut each: impl FnMut(&[u8])) {
-    const BYTES: &[u8] = b"0123456789,RDTEtd\n\r -+.\0\xff";
+    const BYTES: &[u8] = b"0123456789,RDGTEtdg\n\r -+.\0\xff";
     each(&file[..at]);
     let mut changed = file.to_vec();
     for bit in 0..8 {

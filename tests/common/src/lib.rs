@@ -2,6 +2,7 @@
 //!
 //! - [`arguments`]: what a test is asked for on its command line.
 //! - [`buffers`]: lengths and places in the lent buffers, by name.
+//! - [`program`]: a program that people run, as a process.
 //! - [`report`]: how a test tells what it met, and what differs.
 //! - [`files`]: problem files, and every way to damage one.
 //! - [`states`]: sound states, and every way to alter one.
@@ -13,5 +14,6 @@ pub mod buffers;
 pub mod deep;
 pub mod examples;
 pub mod files;
+pub mod program;
 pub mod report;
 pub mod states;

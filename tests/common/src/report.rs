@@ -1,5 +1,8 @@
 //! How a test tells what it met, and what differs.
 
+/// One more than the largest number of a refusal.
+pub const NUMBERS: usize = 26;
+
 /// The numbers that came, each with how often.
 pub fn counts(met: &[u64]) -> Vec<String> {
     met.iter()

@@ -5,6 +5,7 @@
 
 use common::arguments::{asked, words};
 use common::buffers::{exponent_at, rows, DEGREES, STATE, VARIABLES};
+use common::files::with_some_weights;
 use common::states::{
     alter, degree_is_free, degree_words, full_basis, long_basis, random_basis, write_basis, Size,
 };
@@ -168,8 +169,9 @@ fn each_degree(compare: &mut Compare, random: &mut Random, state: &mut [u16]) ->
 /// The levels that lifting makes, over a random basis that is accepted.
 fn lifted(random: &mut Random, limits: &Limits) -> Option<Basis> {
     let mut held = State::new();
-    let problem = random_problem(random, &ProblemSize::small());
-    held.read(limits, &problem_file(&problem), Some(20_000));
+    let mut file = problem_file(&random_problem(random, &ProblemSize::small()));
+    with_some_weights(random, &mut file);
+    held.read(limits, &file, Some(20_000));
     for k in 1..=random.below(4) {
         held.lift(limits, k, Way::Hybrid(2), 0, Some(20_000));
     }

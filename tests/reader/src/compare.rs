@@ -1,7 +1,7 @@
 //! One file through both readers: number, place and every word of the state.
 
 use common::buffers::{all_zero, more, STATE};
-use common::report::shown;
+use common::report::{shown, NUMBERS};
 use common::states::{basis_of, write_basis};
 use reference::random::Random;
 use reference::reader::read_problem;
@@ -30,8 +30,8 @@ pub struct Compare {
     expected: Vec<u16>,
     /// files so far
     pub files: u64,
-    /// files so far by number, 0 to 18
-    pub met: [u64; 19],
+    /// files so far by number
+    pub met: [u64; NUMBERS],
     /// the file at which to spoil an answer
     pub spoil: Option<(u64, Spoiled)>,
 }
@@ -47,7 +47,7 @@ impl Compare {
             state: vec![0xaaaa; STATE + MORE],
             expected: vec![0; STATE + MORE],
             files: 0,
-            met: [0; 19],
+            met: [0; NUMBERS],
             spoil: None,
         }
     }

@@ -1,6 +1,6 @@
 //! The proved reader against the unrelated implementation: number, place and every word, file by file.
 //!
-//!     test-reader [FILES [SEED]]        at least so many files (200,000 without it)
+//!     test-reader [FILES [SEED]]        at least so many files (260,000 without it)
 //!     test-reader spoil number|place|word   spoils one answer: the run must find it and exit with 1
 
 mod compare;
@@ -8,8 +8,8 @@ mod compare;
 use common::arguments::{asked, words};
 use common::buffers::{rows, STATE};
 use common::files::{
-    changed_at, damage_some, fields_of, random_problem, with_each_field, with_field, FIELDS,
-    WRITTEN,
+    changed_at, damage_some, fields_of, random_problem, with_each_field, with_field,
+    with_some_weights, FIELDS, WRITTEN,
 };
 use common::report::counts;
 use compare::{Compare, SPOILS};
@@ -17,11 +17,15 @@ use reference::generate::degree_lines::{
     components_of, spoil_degree_line, spoiled_degree_lines, with_degrees, with_random_degrees,
     without_degree_lines,
 };
-use reference::generate::files::{damage, edited_file, exact_length_file, exact_t_lines_file};
+use reference::generate::files::{edit, edited_file, exact_length_file, exact_t_lines_file};
 use reference::generate::problems::{problem_file, random_degrees};
+use reference::generate::weight_lines::{
+    damage_weights, random_weights, spoil_weight_line, spoiled_weight_lines, variables_of,
+    with_random_weights, with_weights, without_weight_lines,
+};
 use reference::random::Random;
 
-const FILES: u64 = 200_000;
+const FILES: u64 = 260_000;
 const SEED: u64 = 20_250_101;
 
 fn main() {
@@ -33,6 +37,7 @@ fn main() {
     every_change(&mut compare);
     every_field(&mut compare);
     degree_lines(&mut compare, &mut random);
+    weight_lines(&mut compare, &mut random);
     short_buffers(&mut compare);
     at_the_limits(&mut compare, &mut random);
     // a long run cuts the longest file off at every byte, a short one here and there
@@ -54,7 +59,7 @@ fn main() {
         println!("  {count}");
     }
     // a run in which a refusal never comes tests too little
-    for number in [0, 1, 2, 3, 4, 5, 6, 7, 8, 16, 18] {
+    for number in [0, 1, 2, 3, 4, 5, 6, 7, 8, 16, 18, 24] {
         assert!(compare.met[number] >= 20, "number {number} came too seldom");
     }
 }
@@ -85,8 +90,8 @@ fn every_field(compare: &mut Compare) {
 
 /// D lines: every degree, every way to spoil one, and one spoiled at each byte; in small files and in some at the limits.
 fn degree_lines(compare: &mut Compare, random: &mut Random) {
-    for file in WRITTEN.map(str::as_bytes) {
-        let bare = without_degree_lines(file);
+    for file in WRITTEN.iter().filter(|file| !file.contains("\nG,")) {
+        let bare = without_degree_lines(file.as_bytes());
         compare.file(&bare);
         let s = components_of(&bare) as usize;
         for degree in (0..=300).chain([511, 512, 32_767, 32_768, 65_280, 65_534, 65_535, 65_536]) {
@@ -129,6 +134,70 @@ fn degree_lines(compare: &mut Compare, random: &mut Random) {
     }
 }
 
+/// G lines: every weight, every way to spoil one, and one spoiled at each byte, behind R and behind D; in small files and in some at the limits.
+fn weight_lines(compare: &mut Compare, random: &mut Random) {
+    for (i, file) in WRITTEN.map(str::as_bytes).into_iter().enumerate() {
+        let without_d = without_weight_lines(&without_degree_lines(file));
+        let degrees = random_degrees(random, components_of(&without_d));
+        let with_d = with_degrees(&without_d, &degrees);
+        for (bare, has_degrees) in [(without_d, false), (with_d, true)] {
+            let n = variables_of(&bare) as usize;
+            for weight in (0..=40).chain([255, 256, 4_095, 4_096, 65_520, 65_534, 65_535, 65_536]) {
+                for at in [0, n, 2 * n - 1] {
+                    let mut weights = random_weights(random, n as u64);
+                    weights[at / 2][at % 2] = weight;
+                    compare.file(&with_weights(&bare, &weights));
+                }
+            }
+            let lines = fields_of(&bare).len();
+            let weights = match i % 3 {
+                0 => vec![[0, 0]; n],
+                1 => vec![[15, 15]; n],
+                _ => random_weights(random, n as u64),
+            };
+            for spoiled in spoiled_weight_lines(lines, has_degrees, &weights, &degrees) {
+                compare.file(&spoiled.file(&bare));
+            }
+            // as many fields as any line may have, and more, odd numbers of them too
+            for fields in 0..=40 {
+                let longer = vec![[7, 7]; fields / 2];
+                let mut file = with_weights(&bare, &longer);
+                if fields % 2 == 1 {
+                    let line = 1 + usize::from(has_degrees);
+                    let own = fields_of(&file)[line];
+                    file = with_field(&file, line, own - 1, if fields > 1 { "7,7" } else { "G,7" });
+                }
+                compare.file(&file);
+            }
+            let with = with_weights(&bare, &weights);
+            let ends = with.iter().enumerate().filter(|(_, byte)| **byte == 10);
+            let ends: Vec<usize> = ends.map(|(at, _)| at).collect();
+            let own = usize::from(has_degrees);
+            for at in (ends[own]..=ends[own + 1]).filter(|at| (at + i) % 2 == own) {
+                changed_at(&with, at, |changed| compare.file(changed));
+            }
+        }
+    }
+    for file in [
+        exact_length_file(random, 65_480),
+        exact_t_lines_file(random, 2_048),
+        exact_t_lines_file(random, 2_049),
+    ] {
+        for _ in 0..40 {
+            compare.file(&with_random_weights(random, &file));
+            let mut spoiled = file.clone();
+            spoil_weight_line(random, &mut spoiled);
+            compare.file(&spoiled);
+        }
+    }
+    // the G line counts for the length
+    for length in 65_500..=65_540 {
+        let file = exact_length_file(random, length - 33);
+        compare.file(&with_weights(&file, &[[9, 3]; 8]));
+        compare.file(&with_weights(&file, &[[15, 0]; 8]));
+    }
+}
+
 /// 16 before all else, and no word changes.
 fn short_buffers(compare: &mut Compare) {
     for file in WRITTEN.map(str::as_bytes) {
@@ -150,7 +219,7 @@ fn at_the_limits(compare: &mut Compare, random: &mut Random) {
         }
         for _ in 0..40 {
             let mut damaged = file.clone();
-            damage(random, &mut damaged);
+            damage_weights(random, &mut damaged);
             compare.file(&damaged);
         }
     }
@@ -173,7 +242,7 @@ fn at_the_limits(compare: &mut Compare, random: &mut Random) {
         }
         for _ in 0..60 {
             let mut damaged = file.clone();
-            damage(random, &mut damaged);
+            damage_weights(random, &mut damaged);
             compare.file(&damaged);
         }
     }
@@ -207,6 +276,7 @@ fn random_file(compare: &mut Compare, random: &mut Random) {
         0 => edited_file(random),
         _ => problem_file(&random_problem(random)),
     };
+    with_some_weights(random, &mut file);
     if random.chance(30) {
         compare.file(&file);
     }
@@ -217,10 +287,15 @@ fn random_file(compare: &mut Compare, random: &mut Random) {
         }
     }
     let kinds = fields_of(&file);
-    match random.below(9) {
+    match random.below(12) {
         0 => spoil_degree_line(random, &mut file),
         1 => file = with_random_degrees(random, &file),
-        2..=4 => {
+        2 => spoil_weight_line(random, &mut file),
+        3 => {
+            let with = with_random_weights(random, &file);
+            file = edit(random, &with);
+        }
+        4..=6 => {
             let line = random.below(kinds.len() as u64) as usize;
             let field = random.between(0, kinds[line] as u64) as usize;
             if file.ends_with(b"\n") {

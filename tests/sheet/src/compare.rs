@@ -1,7 +1,7 @@
 //! One file through the proved call and the unrelated implementation: number, length, the sheet's bytes, and what stands in the buffers afterwards.
 
 use common::buffers::{all_zero, more, SHEET as OUT, STATE, WORK};
-use common::report::shown;
+use common::report::{shown, NUMBERS};
 use reference::random::Random;
 use reference::sheet::sheet;
 use reference::Limits;
@@ -43,7 +43,7 @@ pub struct Compare {
     pub files: u64,
     pub left_out: u64,
     /// files so far by the number of their X line, 0 for a full listing
-    pub met: [u64; 19],
+    pub met: [u64; NUMBERS],
     /// the longest sheet so far, and the most levels in one
     pub longest: usize,
     pub levels: usize,
@@ -61,7 +61,7 @@ impl Compare {
             out: vec![0xaa; OUT + MORE],
             files: 0,
             left_out: 0,
-            met: [0; 19],
+            met: [0; NUMBERS],
             longest: 0,
             levels: 0,
             spoil: None,

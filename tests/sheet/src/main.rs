@@ -6,18 +6,17 @@
 //!                                    spoils one answer: the run must find it and exit with 1
 
 mod compare;
-mod program;
 
 use common::arguments::{asked, words};
 use common::buffers::{SHEET as OUT, STATE, WORK};
 use common::examples::{examples, files_of};
 use common::files::{
     changed_at, damage_some, long_tails, many_monomials, random_problem, random_size,
-    with_each_field, WRITTEN,
+    with_each_field, with_some_weights, WRITTEN,
 };
+use common::program::{By, Program};
 use common::report::counts;
 use compare::{Compare, Spoiled, SPOILS};
-use program::By;
 use reference::generate::files::{edited_file, exact_length_file, exact_t_lines_file, limit_file};
 use reference::generate::problems::{problem_file, random_basis, random_set};
 use reference::random::Random;
@@ -72,7 +71,7 @@ fn main() {
     }
     assert_eq!(compare.levels, 9, "no sheet has nine levels");
     // a run in which a refusal hardly comes tests too little
-    for number in [0, 1, 2, 3, 4, 5, 6, 7, 8, 9, 13, 14, 15, 16, 18] {
+    for number in [0, 1, 2, 3, 4, 5, 6, 7, 8, 9, 13, 14, 15, 16, 18, 24] {
         assert!(compare.met[number] >= 10, "number {number} came too seldom");
     }
 }
@@ -143,13 +142,14 @@ fn random_file(compare: &mut Compare, random: &mut Random) {
         4 | 5 => problem_file(&random_set(random, &size)),
         _ => problem_file(&random_basis(random, &size)),
     };
+    with_some_weights(random, &mut file);
     if random.chance(25) {
         damage_some(random, &mut file);
     }
     compare.file(&file, BUDGET);
 }
 
-/// The instances of document 01 and of request A5, by name: the problem file, and the sheet that the documents say.
+/// The instances of document 01 and of requests A4, A5 and A14, by name: the problem file, and the sheet that the documents say.
 fn instances() -> Vec<(Vec<u8>, Vec<u8>)> {
     let folder = Path::new(env!("CARGO_MANIFEST_DIR")).join("instances");
     let files: Vec<(Vec<u8>, Vec<u8>)> = files_of(&folder)
@@ -159,7 +159,7 @@ fn instances() -> Vec<(Vec<u8>, Vec<u8>)> {
             (file, sheet)
         })
         .collect();
-    assert_eq!(files.len(), 33, "an instance is missing");
+    assert_eq!(files.len(), 35, "an instance is missing");
     files
 }
 
@@ -196,14 +196,16 @@ fn by_program(compare: &Compare, random: &mut Random) -> u64 {
         let sheet = compare.expected(&file, u64::MAX);
         files.push((file, sheet.expect("no budget"), &[By::File]));
     }
+    let program = Program::new("syzygies", "SYZYGIES");
     let mut runs = 0;
     for (file, expected, ways) in &files {
         for by in *ways {
-            let mut sheet = program::run(file, *by);
+            let mut sheet = program.run(file, *by);
             if spoiled && runs == 70 {
                 *sheet.last_mut().expect("it prints something") ^= 1;
             }
             if sheet != *expected {
+                program.clean();
                 compare.differ(file, "the program prints something else", &sheet, expected);
             }
             runs += 1;

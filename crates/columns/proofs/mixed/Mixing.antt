@@ -1,27 +1,27 @@
--- Terms of two degrees, row by row and vector by vector.
-use mathlib.Core.Path.{_≡_, refl, sym, ap, _∙_}
+-- Terms of two numbers, row by row and vector by vector.
+use mathlib.Core.Path.{_≡_, ap, _∙_}
 use mathlib.Core.Bool.{Bool, true, false, not}
 use mathlib.Core.Option.{Option, none, some}
-use mathlib.Core.List.{List, [], _∷_}
+use mathlib.Core.List.{_∷_}
 use Prim.Native.Nat.{ℕ, suc, _+_, _-_, _<_, _≤_}
 use native.Mathlib.Omega.{arith}
 use borrow.Author.Tests.{eq-eqb, ne-eqb}
-use lib.Dec.{eqb}
 use lib.ListN.{length, getD, drop, drop-of-length-le}
 use lib.Seq.{drop-cons}
 use Rattle.definitions.specs.Lists.{any}
 use Rattle.definitions.specs.Monomial.{Monomial, Term, Vector}
-use Rattle.definitions.specs.Degrees.{degree-by}
 use Rattle.definitions.specs.Layout.{Words, rows, row-at, vectors-at}
-use Rattle.definitions.specs.Betti.{mixed?, first-mixed, same-degree?}
+use Rattle.definitions.specs.Betti.{mixed?, first-mixed}
 use Rattle.laws.proofs.Rows.{rows-first}
+use Rattle.columns.specs.mixed.Placed.{same-by}
 
 -- ## Rows
 
-module _ (s d : Words) (a : ℕ) where
-  -- a row of another degree than row a
+-- by one number for each monomial
+module _ (g : Monomial → ℕ) (s : Words) (a : ℕ) where
+  -- a row of another number than row a
   abbrev pub other? : Term → Bool
-  other? u = not (same-degree? d (row-at s a .1) (u .1))
+  other? u = not (same-by g (row-at s a .1) (u .1))
 
   rest : (i to : ℕ) → i < to → rows s i (to - i) ≡ row-at s i ∷ rows s (i + 1) (to - (i + 1))
   rest i to h =
@@ -29,22 +29,22 @@ module _ (s d : Words) (a : ℕ) where
       let n : suc i ≡ i + 1 = omega arith in
       ap (rows s i) e ∙ rows-first s i (to - (i + 1)) ∙ ap (λ j. row-at s i ∷ rows s j (to - (i + 1))) n
 
-  pub mixed-starts : (to : ℕ) → a < to → mixed? (same-degree? d) (rows s a (to - a)) ≡ any other? (rows s (a + 1) (to - (a + 1)))
-  mixed-starts to h = ap (mixed? (same-degree? d)) (rest a to h)
+  pub mixed-starts : (to : ℕ) → a < to → mixed? (same-by g) (rows s a (to - a)) ≡ any other? (rows s (a + 1) (to - (a + 1)))
+  mixed-starts to h = ap (mixed? (same-by g)) (rest a to h)
 
   abbrev here : Vector → Bool → Bool
   here v b = elim b [ true ↦ true | false ↦ any other? v ]
 
-  pub mixed-on : (i to : ℕ) → i < to → degree-by d (row-at s a .1) ≡ degree-by d (row-at s i .1)
+  pub mixed-on : (i to : ℕ) → i < to → g (row-at s a .1) ≡ g (row-at s i .1)
       → any other? (rows s i (to - i)) ≡ any other? (rows s (i + 1) (to - (i + 1)))
   mixed-on i to h e =
       ap (any other?) (rest i to h)
-      ∙ ap (λ b. here (rows s (i + 1) (to - (i + 1))) (not b)) (eq-eqb (degree-by d (row-at s a .1)) (degree-by d (row-at s i .1)) e)
+      ∙ ap (λ b. here (rows s (i + 1) (to - (i + 1))) (not b)) (eq-eqb (g (row-at s a .1)) (g (row-at s i .1)) e)
 
-  pub mixed-stops : (i to : ℕ) → i < to → (degree-by d (row-at s a .1) ≡ degree-by d (row-at s i .1) → ⊥) → any other? (rows s i (to - i)) ≡ true
+  pub mixed-stops : (i to : ℕ) → i < to → (g (row-at s a .1) ≡ g (row-at s i .1) → ⊥) → any other? (rows s i (to - i)) ≡ true
   mixed-stops i to h n =
       ap (any other?) (rest i to h)
-      ∙ ap (λ b. here (rows s (i + 1) (to - (i + 1))) (not b)) (ne-eqb (degree-by d (row-at s a .1)) (degree-by d (row-at s i .1)) n)
+      ∙ ap (λ b. here (rows s (i + 1) (to - (i + 1))) (not b)) (ne-eqb (g (row-at s a .1)) (g (row-at s i .1)) n)
 
   pub mixed-ends : (i to : ℕ) → to ≤ i → any other? (rows s i (to - i)) ≡ false
   unfolding rows

@@ -60,6 +60,9 @@ module _ (size : ℕ) (big : state-length ≤ size) (file : Bytes) (f : Paramete
     alone = one-level;
     bound = n;
     reads = sym (accepted-is size big file f e s w n) ∙ ap on a;
+    said = f;
+    says = e;
+    parameters = ap (λ X. X .parameters) (decoded size big file f e s w);
   }
 
   pub basis-refused : (out out′ : Bytes) (r : ℕ) → Stops (accepted-over s) (getD s 1 0) out out′ r

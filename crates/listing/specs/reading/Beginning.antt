@@ -3,9 +3,9 @@ use mathlib.Core.Path.{_≡_}
 use Prim.Native.Nat.{ℕ, _+_, _*_, _≤_}
 use lib.ListN.{getD}
 use Rattle.definitions.specs.Limits.{document-01}
-use Rattle.definitions.specs.Monomial.{Vector}
+use Rattle.definitions.specs.Monomial.{Vector, Level}
 use Rattle.definitions.specs.Result.{Result, done, refused}
-use Rattle.definitions.specs.Problem.{Bytes, problem}
+use Rattle.definitions.specs.Problem.{Bytes, Parameters, problem}
 use Rattle.definitions.specs.Calls.{read}
 use Rattle.definitions.specs.Layout.{Words, decode}
 use Rattle.definitions.specs.Sheet.{x-lines, variables-of}
@@ -36,6 +36,10 @@ pub record Basis (file : Bytes) (s : Words) : Type 0 where
   pub alone : getD s 4 0 ≡ 1
   pub bound : ℕ
   pub reads : read document-01 bound file ≡ done (decode document-01 s)
+  -- what stands in the file, and that the parameters are its
+  pub said : Parameters × Level
+  pub says : problem document-01 file ≡ done said
+  pub parameters : decode document-01 s .parameters ≡ said .0
 
 abbrev pub Begun-as : Begun → Bytes → Words → Bytes → Bytes → Type 0
 Begun-as Accepted file s out out′ = Basis file s

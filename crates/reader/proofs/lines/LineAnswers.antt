@@ -6,14 +6,12 @@ use mathlib.Core.List.{[], _∷_}
 use Prim.Native.Nat.{ℕ, zero, suc, _+_, _<_, _≤_}
 use native.Mathlib.Omega.{arith}
 use lib.Dec.{eqb}
-use lib.ListN.{length, getD, drop, replicate}
+use lib.ListN.{length, getD, drop}
 use borrow.Author.Tests.{eq-eqb, ne-eqb}
 use Rattle.definitions.specs.Lists.{_and_, empty?}
 use Rattle.definitions.specs.Result.{Result, done, refused, unless-refused, _>>=_}
 use Rattle.definitions.specs.Problem.{Bytes, Parameters}
-use Rattle.definitions.specs.Monomial.{fits?}
 use Rattle.definitions.specs.Layout.{Words}
-use Rattle.definitions.specs.Places.{most-degree, most-components}
 use Rattle.reader.specs.fields.Scanning.{line-as, end-as}
 use Rattle.reader.specs.declared.fields.End as line-end
 use Rattle.reader.specs.declared.fields.End.the-variants.{Behind, Misshapen}
@@ -22,8 +20,6 @@ use Rattle.reader.proofs.fields.Positions.{nothing-left, byte-left}
 use Rattle.reader.specs.declared.lines.Step.{Step}
 use Rattle.reader.specs.declared.lines.Step.the-variants.{Refused}
 use Rattle.reader.specs.declared.lines.Taken.{Taken}
-use Rattle.reader.specs.lines.Tests.{unless}
-use Rattle.reader.specs.lines.Steps.{Graded-said, d-judged, or-zeros}
 use Rattle.reader.specs.lines.Steps.{Said, judged, with-shape, t-first, e-judged, e-first, by-letter, line-first, step-as, taken-as}
 
 pub refused-as : (r : Taken) (file : Bytes) (number place : ℕ) → r .step ≡ Refused number place → taken-as r file ≡ refused number place []
@@ -38,23 +34,6 @@ module _ {A : Type 0} (o : Option (Words × Bytes)) (place : ℕ) (tests : Words
 
   pub has-shape : (next : ℕ) → l .end ≡ Behind next → tests (l .numbers, drop next file) ≡ with-shape o place tests
   has-shape next e = sym (ap (λ x. with-shape x place tests) (sym said ∙ ap (λ (x : line-end.End). end-as x (l .numbers) file) e))
-
--- the D line, or none
-module _ (bytes : Bytes) (o : Option (Words × Bytes)) (file : Bytes) (l : Line) (said : line-as l file ≡ o) where
-  pub no-degrees : l .end ≡ Misshapen → done (replicate most-components 0, 2, bytes) ≡ or-zeros bytes o
-  no-degrees e = sym (ap (or-zeros bytes) (sym said ∙ ap (λ (x : line-end.End). end-as x (l .numbers) file) e))
-
-  some-degrees : (next : ℕ) → l .end ≡ Behind next → or-zeros bytes o ≡ d-judged (l .numbers, drop next file)
-  some-degrees next e = ap (or-zeros bytes) (sym said ∙ ap (λ (x : line-end.End). end-as x (l .numbers) file) e)
-
-  abbrev by-test : ℕ → Bool → Result Graded-said
-  by-test next b = judged (unless b 18 0) 2 (l .numbers, 3, drop next file)
-
-  pub degrees-taken : (next : ℕ) → l .end ≡ Behind next → fits? most-degree (l .numbers) ≡ true → done (l .numbers, 3, drop next file) ≡ or-zeros bytes o
-  degrees-taken next e t = sym (some-degrees next e ∙ ap (by-test next) t)
-
-  pub degrees-refused : (next : ℕ) → l .end ≡ Behind next → fits? most-degree (l .numbers) ≡ false → refused 18 2 [] ≡ or-zeros bytes o
-  degrees-refused next e t = sym (some-degrees next e ∙ ap (by-test next) t)
 
 -- ## The tests
 

@@ -2,10 +2,10 @@
 use mathlib.Core.Path.{_≡_, refl, sym, ap, _∙_, subst}
 use mathlib.Core.Bool.{Bool, true, false, not, _||_}
 use mathlib.Core.List.{[], _∷_}
-use Prim.Native.Nat.{ℕ, zero, suc, _+_, _-_, _<_, _≤_}
+use Prim.Native.Nat.{ℕ, zero, suc, _+_, _-_, _*_, _<_, _≤_}
 use native.Mathlib.Omega.{arith}
 use lib.Dec.{T, leb, ltb, eqb, eqb·suc-suc, eqb·suc-zero, leb→le}
-use lib.ListN.{length, getD, take, drop}
+use lib.ListN.{length, getD, set, take, drop, replicate}
 use lib.Seq.{drop-cons, getD-take, getD-drop}
 use borrow.Author.Tests.{lt-ltb, le-ltb, le-leb, lt-leb, eq-eqb, ne-eqb}
 use Rattle.definitions.specs.Limits.{document-01}
@@ -18,8 +18,9 @@ use Rattle.lists.specs.Marking.{Marked, unmarked, marked-at}
 use Rattle.monomial.proofs.Scans.{fits-all, fits-not}
 use Rattle.laws.proofs.Tests.{is-true, and-left, and-right}
 use Rattle.laws.proofs.Comparisons.{Says, numbers-say}
-use Rattle.definitions.specs.Places.{most-exponent, most-elements}
+use Rattle.definitions.specs.Places.{most-exponent, most-variables, most-elements}
 use Rattle.reader.specs.lines.Tests.{term-in, begins?, goes-on?, follows?, above?}
+use Rattle.reader.specs.lines.Steps.{weights-words}
 
 and-no : (t : Bool) → (t and false) ≡ false
 and-no true = refl
@@ -54,7 +55,7 @@ module _ (q : Parameters) (w : Words) where
       λ i. (le-leb 1 (getD w 1 0) (omega arith) i and le-leb (getD w 1 0) (q .p - 1) (omega arith) i) and between 1 (getD w 2 0) (q .s)
       and fits? most-exponent (take 8 (drop 3 w))
 
--- ## Degrees
+-- ## Degrees and weights
 
 -- a mark for each number above the limit
 pub fits-marked : (n limit : ℕ) (w : Words) (mark : ℕ) → length w ≡ n → Marked (λ k. ltb limit (getD w k 0)) n mark → eqb mark 0 ≡ fits? limit w
@@ -66,6 +67,18 @@ fits-marked n limit w mark l m = go mark m
     go : (mark : ℕ) → Marked f n mark → eqb mark 0 ≡ fits? limit w
     go zero m = sym (fits-all limit w (λ k h. unmarked f n 0 m refl k (omega arith)))
     go (suc x) m = let s = marked-at f n (suc x) m (λ e. omega arith) in eqb·suc-zero x ∙ sym (fits-not limit w (s .0) (omega (arith, s .1)) (s .2))
+
+-- 1 and 0 for one variable more
+pub plain-more : (j : ℕ) → j < most-variables → set (weights-words (replicate j (1, 0))) (2 * j) 1 ≡ weights-words (replicate (j + 1) (1, 0))
+plain-more zero h = refl
+plain-more (suc zero) h = refl
+plain-more (suc (suc zero)) h = refl
+plain-more (suc (suc (suc zero))) h = refl
+plain-more (suc (suc (suc (suc zero)))) h = refl
+plain-more (suc (suc (suc (suc (suc zero))))) h = refl
+plain-more (suc (suc (suc (suc (suc (suc zero)))))) h = refl
+plain-more (suc (suc (suc (suc (suc (suc (suc zero))))))) h = refl
+plain-more (suc (suc (suc (suc (suc (suc (suc (suc j)))))))) h = absurd (omega arith)
 
 -- ## The sequence of elements
 

@@ -1,7 +1,7 @@
 -- From the file to the answer: what reading says and leaves. A refused file leaves nothing of itself.
 use mathlib.Core.Path.{_≡_, refl, sym, ap, _∙_, subst}
 use mathlib.Core.List.{[]}
-use Prim.Native.Nat.{ℕ, _-_, _<_, _≤_}
+use Prim.Native.Nat.{ℕ, _-_, _≤_}
 use native.Mathlib.Omega.{arith}
 use lib.Dec.{T}
 use lib.ListN.{length, drop, replicate, length-replicate}
@@ -15,15 +15,14 @@ use Rattle.laws.proofs.Results.{if-done-says}
 use Rattle.laws.proofs.Reading.{basis-state, problem-sound}
 use Rattle.laws.proofs.Numbers.{Numbered, gives, refuses, stops, open-yet, line-number?, problem-number}
 use Rattle.laws.proofs.Finished.{problem-finished}
-use Rattle.definitions.specs.Places.{most-components, rows-start, degrees-start, state-length, file-length}
+use Rattle.definitions.specs.Places.{most-components, rows-start, degrees-start, state-length}
 use Rattle.vectors.specs.terms.Rows.{cleared}
-use Rattle.reader.specs.lines.Steps.{r-first}
-use Rattle.reader.specs.problem.Reading.{laid-level, degrees-alone, state-read, words-laid, read-as, behind-words, problem-words, begun, outcome-as}
+use Rattle.reader.specs.lines.Steps.{Opened, Head-said, head-first}
+use Rattle.reader.specs.problem.Reading.{laid-level, degrees-alone, state-read, words-laid, read-as, body-words, problem-words, begun, outcome-as}
 use Rattle.reader.specs.problem.Reading.{Weighable, carrying}
 use Rattle.reader.specs.declared.problem.Outcome.{Outcome}
 use Rattle.reader.proofs.problem.LevelWords.{laid-begun, behind-laid}
-use Rattle.reader.proofs.problem.LineByLine.{goes-on-head, too-long, problem-step}
-use Rattle.reader.proofs.problem.DegreesLine.{regraded, degrees-step}
+use Rattle.reader.proofs.problem.HeadLines.{words-step}
 use Rattle.reader.proofs.problem.Carrying.{read-weighable, carrying-is}
 
 -- ## Zeros, and what is begun over them
@@ -49,18 +48,15 @@ cleared-length s z e = ap length (cleared-zeros s z e) ∙ length-replicate {A =
 -- ## The head
 
 module _ (size : ℕ) (file : Bytes) where
-  abbrev worded : Result (Parameters × Level) → Result Words
-  worded x = x >>= λ f. done (words-laid size f)
+  abbrev behind-head : Result (Opened Head-said) → Result Words
+  behind-head x = x >>= λ a. body-words (degrees-alone size (a .0 .1)) (a .0 .0) (a .1) (a .2)
 
-  pub read-too-long : file-length < length file → refused 1 0 [] ≡ problem-words size file
-  read-too-long h = sym (ap worded (too-long file h))
+  pub read-barred : (number place : ℕ) → head-first file ≡ refused number place [] → refused number place [] ≡ problem-words size file
+  read-barred number place e = sym (words-step size file ∙ ap behind-head e)
 
-  pub read-barred : (number : ℕ) → length file ≤ file-length → r-first file ≡ refused number 1 [] → refused number 1 [] ≡ problem-words size file
-  read-barred number h e = sym (ap worded (problem-step file h ∙ ap (λ x. x >>= goes-on-head) e))
-
-  pub read-on : (q : Parameters) (rest : Bytes) → length file ≤ file-length → r-first file ≡ done (q, rest) → q .s ≤ most-components
-      → regraded q (replicate (q .s) 0) ≡ q → behind-words size q rest ≡ problem-words size file
-  read-on q rest h e few zeros = sym (ap worded (problem-step file h ∙ ap (λ x. x >>= goes-on-head) e) ∙ degrees-step size q few zeros rest)
+  pub read-on : (a : Opened Head-said) → head-first file ≡ done a
+      → body-words (degrees-alone size (a .0 .1)) (a .0 .0) (a .1) (a .2) ≡ problem-words size file
+  read-on a e = sym (words-step size file ∙ ap behind-head e)
 
 -- ## The answer
 
@@ -114,7 +110,7 @@ module _ (size : ℕ) where
       go (refused number place value) n = refl
       go unfinished n = refl
 
-  -- ## What the number says: 0 that the file is read, 1 to 8 or 18 its refusal
+  -- ## What the number says: 0 that the file is read, any other that it is refused
 
   pub zero-is-read : (file : Bytes) → (read-as size (problem document-01 file)) .0 ≡ 0 → (f : Parameters × Level) × (problem document-01 file ≡ done f)
   zero-is-read file z = go (problem-number document-01 file) (problem-finished document-01 file) z

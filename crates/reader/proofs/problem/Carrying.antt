@@ -24,7 +24,7 @@ use Rattle.reducers.specs.tables.Cuts.{start-of, Cut, Light, Weighed}
 use Rattle.reducers.proofs.tables.Cutting.{begin-from}
 use Rattle.reducers.proofs.tables.Weighing.{weighed-are}
 use Rattle.reader.proofs.lines.LineTests.{fits-at}
-use Rattle.reader.specs.problem.Reading.{degrees-alone, state-read, words-read, words-laid, Weighable, weights, carrying}
+use Rattle.reader.specs.problem.Reading.{degrees-alone, state-read, words-read, words-laid, Weighable, carried, carrying}
 use Rattle.reader.proofs.problem.LevelWords.{rows-laid, ends-laid, count-laid, components-laid, behind-laid, length-laid}
 use Rattle.reader.proofs.problem.LevelWords.{paste-zeros, whole, length-whole, whole-laid, read-laid}
 use Rattle.reader.proofs.problem.OneTermMore.{length-ends}
@@ -51,14 +51,14 @@ module _ (s : Words) (k : Weighable s) (r n : ℕ) (er : r ≡ getD s header-len
 
   -- what the elements weigh
   pub weighed-words : (d : Words) → r ≤ length d → Weighed n (from-on degrees-start s) (from-on rows-start s) (from-on ends-start s) r d
-      → take (getD s header-length 0) d ≡ weights s
+      → take (getD s header-length 0) d ≡ carried s
   weighed-words d l w =
       (λ i. take (sym er i) d) ∙ weighed-are n (from-on degrees-start s) (from-on rows-start s) (from-on ends-start s) r d parts-cut l w
       ∙ (λ i. degrees-of (take (en i) (from-on-is degrees-start s i)) []
       (vectors-at (from-on-is rows-start s i) 0 (take (er i) (from-on-is ends-start s i))))
 
 -- .. and then carry
-pub carried-words : (s z d : Words) (r : ℕ) → z ≡ paste s carried-start d r → r ≡ getD s header-length 0 → take (getD s header-length 0) d ≡ weights s
+pub carried-words : (s z d : Words) (r : ℕ) → z ≡ paste s carried-start d r → r ≡ getD s header-length 0 → take (getD s header-length 0) d ≡ carried s
     → z ≡ carrying s
 carried-words s z d r e er w =
     let n = getD s header-length 0 in
@@ -183,8 +183,8 @@ module _ (size : ℕ) (q : Parameters) (f : Level) (h : state-length ≤ size) (
   abbrev ds : Words
   ds = degrees-of (q .degrees) [] f
 
-  weights-are : weights s₀ ≡ ds
-  weights-are = λ i. degrees-of (degrees-are i) [] (level-is i)
+  carried-are : carried s₀ ≡ ds
+  carried-are = λ i. degrees-of (degrees-are i) [] (level-is i)
 
   ds-long : length ds ≡ length f
   ds-long = length-degrees (q .degrees) [] f
@@ -210,7 +210,7 @@ module _ (size : ℕ) (q : Parameters) (f : Level) (h : state-length ≤ size) (
       ∙ whole-laid q (length f) ends terms room (degrees ++ (ds ++ replicate (size - carried-start - length ds) 0)) most fit)
 
   pub carrying-is : carrying s₀ ≡ words-read size (q, f)
-  carrying-is = (λ i. paste s₀ carried-start (weights-are i) (getD s₀ header-length 0)) ∙ carried-to (getD s₀ header-length 0) count-is
+  carrying-is = (λ i. paste s₀ carried-start (carried-are i) (getD s₀ header-length 0)) ∙ carried-to (getD s₀ header-length 0) count-is
 
   -- ## What weighing them asks for
 

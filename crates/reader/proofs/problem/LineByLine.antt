@@ -1,4 +1,4 @@
--- The definitions' sequence of lines, one line at a time, as the code goes.
+-- The definitions' sequence of lines behind the head, one line at a time, as the code goes.
 use mathlib.Core.Path.{_≡_, refl, sym, ap, _∙_, subst}
 use mathlib.Core.Bool.{Bool, true, false, not, _||_}
 use mathlib.Core.Option.{Option, none, some}
@@ -6,24 +6,24 @@ use mathlib.Core.List.{[], _∷_, _++_}
 use Prim.Native.Nat.{ℕ, zero, suc, _+_, _-_, _<_, _≤_}
 use native.Mathlib.Omega.{arith}
 use native.Mathlib.Decide.{ℕ-discrete}
-use lib.Dec.{T, leb, ltb, eqb, eqb·suc-zero}
+use lib.Dec.{leb, ltb, eqb, eqb·suc-zero}
 use lib.ListN.{length, getD, take, drop, replicate, length-drop, length-replicate, replicate-append-replicate}
 use lib.Seq.{drop-append-le, take-append-add}
-use borrow.Author.Tests.{le-leb, lt-leb, eq-eqb, ne-eqb}
+use borrow.Author.Tests.{le-leb, eq-eqb, ne-eqb}
 use Rattle.definitions.specs.Limits.{document-01}
 use Rattle.definitions.specs.Lists.{_and_, _then_, last, empty?, between}
 use Rattle.definitions.specs.Monomial.{Term, Level, fits?}
 use Rattle.definitions.specs.Result.{Result, done, refused, unless-refused, _>>=_}
-use Rattle.definitions.specs.Problem.{Bytes, Line, Parameters, lines, shaped, prime-in-range?, in-ranges?, parameters-of, r-line, term-of, term-in-range?}
-use Rattle.definitions.specs.Problem.{below?, last-term, with-term, t-line, e-line, by-shape, body, Head, head-of, d-first, after-r, first-line, problem}
+use Rattle.definitions.specs.Problem.{Bytes, Line, Parameters, lines, shaped, parameters-of, term-of, term-in-range?, below?, last-term, with-term}
+use Rattle.definitions.specs.Problem.{t-line, e-line, by-shape, body}
 use Rattle.definitions.specs.Layout.{Words, padded}
-use Rattle.laws.proofs.Tests.{true-is, is-true, and-left, and-right, between-high}
+use Rattle.laws.proofs.Tests.{true-is, is-true, and-right}
 use Rattle.laws.proofs.Results.{If-done, If-some}
-use Rattle.definitions.specs.Places.{most-exponent, most-variables, most-components, most-elements, most-rows, file-length}
+use Rattle.definitions.specs.Places.{most-exponent, most-elements, most-rows}
 use Rattle.reader.specs.fields.Scanning.{behind, shaped-of, shaped-first, in-sixteen}
 use Rattle.reader.proofs.fields.Lines.{first-of, lines-none, letter-differs, shaped-count}
 use Rattle.reader.specs.lines.Tests.{term-in, unless, begins?, follows?, above?, descends?, t-number}
-use Rattle.reader.specs.lines.Steps.{Said, judged, with-shape, r-judged, r-first, t-judged, t-first, e-judged, e-first, by-letter, line-first}
+use Rattle.reader.specs.lines.Steps.{Said, judged, with-shape, t-judged, t-first, e-judged, e-first, by-letter, line-first}
 use Rattle.reader.proofs.problem.OneTermMore.{follows-says}
 
 -- ## Fields with zeros behind them
@@ -56,7 +56,7 @@ term-padded n v h l = λ i. (sym (getD-padded v 1) i, (exponents i, sym (getD-pa
         sym (ap (take 8) (drop-append-le 3 v (replicate (16 - length v) 0) (omega arith)) ∙ ap (λ k. take k (drop 3 v ++ replicate (16 - length v) 0)) e
         ∙ take-append-add (drop 3 v) (replicate (16 - length v) 0) (8 - n) ∙ ap (λ z. drop 3 v ++ z) (take-zeros (8 - n) (16 - length v) (omega arith)))
 
-parameters-padded : (v : Words) → parameters-of (padded 16 v) ≡ parameters-of v
+pub parameters-padded : (v : Words) → parameters-of (padded 16 v) ≡ parameters-of v
 parameters-padded v = λ i. record {
   p = getD-padded v 0 i;
   n = getD-padded v 1 i;
@@ -310,81 +310,3 @@ module _ (q : Parameters) (place count r : ℕ) (before : Words) where
       go true e = shape-passed (in-sixteen (shaped-first 65535 84 (3 + q .n) (b ∷ bytes)))
       go false true = end-passed (in-sixteen (shaped-first 65535 69 1 (b ∷ bytes)))
       go false false = tt
-
--- ## The R line
-
--- what the definitions read from the lines behind it, and behind the head
-abbrev pub read-from : Head → Result (Parameters × Level)
-read-from h = body document-01 (h .parameters) (h .place) 0 [] (h .later) >>= λ f. done (h .parameters, f)
-
-abbrev pub goes-on-head : Parameters × Bytes → Result (Parameters × Level)
-goes-on-head a = d-first document-01 (head-of (a .0) (lines (a .1))) (lines (a .1)) >>= read-from
-
--- the tests in a row
-r-guarded : Bool → Bool → Parameters → Result Parameters
-r-guarded a b q = unless-refused a 2 1 >>= λ u. unless-refused b 3 1 >>= λ u′. done q
-
-r-step : (v : Words) (rest : Bytes)
-    → ((r-line document-01 v >>= λ q. d-first document-01 (head-of q (lines rest)) (lines rest)) >>= read-from)
-    ≡ (r-judged (padded 16 v, rest) >>= goes-on-head)
-unfolding r-guarded
-r-step v rest =
-    ap (λ (q : Parameters). (r-guarded (prime-in-range? document-01 (q .p)) (in-ranges? document-01 q) q
-    >>= λ q. d-first document-01 (head-of q (lines rest)) (lines rest)) >>= read-from) (sym (parameters-padded v))
-    ∙ go (parameters-of (padded 16 v)) (prime-in-range? document-01 (getD (padded 16 v) 0 0)) (in-ranges? document-01 (parameters-of (padded 16 v)))
-  where
-    go : (q : Parameters) (a b : Bool) → ((r-guarded a b q >>= λ q. d-first document-01 (head-of q (lines rest)) (lines rest)) >>= read-from)
-        ≡ (judged (unless a 2 (unless b 3 0)) 1 (q, rest) >>= goes-on-head)
-    go q false b = refl
-    go q true false = refl
-    go q true true = refl
-
-pub first-step : (file : Bytes) → (first-line document-01 (lines file) >>= read-from) ≡ (r-first file >>= goes-on-head)
-first-step [] = refl
-first-step (b ∷ bytes) = parted (first-of b bytes)
-  where
-    parted : (line : Line) × (lines (b ∷ bytes) ≡ line ∷ lines (behind (b ∷ bytes))) → (first-line document-01 (lines (b ∷ bytes)) >>= read-from)
-        ≡ (r-first (b ∷ bytes) >>= goes-on-head)
-    parted (line, e) =
-        ap (λ ls. first-line document-01 ls >>= read-from) e ∙ go (shaped 65535 82 4 line)
-        ∙ ap (λ ls. with-shape (in-sixteen (shaped-of 65535 82 4 ls then λ v. some (v, behind (b ∷ bytes)))) 1 r-judged >>= goes-on-head) (sym e)
-      where
-        go : (o : Option Words) → (after-r document-01 (lines (behind (b ∷ bytes))) o >>= read-from)
-            ≡ (with-shape (in-sixteen (o then λ v. some (v, behind (b ∷ bytes)))) 1 r-judged >>= goes-on-head)
-        go none = refl
-        go (some v) = r-step v (behind (b ∷ bytes))
-
-pub too-long : (file : Bytes) → file-length < length file → problem document-01 file ≡ refused 1 0 []
-too-long file h = λ i. (unless-refused (lt-leb (length file) file-length h i) 1 0 >>= λ u. first-line document-01 (lines file)) >>= read-from
-
-pub problem-step : (file : Bytes) → length file ≤ file-length → problem document-01 file ≡ (r-first file >>= goes-on-head)
-problem-step file h =
-    (λ i. (unless-refused (le-leb (length file) file-length h i) 1 0 >>= λ u. first-line document-01 (lines file)) >>= read-from) ∙ first-step file
-
--- what the R line says is in range
-pub record Ranged (q : Parameters) : Type 0 where
-  pub variables : q .n ≤ most-variables
-  pub components : q .s ≤ most-components
-
-ranged : (q : Parameters) → T (in-ranges? document-01 q) → Ranged q
-ranged q t =
-    let u = and-right (between 1 (q .n) most-variables) (between 1 (q .code) 3 and between 1 (q .s) most-components) t in
-    record {
-      variables = between-high 1 (q .n) most-variables (and-left (between 1 (q .n) most-variables)
-          (between 1 (q .code) 3 and between 1 (q .s) most-components) t);
-      components = between-high 1 (q .s) most-components (and-right (between 1 (q .code) 3) (between 1 (q .s) most-components) u);
-    }
-
-pub first-ranged : (file : Bytes) → If-done (λ (a : Parameters × Bytes). Ranged (a .0)) (r-first file)
-first-ranged file = shape (in-sixteen (shaped-first 65535 82 4 file))
-  where
-    judge : (q : Parameters) (rest : Bytes) (a b : Bool) → in-ranges? document-01 q ≡ b
-        → If-done (λ (a : Parameters × Bytes). Ranged (a .0)) (judged (unless a 2 (unless b 3 0)) 1 (q, rest))
-    judge q rest false b e = tt
-    judge q rest true false e = tt
-    judge q rest true true e = ranged q (is-true e)
-
-    shape : (o : Option (Words × Bytes)) → If-done (λ (a : Parameters × Bytes). Ranged (a .0)) (with-shape o 1 r-judged)
-    shape none = tt
-    shape (some line) = judge (parameters-of (line .0)) (line .1) (prime-in-range? document-01 (getD (line .0) 0 0))
-        (in-ranges? document-01 (parameters-of (line .0))) refl

@@ -6,12 +6,12 @@ use lib.Dec.{leb, ltb, eqb}
 use lib.ListN.{getD, take, drop}
 use Rattle.definitions.specs.Limits.{document-01}
 use Rattle.definitions.specs.Lists.{_and_}
-use Rattle.definitions.specs.Monomial.{Term, fits?}
+use Rattle.definitions.specs.Monomial.{Term}
 use Rattle.definitions.specs.Order.{compare-over, greater?}
 use Rattle.definitions.specs.Problem as definition
 use Rattle.definitions.specs.Problem.{prime-in-range?, in-ranges?, term-in-range?}
 use Rattle.definitions.specs.Layout.{Words}
-use Rattle.definitions.specs.Places.{most-degree, most-elements, most-rows}
+use Rattle.definitions.specs.Places.{most-elements, most-rows}
 
 -- the term of a T line: "exponents past n are zero"
 abbrev pub term-in : Words → Term
@@ -51,7 +51,3 @@ t-number q count r before w =
 -- "1, then 2, 3 for R", after the shape
 abbrev pub r-number : definition.Parameters → ℕ
 r-number q = unless (prime-in-range? document-01 (q .p)) 2 (unless (in-ranges? document-01 q) 3 0)
-
--- 18 "when a component's degree is above 255, tested after the line's shape" (A5)
-abbrev pub d-number : Words → ℕ
-d-number w = unless (fits? most-degree w) 18 0

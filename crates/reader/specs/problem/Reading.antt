@@ -7,15 +7,15 @@ use Rattle.definitions.specs.Limits.{document-01}
 use Rattle.definitions.specs.Monomial.{Level}
 use Rattle.definitions.specs.Result.{Result, done, refused, unfinished, _>>=_}
 use Rattle.definitions.specs.Problem as definition
-use Rattle.definitions.specs.Problem.{Bytes, lines}
+use Rattle.definitions.specs.Problem.{Bytes, Head, lines}
 use Rattle.definitions.specs.State.{State}
 use Rattle.definitions.specs.Layout.{Words, row-of, rows-of, padded, ends-from, joined, level-at, degrees-at, encode}
 use Rattle.definitions.specs.Degrees.{degrees-of}
 use Rattle.definitions.specs.Places.{most-components, most-vectors, row-length, header-length, ends-start, rows-start}
-use Rattle.definitions.specs.Places.{degrees-start, carried-start, state-length}
+use Rattle.definitions.specs.Places.{degrees-start, carried-start, state-length, weights-length}
 use Rattle.reducers.specs.tables.Cuts.{Cut, Light}
 use Rattle.reader.specs.lines.Tests.{term-in}
-use Rattle.reader.specs.lines.Steps.{d-first}
+use Rattle.reader.specs.lines.Steps.{weights-words}
 use Rattle.reader.specs.declared.problem.Outcome.{Outcome}
 use Rattle.reader.specs.declared.problem.Outcome.the-variants.{Done, Refused}
 use Rattle.reader.specs.declared.problem.Reading.{Reading}
@@ -58,10 +58,6 @@ words-laid size f = laid-level (f .0) (f .1) (degrees-alone size (padded most-co
 abbrev pub body-words : Words → definition.Parameters → ℕ → Bytes → Result Words
 body-words behind q place bytes = definition.body document-01 q place 0 [] (lines bytes) >>= λ f. done (laid-level q f behind)
 
--- .. the lines behind R's
-abbrev pub behind-words : ℕ → definition.Parameters → Bytes → Result Words
-behind-words size q bytes = d-first (q .s) bytes >>= λ g. body-words (degrees-alone size (g .0)) q (g .1) (g .2)
-
 abbrev pub problem-words : ℕ → Bytes → Result Words
 problem-words size file = definition.problem document-01 file >>= λ f. done (words-laid size f)
 
@@ -85,12 +81,20 @@ pub record Weighable (s : Words) : Type 0 where
   pub light : Light (getD s 3 0) (drop degrees-start s)
 
 -- what the elements in these words carry
-abbrev pub weights : Words → Words
-weights s = degrees-of (degrees-at document-01 s) [] (level-at document-01 s 0)
+abbrev pub carried : Words → Words
+carried s = degrees-of (degrees-at document-01 s) [] (level-at document-01 s 0)
 
 -- .. in its place: "Each element and vector carries its degree in its record from the reading on" (A5)
 abbrev pub carrying : Words → Words
-carrying s = paste s carried-start (weights s) (getD s header-length 0)
+carrying s = paste s carried-start (carried s) (getD s header-length 0)
+
+-- ## The weights
+
+-- a1,b1,..,an,bn of a head that is read, zeros behind them; zeros of one that is refused
+abbrev pub head-weights : Result Head → Words
+head-weights (done h) = weights-words (h .weights)
+head-weights (refused number place value) = replicate weights-length 0
+head-weights unfinished = replicate weights-length 0
 
 -- ## What the code says
 

@@ -1,13 +1,9 @@
 use borrow.Author.Needs.{needs}
 use native.Mathlib.Omega.{arith}
-use mathlib.Core.Path.{subst}
-use Prim.Native.Nat.{_+_}
-use lib.ListN.{length}
 use Rattle.definitions.specs.Limits.{document-01}
-use Rattle.definitions.specs.Problem.{problem}
-use Rattle.definitions.specs.Sheet.{x-lines, variables-of}
-use Rattle.listing.specs.reading.Beginning.{Begun-as}
-use Rattle.betti_page.proofs.whole.Program.{accepted-page, refused-page}
+use Rattle.definitions.specs.Betti.{betti-of}
+use Rattle.betti.proofs.Ends.{betti-of-steady}
+use Rattle.listing.proofs.whole.Whole.{begun-basis, begun-stops, accepted-page, refused-page}
 use Rattle.betti_page.proofs.whole.print.Statement.{statement}
 use Rattle.betti_page.proofs.whole.print.Tie as tie
 
@@ -25,7 +21,7 @@ print-accepted-requires c κs =
     let at-16 = at-8 .before .before .before .before .before .before .before .before in (at-16 .before .before .before) .args in
     let b = let at-8 = c .before .before .before .before .before .before .before .before in (at-8 .before .before .before) .begin in
     let told = c .before .before .before .enum-told .given .1 in
-    let B = subst (λ y. Begun-as y (a .file .now) (b .last .1 .0) (a .out .now) (b .last .1 .1 .1 .0)) told (b .ensures) in
+    let B = begun-basis (a .file .now) (b .last .1 .0) (a .out .now) (b .last .1 .1 .1 .0) (b .result) (b .ensures) told in
     (B .base, B .alone, omega (arith, P .1), omega (arith, P .2))
 
 enum-known-length : tie.Need-enum-known-length
@@ -48,15 +44,9 @@ returns c =
     let b = let at-8 = c .before .before .before .before .before .before .before .before in
     let at-16 = at-8 .before .before .before .before .before .before .before .before in (at-16 .before .before) .begin in
     let told = let at-8 = c .before .before .before .before .before .before .before .before in (at-8 .before .before) .enum-told .given .1 in
-    let B = subst (λ y. Begun-as y (a .file .now) (b .last .1 .0) (a .out .now) (b .last .1 .1 .1 .0)) told (b .ensures) in
-    let R = c .before .before .before .before .before .before .print-accepted .ensures in
-    let p = R .0 (variables-of (problem document-01 (a .file .now))) in (
-      record {
-        bound = B .bound + p .bound;
-        bytes = p .bytes;
-        gives = accepted-page (a .file .now) (B .bound) (b .last .1 .0) (B .reads) (p .bound) (p .bytes) (p .gives);
-        printed = record { front = p .printed .front; ends = p .printed .ends };
-      },
+    let R = c .before .before .before .before .before .before .print-accepted .ensures in (
+      accepted-page (a .file .now) (betti-of document-01) (b .last .1 .0) (a .out .now) (b .last .1 .1 .1 .0) (b .result) (b .ensures)
+          (betti-of-steady document-01) told (R .0),
       R .1,
     )
 
@@ -74,15 +64,9 @@ returns-2 c =
     let a = let at-8 = c .before .before .before .before .before .before .before .before in
     let at-16 = at-8 .before .before .before .before .before .before .before .before in (at-16 .before) .args in
     let b = let at-8 = c .before .before .before .before .before .before .before .before in (at-8 .before) .begin in
-    let g = c .before .length .given in
-    let S = subst (λ y. Begun-as y (a .file .now) (b .last .1 .0) (a .out .now) (b .last .1 .1 .1 .0)) (g .1) (b .ensures) in (
-      record {
-        bound = S .bound;
-        bytes = x-lines (variables-of (problem document-01 (a .file .now))) (S .number) (S .place) (S .value);
-        gives = refused-page (a .file .now) (S .bound) (S .number) (S .place) (S .value) (S .refuses);
-        printed = S .printed;
-      },
-      omega (arith, S .fits),
+    let g = c .before .length .given in (
+      refused-page (a .file .now) (betti-of document-01) (b .last .1 .0) (a .out .now) (b .last .1 .1 .1 .0) (b .result) (b .ensures) (g .0 .0) (g .1),
+      omega (arith, begun-stops (a .file .now) (b .last .1 .0) (a .out .now) (b .last .1 .1 .1 .0) (b .result) (b .ensures) (g .0 .0) (g .1) .fits),
     )
 
 pub print-spec : {M : Type 1} → statement M

@@ -1,8 +1,10 @@
 use borrow.Author.Needs.{needs}
 use native.Mathlib.Omega.{arith}
-use mathlib.Core.List.{[], _∷_}
-use Rattle.definitions.specs.Sheet.{printed}
-use Rattle.betti_page.proofs.whole.Program.{homogeneous-printed, mixed-refused}
+use Rattle.definitions.specs.Limits.{document-01}
+use Rattle.definitions.specs.Layout.{degrees-at}
+use Rattle.definitions.specs.Betti.{same-degree?, homogeneous, betti-page}
+use Rattle.columns.proofs.mixed.Unless.{unmixed-passes, mixed-refuses}
+use Rattle.listing.proofs.whole.Whole.{test-passed, test-refused}
 use Rattle.betti_page.proofs.whole.print_accepted.Statement.{statement}
 use Rattle.betti_page.proofs.whole.print_accepted.Tie as tie
 
@@ -29,15 +31,8 @@ returns c =
     (at-8 .before .before .before .before .before .before .before .before) .pre in
     let m = let at-8 = c .before .before .before .before .before .before .before .before in (at-8 .before .before .before) .first-mixed in
     let R = c .before .before .before .before .before .before .print-lifted .ensures in
-    let zero = let at-8 = c .before .before .before .before .before .before .before .before in (at-8 .before .before) .if1 .taken in (
-      λ v. let p = R .0 v in record {
-        bound = p .bound;
-        bytes = p .bytes;
-        gives = homogeneous-printed s (P .1) (m .result) v (m .ensures) zero (p .bound) (p .bytes) (p .gives);
-        printed = p .printed;
-      },
-      R .1,
-    )
+    let zero = let at-8 = c .before .before .before .before .before .before .before .before in (at-8 .before .before) .if1 .taken in
+    (test-passed homogeneous betti-page s (unmixed-passes (same-degree? (degrees-at document-01 s)) 17 s (P .1) (m .result) (m .ensures) zero) (R .0), R .1)
 
 pair-line-requires : tie.Need-pair-line-requires
 pair-line-requires c κs = let long = c .before .before .before .before .before .before .before .pre .3 in omega (arith, long)
@@ -55,12 +50,8 @@ returns-2 c =
     let m = c .before .before .before .before .before .first-mixed in
     let q = c .before .before .pair-line .ensures in
     let some-place = c .before .before .before .before .if1 .left in (
-      λ v. record {
-        bound = 0;
-        bytes = printed 88 (17 ∷ m .result ∷ []);
-        gives = mixed-refused s (P .1) (m .result) v (m .ensures) some-place;
-        printed = q .0;
-      },
+      test-refused homogeneous betti-page s 17 (m .result)
+          (mixed-refuses (same-degree? (degrees-at document-01 s)) 17 s (P .1) (m .result) (m .ensures) some-place) (q .0),
       omega (arith, q .1),
     )
 

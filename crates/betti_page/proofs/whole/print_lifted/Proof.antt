@@ -1,11 +1,7 @@
 use borrow.Author.Needs.{needs}
 use native.Mathlib.Omega.{arith}
-use mathlib.Core.List.{[], _∷_}
-use Rattle.definitions.specs.Limits.{document-01}
-use Rattle.definitions.specs.Layout.{decode}
-use Rattle.definitions.specs.Sheet.{printed}
 use Rattle.definitions.specs.Betti.{betti-page}
-use Rattle.betti_page.proofs.whole.Program.{page-printed, level-refused}
+use Rattle.listing.proofs.whole.Whole.{page-printed, level-refused}
 use Rattle.betti_page.proofs.whole.print_lifted.Statement.{statement}
 use Rattle.betti_page.proofs.whole.print_lifted.Tie as tie
 
@@ -35,15 +31,8 @@ returns c =
     let t = L .last .0 in
     let R = L .ensures .0 in
     let Q = c .before .before .print-page .ensures in
-    let zero = c .before .before .before .before .before .if1 .taken in (
-      λ v. record {
-        bound = R .0;
-        bytes = betti-page (decode document-01 t);
-        gives = page-printed s t (R .0) (L .result .number) (L .result .place) v (R .1) zero;
-        printed = Q .0;
-      },
-      Q .1,
-    )
+    let zero = c .before .before .before .before .before .if1 .taken in
+    (page-printed betti-page s t (R .0) (L .result .number) (L .result .place) (R .1) zero (Q .0), Q .1)
 
 pair-line-requires : tie.Need-pair-line-requires
 pair-line-requires c κs = let long = let at-8 = c .before .before .before .before .before .before .before .before in
@@ -65,15 +54,8 @@ returns-2 c =
     let L = let at-8 = c .before .before .before .before .before .before .before .before in (at-8 .before) .lift-levels in
     let R = L .ensures .0 in
     let q = c .before .before .pair-line .ensures in
-    let some-number = c .before .before .before .before .if1 .left in (
-      λ v. record {
-        bound = R .0;
-        bytes = printed 88 (L .result .number ∷ L .result .place ∷ []);
-        gives = level-refused s (L .last .0) (R .0) (L .result .number) (L .result .place) v (R .1) some-number;
-        printed = q .0;
-      },
-      omega (arith, q .1),
-    )
+    let some-number = c .before .before .before .before .if1 .left in
+    (level-refused betti-page s (L .last .0) (R .0) (L .result .number) (L .result .place) (R .1) some-number (q .0), omega (arith, q .1))
 
 pub print-lifted-spec : {M : Type 1} → statement M
 print-lifted-spec = tie.close

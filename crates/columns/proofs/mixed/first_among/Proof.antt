@@ -4,19 +4,20 @@ use Prim.Native.Nat.{suc, _+_, _-_, _≤_}
 use lib.ListN.{length, take, drop, getD}
 use lib.Seq.{length-take-le, getD-take}
 use Rattle.definitions.specs.Layout.{vectors-at}
-use Rattle.definitions.specs.Betti.{first-mixed, same-degree?}
+use Rattle.definitions.specs.Betti.{first-mixed}
 use Rattle.reducers.specs.tables.Cuts.{start-of}
-use Rattle.columns.specs.mixed.Placed.{place-of}
+use Rattle.columns.specs.mixed.Placed.{place-of, same-key?}
 use Rattle.columns.proofs.mixed.Mixing.{first-on, first-stops, first-ends}
 use Rattle.columns.proofs.mixed.first_among.Statement.{statement}
 use Rattle.columns.proofs.mixed.first_among.Tie as tie
 
 abbrev Inv-loop : tie.InvT-loop
-Inv-loop level ends r d n from₀ j₀ from j = (j ≤ r) × (from ≡ start-of ends j) × (first-mixed (same-degree? (take n d)) 1 (vectors-at level 0 (take r ends))
-    ≡ first-mixed (same-degree? (take n d)) (j + 1) (vectors-at level from (drop j (take r ends))))
+Inv-loop level ends r d n kw from₀ j₀ from j =
+    (j ≤ r) × (from ≡ start-of ends j) × (first-mixed (same-key? kw (take n d)) 1 (vectors-at level 0 (take r ends))
+    ≡ first-mixed (same-key? kw (take n d)) (j + 1) (vectors-at level from (drop j (take r ends))))
 
 abbrev μ-loop : tie.MeasureT-loop
-μ-loop level ends r d n from₀ j₀ from j = r - j
+μ-loop level ends r d n kw from₀ j₀ from j = r - j
 
 loop-holds : tie.Need-loop-holds Inv-loop μ-loop
 loop-holds c = (omega arith, refl, refl)
@@ -36,7 +37,7 @@ mixed-requires c κs =
     let l = c .before .before .before .loop in
     let e = c .place .ensures .0 in
     let s = l .inv .1 in
-    (omega (arith, e, s, P .1 .filled (l .j) (omega arith)), omega (arith, e, P .1 .rows-fit (l .j) (omega arith)), P .2)
+    (omega (arith, e, s, P .1 .filled (l .j) (omega arith)), omega (arith, e, P .1 .rows-fit (l .j) (omega arith)), P .2, P .3, P .4)
 
 add-result : tie.Need-add-result Inv-loop μ-loop
 add-result c = omega arith
@@ -47,7 +48,7 @@ returns c =
     let P = let at-8 = c .before .before .before .before .before .before .before .before in (at-8 .before) .pre in
     let l = c .before .before .before .before .before .loop in
     let p = c .before .before .place in
-    let same = same-degree? (take (a .n) (a .d .now)) in
+    let same = same-key? (a .kw) (take (a .n) (a .d .now)) in
     let es = take (a .r) (a .ends .now) in
     let n : length es ≡ a .r = length-take-le (a .r) (a .ends .now) (P .1 .ends-fit) in
     let q : getD es (l .j) 0 ≡ p .result = getD-take (a .r) (a .ends .now) (l .j) 0 (omega arith) ∙ sym (p .ensures .0) in
@@ -66,7 +67,7 @@ loop-again c =
     let P = let at-8 = c .before .before .before .before .before .before .before .before in (at-8 .before) .pre in
     let l = c .before .before .before .before .before .loop in
     let p = c .before .before .place in
-    let same = same-degree? (take (a .n) (a .d .now)) in
+    let same = same-key? (a .kw) (take (a .n) (a .d .now)) in
     let es = take (a .r) (a .ends .now) in
     let n : length es ≡ a .r = length-take-le (a .r) (a .ends .now) (P .1 .ends-fit) in
     let q : getD es (l .j) 0 ≡ p .result = getD-take (a .r) (a .ends .now) (l .j) 0 (omega arith) ∙ sym (p .ensures .0) in
@@ -81,7 +82,7 @@ returns-2 c =
     let a = c .before .before .before .before .before .args in
     let P = c .before .before .before .before .before .pre in
     let l = c .before .loop in
-    let same = same-degree? (take (a .n) (a .d .now)) in
+    let same = same-key? (a .kw) (take (a .n) (a .d .now)) in
     let es = take (a .r) (a .ends .now) in
     let n : length es ≡ a .r = length-take-le (a .r) (a .ends .now) (P .1 .ends-fit) in
     sym (ap place-of (l .inv .2 ∙ first-ends same (a .level .now) es (l .j + 1) (l .j) (l .from) (omega (arith, n))))

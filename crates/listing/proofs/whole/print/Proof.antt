@@ -1,13 +1,6 @@
 use borrow.Author.Needs.{needs}
 use native.Mathlib.Omega.{arith}
-use mathlib.Core.Path.{subst}
-use Prim.Native.Nat.{_+_}
-use lib.ListN.{length}
-use Rattle.definitions.specs.Limits.{document-01}
-use Rattle.definitions.specs.Problem.{problem}
-use Rattle.definitions.specs.Sheet.{x-lines, variables-of}
-use Rattle.listing.specs.reading.Beginning.{Begun-as}
-use Rattle.listing.proofs.whole.Whole.{accepted-sheet, refused-sheet}
+use Rattle.listing.proofs.whole.Whole.{begun-basis, begun-stops, accepted-sheet, refused-sheet}
 use Rattle.listing.proofs.whole.print.Statement.{statement}
 use Rattle.listing.proofs.whole.print.Tie as tie
 
@@ -25,7 +18,7 @@ print-lifted-requires c κs =
     let at-16 = at-8 .before .before .before .before .before .before .before .before in (at-16 .before .before .before) .args in
     let b = let at-8 = c .before .before .before .before .before .before .before .before in (at-8 .before .before .before) .begin in
     let told = c .before .before .before .enum-told .given .1 in
-    let B = subst (λ y. Begun-as y (a .file .now) (b .last .1 .0) (a .out .now) (b .last .1 .1 .1 .0)) told (b .ensures) in
+    let B = begun-basis (a .file .now) (b .last .1 .0) (a .out .now) (b .last .1 .1 .1 .0) (b .result) (b .ensures) told in
     (B .base, B .alone, omega (arith, P .1), omega (arith, P .2))
 
 enum-known-length : tie.Need-enum-known-length
@@ -48,16 +41,8 @@ returns c =
     let b = let at-8 = c .before .before .before .before .before .before .before .before in
     let at-16 = at-8 .before .before .before .before .before .before .before .before in (at-16 .before .before) .begin in
     let told = let at-8 = c .before .before .before .before .before .before .before .before in (at-8 .before .before) .enum-told .given .1 in
-    let B = subst (λ y. Begun-as y (a .file .now) (b .last .1 .0) (a .out .now) (b .last .1 .1 .1 .0)) told (b .ensures) in
-    let R = c .before .before .before .before .before .before .print-lifted .ensures in (
-      record {
-        bound = B .bound + R .0 .bound;
-        bytes = R .0 .bytes;
-        gives = accepted-sheet (a .file .now) (B .bound) (b .last .1 .0) (B .reads) (R .0 .bound) (R .0 .bytes) (R .0 .gives);
-        printed = record { front = R .0 .printed .front; ends = R .0 .printed .ends };
-      },
-      R .1,
-    )
+    let R = c .before .before .before .before .before .before .print-lifted .ensures in
+    (accepted-sheet (a .file .now) (b .last .1 .0) (a .out .now) (b .last .1 .1 .1 .0) (b .result) (b .ensures) told (R .0), R .1)
 
 same-length-4 : tie.Need-same-length-4
 same-length-4 c = search needs
@@ -73,15 +58,9 @@ returns-2 c =
     let a = let at-8 = c .before .before .before .before .before .before .before .before in
     let at-16 = at-8 .before .before .before .before .before .before .before .before in (at-16 .before) .args in
     let b = let at-8 = c .before .before .before .before .before .before .before .before in (at-8 .before) .begin in
-    let g = c .before .length .given in
-    let S = subst (λ y. Begun-as y (a .file .now) (b .last .1 .0) (a .out .now) (b .last .1 .1 .1 .0)) (g .1) (b .ensures) in (
-      record {
-        bound = S .bound;
-        bytes = x-lines (variables-of (problem document-01 (a .file .now))) (S .number) (S .place) (S .value);
-        gives = refused-sheet (a .file .now) (S .bound) (S .number) (S .place) (S .value) (S .refuses);
-        printed = S .printed;
-      },
-      omega (arith, S .fits),
+    let g = c .before .length .given in (
+      refused-sheet (a .file .now) (b .last .1 .0) (a .out .now) (b .last .1 .1 .1 .0) (b .result) (b .ensures) (g .0 .0) (g .1),
+      omega (arith, begun-stops (a .file .now) (b .last .1 .0) (a .out .now) (b .last .1 .1 .1 .0) (b .result) (b .ensures) (g .0 .0) (g .1) .fits),
     )
 
 pub print-spec : {M : Type 1} → statement M

@@ -1,0 +1,16 @@
+pub mod Weighted
+pub mod Occurring
+pub mod Columns
+pub mod Entries
+pub mod Lines
+pub mod Digits
+pub mod Bounds
+pub mod Ones
+pub mod Mixed
+pub mod Ends
+pub mod Bidegrees
+pub mod Alike
+pub mod TwentyFour
+pub mod Same
+pub mod Cases
+pub mod Short

@@ -1,0 +1,3 @@
+pub mod Keying
+pub mod Summing
+pub mod Raising

@@ -1,0 +1,60 @@
+-- The call: 16, or what is printed, with zeros after it and in the other buffers.
+use mathlib.Core.Path.{_≡_, sym, ap, _∙_, subst}
+use mathlib.Core.Bool.{Bool, true, false}
+use mathlib.Core.Option.{Option, some}
+use mathlib.Core.List.{_++_}
+use Prim.Native.Nat.{ℕ, _-_, _≤_}
+use native.Mathlib.Omega.{arith}
+use lib.Dec.{T, leb, leb→le}
+use lib.ListN.{length, replicate}
+use Rattle.definitions.specs.Lists.{_and_, _then_, choose}
+use Rattle.definitions.specs.Problem.{Bytes}
+use Rattle.definitions.specs.Layout.{Words, padded, zeros}
+use Rattle.definitions.specs.Places.{state-length, value-length}
+use Rattle.laws.proofs.Tests.{and-left, and-right}
+use Rattle.vectors.specs.terms.Rows.{cleared}
+use Rattle.pages.specs.bytes.Printing.{Printed}
+use Rattle.lending.specs.Called.{Told, told-of, long-enough?, called}
+
+-- what the test says of the lengths
+pub long-enough-says : (size state work out : ℕ) → long-enough? size state work out ≡ true
+    → (state-length ≤ state) × (value-length ≤ work) × (size ≤ out)
+long-enough-says size state work out e =
+    let t : T (long-enough? size state work out) = subst T (sym e) tt in
+    let u = and-right (leb state-length state) (leb value-length work and leb size out) t in (
+      leb→le state-length state (and-left (leb state-length state) (leb value-length work and leb size out) t),
+      leb→le value-length work (and-left (leb value-length work) (leb size out) u),
+      leb→le size out (and-right (leb value-length work) (leb size out) u),
+    )
+
+-- a page in front of a buffer, and zeros behind it
+behind : (out after : Bytes) (r : ℕ) (bytes : Bytes) → Printed out after 0 r bytes → length after ≡ length out → cleared after r
+    ≡ padded (length out) bytes
+behind out after r bytes p e =
+    let d : length after - r ≡ length out - length bytes = omega (arith, e, p .ends) in
+    (λ i. p .front i ++ replicate (d i) 0)
+
+module _ (size : ℕ) (prints : ℕ → Bytes → Option Bytes) (file : Bytes) (state work : Words) (out : Bytes) where
+  abbrev by-test : ℕ → Bool → Option Told
+  by-test n b =
+      choose b (prints n file then λ bytes. told-of 0 (length bytes) (zeros state) (zeros work) (padded (length out) bytes)) (told-of 16 0 state work out)
+
+  abbrev pub Called : Option Told → Type 0
+  Called t = (n : ℕ) × (t ≡ called size prints n file state work out)
+
+  pub short-call : long-enough? size (length state) (length work) (length out) ≡ false → (number long : ℕ) → (number ≡ 16) × (long ≡ 0)
+      → Called (told-of number long state work out)
+  short-call e number long a = (0, (λ i. told-of (a .0 i) (a .1 i) state work out) ∙ sym (ap (by-test 0) e))
+
+  -- what was printed into after, with the words of the others as s and w
+  pub whole-call : long-enough? size (length state) (length work) (length out) ≡ true → (n : ℕ) (bytes : Bytes) → some bytes ≡ prints n file
+      → (r : ℕ) (s w : Words) (after : Bytes) → Printed out after 0 r bytes → length s ≡ length state → length w ≡ length work
+      → length after ≡ length out → (t : Option Told) → t ≡ told-of 0 r (zeros s) (zeros w) (cleared after r) → Called t
+  whole-call b n bytes e r s w after p ls lw lo t f =
+      let long : r ≡ length bytes = omega (arith, p .ends) in (
+        n,
+        f
+            ∙ (λ i. told-of 0 (long i) (replicate (ls i) 0) (replicate (lw i) 0) (behind out after r bytes p lo i))
+            ∙ ap (λ x. x then λ bs. told-of 0 (length bs) (zeros state) (zeros work) (padded (length out) bs)) e
+            ∙ sym (ap (by-test n) b),
+      )

@@ -1,0 +1,36 @@
+// The calls that print the requests' pages of a file, for every file.
+// Exists for: `betti`, `bidegrees`.
+// Knows: crate definitions' Betti and Bidegrees; betti_page::whole and bidegree_page::whole print them.
+// What they test first and leave at their end is crate lending's.
+ghost use mathlib.Core.Path.{_≡_};
+ghost use Prim.Native.Nat.{ℕ};
+ghost use Rattle.definitions.specs.Limits.{document-01};
+ghost use Rattle.definitions.specs.Betti.{betti as betti-definition};
+ghost use Rattle.definitions.specs.Bidegrees.{bidegrees as bidegrees-definition};
+ghost use Rattle.definitions.specs.Places.{page-length, bidegrees-length};
+ghost use Rattle.lending.specs.Called.{told, called};
+use lending::Answer;
+
+// A1: "A program prints it": its bytes in front, zeros after them and in the buffers that were lent for the work.
+pub fn betti(file: &[u8], state: &mut [u16], work: &mut [u16], out: &mut [u8]) -> Answer
+    ensures { λ r. ⌜ ((n : ℕ) × (told r (now (state .exit)) (now (work .exit)) (now (out .exit)) ≡ called page-length (betti-definition document-01) n
+        (now (file .entry)) (now (state .entry)) (now (work .entry)) (now (out .entry)))) ⌝ }
+{
+    if lending::long_enough(state.len(), work.len(), out.len(), words::PAGE_LENGTH) {
+        let n = betti_page::whole::print(file, state, work, out);
+        return lending::finish(state, work, out, n);
+    }
+    lending::too_short()
+}
+
+// A14: "A program prints `B,column,a,b,count`": likewise.
+pub fn bidegrees(file: &[u8], state: &mut [u16], work: &mut [u16], out: &mut [u8]) -> Answer
+    ensures { λ r. ⌜ ((n : ℕ) × (told r (now (state .exit)) (now (work .exit)) (now (out .exit)) ≡ called bidegrees-length
+        (bidegrees-definition document-01) n (now (file .entry)) (now (state .entry)) (now (work .entry)) (now (out .entry)))) ⌝ }
+{
+    if lending::long_enough(state.len(), work.len(), out.len(), words::BIDEGREES_LENGTH) {
+        let length = bidegree_page::whole::print(file, state, work, out);
+        return lending::finish(state, work, out, length);
+    }
+    lending::too_short()
+}
