@@ -1,5 +1,5 @@
-/* The three calls of Tagetessash: read a problem file, lift a level, fetch a vector; and the sheet, the Betti page and the bidegrees of a file, each in one
- * call.
+/* The three calls of Tagetessash: read a problem file, lift a level, fetch a vector; and the sheet, the Betti page, the bidegrees and the Hilbert function of
+ * a file, each in one call.
  *
  * A header of one version does not fit a library of another: if (tagetessash_version() != TAGETESSASH_VERSION) do not go on.
  *
@@ -29,9 +29,9 @@ extern "C" {
  *     1    an exponent has a word of its own, a row ten words
  *     2    the exponents are packed, a row has six words; what the accessors below give and what the sheet prints is as it was
  *     3    the state has degrees behind its rows, a D line is read, 18 is answered; all that a state of version 2 holds stands where it stood
- * tagetessash_betti and then tagetessash_bidegrees came later: a program of version 3 that does not call them fits every library of version 3, and one that
- * does is not linked with a library that has no such function. With the latter came a file's G line, which was refused with 1, and 24: no state holds its
- * weights, and every file that was read before is read as before.
+ * tagetessash_betti, then tagetessash_bidegrees and then tagetessash_hilbert came later: a program of version 3 that does not call them fits every library of
+ * version 3, and one that does is not linked with a library that has no such function. With the second came a file's G line, which was refused with 1, and 24:
+ * no state holds its weights, and every file that was read before is read as before.
  * Version 1's buffers are long enough for version 3: a program that was compiled with that header is refused nothing and reads other words. Only the version
  * tells it. One of version 2 lends a state that is too short: where it does not ask for the version, every call answers 16. */
 #define TAGETESSASH_VERSION 3
@@ -52,6 +52,7 @@ extern "C" {
 #define TAGETESSASH_SHEET_BYTES 1400000    /* the sheet's out has bytes */
 #define TAGETESSASH_PAGE_BYTES 1508691     /* and so has the Betti page's */
 #define TAGETESSASH_BIDEGREES_BYTES 32384  /* and that of the bidegrees */
+#define TAGETESSASH_HILBERT_BYTES 31773    /* and that of the Hilbert function */
 
 /* The most that there can be. A longer file is refused with 1, more variables or components with 3, T lines for more terms of level 0 with 8, more terms of a
  * vector or of the tree's work area with 14, more vectors or terms of a level above 0 with 15. */
@@ -71,6 +72,11 @@ extern "C" {
 
 /* A line of bidegrees, byte 10 included, has at the most so many bytes; there is one at the most for each generator of the same columns. */
 #define TAGETESSASH_BIDEGREES_LINE_BYTES 23
+
+/* Lines of the Hilbert function: one for each degree from 0 on, each, byte 10 included, of so many bytes at the most. Its out is longer: it has room for the
+ * lines of every refusal, an X line of 29 bytes and 512 W lines of 62 at the most. */
+#define TAGETESSASH_HILBERT_DEGREES 33
+#define TAGETESSASH_HILBERT_LINE_BYTES 17
 
 /* A term is a row of words: its coefficient, its component, its eight exponents in one number of 64 bits, a byte each. x1's is the top byte; those past the
  * last variable are zero. The number stands in four words, the lowest 16 bits first, so that on x86-64 these are its bytes in memory. */
@@ -182,6 +188,14 @@ uint16_t tagetessash_betti(const uint8_t *file, size_t file_bytes, uint16_t *sta
  * 0. A vector has that of its leading term's image. For a refused file it writes the X line (and after X,9 the W lines) and nothing else; X,25 for an accepted
  * one where an element has terms of two bidegrees (17 is not tested). Returns 0 for every file, or 16, as tagetessash_sheet does. */
 uint16_t tagetessash_bidegrees(const uint8_t *file, size_t file_bytes, uint16_t *state, size_t state_words, uint16_t *work, size_t work_words, uint8_t *out,
+    size_t out_bytes, size_t *length);
+
+/* Writes the Hilbert function of a problem file, the bytes that the program prints, into out, likewise: a line H,degree,value for each degree 0 to 32. The
+ * value is how many monomials of that degree, the degree of their component (D) included, no leading monomial of an element divides: for a homogeneous file
+ * the dimension of the quotient's part of that degree. It is found from the levels, lifted as for the sheet, as the alternating sum over the columns of the
+ * Betti page. For a refused file it writes the X line (and after X,9 the W lines) and nothing else; an element may have terms of several degrees (neither 17
+ * nor 25 is tested). Returns 0 for every file, or 16, as tagetessash_sheet does. */
+uint16_t tagetessash_hilbert(const uint8_t *file, size_t file_bytes, uint16_t *state, size_t state_words, uint16_t *work, size_t work_words, uint8_t *out,
     size_t out_bytes, size_t *length);
 
 /* The version of the library. */

@@ -5,9 +5,11 @@
 
 use crate::bidegrees::bidegrees;
 use crate::engine::{Answer, Basis, Outcome, State};
+use crate::hilbert::{hilbert, HIGHEST_DEGREE};
 use crate::lifting::Way;
 use crate::limits::Limits;
 use crate::monomial::{Exponents, Level, Monomial, Parameters, Term, Vector};
+use crate::program::Printed;
 
 /// "A term is a row of six words: the coefficient, the component, and its eight exponents in one
 /// unsigned 64-bit number".
@@ -208,21 +210,82 @@ pub fn bidegrees_call_within(
     out: &mut [u8],
     budget: Option<u64>,
 ) -> Option<(u64, u64)> {
-    // "After 16 .. no buffer is changed, and the length is 0."
-    let short = state.len() < state_words(limits)
-        || work.len() < work_words(limits, None)
-        || out.len() < bidegrees_bytes(limits);
-    if short {
-        return Some((16, 0));
+    let printing = Printing {
+        what: bidegrees,
+        bytes: bidegrees_bytes(limits),
+    };
+    printing.call(limits, file, state, work, out, budget)
+}
+
+/// The bytes that the lines of the Hilbert function need: "an X line and 512 W lines, which are
+/// longer than its own 33 lines".
+pub fn hilbert_bytes(limits: &Limits) -> usize {
+    let refused = 29 + 62 * limits.working as usize;
+    // "A line has at most 17 bytes."
+    let lines = 17 * (HIGHEST_DEGREE as usize + 1);
+    refused.max(lines)
+}
+
+/// Prints the Hilbert function of a file, as `bidegrees_call` does the bidegrees.
+pub fn hilbert_call(
+    limits: &Limits,
+    file: &[u8],
+    state: &mut [u16],
+    work: &mut [u16],
+    out: &mut [u8],
+) -> (u64, u64) {
+    hilbert_call_within(limits, file, state, work, out, None).expect("there is no budget")
+}
+
+/// As `hilbert_call`, but gives up (`None`, no buffer changed) when the products are used up.
+pub fn hilbert_call_within(
+    limits: &Limits,
+    file: &[u8],
+    state: &mut [u16],
+    work: &mut [u16],
+    out: &mut [u8],
+    budget: Option<u64>,
+) -> Option<(u64, u64)> {
+    let printing = Printing {
+        what: hilbert,
+        bytes: hilbert_bytes(limits),
+    };
+    printing.call(limits, file, state, work, out, budget)
+}
+
+/// A call that prints.
+struct Printing {
+    what: Printed,
+    /// the bytes that out needs
+    bytes: usize,
+}
+
+impl Printing {
+    fn call(
+        &self,
+        limits: &Limits,
+        file: &[u8],
+        state: &mut [u16],
+        work: &mut [u16],
+        out: &mut [u8],
+        budget: Option<u64>,
+    ) -> Option<(u64, u64)> {
+        // "After 16 .. no buffer is changed, and the length is 0."
+        let short = state.len() < state_words(limits)
+            || work.len() < work_words(limits, None)
+            || out.len() < self.bytes;
+        if short {
+            return Some((16, 0));
+        }
+        let printed = (self.what)(limits, file, budget).0?;
+        // "out has the printed bytes, zeros after them to the end of the buffer, and state and work
+        // are all zero"
+        out.fill(0);
+        out[..printed.len()].copy_from_slice(&printed);
+        state.fill(0);
+        work.fill(0);
+        Some((0, printed.len() as u64))
     }
-    let printed = bidegrees(limits, file, budget).0?;
-    // "out has the printed bytes, zeros after them to the end of the buffer, and state and work are
-    // all zero"
-    out.fill(0);
-    out[..printed.len()].copy_from_slice(&printed);
-    state.fill(0);
-    work.fill(0);
-    Some((0, printed.len() as u64))
 }
 
 /// What the words of a state say. The counts and ends are tested as far as finding the rows

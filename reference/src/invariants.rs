@@ -1,4 +1,4 @@
-//! The Hilbert function and the minimal Betti numbers, from the levels of a state.
+//! The degrees of generators and the minimal Betti numbers, from the levels of a state.
 //!
 //! Column 0 is the file's free module, column k + 1 has a generator for each vector of level k.
 //! The degree of a generator is that of its leading term's image on level 0; a component has its
@@ -14,31 +14,6 @@ pub fn generator_degrees(basis: &Basis) -> Vec<Vec<u64>> {
     let mut columns = vec![basis.degrees.clone()];
     columns.extend((0..basis.levels.len()).map(|k| own_degrees(basis, k)));
     columns
-}
-
-/// The dimension of the quotient in degree d, by the alternating sum over the columns. The levels
-/// have to reach an empty one.
-pub fn hilbert(basis: &Basis, d: u64) -> i128 {
-    let mut dimension = 0;
-    let mut sign = 1;
-    for column in generator_degrees(basis) {
-        for generator in column {
-            if generator <= d {
-                dimension += sign * monomials_of_degree(basis.parameters.n, d - generator);
-            }
-        }
-        sign = -sign;
-    }
-    dimension
-}
-
-/// How many power products of degree d there are in n variables.
-fn monomials_of_degree(n: u64, d: u64) -> i128 {
-    let mut count: i128 = 1;
-    for step in 1..n {
-        count = count * i128::from(d + step) / i128::from(step);
-    }
-    count
 }
 
 /// The minimal Betti numbers of a homogeneous file by (column, degree), zeros left out: the

@@ -10,8 +10,8 @@
 //! - [`lifting`]: division, hybrid, tree, acceptance.
 //! - [`reckoning`]: the plain reckoning of a level and of a list of calls.
 //! - [`engine`]: the state and the three calls. [`buffers`]: the same on lent buffers.
-//! - [`sheet`], [`betti`], [`bidegrees`], [`script`]: what the programs print.
-//! - [`invariants`]: Hilbert function and minimal Betti numbers from the levels.
+//! - [`sheet`], [`betti`], [`bidegrees`], [`hilbert`], [`script`]: what the programs print.
+//! - [`invariants`]: degrees of generators and minimal Betti numbers from the levels.
 //! - [`random`], [`completion`], [`generate`]: seeded problem files and lists of calls.
 
 #![forbid(unsafe_code)]
@@ -25,6 +25,7 @@ pub mod engine;
 pub mod field;
 pub mod frame;
 pub mod generate;
+pub mod hilbert;
 pub mod invariants;
 pub mod lifting;
 pub mod limits;
@@ -38,3 +39,4 @@ pub mod script;
 pub mod sheet;
 
 pub use limits::Limits;
+pub use program::Printed;

@@ -5,13 +5,14 @@
 use reference::betti::page;
 use reference::bidegrees::bidegrees;
 use reference::generate::cases::{
-    bidegree_case, calls_case, file_case, page_case, BIDEGREE_KINDS, FILE_KINDS, PAGE_KINDS,
+    bidegree_case, calls_case, file_case, hilbert_case, page_case, BIDEGREE_KINDS, FILE_KINDS,
+    HILBERT_KINDS, PAGE_KINDS,
 };
 use reference::generate::scripts::Reach;
-use reference::lifting::Usage;
+use reference::hilbert::hilbert;
 use reference::script::Script;
 use reference::sheet::sheet;
-use reference::Limits;
+use reference::{Limits, Printed};
 use std::io::{Read, Write};
 use std::path::Path;
 use std::process::ExitCode;
@@ -28,6 +29,10 @@ reference betti [FILE] [--budget N]
 
 reference bidegrees [FILE] [--budget N]
     Prints how many generators of which bidegree each column of the Betti page has, likewise.
+
+reference hilbert [FILE] [--budget N]
+    Prints for each degree 0 to 32 how many monomials no leading monomial divides, by the
+    alternating sum over the columns of the Betti page, likewise.
 
 reference calls [--budget N]
     Reads a list of calls from standard input, one in a line:
@@ -61,6 +66,9 @@ reference generate KIND SEED COUNT DIR
     bigraded, bimixed, bistopped, bidegrees: problem files KIND-SEED-NUMBER.in with their lines
         .lines: bihomogeneous ones; with an element of two bidegrees; refused while levels are
         lifted, or almost; all of these, plain, damaged and edited files
+    low, hilbert: problem files KIND-SEED-NUMBER.in with their Hilbert functions .lines: with
+        generators of degrees up to 32 and a little above, homogeneous or not; these and all
+        files above
     calls, weighted-calls: lists of calls KIND-SEED-NUMBER.calls with what they print, .answers;
         in those of weighted-calls half of the files have G lines
 
@@ -92,6 +100,7 @@ fn run(words: &[&str]) -> Result<ExitCode, String> {
         ["sheet", file @ ..] if file.len() < 2 => print_of(sheet, file, budget),
         ["betti", file @ ..] if file.len() < 2 => print_of(page, file, budget),
         ["bidegrees", file @ ..] if file.len() < 2 => print_of(bidegrees, file, budget),
+        ["hilbert", file @ ..] if file.len() < 2 => print_of(hilbert, file, budget),
         ["calls"] => print_calls(&read_input()?, budget),
         ["generate", kind, seed, count, directory] => {
             let number = |word: &str| {
@@ -142,9 +151,6 @@ fn gave_up() -> Result<ExitCode, String> {
     Ok(ExitCode::from(GAVE_UP))
 }
 
-/// What is printed of a file under limits and a budget, and what it took.
-type Printed = fn(&Limits, &[u8], Option<u64>) -> (Option<Vec<u8>>, Usage);
-
 /// Prints that of the file named, or of standard input.
 fn print_of(what: Printed, file: &[&str], budget: Option<u64>) -> Result<ExitCode, String> {
     let file = match file {
@@ -166,7 +172,13 @@ fn print_calls(input: &[u8], budget: Option<u64>) -> Result<ExitCode, String> {
 }
 
 fn generate(kind: &str, seed: u64, count: u64, directory: &Path) -> Result<ExitCode, String> {
-    let kinds = [&CALLS_KINDS[..], &FILE_KINDS, &PAGE_KINDS, &BIDEGREE_KINDS];
+    let kinds = [
+        &CALLS_KINDS[..],
+        &FILE_KINDS,
+        &PAGE_KINDS,
+        &BIDEGREE_KINDS,
+        &HILBERT_KINDS,
+    ];
     if !kinds.concat().contains(&kind) {
         return Err(format!(
             "{kind} is no kind; `reference help` tells the kinds"
@@ -204,6 +216,9 @@ fn case_parts(kind: &str, seed: u64, case: u64) -> Vec<(&'static str, Vec<u8>)> 
         return vec![("in", file), ("page", page)];
     }
     if let Some((file, lines)) = bidegree_case(kind, seed, case) {
+        return vec![("in", file), ("lines", lines)];
+    }
+    if let Some((file, lines)) = hilbert_case(kind, seed, case) {
         return vec![("in", file), ("lines", lines)];
     }
     file_case(kind, seed, case)

@@ -6,6 +6,9 @@ use crate::limits::Limits;
 use crate::reader::read_problem;
 use crate::sheet::{answered, refused};
 
+/// What is printed of a file under limits and a budget (`None` when it is used up), and what it took.
+pub type Printed = fn(&Limits, &[u8], Option<u64>) -> (Option<Vec<u8>>, Usage);
+
 /// A program that reads and accepts a file and lifts "as for the sheet".
 pub(crate) struct Program<Refuses, Prints> {
     /// the X line of an accepted file, if there is one: "tested after acceptance"

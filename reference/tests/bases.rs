@@ -9,7 +9,7 @@ use reference::engine::{Basis, State};
 use reference::field::Field;
 use reference::frame::frame;
 use reference::generate::problems::{problem_file, random_basis, random_set, Size};
-use reference::invariants::hilbert;
+use reference::hilbert::value;
 use reference::lifting::{Lifter, Way};
 use reference::monomial::{divides, multiply, Exponents, Monomial, Term, Vector, UNIT};
 use reference::order::{Modules, Order};
@@ -107,42 +107,6 @@ fn compare_all_ways(problem: &Problem, ways: &[(Way, u64)]) -> Option<State> {
     None
 }
 
-/// The power products of degree d in n variables.
-fn power_products(n: usize, d: u64) -> Vec<Exponents> {
-    if n == 1 {
-        let mut last = UNIT;
-        last[0] = d;
-        return vec![last];
-    }
-    let mut all = Vec::new();
-    for e in 0..=d {
-        for mut exponents in power_products(n - 1, d - e) {
-            exponents[n - 1] = e;
-            all.push(exponents);
-        }
-    }
-    all
-}
-
-/// The dimension in degree d by counting the monomials that no leading monomial divides, each
-/// component with its own degree.
-fn standard_monomials(problem: &Problem, d: u64) -> i128 {
-    let mut count = 0;
-    for (component, degree) in (1..).zip(&problem.degrees) {
-        let Some(left) = d.checked_sub(*degree) else {
-            continue;
-        };
-        for exponents in power_products(problem.parameters.n as usize, left) {
-            let below = problem.elements.iter().any(|element| {
-                let leading = &element[0].monomial;
-                leading.component == component && divides(&leading.exponents, &exponents)
-            });
-            count += i128::from(!below);
-        }
-    }
-    count
-}
-
 #[test]
 fn small_bases_by_all_ways() {
     let mut random = Random::new(1);
@@ -157,7 +121,7 @@ fn small_bases_by_all_ways() {
         let basis = state.basis.as_ref().expect("a basis");
         let least = problem.degrees.iter().min().expect("a component");
         for d in *least..=least + 6 {
-            assert_eq!(hilbert(basis, d), standard_monomials(&problem, d));
+            assert_eq!(value(basis, d), standard_monomials(&problem, d));
         }
     }
     assert!(whole > 2_000 && deep > 300, "{whole} {deep}");
@@ -174,7 +138,7 @@ fn medium_bases_by_all_ways() {
             let basis = state.basis.as_ref().expect("a basis");
             let least = problem.degrees.iter().min().expect("a component");
             for d in *least..=least + 3 {
-                assert_eq!(hilbert(basis, d), standard_monomials(&problem, d));
+                assert_eq!(value(basis, d), standard_monomials(&problem, d));
             }
         }
     }

@@ -4,7 +4,8 @@ mod common;
 
 use common::*;
 use reference::engine::{Basis, State};
-use reference::invariants::{generator_degrees, hilbert, minimal_betti};
+use reference::hilbert::value;
+use reference::invariants::{generator_degrees, minimal_betti};
 use reference::lifting::Way;
 use reference::reader::read_problem;
 use reference::reckoning::reckon_levels;
@@ -129,7 +130,7 @@ fn hilbert_functions() {
         let basis = reckoned(&bytes(&name));
         for (d, dimension) in (0..).zip(expected) {
             let dimension = i128::from(dimension.number());
-            assert_eq!(hilbert(&basis, d), dimension, "{name} in degree {d}");
+            assert_eq!(value(&basis, d), dimension, "{name} in degree {d}");
         }
     }
 }

@@ -98,6 +98,27 @@ fn bidegree_lines() {
 }
 
 #[test]
+fn hilbert_lines() {
+    let zeros: String = (2..=32).map(|d| format!("H,{d},0\n")).collect();
+    let lines = format!("H,0,1\nH,1,1\n{zeros}");
+    assert_eq!(printed(&["hilbert"], PROBLEM), lines);
+    let directory = directory("hilbert");
+    std::fs::create_dir_all(&directory).expect("a directory");
+    let file = directory.join("problem");
+    std::fs::write(&file, PROBLEM).expect("a file");
+    let name = file.to_str().expect("a name");
+    assert_eq!(printed(&["hilbert", name], b""), lines);
+    assert_eq!(printed(&["hilbert", name, "--budget", "16"], b""), lines);
+    assert_eq!(printed(&["hilbert"], b""), "X,1,1\n");
+    let output = run(&["hilbert", "--budget", "15"], PROBLEM);
+    assert_eq!(output.status.code(), Some(3));
+    assert!(output.stdout.is_empty());
+    assert_eq!(run(&["hilbert", name, name], b"").status.code(), Some(2));
+    let missing = run(&["hilbert", "no such file"], b"");
+    assert_eq!(missing.status.code(), Some(2));
+}
+
+#[test]
 fn calls() {
     let text = "limits levels=1\nread -\nlift 1 division\nfetch 10 1\n";
     let expected = "1 1 -\n11 0 -\n11 0 -\nlevels 0\nreckoned 0\ndegrees 0\n";
@@ -125,12 +146,15 @@ fn generated_cases_agree_with_the_program() {
         "bimixed",
         "bistopped",
         "bidegrees",
+        "low",
+        "hilbert",
     ] {
         assert_eq!(printed(&["generate", kind, "5", "8", name], b""), "");
         let (command, input, output) = match kind {
             "calls" | "weighted-calls" => ("calls", "calls", "answers"),
             "graded" | "mixed" | "stopped" | "pages" => ("betti", "in", "page"),
             "bigraded" | "bimixed" | "bistopped" | "bidegrees" => ("bidegrees", "in", "lines"),
+            "low" | "hilbert" => ("hilbert", "in", "lines"),
             _ => ("sheet", "in", "out"),
         };
         for case in 1..=8 {
@@ -155,6 +179,7 @@ fn help() {
         "sheet",
         "betti",
         "bidegrees",
+        "hilbert",
         "calls",
         "generate",
         "pages",

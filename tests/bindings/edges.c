@@ -1,5 +1,5 @@
 /* What the header says beyond the answers that resolve prints: its numbers, packed rows, null with length 0, buffers one word too short, wrong numbers, altered
- * states, levels dropped, degrees, weights, the accessors, the sheet, the Betti page, the bidegrees. */
+ * states, levels dropped, degrees, weights, the accessors, the sheet, the Betti page, the bidegrees, the Hilbert function. */
 #include <stdio.h>
 #include <stdlib.h>
 #include <string.h>
@@ -31,6 +31,8 @@ HOLDS(the_trees_work_area, TAGETESSASH_TREE_WORK_WORDS == TAGETESSASH_TREE_TERMS
 HOLDS(a_pages_line, TAGETESSASH_PAGE_LINE_BYTES == (1 + TAGETESSASH_PAGE_COLUMNS) * TAGETESSASH_PAGE_CELL_BYTES + 1);
 HOLDS(whole_lines, TAGETESSASH_PAGE_BYTES % TAGETESSASH_PAGE_LINE_BYTES == 0);
 HOLDS(lines_of_bidegrees, TAGETESSASH_BIDEGREES_BYTES == TAGETESSASH_PAGE_COLUMNS * TAGETESSASH_LEVEL_VECTORS * TAGETESSASH_BIDEGREES_LINE_BYTES);
+HOLDS(a_refusals_lines, TAGETESSASH_HILBERT_BYTES == 29 + TAGETESSASH_VECTOR_TERMS * 62);
+HOLDS(lines_of_values, TAGETESSASH_HILBERT_BYTES >= TAGETESSASH_HILBERT_DEGREES * TAGETESSASH_HILBERT_LINE_BYTES);
 HOLDS(a_fetched_vector, TAGETESSASH_OUT_WORDS == TAGETESSASH_VECTOR_TERMS * TAGETESSASH_ROW_WORDS);
 
 static const char three[] = "R,7,3,3,1\nT,1,1,1,1,0,0\nT,2,1,1,0,1,0\nT,3,2,1,0,0,1\nE,3\n";
@@ -421,6 +423,8 @@ static void the_sheet_of(const char *text, const char *expected) { prints(tagete
 static void the_page_of(const char *text, const char *expected) { prints(tagetessash_betti, TAGETESSASH_PAGE_BYTES, text, expected); }
 static void the_bidegrees_of(const char *text, const char *expected) { prints(tagetessash_bidegrees, TAGETESSASH_BIDEGREES_BYTES, text, expected); }
 
+static void the_function_of(const char *text, const char *expected) { prints(tagetessash_hilbert, TAGETESSASH_HILBERT_BYTES, text, expected); }
+
 /* request A1's example; a module whose page has rows by the D line; without it 17; 9 before 17; a file that is not read; 17 in words */
 static void the_pages(void)
 {
@@ -475,6 +479,44 @@ static void the_bidegrees(void)
     CHECK(memcmp(before, state, TAGETESSASH_STATE_WORDS * sizeof *state) == 0);
 }
 
+/* the lines with these values, the last of them repeated to the end */
+static void the_values_of(const char *text, const unsigned long *values, size_t count)
+{
+    char expected[TAGETESSASH_HILBERT_DEGREES * TAGETESSASH_HILBERT_LINE_BYTES + 1], *at = expected;
+    size_t d;
+    for (d = 0; d < TAGETESSASH_HILBERT_DEGREES; d++)
+        at += sprintf(at, "H,%u,%lu\n", (unsigned)d, values[d < count ? d : count - 1]);
+    the_function_of(text, expected);
+}
+
+/* document 01's printed file; an element of two degrees, where the page has 17, and the same with a G line; components of degrees 30 and 31, so that the
+ * elements count in the last line and the vector does not; a constant; the largest values; 9; a limit; files that are not read */
+static void the_hilbert_functions(void)
+{
+#define TAILED "T,1,1,1,2,0\nT,1,1,1,0,1\nT,2,1,1,1,1\nT,3,1,1,0,2\nE,4\n"
+    static const unsigned long printed[] = { 1, 1, 0 }, squares[] = { 1, 2, 0 }, none[] = { 0 };
+    unsigned long values[TAGETESSASH_HILBERT_DEGREES] = { 0 };
+    unsigned d;
+    the_values_of("R,7,2,1,1\nT,1,1,1,1,0\nT,1,1,1,0,1\nT,2,1,1,0,2\nT,2,1,1,0,0\nE,4\n", printed, 3);
+    the_values_of("R,7,2,1,1\n" TAILED, squares, 3);
+    the_values_of("R,7,2,1,1\nG,15,0,1,7\n" TAILED, squares, 3);
+    the_page_of("R,7,2,1,1\n" TAILED, "X,17,1\n");
+    values[30] = 1;
+    values[31] = 3;
+    values[32] = 2;
+    the_values_of("R,7,2,1,2\nD,30,31\nT,1,1,1,2,0\nT,2,1,1,1,1\nT,3,1,2,0,1\nT,3,3,1,0,0\nE,4\n", values, TAGETESSASH_HILBERT_DEGREES);
+    the_values_of("R,7,3,2,1\nT,1,1,1,0,0,0\nE,1\n", none, 1);
+    values[0] = 16;
+    for (d = 1; d < TAGETESSASH_HILBERT_DEGREES; d++)
+        values[d] = values[d - 1] * (d + 7) / d;
+    the_values_of("R,7,8,3,16\nT,1,1,16,255,255,255,255,255,255,255,255\nE,1\n", values, TAGETESSASH_HILBERT_DEGREES);
+    the_function_of(no_basis, "X,9,1\nW,6,1,0,3\n");
+    the_function_of("R,7,2,1,1\nT,1,1,1,1,0\nT,1,1,1,0,255\nT,2,1,1,0,2\nE,3\n", "X,13,0\n");
+    the_function_of("R,7,1,1,2\nD,0,256\n", "X,18,2\n");
+    the_function_of("R,7,1,1,2\nD,0,0\nG,0,16\n", "X,24,3\n");
+    the_function_of("", "X,1,1\n");
+}
+
 int main(void)
 {
     state = words(TAGETESSASH_STATE_WORDS);
@@ -497,6 +539,7 @@ int main(void)
     the_sheet_of(no_basis, "X,9,1\nW,6,1,0,3\n");
     the_pages();
     the_bidegrees();
+    the_hilbert_functions();
     free(state);
     free(before);
     free(work);

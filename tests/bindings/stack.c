@@ -17,10 +17,12 @@
 static const char deep[] = "R,7,5,1,2\nT,1,1,2,1,0,0,0,0\nT,1,1,1,0,8,11,244,1\nT,2,1,2,1,0,0,0,0\nT,2,1,1,0,8,11,244,1\nT,3,1,1,0,0,0,0,1\n"
                            "T,3,6,1,0,0,0,0,0\nT,4,1,1,0,0,1,0,0\nT,4,6,1,0,0,0,1,1\nT,4,1,1,0,0,0,1,0\nT,5,1,1,0,1,0,254,0\nT,5,6,1,0,0,254,0,0\nE,11\n";
 
-enum { READ, DIVISION, HYBRID, TREE, FETCH, SHEET, BETTI, BIDEGREES, CALLS };
-static const char *const names[CALLS] = { "read", "lift by division", "lift by hybrid", "lift by the tree", "fetch", "sheet", "Betti page", "bidegrees" };
+enum { READ, DIVISION, HYBRID, TREE, FETCH, SHEET, BETTI, BIDEGREES, HILBERT, CALLS };
+static const char *const names[CALLS] = { "read", "lift by division", "lift by hybrid", "lift by the tree", "fetch", "sheet", "Betti page", "bidegrees",
+    "Hilbert function" };
 
-static uint8_t file[TAGETESSASH_FILE_BYTES], sheet[TAGETESSASH_SHEET_BYTES], page[TAGETESSASH_PAGE_BYTES], lines[TAGETESSASH_BIDEGREES_BYTES];
+static uint8_t file[TAGETESSASH_FILE_BYTES], sheet[TAGETESSASH_SHEET_BYTES], page[TAGETESSASH_PAGE_BYTES], lines[TAGETESSASH_BIDEGREES_BYTES],
+    values[TAGETESSASH_HILBERT_BYTES];
 static size_t file_bytes, level, place;
 static uint16_t state[TAGETESSASH_STATE_WORDS], work[TAGETESSASH_TREE_WORK_WORDS], cache[CACHE_WORDS], out[TAGETESSASH_OUT_WORDS];
 static uint16_t number;
@@ -48,6 +50,10 @@ static void *run(void *nothing)
     case BIDEGREES:
         number = tagetessash_bidegrees(
             file, file_bytes, state, TAGETESSASH_STATE_WORDS, work, TAGETESSASH_WORK_WORDS, lines, TAGETESSASH_BIDEGREES_BYTES, &place);
+        break;
+    case HILBERT:
+        number = tagetessash_hilbert(
+            file, file_bytes, state, TAGETESSASH_STATE_WORDS, work, TAGETESSASH_WORK_WORDS, values, TAGETESSASH_HILBERT_BYTES, &place);
         break;
     }
     return nothing;

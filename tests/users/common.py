@@ -1,6 +1,6 @@
 """What the tests in this folder have alike: tools/verify.py as `checker`, the command as people call it, a problem file taken apart, the guide's texts, and a
-file's page made again from its sheet. A page is the Betti page or the bidegrees: what the command prints of a file that is neither refused nor has an element
-of two degrees or bidegrees."""
+file's page made again from its sheet. A page is the Betti page, the bidegrees or the Hilbert function: what the command prints of a file that is not refused,
+for the first two because of an element of two degrees or bidegrees."""
 import importlib.util
 import os
 import re
@@ -65,6 +65,11 @@ def degrees_and_weights(text):
     return degrees or [0] * s, weights or [(1, 0)] * n
 
 
+def plain_degrees(text):
+    """The components' degrees, and the degree of a term over those that its component may stand for."""
+    return degrees_and_weights(text)[0], lambda term, below: sum(term[2]) + below[term[1] - 1]
+
+
 def monomial(c, exponents):
     """A term as Singular and Macaulay2 take it."""
     return "*".join([str(c)] + [f"{x}^{e}" for x, e in zip(NAMES, exponents) if e])
@@ -95,7 +100,8 @@ def refused(name, got, line):
 
 
 class Kind:
-    """A word of the command, the number and the words of its refusal of an element, how a file's degrees are found, and the page of columns of degrees."""
+    """A word of the command, the number and the words of its refusal of an element, if it has one, how a file's degrees are found, and the page of columns of
+    degrees in so many variables."""
 
     def __init__(self, word, number, said, degrees, page_of):
         self.word, self.number, self.said, self.degrees, self.page_of = word, number, said, degrees, page_of
@@ -105,13 +111,13 @@ class Kind:
         """One file: its page made again from its sheet."""
         got = command(self.word, path)
         try:
-            _, elements = checker.read(data)
+            (_, n, *_), elements = checker.read(data)
         except checker.Refused as reason:
             refused(name, got, "X,%d,%d" % reason.args)
             self.found["refused"] += 1
             return
         components, degree = self.degrees(data.decode())
-        number = mixed(elements, components, degree)
+        number = None if self.number is None else mixed(elements, components, degree)
         # an accepted file that has such an element is refused before anything is lifted, so that no sheet is needed, which may take long
         if number is not None and got[1] == f"X,{self.number},{number}\n":
             refused(name, got, f"X,{self.number},{number}")
@@ -132,16 +138,16 @@ class Kind:
             fail(f"{name}: element {number} has terms of two degrees, and it prints {got[1][:80]!r}")
         if got[0] != 0 or got[2] != "":
             fail(f"{name}: status {got[0]}, says {got[2]!r}")
-        made = self.page_of(columns_of(components, [elements] + levels, degree))
+        made = self.page_of(columns_of(components, [elements] + levels, degree), n)
         if got[1] != made:
             fail(f"{name}: prints\n{got[1]}by its sheet it is\n{made}")
         self.found["pages"] += 1
 
-    def all_files(self, written):
-        """Every example, every instance of document 01, and files as they are written here."""
+    def all_files(self, written, without=()):
+        """Every example, every instance of document 01, and files as they are written here; without files by these names."""
         for folder in ("examples", "tests/sheet/instances"):
             for name in sorted(os.listdir(f"{ROOT}/{folder}")):
-                if name.endswith(".txt"):
+                if name.endswith(".txt") and name[:-4] not in without:
                     with open(f"{ROOT}/{folder}/{name}", "rb") as file:
                         self.held(name, file.read(), f"{folder}/{name}")
         with tempfile.TemporaryDirectory() as folder:
@@ -160,11 +166,15 @@ class Kind:
                 fail(f"{words}: status {code}, prints {out!r}, says {err!r}")
 
 
+def guide_part(part):
+    """The text of a part of the guide."""
+    with open(f"{ROOT}/docs/GUIDE.md", encoding="utf-8") as text:
+        return dict(part.split("\n", 1) for part in text.read().split("\n## ")[1:])[part]
+
+
 def guide_blocks(part):
     """The texts that a part of the guide sets off."""
-    with open(f"{ROOT}/docs/GUIDE.md", encoding="utf-8") as text:
-        parts = dict(part.split("\n", 1) for part in text.read().split("\n## ")[1:])
-    return [re.sub("^    ", "", block, flags=re.M) for block in re.findall(r"(?:^    .*\n)+", parts[part], flags=re.M)]
+    return [re.sub("^    ", "", block, flags=re.M) for block in re.findall(r"(?:^    .*\n)+", guide_part(part), flags=re.M)]
 
 
 def lines_of_bidegrees(lines):

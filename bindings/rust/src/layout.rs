@@ -7,6 +7,7 @@ pub const OUT_WORDS: usize = 3_072;
 pub const SHEET_BYTES: usize = 1_400_000;
 pub const PAGE_BYTES: usize = 1_508_691;
 pub const BIDEGREES_BYTES: usize = 32_384;
+pub const HILBERT_BYTES: usize = 31_773;
 
 pub const VARIABLES: usize = 8;
 pub const LEVEL_VECTORS: usize = 128;

@@ -2,7 +2,7 @@
 //!
 //! An [`Engine`] owns the buffers that the engine's calls are lent. [`Engine::read`] takes a problem file, which [`Problem`] writes from terms,
 //! [`Engine::lift`] makes a level complete, [`Engine::vectors`] goes over its vectors, [`Engine::fetch`] gives one of them. [`sheet`] prints all levels of a
-//! file at once, [`betti`] the table of how many vectors of which degree they have, [`bidegrees`] how many of which bidegree.
+//! file at once, [`betti`] the table of how many vectors of which degree they have, [`bidegrees`] how many of which bidegree, [`hilbert`] the Hilbert function.
 //!
 //! ```
 //! let file = b"R,7,2,1,1\nT,1,1,1,1,0\nT,1,1,1,0,1\nT,2,1,1,0,2\nT,2,1,1,0,0\nE,4\n";
@@ -411,6 +411,29 @@ pub fn betti(file: &[u8]) -> Vec<u8> {
 /// If the library is of another version than this crate.
 pub fn bidegrees(file: &[u8]) -> Vec<u8> {
     printed(calls::bidegrees, BIDEGREES_BYTES, file)
+}
+
+/// The Hilbert function of a problem file, the bytes that the program prints, for every file: a line `H,degree,value` for each degree 0 to 32. The value is
+/// how many monomials of that degree, the degree of their component included, no leading monomial of an element divides: for a homogeneous file the dimension
+/// of the quotient's part of that degree. It is found from the levels, lifted as for [`sheet`], as the alternating sum over the columns of [`betti`].
+///
+/// A refused file has an X line instead, and nothing else but the W lines after `X,9`: [`Refusal::printed`] reads it. An element may have terms of several
+/// degrees.
+///
+/// ```
+/// // the twisted cubic: 3 d + 1 in each degree d
+/// let file = b"R,7,4,3,1\nT,1,1,1,0,0,2,0\nT,1,6,1,0,1,0,1\nT,2,1,1,0,1,1,0\nT,2,6,1,1,0,0,1\nT,3,1,1,0,2,0,0\nT,3,6,1,1,0,1,0\nE,6\n";
+/// let lines = tagetessash::hilbert(file);
+/// assert_eq!(tagetessash::Refusal::printed(&lines), None);
+/// let expected: String = (0..=32).map(|d| format!("H,{d},{}\n", 3 * d + 1)).collect();
+/// assert_eq!(lines, expected.as_bytes());
+/// ```
+///
+/// # Panics
+///
+/// If the library is of another version than this crate.
+pub fn hilbert(file: &[u8]) -> Vec<u8> {
+    printed(calls::hilbert, HILBERT_BYTES, file)
 }
 
 /// A call that prints what it finds in a file, over slices: number and how many bytes it wrote.

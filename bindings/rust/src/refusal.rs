@@ -106,7 +106,7 @@ pub enum Refusal {
 use Refusal::*;
 
 impl Refusal {
-    /// That of the X line of a sheet, of a Betti page or of bidegrees; none where there is no such line.
+    /// That of the X line of a sheet, of a Betti page, of bidegrees or of a Hilbert function; none where there is no such line.
     pub fn printed(lines: &[u8]) -> Option<Refusal> {
         let line = lines
             .split(|byte| *byte == b'\n')

@@ -1,6 +1,6 @@
 use crate::{
-    betti, bidegrees, calls, layout, sheet, Engine, Order, Pick, Printing, Problem, Refusal, Term,
-    Way, HIGHEST_LEVEL, VERSION,
+    betti, bidegrees, calls, hilbert, layout, sheet, Engine, Order, Pick, Printing, Problem,
+    Refusal, Term, Way, HIGHEST_LEVEL, VERSION,
 };
 
 const PRINTED: &[u8] = b"R,7,2,1,1\nT,1,1,1,1,0\nT,1,1,1,0,1\nT,2,1,1,0,2\nT,2,1,1,0,0\nE,4\n";
@@ -242,7 +242,63 @@ fn the_bidegrees_of_every_file() {
     }
 }
 
-/// a G line changes no sheet and no page
+/// request A13's example, which is not homogeneous; x², xy, y²; a module with components' degrees and without; nothing but elements above degree 32, in as many
+/// variables and components as there can be; the whole module; then what is refused, a limit of lifting among it
+#[test]
+fn the_hilbert_function_of_every_file() {
+    let module = "T,1,1,1,1,1\nT,2,1,1,2,0\nT,2,1,2,0,1\nT,3,1,2,0,2\nE,4\n";
+    let squares = "R,7,2,3,1\nT,1,1,1,2,0\nT,2,1,1,1,1\nT,3,1,1,0,2\nE,3\n";
+    let high = "R,65521,8,1,16\nT,1,1,16,255,0,0,0,0,0,0,0\nE,1\n";
+    let printed = String::from_utf8_lossy(PRINTED);
+    let cases: [(&str, fn(u64) -> u64); 7] = [
+        (&printed, |d| u64::from(d < 2)),
+        (squares, |d| [1, 2].get(d as usize).copied().unwrap_or(0)),
+        (&format!("R,7,2,3,2\nD,0,1\n{module}"), |d| match d {
+            0 => 1,
+            _ => 3,
+        }),
+        (&format!("R,7,2,3,2\nD,9,5\n{module}"), |d| match d {
+            0..=4 => 0,
+            5 => 1,
+            6..=8 => 2,
+            9 => 3,
+            10 => 4,
+            _ => 3,
+        }),
+        (&format!("R,7,2,3,2\n{module}"), |d| {
+            [2, 4].get(d as usize).copied().unwrap_or(3)
+        }),
+        // C(d + 7, 7) for each component
+        (high, |d| {
+            (1..=7).fold(16, |product, k| product * (d + k) / k)
+        }),
+        ("R,7,2,1,1\nT,1,3,1,0,0\nE,1\n", |_| 0),
+    ];
+    for (file, value) in cases {
+        let expected: String = (0..=32).map(|d| format!("H,{d},{}\n", value(d))).collect();
+        let found = hilbert(file.as_bytes());
+        assert_eq!(String::from_utf8_lossy(&found), expected, "{file}");
+    }
+    for (file, refused) in [
+        (
+            "R,7,2,1,1\nT,1,1,1,2,0\nT,2,1,1,1,1\nT,2,1,1,0,2\nE,3\n",
+            "X,9,1\nW,6,1,0,3\n",
+        ),
+        (
+            "R,7,2,1,1\nT,1,1,1,1,0\nT,1,1,1,0,255\nT,2,1,1,0,2\nE,3\n",
+            "X,13,0\n",
+        ),
+        (include_str!("../../../examples/cnc_g7.txt"), "X,15,2\n"),
+        ("R,7,1,1,2\nD,0,256\n", "X,18,2\n"),
+        ("R,7,1,1,2\nG,0,16\n", "X,24,2\n"),
+        ("", "X,1,1\n"),
+    ] {
+        let found = hilbert(file.as_bytes());
+        assert_eq!(String::from_utf8_lossy(&found), refused, "{file}");
+    }
+}
+
+/// a G line changes no sheet, no page and no Hilbert function
 #[test]
 fn weights_change_nothing_else() {
     let rest = "T,1,1,1,1,1\nT,2,1,1,2,0\nT,2,1,2,0,1\nT,3,1,2,0,2\nE,4\n";
@@ -252,6 +308,7 @@ fn weights_change_nothing_else() {
             let with = format!("{head}{weights}{rest}");
             assert_eq!(sheet(with.as_bytes()), sheet(without.as_bytes()));
             assert_eq!(betti(with.as_bytes()), betti(without.as_bytes()));
+            assert_eq!(hilbert(with.as_bytes()), hilbert(without.as_bytes()));
             let mut engines = [Engine::new(), Engine::new()];
             for (engine, file) in engines.iter_mut().zip([&with, &without]) {
                 engine.read(file.as_bytes()).expect("a Gröbner basis");
@@ -266,10 +323,11 @@ fn weights_change_nothing_else() {
 #[test]
 fn short_buffers_of_pages() {
     let file = b"R,7,1,1,1\nT,1,1,1,1\nE,1\n";
-    let pages: [(Printing, usize, Vec<u8>); 3] = [
+    let pages: [(Printing, usize, Vec<u8>); 4] = [
         (calls::sheet, layout::SHEET_BYTES, sheet(file)),
         (calls::betti, layout::PAGE_BYTES, betti(file)),
         (calls::bidegrees, layout::BIDEGREES_BYTES, bidegrees(file)),
+        (calls::hilbert, layout::HILBERT_BYTES, hilbert(file)),
     ];
     for (call, room, printed) in pages {
         let lengths = (layout::STATE_WORDS, layout::WORK_WORDS, room);
@@ -297,6 +355,7 @@ fn short_buffers_of_pages() {
 #[test]
 fn printed_refusals() {
     assert_eq!(Refusal::printed(&sheet(PRINTED)), None);
+    assert_eq!(Refusal::printed(&hilbert(PRINTED)), None);
     let mixed = Refusal::printed(&betti(PRINTED));
     assert_eq!(mixed, Some(Refusal::TwoDegrees { element: 2 }));
     assert_eq!(
@@ -373,7 +432,7 @@ fn the_layout_is_the_headers() {
             numbers += 1;
         }
     }
-    assert_eq!(numbers, 24);
+    assert_eq!(numbers, 25);
     assert_eq!(layout::count_at(HIGHEST_LEVEL + 1), layout::rows_at(0));
     assert_eq!(layout::rows_at(HIGHEST_LEVEL + 1), layout::DEGREES_AT);
     let behind = layout::carried_at(0) - layout::DEGREES_AT;

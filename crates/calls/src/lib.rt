@@ -1,5 +1,7 @@
-// The three calls, and the sheet, the Betti page and the bidegrees as one each, for programs in other languages: include/tagetessash.h declares them.
-// Exists for: `tagetessash_read`, `tagetessash_lift`, `tagetessash_fetch`, `tagetessash_sheet`, `tagetessash_betti`, `tagetessash_bidegrees`;
+// The three calls, and the sheet, the Betti page, the bidegrees and the Hilbert function as one each, for programs in other languages:
+// include/tagetessash.h declares them.
+// Exists for: `tagetessash_read`, `tagetessash_lift`, `tagetessash_fetch`, `tagetessash_sheet`, `tagetessash_betti`, `tagetessash_bidegrees`,
+// `tagetessash_hilbert`;
 // `Making.all-calls`.
 // Knows: crates read_call, fetch_call, lift_call, sheet and page_calls.
 // A slice is a pointer and a length.
@@ -9,7 +11,8 @@ ghost use Rattle.definitions.specs.Limits.{document-01};
 ghost use Rattle.definitions.specs.Sheet.{sheet as sheet-definition};
 ghost use Rattle.definitions.specs.Betti.{betti as betti-definition};
 ghost use Rattle.definitions.specs.Bidegrees.{bidegrees as bidegrees-definition};
-ghost use Rattle.definitions.specs.Places.{sheet-length, page-length, bidegrees-length};
+ghost use Rattle.definitions.specs.Hilbert.{hilbert as hilbert-definition};
+ghost use Rattle.definitions.specs.Places.{sheet-length, page-length, bidegrees-length, hilbert-length};
 ghost use Rattle.lift_call.specs.Codes.{coded-way};
 ghost use Rattle.lending.specs.Called.{told-of, called};
 ghost use Rattle.calls.specs.Version.{version};
@@ -116,6 +119,23 @@ pub extern "C" fn tagetessash_bidegrees(
     let lines = page_calls::bidegrees(file, state, work, out);
     *length = lines.length;
     lines.number
+}
+
+// "Hilbert function": 0, and its lines are the first `length` bytes of out; or 16.
+#[no_mangle]
+pub extern "C" fn tagetessash_hilbert(
+    file: &[u8],
+    state: &mut [u16],
+    work: &mut [u16],
+    out: &mut [u8],
+    length: &mut usize,
+) -> u16
+    ensures { λ x. ⌜ ((n : ℕ) × (told-of x (now (length .exit)) (now (state .exit)) (now (work .exit)) (now (out .exit)) ≡ called hilbert-length
+        (hilbert-definition document-01) n (now (file .entry)) (now (state .entry)) (now (work .entry)) (now (out .entry)))) ⌝ }
+{
+    let values = page_calls::hilbert(file, state, work, out);
+    *length = values.length;
+    values.number
 }
 
 // Which version of the calls, of the state's layout and of the sheet this library has.

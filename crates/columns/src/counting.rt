@@ -24,7 +24,7 @@ pub struct Rows {
 // ## A column
 
 // Where its degrees stand.
-fn column_start(c: usize) -> usize
+pub fn column_start(c: usize) -> usize
     requires { ⌜ c < page-columns ⌝ }
     ensures { λ r. ⌜ (r ≡ under-place c) × (r + most-vectors ≤ state-length) ⌝ }
 {
@@ -35,7 +35,7 @@ fn column_start(c: usize) -> usize
 }
 
 // How many there are; none where the level is not complete.
-fn column_length(state: &[u16], c: usize) -> usize
+pub fn column_length(state: &[u16], c: usize) -> usize
     requires { ⌜ (state-length ≤ length (now state)) × T (holds-state? document-01 (now state)) × (c < page-columns) ⌝ }
     ensures { λ r. ⌜ Stands (now (state .entry)) c r ⌝ }
 {

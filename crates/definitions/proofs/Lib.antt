@@ -7,3 +7,4 @@ pub mod Degrees
 pub mod Places
 pub mod Pages
 pub mod Bidegrees
+pub mod Hilbert

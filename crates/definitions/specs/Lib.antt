@@ -24,4 +24,7 @@ pub mod Pages
 pub mod Betti
 pub mod Columns
 pub mod Bidegrees
+pub mod Pascal
+pub mod Hilbert
+pub mod Standard
 pub mod Layout

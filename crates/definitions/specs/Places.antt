@@ -266,3 +266,24 @@ b-line-length = 23
 
 abbrev pub bidegrees-length : ℕ
 bidegrees-length = 32_384
+
+-- ## The Hilbert function (A13)
+
+-- the degrees that are printed, from 0 on
+abbrev pub hilbert-degrees : ℕ
+hilbert-degrees = 33
+
+-- the rows of Pascal's triangle, and its entries
+abbrev pub triangle-rows : ℕ
+triangle-rows = 40
+
+abbrev pub triangle-length : ℕ
+triangle-length = 820
+
+-- an H line at the most
+abbrev pub h-line-length : ℕ
+h-line-length = 17
+
+-- all of them; the lines of a refusal are longer: an X line, and a W line for each term of a working value
+abbrev pub hilbert-length : ℕ
+hilbert-length = 31_773

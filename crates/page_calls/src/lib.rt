@@ -1,13 +1,14 @@
 // The calls that print the requests' pages of a file, for every file.
-// Exists for: `betti`, `bidegrees`.
-// Knows: crate definitions' Betti and Bidegrees; betti_page::whole and bidegree_page::whole print them.
+// Exists for: `betti`, `bidegrees`, `hilbert`.
+// Knows: crate definitions' Betti, Bidegrees and Hilbert; betti_page::whole, bidegree_page::whole and hilbert_page::whole print them.
 // What they test first and leave at their end is crate lending's.
 ghost use mathlib.Core.Path.{_≡_};
 ghost use Prim.Native.Nat.{ℕ};
 ghost use Rattle.definitions.specs.Limits.{document-01};
 ghost use Rattle.definitions.specs.Betti.{betti as betti-definition};
 ghost use Rattle.definitions.specs.Bidegrees.{bidegrees as bidegrees-definition};
-ghost use Rattle.definitions.specs.Places.{page-length, bidegrees-length};
+ghost use Rattle.definitions.specs.Hilbert.{hilbert as hilbert-definition};
+ghost use Rattle.definitions.specs.Places.{page-length, bidegrees-length, hilbert-length};
 ghost use Rattle.lending.specs.Called.{told, called};
 use lending::Answer;
 
@@ -31,6 +32,18 @@ pub fn bidegrees(file: &[u8], state: &mut [u16], work: &mut [u16], out: &mut [u8
     if lending::long_enough(state.len(), work.len(), out.len(), words::BIDEGREES_LENGTH) {
         let length = bidegree_page::whole::print(file, state, work, out);
         return lending::finish(state, work, out, length);
+    }
+    lending::too_short()
+}
+
+// A13: "a program prints `H,degree,value`": likewise.
+pub fn hilbert(file: &[u8], state: &mut [u16], work: &mut [u16], out: &mut [u8]) -> Answer
+    ensures { λ r. ⌜ ((n : ℕ) × (told r (now (state .exit)) (now (work .exit)) (now (out .exit)) ≡ called hilbert-length (hilbert-definition document-01) n
+        (now (file .entry)) (now (state .entry)) (now (work .entry)) (now (out .entry)))) ⌝ }
+{
+    if lending::long_enough(state.len(), work.len(), out.len(), words::HILBERT_LENGTH) {
+        let many = hilbert_page::whole::print(file, state, work, out);
+        return lending::finish(state, work, out, many);
     }
     lending::too_short()
 }

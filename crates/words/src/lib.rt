@@ -70,6 +70,11 @@ ghost use Rattle.definitions.specs.Places.{
   second-base,
   b-line-length,
   bidegrees-length,
+  hilbert-degrees,
+  triangle-rows,
+  triangle-length,
+  h-line-length,
+  hilbert-length,
 };
 ghost use Rattle.words.specs.Slices.{Sixteen-bits};
 
@@ -213,16 +218,29 @@ pub const B_LINE_LENGTH: usize = 23;
 
 pub const BIDEGREES_LENGTH: usize = PAGE_COLUMNS * MOST_VECTORS * B_LINE_LENGTH;
 
+// ## The Hilbert function
+
+pub const HILBERT_DEGREES: usize = 33;
+
+pub const TRIANGLE_ROWS: usize = HILBERT_DEGREES + EXPONENTS_LENGTH - 1;
+
+pub const TRIANGLE_LENGTH: usize = TRIANGLE_ROWS * (TRIANGLE_ROWS + 1) / 2;
+
+pub const H_LINE_LENGTH: usize = 17;
+
+pub const HILBERT_LENGTH: usize = PAIR_LINE_LENGTH + MOST_TERMS * W_LINE_LENGTH;
+
 // ## Held to the definitions
 
-pub fn numbers() -> [usize; 54]
+pub fn numbers() -> [usize; 59]
     ensures { λ r. ⌜ r ≡ exponents-length ∷ most-vectors ∷ most-rows ∷ most-terms ∷ most-tree-terms ∷ most-levels ∷ all-levels ∷ component-offset
         ∷ exponents-offset ∷ rank-offset ∷ packed-length ∷ row-length ∷ image-length ∷ header-length ∷ counts-length ∷ ends-start ∷ rows-start ∷ level-length ∷
         degrees-start ∷ most-components ∷ carried-start ∷ state-length
         ∷ value-length ∷ tree-length ∷ vector-length ∷ heads-length ∷ images-length ∷ spans-length ∷ ends-length ∷ tables-spans ∷ tables-ends ∷ tables-below
         ∷ tables-above ∷ tables-length ∷ lifted-length ∷ grown-length ∷ file-length ∷ read-length ∷ s-line-length ∷ w-line-length ∷ pair-line-length
         ∷ s-lines-length ∷ level-lines-length ∷ all-lines-length ∷ sheet-length ∷ cell-length ∷ page-columns ∷ row-shift ∷ page-line-length ∷ page-rows
-        ∷ page-length ∷ weights-length ∷ b-line-length ∷ bidegrees-length ∷ [] ⌝ }
+        ∷ page-length ∷ weights-length ∷ b-line-length ∷ bidegrees-length ∷ hilbert-degrees ∷ triangle-rows ∷ triangle-length ∷ h-line-length
+        ∷ hilbert-length ∷ [] ⌝ }
 {
     [
         EXPONENTS_LENGTH,
@@ -279,6 +297,11 @@ pub fn numbers() -> [usize; 54]
         WEIGHTS_LENGTH,
         B_LINE_LENGTH,
         BIDEGREES_LENGTH,
+        HILBERT_DEGREES,
+        TRIANGLE_ROWS,
+        TRIANGLE_LENGTH,
+        H_LINE_LENGTH,
+        HILBERT_LENGTH,
     ]
 }
 

@@ -4,10 +4,12 @@ use crate::betti::page;
 use crate::bidegrees::bidegrees;
 use crate::generate::bigraded::{bidegree_file, bigraded_file, bimixed_file, bistopped_file};
 use crate::generate::files::{damaged_file, limit_file, plain_file};
+use crate::generate::low::{hilbert_file, low_file};
 use crate::generate::pages::{graded_file, mixed_file, page_file, stopped_file};
 use crate::generate::problems::{problem_file, random_basis, Size};
 use crate::generate::scripts::{random_script, with_small_limits, Reach};
 use crate::generate::weight_lines::weighted_file;
+use crate::hilbert::hilbert;
 use crate::limits::Limits;
 use crate::random::Random;
 use crate::script::{Run, Script};
@@ -21,6 +23,9 @@ pub const PAGE_KINDS: [&str; 4] = ["graded", "mixed", "stopped", "pages"];
 
 /// The kinds of problem files for bidegrees.
 pub const BIDEGREE_KINDS: [&str; 4] = ["bigraded", "bimixed", "bistopped", "bidegrees"];
+
+/// The kinds of problem files for the Hilbert function.
+pub const HILBERT_KINDS: [&str; 2] = ["low", "hilbert"];
 
 /// Products that the sheet of a generated file may take.
 pub const SHEET_PRODUCTS: u64 = 300_000;
@@ -100,6 +105,23 @@ pub fn bidegree_case(kind: &str, seed: u64, case: u64) -> Option<(Vec<u8>, Vec<u
         if kind != "bimixed" || lines.starts_with(b"X,25,") {
             return Some((file, lines));
         }
+    }
+}
+
+/// The problem file of a kind for the Hilbert function for a case of a seed, and its lines; `None` if
+/// there is no such kind.
+pub fn hilbert_case(kind: &str, seed: u64, case: u64) -> Option<(Vec<u8>, Vec<u8>)> {
+    let mut random = Random::for_case(seed, case);
+    loop {
+        let file = match kind {
+            "low" => low_file(&mut random),
+            "hilbert" => hilbert_file(&mut random),
+            _ => return None,
+        };
+        let (Some(lines), _) = hilbert(&Limits::document_01(), &file, Some(SHEET_PRODUCTS)) else {
+            continue;
+        };
+        return Some((file, lines));
     }
 }
 

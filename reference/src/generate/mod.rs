@@ -3,7 +3,8 @@
 //! - [`problems`]: random Gröbner bases and random sets of elements.
 //! - [`files`]: files at and past the limits, and damaged files.
 //! - [`degree_lines`], [`weight_lines`]: files with D and G lines, and every way to spoil one.
-//! - [`pages`]: files for the Betti page. [`bigraded`]: files for bidegrees.
+//! - [`pages`]: files for the Betti page. [`bigraded`]: files for bidegrees. [`low`]: files for the
+//!   Hilbert function.
 //! - [`states`]: the words of a state that hold degrees, altered.
 //! - [`scripts`]: lists of calls, also with limits close to what a run needs.
 //! - [`cases`]: the kinds of `reference generate`.
@@ -12,6 +13,7 @@ pub mod bigraded;
 pub mod cases;
 pub mod degree_lines;
 pub mod files;
+pub mod low;
 pub mod pages;
 pub mod problems;
 pub mod scripts;

@@ -221,7 +221,8 @@ impl<'a> Graded<'a> {
     }
 }
 
-fn power_product(random: &mut Random, n: u64, degree: u64) -> Exponents {
+/// A power product in n variables of this degree.
+pub(crate) fn power_product(random: &mut Random, n: u64, degree: u64) -> Exponents {
     let mut exponents = UNIT;
     for _ in 0..degree {
         exponents[random.below(n) as usize] += 1;

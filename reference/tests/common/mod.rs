@@ -3,7 +3,8 @@
 
 use reference::engine::{Answer, State};
 use reference::lifting::Way;
-use reference::monomial::{Level, Monomial, Term, Vector, UNIT};
+use reference::monomial::{divides, Exponents, Level, Monomial, Term, Vector, UNIT};
+use reference::reader::Problem;
 use reference::reckoning::reckon_level;
 use reference::sheet::sheet;
 use reference::Limits;
@@ -96,6 +97,42 @@ pub fn assert_level_1(state: &State, expected: &[Vector]) {
     let basis = state.basis.as_ref().expect("a basis");
     let (reckoned, _) = reckon_level(&basis.parameters, &basis.levels[..1], None);
     assert_eq!(reckoned.as_deref(), Ok(expected));
+}
+
+/// The power products of degree d in n variables.
+pub fn power_products(n: usize, d: u64) -> Vec<Exponents> {
+    if n == 1 {
+        let mut last = UNIT;
+        last[0] = d;
+        return vec![last];
+    }
+    let mut all = Vec::new();
+    for e in 0..=d {
+        for mut exponents in power_products(n - 1, d - e) {
+            exponents[n - 1] = e;
+            all.push(exponents);
+        }
+    }
+    all
+}
+
+/// The monomials of degree d that no leading monomial divides, counted one by one, each component
+/// with its own degree.
+pub fn standard_monomials(problem: &Problem, d: u64) -> i128 {
+    let mut count = 0;
+    for (component, degree) in (1..).zip(&problem.degrees) {
+        let Some(left) = d.checked_sub(*degree) else {
+            continue;
+        };
+        for exponents in power_products(problem.parameters.n as usize, left) {
+            let below = problem.elements.iter().any(|element| {
+                let leading = &element[0].monomial;
+                leading.component == component && divides(&leading.exponents, &exponents)
+            });
+            count += i128::from(!below);
+        }
+    }
+    count
 }
 
 /// A value of a JSON text.

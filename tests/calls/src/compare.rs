@@ -3,7 +3,9 @@
 use crate::proved;
 use common::buffers::{BIDEGREES, OUT, ROW, STATE, TREE_WORK, WORK};
 use common::report::{shown, NUMBERS};
-use reference::buffers::{bidegrees_call_within, fetch_call, lift_call_within, read_call_within};
+use reference::buffers::{
+    bidegrees_call_within, fetch_call, hilbert_call_within, lift_call_within, read_call_within,
+};
 use reference::lifting::Way;
 use reference::random::Random;
 use reference::Limits;
@@ -62,6 +64,7 @@ pub enum Call<'a> {
     Lift { level: usize, way: u16, pick: u16 },
     Fetch { level: usize, vector: usize },
     Bidegrees(&'a [u8]),
+    Hilbert(&'a [u8]),
 }
 
 /// What `spoil` changes in one answer of the proved calls, so that the comparison itself is tried.
@@ -86,7 +89,7 @@ pub const SPOILS: [(&str, Spoiled); 7] = [
     ("printed", Spoiled::Printed),
 ];
 
-pub const KINDS: [&str; 7] = [
+pub const KINDS: [&str; 8] = [
     "read",
     "lift by division",
     "lift by hybrid",
@@ -94,6 +97,7 @@ pub const KINDS: [&str; 7] = [
     "lift by no way",
     "fetch",
     "bidegrees",
+    "Hilbert function",
 ];
 
 pub struct Compare {
@@ -107,8 +111,8 @@ pub struct Compare {
     pub left_out: u64,
     /// by kind and number
     pub met: [[u64; NUMBERS]; KINDS.len()],
-    /// calls that printed lines, no refusal
-    pub lines: u64,
+    /// calls that printed lines, no refusal: of bidegrees, of the Hilbert function
+    pub lines: [u64; 2],
     pub spoil: Option<(u64, Spoiled)>,
 }
 
@@ -122,7 +126,7 @@ impl Compare {
             calls: 0,
             left_out: 0,
             met: [[0; NUMBERS]; KINDS.len()],
-            lines: 0,
+            lines: [0; 2],
             spoil: None,
         }
     }
@@ -163,6 +167,9 @@ impl Compare {
             Call::Bidegrees(file) => {
                 bidegrees_call_within(limits, file, state, work, printed, Some(budget))
             }
+            Call::Hilbert(file) => {
+                hilbert_call_within(limits, file, state, work, printed, Some(budget))
+            }
         };
         let Some(expected) = expected else {
             self.left_out += 1;
@@ -181,6 +188,7 @@ impl Compare {
             Call::Lift { level, way, pick } => proved::lift(state, work, cache, level, way, pick),
             Call::Fetch { level, vector } => proved::fetch(state, out, level, vector),
             Call::Bidegrees(file) => proved::bidegrees(file, state, work, printed),
+            Call::Hilbert(file) => proved::hilbert(file, state, work, printed),
         };
         if let Some((at, what)) = self.spoil {
             if at == self.calls {
@@ -223,9 +231,11 @@ impl Compare {
             Call::Lift { way, .. } => 1 + usize::from((*way).min(3)),
             Call::Fetch { .. } => 5,
             Call::Bidegrees(_) => 6,
+            Call::Hilbert(_) => 7,
         };
-        let lines = kind == 6 && expected.0 == 0 && theirs.printed[0] == b'B';
-        self.lines += u64::from(lines);
+        if let (6 | 7, 0, b'B' | b'H') = (kind, expected.0, theirs.printed[0]) {
+            self.lines[kind - 6] += 1;
+        }
         self.met[kind][expected.0 as usize] += 1;
         Some(expected.0)
     }
@@ -260,7 +270,7 @@ impl Compare {
             self.calls
         );
         match call {
-            Call::Read(file) | Call::Bidegrees(file) => {
+            Call::Read(file) | Call::Bidegrees(file) | Call::Hilbert(file) => {
                 println!("read or printed: {}", shown(file, 2_000));
             }
             _ => println!("{call:?}"),

@@ -8,7 +8,7 @@ mod compare;
 mod proved;
 
 use common::arguments::{asked, words};
-use common::buffers::{self, BIDEGREES, DEGREES, OUT, ROW, STATE, WORK};
+use common::buffers::{self, BIDEGREES, DEGREES, HILBERT, OUT, ROW, STATE, WORK};
 use common::deep::{deep, on_small_stack, DEEPEST};
 use common::examples::examples;
 use common::files::{
@@ -27,6 +27,7 @@ use reference::generate::degree_lines::{
     components_of, spoiled_degree_lines, with_degrees, without_degree_lines,
 };
 use reference::generate::files::{edited_file, limit_file};
+use reference::generate::low::{hilbert_file, low_file};
 use reference::generate::problems::{problem_file, random_basis, random_degrees, Size as FileSize};
 use reference::generate::states::{carry, with_other_degrees};
 use reference::generate::weight_lines::{
@@ -64,8 +65,10 @@ impl Lists {
         compare.spoil = spoil;
         let files = (0..if spoil.is_some() { 100 } else { 4_000 })
             .map(|_| {
-                if random.chance(10) {
-                    return bigraded_file(&mut random);
+                match random.below(20) {
+                    0 | 1 => return bigraded_file(&mut random),
+                    2 => return low_file(&mut random),
+                    _ => {}
                 }
                 let size = random_size(&mut random, 6);
                 let mut file = problem_file(&basis_or_set(&mut random, &size));
@@ -206,7 +209,7 @@ impl Lists {
                 };
                 self.fetch(level, vector)
             }
-            92 | 93 => self.bidegrees(),
+            92 | 93 => self.printing(),
             // levels that are not there
             _ => {
                 let level =
@@ -262,13 +265,22 @@ impl Lists {
     }
 
     /// The state is lent for the work alone: nothing is held afterwards.
-    fn bidegrees(&mut self) -> Option<u64> {
-        let (file, budget) = match self.random.chance(60) {
-            true => (bidegree_file(&mut self.random), BUDGET),
-            false => self.file(),
+    fn printing(&mut self) -> Option<u64> {
+        let of_bidegrees = self.random.chance(50);
+        let (file, budget) = match (self.random.chance(60), of_bidegrees) {
+            (true, true) => (bidegree_file(&mut self.random), BUDGET),
+            (true, false) => (hilbert_file(&mut self.random), BUDGET),
+            (false, _) => self.file(),
         };
-        let lent = self.lent(WORK, 0);
-        self.compare.call(&Call::Bidegrees(&file), &lent, budget)
+        let (call, room) = match of_bidegrees {
+            true => (Call::Bidegrees(&file), BIDEGREES),
+            false => (Call::Hilbert(&file), HILBERT),
+        };
+        let lent = Lent {
+            printed: self.length(room),
+            ..self.lent(WORK, 0)
+        };
+        self.compare.call(&call, &lent, budget)
     }
 
     fn lift(&mut self, level: u64) -> Option<u64> {
@@ -380,7 +392,7 @@ fn degree_lines(lists: &mut Lists) {
     }
 }
 
-/// G lines (request A14): every way to spoil one, and right ones: the state is that of the file without the line, and the bidegrees are printed.
+/// G lines (request A14): every way to spoil one, and right ones: the state is that of the file without the line; bidegrees and Hilbert function are printed.
 fn weight_lines(lists: &mut Lists) {
     let mut files: Vec<Vec<u8>> = WRITTEN.map(|file| file.as_bytes().to_vec()).to_vec();
     files.extend((0..20).map(|_| bigraded_file(&mut lists.random)));
@@ -396,29 +408,33 @@ fn weight_lines(lists: &mut Lists) {
         }
         let mut held = Vec::new();
         for file in [&bare, &with_weights(&bare, &weights), &file] {
-            let call = Call::Bidegrees(file);
-            lists.compare.call(&call, &WHOLE, LONG_BUDGET);
+            for call in [Call::Bidegrees(file), Call::Hilbert(file)] {
+                lists.compare.call(&call, &WHOLE, LONG_BUDGET);
+            }
             let number = lists.compare.call(&Call::Read(file), &WHOLE, LONG_BUDGET);
             held.push((number, lists.compare.ours.state[..STATE].to_vec()));
         }
         // no state holds weights
         assert!(held.iter().all(|one| *one == held[0]));
-        for (state, work, printed) in [
-            (STATE - 1, WORK, BIDEGREES),
-            (STATE, WORK - 1, BIDEGREES),
-            (STATE, WORK, BIDEGREES - 1),
-            (0, 0, 0),
+        for (call, room) in [
+            (Call::Bidegrees(&file), BIDEGREES),
+            (Call::Hilbert(&file), HILBERT),
         ] {
-            let lent = Lent {
-                state,
-                work,
-                printed,
-                ..WHOLE
-            };
-            let number = lists
-                .compare
-                .call(&Call::Bidegrees(&file), &lent, LONG_BUDGET);
-            assert_eq!(number, Some(16));
+            for (state, work, printed) in [
+                (STATE - 1, WORK, room),
+                (STATE, WORK - 1, room),
+                (STATE, WORK, room - 1),
+                (0, 0, 0),
+            ] {
+                let lent = Lent {
+                    state,
+                    work,
+                    printed,
+                    ..WHOLE
+                };
+                let number = lists.compare.call(&call, &lent, LONG_BUDGET);
+                assert_eq!(number, Some(16));
+            }
         }
     }
 }
@@ -693,7 +709,8 @@ fn calls(wanted: u64, seed: u64, spoil: Option<Spoiled>) {
     for (kind, met) in KINDS.iter().zip(&compare.met) {
         println!("  {kind}: {}", counts(met).join(", "));
     }
-    println!("  {} calls printed lines of bidegrees", compare.lines);
+    let [bidegrees, hilbert] = compare.lines;
+    println!("  {bidegrees} calls printed lines of bidegrees, {hilbert} of the Hilbert function");
     let stack = on_small_stack(deepest);
     println!("  the tree at depth {DEEPEST} agrees, {stack}");
     if wanted < CALLS / 4 {
@@ -709,11 +726,12 @@ fn calls(wanted: u64, seed: u64, spoil: Option<Spoiled>) {
         &[11, 12, 16],
         &[0, 11, 12, 16],
         &[0, 16],
+        &[0, 16],
     ];
     for ((kind, met), numbers) in KINDS.iter().zip(&compare.met).zip(expected) {
         for number in numbers {
             assert!(met[*number] > 0, "{number} did not come by {kind}");
         }
     }
-    assert!(compare.lines >= 1_000);
+    assert!(compare.lines.iter().all(|lines| *lines >= 1_000));
 }

@@ -149,7 +149,7 @@ fn random_file(compare: &mut Compare, random: &mut Random) {
     compare.file(&file, BUDGET);
 }
 
-/// The instances of document 01 and of requests A4, A5 and A14, by name: the problem file, and the sheet that the documents say.
+/// The instances of document 01 and of requests A4, A5, A13 and A14, by name: the problem file, and the sheet that the documents say.
 fn instances() -> Vec<(Vec<u8>, Vec<u8>)> {
     let folder = Path::new(env!("CARGO_MANIFEST_DIR")).join("instances");
     let files: Vec<(Vec<u8>, Vec<u8>)> = files_of(&folder)
@@ -159,7 +159,7 @@ fn instances() -> Vec<(Vec<u8>, Vec<u8>)> {
             (file, sheet)
         })
         .collect();
-    assert_eq!(files.len(), 35, "an instance is missing");
+    assert_eq!(files.len(), 37, "an instance is missing");
     files
 }
 

@@ -32,7 +32,7 @@ map-last : (g : ℕ → ℕ) (l : List ℕ) (x : ℕ) → map g (l ++ x ∷ []) 
 map-last g [] x = refl
 map-last g (y ∷ l) x = ap (λ z. g y ∷ z) (map-last g l x)
 
-map-more : (g : ℕ → ℕ) (l : List ℕ) (i : ℕ) → i < length l → map g (take (i + 1) l) ≡ map g (take i l) ++ g (getD l i 0) ∷ []
+pub map-more : (g : ℕ → ℕ) (l : List ℕ) (i : ℕ) → i < length l → map g (take (i + 1) l) ≡ map g (take i l) ++ g (getD l i 0) ∷ []
 map-more g l i h =
     let s : i + 1 ≡ suc i = omega arith in
     ap (λ j. map g (take j l)) s ∙ ap (map g) (take-suc l i 0 h) ∙ map-last g (take i l) (getD l i 0)

@@ -1,0 +1,17 @@
+pub mod Counts
+pub mod Each
+pub mod Ways
+pub mod Triangle
+pub mod Shift
+pub mod Components
+pub mod Padding
+pub mod Partition
+pub mod Alternating
+pub mod Levels
+pub mod Standard
+pub mod Sums
+pub mod Digits
+pub mod Bounds
+pub mod Values
+pub mod Ends
+pub mod Hilbert

@@ -1,0 +1,4 @@
+pub mod Notions
+pub mod Table
+pub mod Standard
+pub mod Hilbert

@@ -1,0 +1,329 @@
+//! The program that prints the Hilbert function against the unrelated implementation, byte for byte: on generated and damaged files, on the files of examples/,
+//! the instances and files about the longest. Values also against a count of monomials from the file's text alone, and files with a G line also without it.
+//!
+//!     test-hilbert [FILES [SEED]]      at least so many files (20,000 without it)
+//!     test-hilbert spoil first|last|middle|shorter|longer|line|counted|without
+//!                                      spoils what the program printed, once: the run must find it and exit with 1
+//!
+//! The program is target/bin/hilbert, or what the environment variable HILBERT says.
+
+mod compare;
+mod count;
+
+use common::arguments::{asked, words};
+use common::examples::{examples, files_of};
+use common::files::{
+    changed_at, damage_some, many_monomials, random_problem, random_size, with_each_field,
+    with_some_weights, WRITTEN,
+};
+use common::program::{By, Program};
+use common::report::counts;
+use compare::{Compare, SPOILS};
+use reference::generate::bigraded::bidegree_file;
+use reference::generate::degree_lines::with_degrees;
+use reference::generate::files::{exact_length_file, exact_t_lines_file, limit_file};
+use reference::generate::low::{hilbert_file, low_file};
+use reference::generate::pages::{
+    graded_tails, large_product, multiples_of_one, page_file, stopped_file, with_mixed_elements,
+};
+use reference::generate::problems::{problem_file, random_basis, random_set, weight_line};
+use reference::generate::weight_lines::{
+    random_weights, spoiled_weight_lines, variables_of, with_random_weights, with_weights,
+    without_weight_lines,
+};
+use reference::random::Random;
+use std::path::Path;
+
+const FILES: u64 = 20_000;
+const SEED: u64 = 20_261_301;
+/// Products that a generated file may take; one that takes more is left out.
+const BUDGET: u64 = 20_000;
+/// The same for files at the limits.
+const LONG_BUDGET: u64 = 300_000;
+/// The same for the files of examples/.
+const EXAMPLE_BUDGET: u64 = 10_000_000;
+
+/// x1·e_2 + x2·e_1, x3·e_1 and x2²·e_1, the components of degrees 0 and 1: one vector of level 1.
+const SMALL: &str = "R,7,3,1,2\nD,0,1\nG,1,2,2,2,3,15\nT,1,1,2,1,0,0\nT,1,1,1,0,1,0\nT,2,1,1,0,0,1\nT,3,1,1,0,2,0\nE,4\n";
+
+fn main() {
+    let (mut wanted, seed, spoil) = asked(&words(), "files", (FILES, SEED), &SPOILS);
+    let mut compare = Compare::new(Program::new("hilbert", "HILBERT"));
+    compare.spoil = spoil.map(|what| (70, what));
+    let mut random = Random::new(seed);
+    if spoil.is_some() {
+        wanted = 400;
+    } else {
+        instances(&mut compare);
+        printed(&mut compare);
+        every_change(&mut compare);
+        every_spoiled_line(&mut compare, &mut random);
+        for (_, file) in examples() {
+            compare.file_by(&file, EXAMPLE_BUDGET, By::Pipe(1_000));
+            compare.file(&with_random_weights(&mut random, &file), EXAMPLE_BUDGET);
+        }
+        at_the_limits(&mut compare, &mut random);
+        all_places(&mut compare, &mut random);
+    }
+    let systematic = compare.files;
+    while compare.files < wanted {
+        random_file(&mut compare, &mut random);
+    }
+    report(&compare, systematic, seed);
+    if wanted >= FILES / 2 {
+        enough(&compare);
+    }
+}
+
+fn report(compare: &Compare, systematic: u64, seed: u64) {
+    println!(
+        "hilbert: {} files agree byte for byte ({systematic} systematic, {} left out that take more products, seed {seed}); program {}",
+        compare.files,
+        compare.left_out,
+        compare.program()
+    );
+    println!("  {}", counts(&compare.met).join(", "));
+    println!(
+        "  lines: {} files with a D line, {} with a G line, {} with an element of two degrees, {} with several components, {} with zeros alone, \
+         {} with a last value above 0; by variables: {}; {} different lines, the longest of {} bytes",
+        compare.with_degrees,
+        compare.with_weights,
+        compare.mixed,
+        compare.modules,
+        compare.nothing,
+        compare.to_the_end,
+        counts(&compare.variables).join(", "),
+        compare.lines.len(),
+        compare.longest
+    );
+    println!(
+        "  counted from the text: the values of {} files, {} with an element of two degrees, {} with several components and a D line, {} up to degree 32; \
+         {} files print the same without the G line; 13 to 15 at (number, level): {:?}",
+        compare.counted,
+        compare.counted_mixed,
+        compare.counted_modules,
+        compare.counted_whole,
+        compare.without,
+        compare.stops
+    );
+}
+
+/// A run in which something hardly comes tests too little.
+fn enough(compare: &Compare) {
+    for number in [0, 1, 2, 3, 4, 5, 6, 7, 8, 9, 13, 14, 15, 18, 24] {
+        assert!(compare.met[number] >= 10, "number {number} came too seldom");
+    }
+    for number in [17, 20, 25] {
+        assert_eq!(compare.met[number], 0, "{number} is not tested here");
+    }
+    for stop in [
+        (13, 0),
+        (13, 1),
+        (14, 0),
+        (14, 2),
+        (14, 3),
+        (15, 0),
+        (15, 1),
+        (15, 2),
+    ] {
+        assert!(compare.stops.contains(&stop), "{stop:?} did not come");
+    }
+    assert!(compare.variables[1..].iter().all(|count| *count >= 20));
+    assert!(compare.with_degrees >= 1_000 && compare.with_weights >= 1_000);
+    assert!(compare.mixed >= 1_000 && compare.modules >= 1_000);
+    assert!(compare.nothing >= 100 && compare.to_the_end >= 1_000);
+    assert!(compare.lines.len() >= 5_000 && compare.longest == "H,32,246094992".len());
+    assert!(compare.counted >= 2_000 && compare.counted_mixed >= 1_000);
+    assert!(compare.counted_modules >= 500 && compare.counted_whole >= 1_000);
+    assert!(compare.without >= 300);
+}
+
+/// 33 lines with these values, the last of them repeated to the end.
+fn lines(values: &[u64]) -> String {
+    let last = values.last().expect("a value");
+    (0..33)
+        .map(|d| format!("H,{d},{}\n", values.get(d).unwrap_or(last)))
+        .collect()
+}
+
+/// The instances of document 01 and its requests; some have their lines beside them, written by hand.
+fn instances(compare: &mut Compare) {
+    let folder = Path::new(env!("CARGO_MANIFEST_DIR")).join("../sheet/instances");
+    let mut kept = 0;
+    for (name, file) in files_of(&folder) {
+        compare.file(&file, BUDGET);
+        if let Ok(lines) = std::fs::read(folder.join(format!("{name}.hilbert"))) {
+            for by in [By::File, By::Pipe(1), By::Pipe(65_536)] {
+                compare.expect(&file, &lines, by);
+            }
+            kept += 1;
+        }
+    }
+    assert_eq!(kept, 3, "01-printed and request A13's own have lines");
+}
+
+/// The request's own instance, 1, 1, then 0, over many fields; what one can count without a program.
+fn printed(compare: &mut Compare) {
+    const ALL: [By; 3] = [By::File, By::Pipe(1), By::Pipe(65_536)];
+    for p in [2, 3, 5, 7, 101, 32_003, 32_749, 65_519, 65_521] {
+        for order in 1..=3 {
+            let head = format!("R,{p},2,{order},1\n");
+            let rest = "T,1,1,1,1,0\nT,1,1,1,0,1\nT,2,1,1,0,2\nT,2,1,1,0,0\nE,4\n";
+            for middle in ["", "D,0\n", "G,1,0,0,1\n", "D,0\nG,15,15,0,0\n"] {
+                let file = format!("{head}{middle}{rest}");
+                compare.expect(file.as_bytes(), lines(&[1, 1, 0]).as_bytes(), By::File);
+            }
+            // the component's degree moves them
+            for own in [1, 2, 16, 31, 32, 33] {
+                let mut values = vec![0; own];
+                values.extend([1, 1, 0]);
+                let file = format!("{head}D,{own}\n{rest}");
+                compare.expect(file.as_bytes(), lines(&values).as_bytes(), By::File);
+            }
+        }
+    }
+    // all variables, and 1 beside them: nine columns behind column 0
+    let mut file = String::new();
+    for x in 1..=9 {
+        let exponents: Vec<&str> = (1..=8).map(|y| if x == y { "1" } else { "0" }).collect();
+        file.push_str(&format!("T,{x},1,1,{}\n", exponents.join(",")));
+    }
+    let eight = file.lines().take(8).map(|line| format!("{line}\n"));
+    let eight = format!("R,7,8,3,1\n{}E,8\n", eight.collect::<String>());
+    let nine = format!("R,7,8,3,1\n{file}E,9\n");
+    for by in ALL {
+        compare.expect(eight.as_bytes(), lines(&[1, 0]).as_bytes(), by);
+        compare.expect(nine.as_bytes(), lines(&[0]).as_bytes(), by);
+    }
+    // powers of one variable
+    for (power, first) in [(0, 0), (1, 1), (31, 31), (32, 32), (33, 33), (255, 33)] {
+        let mut values = vec![1; first];
+        values.push(0);
+        let file = format!("R,7,1,2,1\nT,1,1,1,{power}\nE,1\n");
+        compare.expect(file.as_bytes(), lines(&values).as_bytes(), By::File);
+    }
+    // the largest values: sixteen components, all monomials of each
+    for order in 1..=3 {
+        let large = ",255".repeat(8);
+        let file = format!("R,7,8,{order},16\nT,1,1,16{large}\nE,1\n");
+        let mut row = vec![1_u64];
+        let mut values = Vec::new();
+        for _ in 0..40 {
+            let next = row.windows(2).map(|two| two[0] + two[1]);
+            let next: Vec<u64> = [1].into_iter().chain(next).chain([1]).collect();
+            // C(d + 7, 7) for d = 0 to 32
+            values.extend(row.get(7).map(|entry| 16 * entry));
+            row = next;
+        }
+        assert_eq!(values.len(), 33);
+        compare.expect(file.as_bytes(), lines(&values).as_bytes(), By::File);
+    }
+}
+
+/// Small files changed at a byte and in some fields, and one with all lines at many bytes: the reader has a test of its own.
+fn every_change(compare: &mut Compare) {
+    compare.file(b"", BUDGET);
+    compare.file(b"\n", BUDGET);
+    for (number, file) in WRITTEN.map(str::as_bytes).into_iter().enumerate() {
+        compare.file(file, BUDGET);
+        let at = 7 * (number + 1) % file.len();
+        changed_at(file, at, |changed| compare.file(changed, BUDGET));
+        with_each_field(file, 41, |changed| compare.file(changed, BUDGET));
+    }
+    let file = SMALL.as_bytes();
+    compare.file(file, BUDGET);
+    for at in 0..file.len() {
+        compare.file(&file[..at], BUDGET);
+        if at % 11 == 0 {
+            changed_at(file, at, |changed| compare.file(changed, BUDGET));
+        }
+    }
+    with_each_field(file, 13, |changed| compare.file(changed, BUDGET));
+}
+
+/// Every way to spoil a G line, and every degree of a component, with one beside it.
+fn every_spoiled_line(compare: &mut Compare, random: &mut Random) {
+    let bare = without_weight_lines(SMALL.as_bytes());
+    let weights = random_weights(random, variables_of(&bare));
+    let lines = bare.iter().filter(|byte| **byte == 10).count();
+    for spoiled in spoiled_weight_lines(lines, true, &weights, &[0, 1]) {
+        compare.file(&spoiled.file(&bare), BUDGET);
+    }
+    for degree in 0..=256 {
+        for degrees in [[degree, 2], [2, degree]] {
+            compare.file(&with_degrees(&bare, &degrees), BUDGET);
+        }
+    }
+}
+
+/// Files of about 65,536 bytes and of about 2,048 T lines; levels and vectors about the longest; products about the largest.
+fn at_the_limits(compare: &mut Compare, random: &mut Random) {
+    for length in [65_535, 65_536, 65_537] {
+        let file = exact_length_file(random, length);
+        compare.file(&file, LONG_BUDGET);
+        compare.file(&file[..length - 1], LONG_BUDGET);
+        compare.file_by(&file, LONG_BUDGET, By::Pipe(4_096));
+        // with a G line, which counts for the length
+        let weights = random_weights(random, 8);
+        let shorter = length - weight_line(&weights).len() - 1;
+        let file = with_weights(&exact_length_file(random, shorter), &weights);
+        assert_eq!(file.len(), length);
+        compare.file(&file, LONG_BUDGET);
+    }
+    compare.file_by(&vec![b'\n'; 70_000], LONG_BUDGET, By::Pipe(65_536));
+    for lines in [2_047, 2_048, 2_049] {
+        for _ in 0..5 {
+            let file = exact_t_lines_file(random, lines);
+            compare.file(&file, LONG_BUDGET);
+            compare.file(&with_random_weights(random, &file), LONG_BUDGET);
+        }
+    }
+    for _ in 0..40 {
+        let problem = large_product(random);
+        compare.file(&problem_file(&problem), LONG_BUDGET);
+        compare.file(
+            &problem_file(&with_mixed_elements(random, problem)),
+            LONG_BUDGET,
+        );
+        let problem = graded_tails(random);
+        compare.file(&problem_file(&problem), LONG_BUDGET);
+        compare.file(
+            &problem_file(&with_mixed_elements(random, problem)),
+            LONG_BUDGET,
+        );
+        compare.file(&stopped_file(random), LONG_BUDGET);
+        let file = problem_file(&many_monomials(random));
+        compare.file(&with_random_weights(random, &file), LONG_BUDGET);
+        compare.file(&limit_file(random), LONG_BUDGET);
+    }
+}
+
+/// An element of two degrees in every place, where the Betti page has 17.
+fn all_places(compare: &mut Compare, random: &mut Random) {
+    for first in 1..=64 {
+        for count in [first.max(2), 64] {
+            let problem = multiples_of_one(random, count, first);
+            compare.file(&problem_file(&problem), BUDGET);
+        }
+    }
+}
+
+fn random_file(compare: &mut Compare, random: &mut Random) {
+    let size = random_size(random, 8);
+    let mut file = match random.below(20) {
+        0 => problem_file(&random_problem(random)),
+        1 => problem_file(&random_basis(random, &size)),
+        2 => problem_file(&random_set(random, &size)),
+        3 => page_file(random),
+        4 => bidegree_file(random),
+        5..=9 => low_file(random),
+        _ => hilbert_file(random),
+    };
+    if random.chance(10) {
+        with_some_weights(random, &mut file);
+    }
+    if random.chance(5) {
+        damage_some(random, &mut file);
+    }
+    compare.file(&file, BUDGET);
+}
