@@ -1,5 +1,5 @@
-/* The three calls of Tagetessash: read a problem file, lift a level, fetch a vector; and the sheet, the Betti page, the bidegrees and the Hilbert function of
- * a file, each in one call.
+/* The three calls of Tagetessash: read a problem file, lift a level, fetch a vector; and the sheet, the Betti page, the minimal Betti numbers, the bidegrees
+ * and the Hilbert function of a file, each in one call.
  *
  * A header of one version does not fit a library of another: if (tagetessash_version() != TAGETESSASH_VERSION) do not go on.
  *
@@ -29,9 +29,9 @@ extern "C" {
  *     1    an exponent has a word of its own, a row ten words
  *     2    the exponents are packed, a row has six words; what the accessors below give and what the sheet prints is as it was
  *     3    the state has degrees behind its rows, a D line is read, 18 is answered; all that a state of version 2 holds stands where it stood
- * tagetessash_betti, then tagetessash_bidegrees and then tagetessash_hilbert came later: a program of version 3 that does not call them fits every library of
- * version 3, and one that does is not linked with a library that has no such function. With the second came a file's G line, which was refused with 1, and 24:
- * no state holds its weights, and every file that was read before is read as before.
+ * tagetessash_betti, tagetessash_bidegrees, tagetessash_hilbert and tagetessash_minimal came later, one by one: a program of version 3 that does not call them
+ * fits every library of version 3, and one that does is not linked with a library that has no such function. With the second came a file's G line, which was
+ * refused with 1, and 24: no state holds its weights, and every file that was read before is read as before.
  * Version 1's buffers are long enough for version 3: a program that was compiled with that header is refused nothing and reads other words. Only the version
  * tells it. One of version 2 lends a state that is too short: where it does not ask for the version, every call answers 16. */
 #define TAGETESSASH_VERSION 3
@@ -50,7 +50,7 @@ extern "C" {
 #define TAGETESSASH_TREE_WORK_WORDS 24576  /* to lift by the tree */
 #define TAGETESSASH_OUT_WORDS 3072
 #define TAGETESSASH_SHEET_BYTES 1400000    /* the sheet's out has bytes */
-#define TAGETESSASH_PAGE_BYTES 1508691     /* and so has the Betti page's */
+#define TAGETESSASH_PAGE_BYTES 1508691     /* and so has the Betti page's, and that of the minimal numbers */
 #define TAGETESSASH_BIDEGREES_BYTES 32384  /* and that of the bidegrees */
 #define TAGETESSASH_HILBERT_BYTES 31773    /* and that of the Hilbert function */
 
@@ -65,7 +65,7 @@ extern "C" {
 #define TAGETESSASH_VECTOR_TERMS 512
 #define TAGETESSASH_TREE_TERMS 4096
 
-/* A Betti page: columns 0 to 10 behind a label, each of so many bytes, and byte 10; 20,666 rows and the totals at the most. */
+/* A Betti page, and a page of minimal numbers: columns 0 to 10 behind a label, each of so many bytes, and byte 10; 20,666 rows and the totals at the most. */
 #define TAGETESSASH_PAGE_COLUMNS 11
 #define TAGETESSASH_PAGE_CELL_BYTES 6
 #define TAGETESSASH_PAGE_LINE_BYTES 73
@@ -145,10 +145,10 @@ enum {
     TAGETESSASH_TERM_LIMIT = 14,     /* a 513th term of a working value or vector, or a 4,097th in the tree's work area */
     TAGETESSASH_LEVEL_LIMIT = 15,    /* a 129th frame term, or a 2,049th term of a level above 0 */
 
-    /* No call returns these: they stand in the X line that is written instead of a page, by tagetessash_betti and by tagetessash_bidegrees; the place is the
-     * first such element */
-    TAGETESSASH_TWO_DEGREES = 17,  /* an element has terms of two degrees */
-    TAGETESSASH_TWO_BIDEGREES = 25 /* an element has terms of two bidegrees */
+    /* No call returns these: they stand in the X line that is written instead of a page. The place is the first such element; that of 20 is the level. */
+    TAGETESSASH_TWO_DEGREES = 17,   /* an element has terms of two degrees: by tagetessash_betti and tagetessash_minimal */
+    TAGETESSASH_TWO_BIDEGREES = 25, /* an element has terms of two bidegrees: by tagetessash_bidegrees */
+    TAGETESSASH_NOT_ENDED = 20      /* level 9 is not empty: by tagetessash_minimal, and for no file, since level n + 1 is empty */
 };
 
 /* Reads a problem file and accepts or refuses its basis. After 0 the state has level 0, the file's elements, and no other level. A file is lines of numbers:
@@ -180,6 +180,14 @@ uint16_t tagetessash_sheet(const uint8_t *file, size_t file_bytes, uint16_t *sta
  * refused file it writes the X line (and after X,9 the W lines) and nothing else; X,17 for an accepted one where an element has terms of two degrees. Returns 0
  * for every file, or 16, as tagetessash_sheet does. */
 uint16_t tagetessash_betti(const uint8_t *file, size_t file_bytes, uint16_t *state, size_t state_words, uint16_t *work, size_t work_words, uint8_t *out,
+    size_t out_bytes, size_t *length);
+
+/* Writes the minimal Betti numbers of a problem file, the bytes that the program prints, into out, likewise: a page with the lines, labels and rows of the
+ * file's Betti page, and for each count there what is left of it once generators that are not needed are left out. In each degree the constants between a
+ * column and the next one are a matrix, a row for each generator of the next column, in it the coefficient of 1 times each generator of this one; its rank
+ * modulo p is taken from both counts. The last line has the totals of what is left. For a refused file it writes what tagetessash_betti writes, X,17 too (and
+ * X,20 where level 9 is not empty, which no file brings about). Returns 0 for every file, or 16, as tagetessash_sheet does. */
+uint16_t tagetessash_minimal(const uint8_t *file, size_t file_bytes, uint16_t *state, size_t state_words, uint16_t *work, size_t work_words, uint8_t *out,
     size_t out_bytes, size_t *length);
 
 /* Writes the bidegrees of a problem file, the bytes that the program prints, into out, likewise: a line B,column,a,b,count for each bidegree a, b of some
@@ -337,6 +345,7 @@ static inline const char *tagetessash_meaning(uint16_t number)
     case TAGETESSASH_SHORT_BUFFER: return "a buffer is too short";
     case TAGETESSASH_TWO_DEGREES: return "an element has terms of two degrees";
     case TAGETESSASH_BAD_DEGREE: return "a component's degree is above 255";
+    case TAGETESSASH_NOT_ENDED: return "level 9 is not empty";
     case TAGETESSASH_BAD_WEIGHT: return "a variable's weight is above 15";
     case TAGETESSASH_TWO_BIDEGREES: return "an element has terms of two bidegrees";
     default: return "no number of a call";
@@ -350,7 +359,7 @@ static inline const char *tagetessash_place_name(uint16_t number)
         return "line";
     if (number == TAGETESSASH_NO_BASIS)
         return "frame term";
-    if (number >= TAGETESSASH_EXPONENT_LIMIT && number <= TAGETESSASH_LEVEL_LIMIT)
+    if ((number >= TAGETESSASH_EXPONENT_LIMIT && number <= TAGETESSASH_LEVEL_LIMIT) || number == TAGETESSASH_NOT_ENDED)
         return "level";
     if (number == TAGETESSASH_TWO_DEGREES || number == TAGETESSASH_TWO_BIDEGREES)
         return "element";

@@ -23,13 +23,17 @@ pub type Counts = BTreeMap<i64, BTreeMap<u64, u64>>;
 /// The bytes of the Betti page for a file, or `None` when the budget of products (for the file
 /// together) is used up; and what the runs took.
 pub fn page(limits: &Limits, file: &[u8], budget: Option<u64>) -> (Option<Vec<u8>>, Usage) {
-    // "17, with the first such element as place, when some element has terms of two degrees,
-    // tested after acceptance"
     let program = Program {
-        refuses: |basis: &Basis| of_two_degrees(basis).map(|number| format!("X,17,{number}\n")),
+        refuses: two_degrees,
         prints: |basis: &Basis| lines(&counts(basis)),
     };
     program.run(limits, file, budget)
+}
+
+/// "17, with the first such element as place, when some element has terms of two degrees, tested
+/// after acceptance": the X line, if it comes.
+pub(crate) fn two_degrees(basis: &Basis) -> Option<String> {
+    of_two_degrees(basis).map(|number| format!("X,17,{number}\n"))
 }
 
 /// The number, from 1, of the first element that has terms of two degrees.

@@ -7,7 +7,8 @@ use crate::bidegrees::bidegrees;
 use crate::engine::{Answer, Basis, Outcome, State};
 use crate::hilbert::{hilbert, HIGHEST_DEGREE};
 use crate::lifting::Way;
-use crate::limits::Limits;
+use crate::limits::{Limits, MOST_DEGREE};
+use crate::minimal::minimal;
 use crate::monomial::{Exponents, Level, Monomial, Parameters, Term, Vector};
 use crate::program::Printed;
 
@@ -220,10 +221,14 @@ pub fn bidegrees_call_within(
 /// The bytes that the lines of the Hilbert function need: "an X line and 512 W lines, which are
 /// longer than its own 33 lines".
 pub fn hilbert_bytes(limits: &Limits) -> usize {
-    let refused = 29 + 62 * limits.working as usize;
     // "A line has at most 17 bytes."
     let lines = 17 * (HIGHEST_DEGREE as usize + 1);
-    refused.max(lines)
+    refused_bytes(limits).max(lines)
+}
+
+/// The bytes of an X line and as many W lines as a value may have terms.
+fn refused_bytes(limits: &Limits) -> usize {
+    29 + 62 * limits.working as usize
 }
 
 /// Prints the Hilbert function of a file, as `bidegrees_call` does the bidegrees.
@@ -249,6 +254,44 @@ pub fn hilbert_call_within(
     let printing = Printing {
         what: hilbert,
         bytes: hilbert_bytes(limits),
+    };
+    printing.call(limits, file, state, work, out, budget)
+}
+
+/// The bytes that the minimal numbers need, as many as the Betti page: "20,666 rows and the totals,
+/// 73 bytes each".
+pub fn minimal_bytes(limits: &Limits) -> usize {
+    // level 0 and each level above it add the exponents of one term
+    let terms = limits.levels + 1;
+    let highest = MOST_DEGREE + terms * limits.variables * limits.exponent;
+    // rows −10 to 20,655
+    let rows = terms + 1 + highest;
+    refused_bytes(limits).max(73 * (rows as usize + 1))
+}
+
+/// Prints the minimal numbers of a file, as `bidegrees_call` does the bidegrees.
+pub fn minimal_call(
+    limits: &Limits,
+    file: &[u8],
+    state: &mut [u16],
+    work: &mut [u16],
+    out: &mut [u8],
+) -> (u64, u64) {
+    minimal_call_within(limits, file, state, work, out, None).expect("there is no budget")
+}
+
+/// As `minimal_call`, but gives up (`None`, no buffer changed) when the products are used up.
+pub fn minimal_call_within(
+    limits: &Limits,
+    file: &[u8],
+    state: &mut [u16],
+    work: &mut [u16],
+    out: &mut [u8],
+    budget: Option<u64>,
+) -> Option<(u64, u64)> {
+    let printing = Printing {
+        what: minimal,
+        bytes: minimal_bytes(limits),
     };
     printing.call(limits, file, state, work, out, budget)
 }

@@ -10,8 +10,9 @@
 //! - [`lifting`]: division, hybrid, tree, acceptance.
 //! - [`reckoning`]: the plain reckoning of a level and of a list of calls.
 //! - [`engine`]: the state and the three calls. [`buffers`]: the same on lent buffers.
-//! - [`sheet`], [`betti`], [`bidegrees`], [`hilbert`], [`script`]: what the programs print.
-//! - [`invariants`]: degrees of generators and minimal Betti numbers from the levels.
+//! - [`sheet`], [`betti`], [`bidegrees`], [`hilbert`], [`minimal`], [`script`]: what the programs
+//!   print.
+//! - [`invariants`]: degrees of generators from the levels.
 //! - [`random`], [`completion`], [`generate`]: seeded problem files and lists of calls.
 
 #![forbid(unsafe_code)]
@@ -29,6 +30,7 @@ pub mod hilbert;
 pub mod invariants;
 pub mod lifting;
 pub mod limits;
+pub mod minimal;
 pub mod monomial;
 pub mod order;
 mod program;

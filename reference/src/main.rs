@@ -5,11 +5,12 @@
 use reference::betti::page;
 use reference::bidegrees::bidegrees;
 use reference::generate::cases::{
-    bidegree_case, calls_case, file_case, hilbert_case, page_case, BIDEGREE_KINDS, FILE_KINDS,
-    HILBERT_KINDS, PAGE_KINDS,
+    bidegree_case, calls_case, file_case, hilbert_case, minimal_case, page_case, BIDEGREE_KINDS,
+    FILE_KINDS, HILBERT_KINDS, MINIMAL_KINDS, PAGE_KINDS,
 };
 use reference::generate::scripts::Reach;
 use reference::hilbert::hilbert;
+use reference::minimal::minimal;
 use reference::script::Script;
 use reference::sheet::sheet;
 use reference::{Limits, Printed};
@@ -33,6 +34,10 @@ reference bidegrees [FILE] [--budget N]
 reference hilbert [FILE] [--budget N]
     Prints for each degree 0 to 32 how many monomials no leading monomial divides, by the
     alternating sum over the columns of the Betti page, likewise.
+
+reference minimal [FILE] [--budget N]
+    Prints the minimal Betti numbers as a page in the layout and the rows of the Betti page,
+    likewise.
 
 reference calls [--budget N]
     Reads a list of calls from standard input, one in a line:
@@ -69,6 +74,8 @@ reference generate KIND SEED COUNT DIR
     low, hilbert: problem files KIND-SEED-NUMBER.in with their Hilbert functions .lines: with
         generators of degrees up to 32 and a little above, homogeneous or not; these and all
         files above
+    redundant, minimal: problem files KIND-SEED-NUMBER.in with their minimal Betti numbers .page:
+        homogeneous ones from whose resolutions much can be left out; these and all files above
     calls, weighted-calls: lists of calls KIND-SEED-NUMBER.calls with what they print, .answers;
         in those of weighted-calls half of the files have G lines
 
@@ -101,6 +108,7 @@ fn run(words: &[&str]) -> Result<ExitCode, String> {
         ["betti", file @ ..] if file.len() < 2 => print_of(page, file, budget),
         ["bidegrees", file @ ..] if file.len() < 2 => print_of(bidegrees, file, budget),
         ["hilbert", file @ ..] if file.len() < 2 => print_of(hilbert, file, budget),
+        ["minimal", file @ ..] if file.len() < 2 => print_of(minimal, file, budget),
         ["calls"] => print_calls(&read_input()?, budget),
         ["generate", kind, seed, count, directory] => {
             let number = |word: &str| {
@@ -178,6 +186,7 @@ fn generate(kind: &str, seed: u64, count: u64, directory: &Path) -> Result<ExitC
         &PAGE_KINDS,
         &BIDEGREE_KINDS,
         &HILBERT_KINDS,
+        &MINIMAL_KINDS,
     ];
     if !kinds.concat().contains(&kind) {
         return Err(format!(
@@ -212,7 +221,8 @@ fn case_parts(kind: &str, seed: u64, case: u64) -> Vec<(&'static str, Vec<u8>)> 
             ("answers", run.text().into_bytes()),
         ];
     }
-    if let Some((file, page)) = page_case(kind, seed, case) {
+    let page = page_case(kind, seed, case).or_else(|| minimal_case(kind, seed, case));
+    if let Some((file, page)) = page {
         return vec![("in", file), ("page", page)];
     }
     if let Some((file, lines)) = bidegree_case(kind, seed, case) {

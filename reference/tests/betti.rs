@@ -33,67 +33,6 @@ fn sheet_text(file: &[u8]) -> String {
     String::from_utf8(printed.expect("there is no budget")).expect("text")
 }
 
-/// A line from its fields, written out by hand.
-fn row(label: &str, fields: &[&str]) -> String {
-    assert_eq!(fields.len(), 11);
-    let mut text = " ".repeat(6 - label.len()) + label;
-    for field in fields {
-        text += &(" ".repeat(6 - field.len()) + field);
-    }
-    text + "\n"
-}
-
-/// The same with dashes behind the fields.
-fn short_row(label: &str, fields: &[&str]) -> String {
-    let mut all = fields.to_vec();
-    all.resize(11, "-");
-    row(label, &all)
-}
-
-/// The counts of a page that are not zero, by row and column.
-type Table = BTreeMap<(i64, usize), u64>;
-
-/// What a page says: the counts, the last line's, and the rows. The form of the page is tested on
-/// the way.
-fn read_page(text: &str) -> (Table, Vec<u64>, Vec<i64>) {
-    assert!(text.ends_with('\n'));
-    let mut table = BTreeMap::new();
-    let mut rows: Vec<i64> = Vec::new();
-    let mut last = None;
-    for line in text.lines() {
-        assert!(last.is_none(), "a line behind the last one");
-        assert_eq!(line.len(), 72);
-        let (label, rest) = line.split_at(6);
-        let fields: Vec<u64> = (0..11)
-            .map(|column| {
-                let field = &rest[6 * column..6 * column + 6];
-                let word = field.trim_start();
-                assert!(word.len() < 6 && !word.is_empty() && !word.contains(' '));
-                match word {
-                    "-" => 0,
-                    number => {
-                        assert!(!number.starts_with('0'));
-                        number.parse().expect("a number")
-                    }
-                }
-            })
-            .collect();
-        if label == " total" {
-            last = Some(fields);
-            continue;
-        }
-        let number = label.trim_start().strip_suffix(':').expect("a colon");
-        rows.push(number.parse().expect("a row"));
-        assert_eq!(rows[rows.len() - 1].to_string(), number);
-        for (column, count) in fields.into_iter().enumerate() {
-            if count > 0 {
-                table.insert((rows[rows.len() - 1], column), count);
-            }
-        }
-    }
-    (table, last.expect("a line `total`"), rows)
-}
-
 // ---- bytes
 
 #[test]

@@ -5,8 +5,9 @@ mod common;
 use common::*;
 use reference::engine::{Basis, State};
 use reference::hilbert::value;
-use reference::invariants::{generator_degrees, minimal_betti};
+use reference::invariants::generator_degrees;
 use reference::lifting::Way;
+use reference::minimal::numbers;
 use reference::reader::read_problem;
 use reference::reckoning::reckon_levels;
 use reference::Limits;
@@ -155,7 +156,7 @@ fn minimal_betti_numbers() {
             })
             .collect();
         let basis = reckoned(&bytes(&name));
-        let found = minimal_betti(&basis);
+        let found = by_degree(&numbers(&basis));
         assert_eq!(found, expected, "{name}");
         let projective_dimension = found.keys().map(|(column, _)| *column).max();
         let said = facts.get("projdim").expect("projdim").number() as u64;

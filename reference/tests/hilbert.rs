@@ -19,18 +19,8 @@ use reference::monomial::{leading_monomial, Exponents, Parameters, Term};
 use reference::random::Random;
 use reference::reader::{read_problem, Problem};
 use reference::sheet::sheet;
-use reference::{Limits, Printed};
+use reference::Limits;
 use std::collections::{BTreeMap, BTreeSet};
-
-/// What is printed of a file, or nothing where it takes too many products.
-fn within(what: Printed, file: &[u8], budget: u64) -> Option<String> {
-    let (printed, _) = what(&Limits::document_01(), file, Some(budget));
-    printed.map(|printed| String::from_utf8(printed).expect("text"))
-}
-
-fn text(what: Printed, file: &[u8]) -> String {
-    within(what, file, u64::MAX).expect("it is not used up")
-}
 
 /// The values of lines; their form and sequence are tested on the way.
 fn read_values(text: &str) -> Vec<i128> {

@@ -119,6 +119,32 @@ fn hilbert_lines() {
 }
 
 #[test]
+fn minimal_page() {
+    let problem = b"R,7,2,1,1\nT,1,1,1,1,0\nT,2,1,1,1,0\nT,3,1,1,0,1\nE,3\n";
+    let dashes = "     -".repeat(8);
+    let page = format!(
+        "   -1:     -     -     -{dashes}\n    0:     1     2     1{dashes}\n \
+         total     1     2     1{dashes}\n"
+    );
+    assert_eq!(printed(&["minimal"], problem), page);
+    let directory = directory("minimal");
+    std::fs::create_dir_all(&directory).expect("a directory");
+    let file = directory.join("problem");
+    std::fs::write(&file, problem).expect("a file");
+    let name = file.to_str().expect("a name");
+    assert_eq!(printed(&["minimal", name], b""), page);
+    assert_eq!(printed(&["minimal", name, "--budget", "8"], b""), page);
+    assert_eq!(printed(&["minimal"], b""), "X,1,1\n");
+    assert_eq!(printed(&["minimal"], PROBLEM), "X,17,2\n");
+    let output = run(&["minimal", "--budget", "7"], problem);
+    assert_eq!(output.status.code(), Some(3));
+    assert!(output.stdout.is_empty());
+    assert_eq!(run(&["minimal", name, name], b"").status.code(), Some(2));
+    let missing = run(&["minimal", "no such file"], b"");
+    assert_eq!(missing.status.code(), Some(2));
+}
+
+#[test]
 fn calls() {
     let text = "limits levels=1\nread -\nlift 1 division\nfetch 10 1\n";
     let expected = "1 1 -\n11 0 -\n11 0 -\nlevels 0\nreckoned 0\ndegrees 0\n";
@@ -148,6 +174,8 @@ fn generated_cases_agree_with_the_program() {
         "bidegrees",
         "low",
         "hilbert",
+        "redundant",
+        "minimal",
     ] {
         assert_eq!(printed(&["generate", kind, "5", "8", name], b""), "");
         let (command, input, output) = match kind {
@@ -155,6 +183,7 @@ fn generated_cases_agree_with_the_program() {
             "graded" | "mixed" | "stopped" | "pages" => ("betti", "in", "page"),
             "bigraded" | "bimixed" | "bistopped" | "bidegrees" => ("bidegrees", "in", "lines"),
             "low" | "hilbert" => ("hilbert", "in", "lines"),
+            "redundant" | "minimal" => ("minimal", "in", "page"),
             _ => ("sheet", "in", "out"),
         };
         for case in 1..=8 {
@@ -180,6 +209,8 @@ fn help() {
         "betti",
         "bidegrees",
         "hilbert",
+        "minimal",
+        "redundant",
         "calls",
         "generate",
         "pages",

@@ -1,5 +1,5 @@
 /* What the header says beyond the answers that resolve prints: its numbers, packed rows, null with length 0, buffers one word too short, wrong numbers, altered
- * states, levels dropped, degrees, weights, the accessors, the sheet, the Betti page, the bidegrees, the Hilbert function. */
+ * states, levels dropped, degrees, weights, the accessors, the sheet, the Betti page, the minimal numbers, the bidegrees, the Hilbert function. */
 #include <stdio.h>
 #include <stdlib.h>
 #include <string.h>
@@ -421,6 +421,7 @@ static void prints(printing *call, size_t room, const char *text, const char *ex
 
 static void the_sheet_of(const char *text, const char *expected) { prints(tagetessash_sheet, TAGETESSASH_SHEET_BYTES, text, expected); }
 static void the_page_of(const char *text, const char *expected) { prints(tagetessash_betti, TAGETESSASH_PAGE_BYTES, text, expected); }
+static void the_numbers_of(const char *text, const char *expected) { prints(tagetessash_minimal, TAGETESSASH_PAGE_BYTES, text, expected); }
 static void the_bidegrees_of(const char *text, const char *expected) { prints(tagetessash_bidegrees, TAGETESSASH_BIDEGREES_BYTES, text, expected); }
 
 static void the_function_of(const char *text, const char *expected) { prints(tagetessash_hilbert, TAGETESSASH_HILBERT_BYTES, text, expected); }
@@ -449,6 +450,47 @@ static void the_pages(void)
     the_page_of("", "X,1,1\n");
     CHECK(strcmp(tagetessash_meaning(TAGETESSASH_TWO_DEGREES), "an element has terms of two degrees") == 0);
     CHECK(strcmp(tagetessash_place_name(TAGETESSASH_TWO_DEGREES), "element") == 0);
+}
+
+/* an element twice; a relation that follows from two others; components that relations take away, all of them; one relation three times; nothing to be left
+ * out; 17, and 9 before it; a limit; files that are not read; 20 in words, which no file brings about */
+static void the_minimal_numbers(void)
+{
+    the_numbers_of("R,7,2,1,1\nT,1,1,1,1,0\nT,2,1,1,1,0\nT,3,1,1,0,1\nE,3\n",
+        "   -1:     -     -     -     -     -     -     -     -     -     -     -\n"
+        "    0:     1     2     1     -     -     -     -     -     -     -     -\n"
+        " total     1     2     1     -     -     -     -     -     -     -     -\n");
+    the_numbers_of("R,7,2,3,2\nD,0,1\nT,1,1,1,1,1\nT,2,1,1,2,0\nT,2,1,2,0,1\nT,3,1,2,0,2\nE,4\n",
+        "    0:     1     -     -     -     -     -     -     -     -     -     -\n"
+        "    1:     1     2     -     -     -     -     -     -     -     -     -\n"
+        "    2:     -     -     -     -     -     -     -     -     -     -     -\n"
+        " total     2     2     -     -     -     -     -     -     -     -     -\n");
+    the_numbers_of("R,7,1,1,2\nT,1,2,2,0\nT,1,1,1,0\nT,2,1,1,0\nE,3\n",
+        "   -1:     -     -     -     -     -     -     -     -     -     -     -\n"
+        "    0:     -     -     -     -     -     -     -     -     -     -     -\n"
+        " total     -     -     -     -     -     -     -     -     -     -     -\n");
+    the_numbers_of("R,7,1,1,1\nT,1,1,1,0\nT,2,1,1,0\nE,2\n",
+        "   -2:     -     -     -     -     -     -     -     -     -     -     -\n"
+        "   -1:     -     -     -     -     -     -     -     -     -     -     -\n"
+        "    0:     -     -     -     -     -     -     -     -     -     -     -\n"
+        " total     -     -     -     -     -     -     -     -     -     -     -\n");
+    the_numbers_of("R,3,1,1,2\nD,4,4\nT,1,1,2,0\nT,1,2,1,0\nT,2,2,2,0\nT,2,1,1,0\nT,3,1,2,0\nT,3,2,1,0\nE,6\n",
+        "    2:     -     -     -     -     -     -     -     -     -     -     -\n"
+        "    3:     -     -     -     -     -     -     -     -     -     -     -\n"
+        "    4:     1     -     -     -     -     -     -     -     -     -     -\n"
+        " total     1     -     -     -     -     -     -     -     -     -     -\n");
+    the_numbers_of("R,7,2,3,1\nT,1,1,1,2,0\nT,2,1,1,1,1\nT,3,1,1,0,2\nE,3\n",
+        "    0:     1     -     -     -     -     -     -     -     -     -     -\n"
+        "    1:     -     3     2     -     -     -     -     -     -     -     -\n"
+        " total     1     3     2     -     -     -     -     -     -     -     -\n");
+    the_numbers_of("R,7,2,3,2\nT,1,1,1,1,1\nT,2,1,1,2,0\nT,2,1,2,0,1\nT,3,1,2,0,2\nE,4\n", "X,17,2\n");
+    the_numbers_of("R,7,2,1,1\nT,1,1,1,2,0\nT,2,1,1,1,1\nT,2,1,1,0,1\nE,3\n", "X,9,1\nW,6,1,0,1\n");
+    the_numbers_of("R,7,2,1,1\nT,1,1,1,1,0\nT,1,1,1,0,255\nT,2,1,1,0,2\nE,3\n", "X,13,0\n");
+    the_numbers_of("R,7,1,1,2\nD,0,256\n", "X,18,2\n");
+    the_numbers_of("R,7,1,1,2\nG,16,0\n", "X,24,2\n");
+    the_numbers_of("", "X,1,1\n");
+    CHECK(strcmp(tagetessash_meaning(TAGETESSASH_NOT_ENDED), "level 9 is not empty") == 0);
+    CHECK(strcmp(tagetessash_place_name(TAGETESSASH_NOT_ENDED), "level") == 0);
 }
 
 /* request A14's example, and without its G line; a module, the components' degrees in the first sum alone; the largest sums; 25 for one degree and two
@@ -538,6 +580,7 @@ int main(void)
     value_after_9();
     the_sheet_of(no_basis, "X,9,1\nW,6,1,0,3\n");
     the_pages();
+    the_minimal_numbers();
     the_bidegrees();
     the_hilbert_functions();
     free(state);

@@ -12,6 +12,8 @@ uint16_t tagetessash_sheet(const uint8_t *file, size_t file_bytes, uint16_t *sta
     size_t out_bytes, size_t *length) { abort(); }
 uint16_t tagetessash_betti(const uint8_t *file, size_t file_bytes, uint16_t *state, size_t state_words, uint16_t *work, size_t work_words, uint8_t *out,
     size_t out_bytes, size_t *length) { abort(); }
+uint16_t tagetessash_minimal(const uint8_t *file, size_t file_bytes, uint16_t *state, size_t state_words, uint16_t *work, size_t work_words, uint8_t *out,
+    size_t out_bytes, size_t *length) { abort(); }
 uint16_t tagetessash_bidegrees(const uint8_t *file, size_t file_bytes, uint16_t *state, size_t state_words, uint16_t *work, size_t work_words, uint8_t *out,
     size_t out_bytes, size_t *length) { abort(); }
 uint16_t tagetessash_hilbert(const uint8_t *file, size_t file_bytes, uint16_t *state, size_t state_words, uint16_t *work, size_t work_words, uint8_t *out,

@@ -17,9 +17,9 @@
 static const char deep[] = "R,7,5,1,2\nT,1,1,2,1,0,0,0,0\nT,1,1,1,0,8,11,244,1\nT,2,1,2,1,0,0,0,0\nT,2,1,1,0,8,11,244,1\nT,3,1,1,0,0,0,0,1\n"
                            "T,3,6,1,0,0,0,0,0\nT,4,1,1,0,0,1,0,0\nT,4,6,1,0,0,0,1,1\nT,4,1,1,0,0,0,1,0\nT,5,1,1,0,1,0,254,0\nT,5,6,1,0,0,254,0,0\nE,11\n";
 
-enum { READ, DIVISION, HYBRID, TREE, FETCH, SHEET, BETTI, BIDEGREES, HILBERT, CALLS };
-static const char *const names[CALLS] = { "read", "lift by division", "lift by hybrid", "lift by the tree", "fetch", "sheet", "Betti page", "bidegrees",
-    "Hilbert function" };
+enum { READ, DIVISION, HYBRID, TREE, FETCH, SHEET, BETTI, MINIMAL, BIDEGREES, HILBERT, CALLS };
+static const char *const names[CALLS] = { "read", "lift by division", "lift by hybrid", "lift by the tree", "fetch", "sheet", "Betti page",
+    "minimal numbers", "bidegrees", "Hilbert function" };
 
 static uint8_t file[TAGETESSASH_FILE_BYTES], sheet[TAGETESSASH_SHEET_BYTES], page[TAGETESSASH_PAGE_BYTES], lines[TAGETESSASH_BIDEGREES_BYTES],
     values[TAGETESSASH_HILBERT_BYTES];
@@ -45,6 +45,10 @@ static void *run(void *nothing)
         break;
     case BETTI:
         number = tagetessash_betti(
+            file, file_bytes, state, TAGETESSASH_STATE_WORDS, work, TAGETESSASH_WORK_WORDS, page, TAGETESSASH_PAGE_BYTES, &place);
+        break;
+    case MINIMAL:
+        number = tagetessash_minimal(
             file, file_bytes, state, TAGETESSASH_STATE_WORDS, work, TAGETESSASH_WORK_WORDS, page, TAGETESSASH_PAGE_BYTES, &place);
         break;
     case BIDEGREES:

@@ -1,6 +1,7 @@
-"""What the tests in this folder have alike: tools/verify.py as `checker`, the command as people call it, a problem file taken apart, the guide's texts, and a
-file's page made again from its sheet. A page is the Betti page, the bidegrees or the Hilbert function: what the command prints of a file that is not refused,
-for the first two because of an element of two degrees or bidegrees."""
+"""What the tests in this folder have alike: tools/verify.py as `checker`, the command as people call it, a problem file taken apart, the guide's texts, a page
+of numbers, and a file's page made again from its sheet. A page is the Betti page, the minimal Betti numbers, the bidegrees or the Hilbert function: what the
+command prints of a file that is not refused, for all but the last because of an element of two degrees or bidegrees. And what Singular and Macaulay2 are told
+of a file, where they are installed."""
 import importlib.util
 import os
 import re
@@ -16,7 +17,9 @@ checker = importlib.util.module_from_spec(spec)
 spec.loader.exec_module(checker)
 EXAMPLES = sorted(name[:-4] for name in os.listdir(f"{ROOT}/examples") if name.endswith(".txt"))
 NAMES = [f"x{k}" for k in range(1, 9)]
-STATUS = {**{number: 1 for number in (*range(1, 9), 18, 24)}, 9: 3, 13: 4, 14: 4, 15: 4, 17: 5, 25: 5}
+STATUS = {**{number: 1 for number in (*range(1, 9), 18, 24)}, 9: 3, 13: 4, 14: 4, 15: 4, 17: 5, 20: 4, 25: 5}
+COLUMNS = 11
+SINGULAR, MACAULAY2 = ["Singular", "-q", "--no-rc"], ["M2", "--script"]
 
 
 def fail(*words):
@@ -75,6 +78,42 @@ def monomial(c, exponents):
     return "*".join([str(c)] + [f"{x}^{e}" for x, e in zip(NAMES, exponents) if e])
 
 
+def singular_module(text):
+    """What Singular is told of a file: the ring and its elements as the module G, with its rank, which is at times more than the components that occur; and the
+    degrees of the components."""
+    p, n, code, s, _, _, elements = parsed(text)
+    sums = ["+".join(f"{monomial(c, e)}*gen({i})" for c, i, *e in element) for element in elements]
+    ring = f"ring r = {p},({','.join(NAMES[:n])}),{['lp', 'Dp', 'dp'][code - 1]}; short = 0;"
+    told = f'if (defined(r)) {{ kill r; }}\n{ring}\nmodule G = {", ".join(sums)}; attrib(G,"rank",{s});'
+    return told, f"intvec({','.join(map(str, degrees_and_weights(text)[0]))})"
+
+
+def singular_table(said):
+    """Numbers by row and column, from what `print` of a table says behind `rows from` and its first row's number."""
+    first, _, rest = said.partition("rows from")[2].strip().partition("\n")
+    lines = enumerate(rest.strip().split("\n"), int(first))
+    return {(row, column): int(number) for row, line in lines for column, number in enumerate(line.split()) if number != "0"}
+
+
+def macaulay2_module(text):
+    """What Macaulay2 is told of a file: the ring, the free module with the degrees of the components, the matrix whose columns are the elements."""
+    p, n, code, s, _, _, elements = parsed(text)
+    listed = lambda items: "{" + ",".join(items) + "}"
+    rows = [["+".join(monomial(c, e) for c, i, *e in element if i == row) or "0_R" for element in elements] for row in range(1, s + 1)]
+    ring = f"R = ZZ/{p}[{','.join(NAMES[:n])}, MonomialOrder => {['Lex', 'GLex', 'GRevLex'][code - 1]}];"
+    return ring, f"R^{listed(str(-d) for d in degrees_and_weights(text)[0])}", listed(map(listed, rows))
+
+
+def said_by(words, script):
+    """What Singular or Macaulay2, called with these words and a file with the script, says after each line `== NAME`."""
+    with tempfile.NamedTemporaryFile("w", suffix=".txt", encoding="ascii") as file:
+        file.write(script + "\n")
+        file.flush()
+        ran = subprocess.run([*words, file.name], stdin=subprocess.DEVNULL, stdout=subprocess.PIPE, stderr=subprocess.STDOUT, text=True, timeout=300,
+                             check=False)
+    return dict(part.split("\n", 1) for part in re.split(r"^== ", ran.stdout, flags=re.M)[1:])
+
+
 def columns_of(components, levels, degree):
     """What the degrees of the components, of the elements, of each level's vectors are: `degree` of a term over those that its component may stand for."""
     columns = [components]
@@ -91,6 +130,40 @@ def mixed(elements, components, degree):
     return None
 
 
+def page_of(numbers, rows):
+    """The page of these numbers by row and column, with these rows."""
+    label = lambda text: text.rjust(6)
+    line = lambda first, cells: label(first) + "".join(label(str(cell or "-")) for cell in cells) + "\n"
+    number = lambda row, column: numbers.get((row, column), 0)
+    lines = [line(f"{row}:", (number(row, column) for column in range(COLUMNS))) for row in rows]
+    return "".join(lines) + line("total", (sum(number(row, column) for row in rows) for column in range(COLUMNS)))
+
+
+def page_taken_apart(name, page):
+    """The numbers of a page by row and column, and its rows; that it has lines of 72 columns, rows that ascend by one and totals that add up."""
+    lines = [re.findall(".{6}", line) for line in page.split("\n")]
+    cells = [cell for _, *cells in lines[:-1] for cell in cells]
+    if lines.pop() or not re.fullmatch(r"(.{72}\n){2,}", page) or not all(re.fullmatch(" *(-|[1-9][0-9]*)", cell) for cell in cells):
+        fail(f"{name}: not lines of 72 columns: {page!r}")
+    *lines, (total, *totals) = [[cell.strip() for cell in line] for line in lines]
+    rows = [int(label.removesuffix(":")) for label, *_ in lines]
+    if total != "total" or [label for label, *_ in lines] != [f"{row}:" for row in range(rows[0], rows[0] + len(rows))]:
+        fail(f"{name}: not rows that ascend by one and a last line with totals: {page!r}")
+    number = lambda cell: 0 if cell == "-" else int(cell)
+    if any(sum(number(line[column + 1]) for line in lines) != number(totals[column]) for column in range(COLUMNS)):
+        fail(f"{name}: the columns do not add up: {page!r}")
+    return {(row, column): int(cell) for row, (_, *cells) in zip(rows, lines) for column, cell in enumerate(cells) if cell != "-"}, rows
+
+
+def counts_of(columns):
+    """How many generators each column has, by row and column, and the rows from the smallest to the largest in use: the Betti page."""
+    counts = {}
+    for column, found in enumerate(columns):
+        for degree in found:
+            counts[degree - column, column] = counts.get((degree - column, column), 0) + 1
+    return counts, range(min(row for row, _ in counts), max(row for row, _ in counts) + 1)
+
+
 def refused(name, got, line):
     """That the answer is this X line, with its status and a sentence."""
     code, out, err = got
@@ -101,7 +174,7 @@ def refused(name, got, line):
 
 class Kind:
     """A word of the command, the number and the words of its refusal of an element, if it has one, how a file's degrees are found, and the page of columns of
-    degrees in so many variables."""
+    degrees, of the ring and of the vectors that have them, the elements first."""
 
     def __init__(self, word, number, said, degrees, page_of):
         self.word, self.number, self.said, self.degrees, self.page_of = word, number, said, degrees, page_of
@@ -111,7 +184,7 @@ class Kind:
         """One file: its page made again from its sheet."""
         got = command(self.word, path)
         try:
-            (_, n, *_), elements = checker.read(data)
+            ring, elements = checker.read(data)
         except checker.Refused as reason:
             refused(name, got, "X,%d,%d" % reason.args)
             self.found["refused"] += 1
@@ -138,7 +211,7 @@ class Kind:
             fail(f"{name}: element {number} has terms of two degrees, and it prints {got[1][:80]!r}")
         if got[0] != 0 or got[2] != "":
             fail(f"{name}: status {got[0]}, says {got[2]!r}")
-        made = self.page_of(columns_of(components, [elements] + levels, degree), n)
+        made = self.page_of(columns_of(components, [elements] + levels, degree), ring, [elements] + levels)
         if got[1] != made:
             fail(f"{name}: prints\n{got[1]}by its sheet it is\n{made}")
         self.found["pages"] += 1

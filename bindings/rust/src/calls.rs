@@ -54,6 +54,17 @@ extern "C" {
         out_bytes: usize,
         length: *mut usize,
     ) -> u16;
+    fn tagetessash_minimal(
+        file: *const u8,
+        file_bytes: usize,
+        state: *mut u16,
+        state_words: usize,
+        work: *mut u16,
+        work_words: usize,
+        out: *mut u8,
+        out_bytes: usize,
+        length: *mut usize,
+    ) -> u16;
     fn tagetessash_bidegrees(
         file: *const u8,
         file_bytes: usize,
@@ -196,6 +207,11 @@ pub fn sheet(file: &[u8], state: &mut [u16], work: &mut [u16], out: &mut [u8]) -
 /// Number and how many bytes `out` has in front.
 pub fn betti(file: &[u8], state: &mut [u16], work: &mut [u16], out: &mut [u8]) -> (u16, usize) {
     printed(tagetessash_betti, file, state, work, out)
+}
+
+/// Number and how many bytes `out` has in front.
+pub fn minimal(file: &[u8], state: &mut [u16], work: &mut [u16], out: &mut [u8]) -> (u16, usize) {
+    printed(tagetessash_minimal, file, state, work, out)
 }
 
 /// Number and how many bytes `out` has in front.

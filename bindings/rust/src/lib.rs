@@ -2,7 +2,8 @@
 //!
 //! An [`Engine`] owns the buffers that the engine's calls are lent. [`Engine::read`] takes a problem file, which [`Problem`] writes from terms,
 //! [`Engine::lift`] makes a level complete, [`Engine::vectors`] goes over its vectors, [`Engine::fetch`] gives one of them. [`sheet`] prints all levels of a
-//! file at once, [`betti`] the table of how many vectors of which degree they have, [`bidegrees`] how many of which bidegree, [`hilbert`] the Hilbert function.
+//! file at once, [`betti`] the table of how many vectors of which degree they have, [`minimal`] that of a minimal resolution, [`bidegrees`] how many of which
+//! bidegree, [`hilbert`] the Hilbert function.
 //!
 //! ```
 //! let file = b"R,7,2,1,1\nT,1,1,1,1,0\nT,1,1,1,0,1\nT,2,1,1,0,2\nT,2,1,1,0,0\nE,4\n";
@@ -388,6 +389,33 @@ pub fn sheet(file: &[u8]) -> Vec<u8> {
 /// If the library is of another version than this crate.
 pub fn betti(file: &[u8]) -> Vec<u8> {
     printed(calls::betti, PAGE_BYTES, file)
+}
+
+/// The minimal Betti numbers of a problem file, the bytes that the program prints, for every file: a page with the lines, labels and rows of the file's
+/// [`betti`], and for each count there what is left of it once generators that are not needed are left out. In each degree the constants between a column and
+/// the next one are a matrix, a row for each generator of the next column, in it the coefficient of 1 times each generator of this one; its rank modulo p is
+/// taken from both counts. The last line has the totals of what is left.
+///
+/// A refused file has what [`betti`] has, `X,17` ([`Refusal::TwoDegrees`]) too.
+///
+/// ```
+/// // x, x, y: an element is there twice
+/// let twice = b"R,7,2,1,1\nT,1,1,1,1,0\nT,2,1,1,1,0\nT,3,1,1,0,1\nE,3\n";
+/// let page = tagetessash::minimal(twice);
+/// assert_eq!(tagetessash::Refusal::printed(&page), None);
+/// assert_eq!(
+///     String::from_utf8(page).expect("digits, dashes and blanks"),
+///     "   -1:     -     -     -     -     -     -     -     -     -     -     -\n".to_string()
+///         + "    0:     1     2     1     -     -     -     -     -     -     -     -\n"
+///         + " total     1     2     1     -     -     -     -     -     -     -     -\n"
+/// );
+/// ```
+///
+/// # Panics
+///
+/// If the library is of another version than this crate.
+pub fn minimal(file: &[u8]) -> Vec<u8> {
+    printed(calls::minimal, PAGE_BYTES, file)
 }
 
 /// The bidegrees of a problem file, the bytes that the program prints, for every file: a line `B,column,a,b,count` for each bidegree of some generator of a

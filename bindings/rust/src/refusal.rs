@@ -74,7 +74,7 @@ pub enum Refusal {
     },
     /// 16: a buffer is too short
     ShortBuffer,
-    /// 17: an element has terms of two degrees. No call gives it; it is printed by [`crate::betti`] instead of a page.
+    /// 17: an element has terms of two degrees. No call gives it; it is printed by [`crate::betti`] and [`crate::minimal`] instead of a page.
     TwoDegrees {
         /// the first such element, from 1
         element: usize,
@@ -83,6 +83,11 @@ pub enum Refusal {
     BadDegree {
         /// the file's line, from 1
         line: usize,
+    },
+    /// 20: level 9 is not empty. No call gives it; [`crate::minimal`] would print it instead of a page, and does for no file, since level n + 1 is empty.
+    NotEnded {
+        /// the level
+        level: usize,
     },
     /// 24: a variable's weight is above 15
     BadWeight {
@@ -106,7 +111,7 @@ pub enum Refusal {
 use Refusal::*;
 
 impl Refusal {
-    /// That of the X line of a sheet, of a Betti page, of bidegrees or of a Hilbert function; none where there is no such line.
+    /// That of the X line of a sheet, of a Betti page, of minimal numbers, of bidegrees or of a Hilbert function; none where there is no such line.
     pub fn printed(lines: &[u8]) -> Option<Refusal> {
         let line = lines
             .split(|byte| *byte == b'\n')
@@ -136,13 +141,14 @@ impl Refusal {
             16 => ShortBuffer,
             17 => TwoDegrees { element: place },
             18 => BadDegree { line: place },
+            20 => NotEnded { level: place },
             24 => BadWeight { line: place },
             25 => TwoBidegrees { element: place },
             _ => Other { number, place },
         }
     }
 
-    /// Document 01's number: 1 to 9 or 11 to 16, or a request's: 17, 18, 24 or 25.
+    /// Document 01's number: 1 to 9 or 11 to 16, or a request's: 17, 18, 20, 24 or 25.
     pub fn number(&self) -> u16 {
         match self {
             FileTooLong | BadLine { .. } => 1,
@@ -162,13 +168,14 @@ impl Refusal {
             ShortBuffer => 16,
             TwoDegrees { .. } => 17,
             BadDegree { .. } => 18,
+            NotEnded { .. } => 20,
             BadWeight { .. } => 24,
             TwoBidegrees { .. } => 25,
             Other { number, .. } => *number,
         }
     }
 
-    /// For 1 to 8, 18 and 24 the file's line, for 9 the number of a frame term, for 13 to 15 the level (0 while a basis is being accepted), for
+    /// For 1 to 8, 18 and 24 the file's line, for 9 the number of a frame term, for 13 to 15 and 20 the level (0 while a basis is being accepted), for
     /// 17 and 25 the element, else 0.
     pub fn place(&self) -> usize {
         match *self {
@@ -181,7 +188,10 @@ impl Refusal {
             | BadWeight { line } => line,
             NoBasis { frame_term } => frame_term,
             TwoDegrees { element } | TwoBidegrees { element } => element,
-            ExponentLimit { level } | TermLimit { level } | LevelLimit { level } => level,
+            ExponentLimit { level }
+            | TermLimit { level }
+            | LevelLimit { level }
+            | NotEnded { level } => level,
             Other { place, .. } => place,
             FileTooLong | NoLevel | BadNumber | ShortBuffer => 0,
         }
@@ -207,6 +217,7 @@ impl Refusal {
             16 => "a buffer is too short",
             17 => "an element has terms of two degrees",
             18 => "a component's degree is above 255",
+            20 => "level 9 is not empty",
             24 => "a variable's weight is above 15",
             25 => "an element has terms of two bidegrees",
             _ => "no number of a call",
@@ -218,7 +229,7 @@ impl Refusal {
         match self.number() {
             1..=8 | 18 | 24 => Some("line"),
             9 => Some("frame term"),
-            13..=15 => Some("level"),
+            13..=15 | 20 => Some("level"),
             17 | 25 => Some("element"),
             _ => None,
         }

@@ -1,6 +1,6 @@
 use crate::{
-    betti, bidegrees, calls, hilbert, layout, sheet, Engine, Order, Pick, Printing, Problem,
-    Refusal, Term, Way, HIGHEST_LEVEL, VERSION,
+    betti, bidegrees, calls, hilbert, layout, minimal, sheet, Engine, Order, Pick, Printing,
+    Problem, Refusal, Term, Way, HIGHEST_LEVEL, VERSION,
 };
 
 const PRINTED: &[u8] = b"R,7,2,1,1\nT,1,1,1,1,0\nT,1,1,1,0,1\nT,2,1,1,0,2\nT,2,1,1,0,0\nE,4\n";
@@ -128,9 +128,8 @@ fn the_sheet_of_every_file() {
     assert_eq!(sheet(b""), b"X,1,1\n");
 }
 
-/// the page of request A1, and one whose degrees come from a D line; then 17, with D or without it, after acceptance
-#[test]
-fn the_page_of_every_file() {
+/// A page of these rows.
+fn page(rows: &[(&str, &[u8])]) -> Vec<u8> {
     let row = |label: &str, counts: &[u8]| {
         let cells = (0..11).map(|column| match counts.get(column) {
             None | Some(0) => "     -".to_string(),
@@ -138,10 +137,13 @@ fn the_page_of_every_file() {
         });
         format!("{label:>6}{}\n", cells.collect::<String>())
     };
-    let page = |rows: &[(&str, &[u8])]| {
-        let rows = rows.iter().map(|(label, counts)| row(label, counts));
-        rows.collect::<String>().into_bytes()
-    };
+    let rows = rows.iter().map(|(label, counts)| row(label, counts));
+    rows.collect::<String>().into_bytes()
+}
+
+/// the page of request A1, and one whose degrees come from a D line; then 17, with D or without it, after acceptance
+#[test]
+fn the_page_of_every_file() {
     assert_eq!(
         betti(b"R,7,2,3,1\nT,1,1,1,2,0\nT,2,1,1,1,1\nT,3,1,1,0,2\nE,3\n"),
         concat!(
@@ -184,6 +186,97 @@ fn the_page_of_every_file() {
         ("".into(), "X,1,1\n"),
     ] {
         assert_eq!(betti(file.as_bytes()), printed.as_bytes(), "{file}");
+    }
+}
+
+/// an element twice; a relation that follows from two others; constants in components, which leave one of two, or none; the same monomials modulo 2 and
+/// modulo 3; nothing to be left out; then what is refused, as by the page
+#[test]
+fn the_minimal_numbers_of_every_file() {
+    let module = "T,1,1,1,1,1\nT,2,1,1,2,0\nT,2,1,2,0,1\nT,3,1,2,0,2\nE,4\n";
+    let plane = include_str!("../../../examples/rp2_char2.txt");
+    assert_eq!(
+        plane.replacen("R,2,", "R,3,", 1),
+        include_str!("../../../examples/rp2_char3.txt")
+    );
+    let twice = "R,7,2,1,1\nT,1,1,1,1,0\nT,2,1,1,1,0\nT,3,1,1,0,1\nE,3\n";
+    let two = "R,7,2,1,2\nD,0,1\nT,1,1,1,1,0\nT,1,1,2,0,0\nT,2,1,2,0,2\nE,3\n";
+    let none = "R,7,1,1,2\nT,1,2,2,0\nT,1,1,1,0\nT,2,1,1,0\nE,3\n";
+    type Rows<'a> = &'a [(&'a str, &'a [u8])];
+    let cases: [(&str, Rows); 6] = [
+        (
+            twice,
+            &[("-1:", &[]), ("0:", &[1, 2, 1]), ("total", &[1, 2, 1])],
+        ),
+        (
+            &format!("R,7,2,3,2\nD,0,1\n{module}"),
+            &[
+                ("0:", &[1]),
+                ("1:", &[1, 2]),
+                ("2:", &[]),
+                ("total", &[2, 2]),
+            ],
+        ),
+        // x e_1 + e_2 takes away e_2, so that y^2 e_2 is a relation of e_1
+        (
+            two,
+            &[
+                ("0:", &[1]),
+                ("1:", &[]),
+                ("2:", &[0, 1]),
+                ("total", &[1, 1]),
+            ],
+        ),
+        (none, &[("-1:", &[]), ("0:", &[]), ("total", &[])]),
+        (
+            plane,
+            &[
+                ("0:", &[1]),
+                ("1:", &[]),
+                ("2:", &[0, 10, 15, 6, 1]),
+                ("3:", &[0, 0, 0, 1]),
+                ("total", &[1, 10, 15, 7, 1]),
+            ],
+        ),
+        (
+            include_str!("../../../examples/rp2_char3.txt"),
+            &[
+                ("0:", &[1]),
+                ("1:", &[]),
+                ("2:", &[0, 10, 15, 6]),
+                ("3:", &[]),
+                ("total", &[1, 10, 15, 6]),
+            ],
+        ),
+    ];
+    for (file, rows) in cases {
+        let found = minimal(file.as_bytes());
+        assert_eq!(
+            String::from_utf8_lossy(&found),
+            String::from_utf8_lossy(&page(rows)),
+            "{file}"
+        );
+    }
+    let squares = b"R,7,2,3,1\nT,1,1,1,2,0\nT,2,1,1,1,1\nT,3,1,1,0,2\nE,3\n";
+    assert_eq!(minimal(squares), betti(squares));
+    for (file, refused) in [
+        (format!("R,7,2,3,2\n{module}"), "X,17,2\n"),
+        // 9 comes first
+        (
+            "R,7,2,1,1\nT,1,1,1,2,0\nT,2,1,1,1,1\nT,2,1,1,0,1\nE,3\n".into(),
+            "X,9,1\nW,6,1,0,1\n",
+        ),
+        (
+            include_str!("../../../examples/cnc_g7.txt").into(),
+            "X,15,2\n",
+        ),
+        ("R,7,1,1,2\nD,0,256\n".into(), "X,18,2\n"),
+        ("R,7,1,1,2\nG,0,16\n".into(), "X,24,2\n"),
+        ("".into(), "X,1,1\n"),
+    ] {
+        let found = minimal(file.as_bytes());
+        assert_eq!(String::from_utf8_lossy(&found), refused, "{file}");
+        assert_eq!(found, betti(file.as_bytes()));
     }
 }
 
@@ -298,7 +391,7 @@ fn the_hilbert_function_of_every_file() {
     }
 }
 
-/// a G line changes no sheet, no page and no Hilbert function
+/// a G line changes no sheet, no page, no minimal numbers and no Hilbert function
 #[test]
 fn weights_change_nothing_else() {
     let rest = "T,1,1,1,1,1\nT,2,1,1,2,0\nT,2,1,2,0,1\nT,3,1,2,0,2\nE,4\n";
@@ -308,6 +401,7 @@ fn weights_change_nothing_else() {
             let with = format!("{head}{weights}{rest}");
             assert_eq!(sheet(with.as_bytes()), sheet(without.as_bytes()));
             assert_eq!(betti(with.as_bytes()), betti(without.as_bytes()));
+            assert_eq!(minimal(with.as_bytes()), minimal(without.as_bytes()));
             assert_eq!(hilbert(with.as_bytes()), hilbert(without.as_bytes()));
             let mut engines = [Engine::new(), Engine::new()];
             for (engine, file) in engines.iter_mut().zip([&with, &without]) {
@@ -323,9 +417,10 @@ fn weights_change_nothing_else() {
 #[test]
 fn short_buffers_of_pages() {
     let file = b"R,7,1,1,1\nT,1,1,1,1\nE,1\n";
-    let pages: [(Printing, usize, Vec<u8>); 4] = [
+    let pages: [(Printing, usize, Vec<u8>); 5] = [
         (calls::sheet, layout::SHEET_BYTES, sheet(file)),
         (calls::betti, layout::PAGE_BYTES, betti(file)),
+        (calls::minimal, layout::PAGE_BYTES, minimal(file)),
         (calls::bidegrees, layout::BIDEGREES_BYTES, bidegrees(file)),
         (calls::hilbert, layout::HILBERT_BYTES, hilbert(file)),
     ];
@@ -358,6 +453,7 @@ fn printed_refusals() {
     assert_eq!(Refusal::printed(&hilbert(PRINTED)), None);
     let mixed = Refusal::printed(&betti(PRINTED));
     assert_eq!(mixed, Some(Refusal::TwoDegrees { element: 2 }));
+    assert_eq!(Refusal::printed(&minimal(PRINTED)), mixed);
     assert_eq!(
         mixed.unwrap().to_string(),
         "refused 17 at element 2: an element has terms of two degrees"
@@ -372,6 +468,7 @@ fn printed_refusals() {
         (&b"X,1,0\n"[..], Refusal::FileTooLong),
         (b"Z,1,1\nX,15,2\n", Refusal::LevelLimit { level: 2 }),
         (b"X,9,1\nW,6,1,0,3\n", Refusal::NoBasis { frame_term: 1 }),
+        (b"X,20,9\n", Refusal::NotEnded { level: 9 }),
     ] {
         assert_eq!(Refusal::printed(lines), Some(refusal));
     }
@@ -398,7 +495,7 @@ fn every_number_is_a_refusal() {
                 assert_eq!(refusal.place(), place);
             }
             let other = Refusal::Other { number, place };
-            let known = matches!(number, 1..=9 | 11..=18 | 24 | 25);
+            let known = matches!(number, 1..=9 | 11..=18 | 20 | 24 | 25);
             assert_eq!(refusal == other, !known);
         }
     }

@@ -21,17 +21,11 @@ fn answer(file: &[u8], state: &mut [u16], work: &mut [u16], out: &mut [u8]) -> u
     r.length
 }
 
-fn out_bytes() -> [u8; words::PAGE_LENGTH]
-    ensures { λ r. ⌜ page-length ≡ length r ⌝ }
-{
-    [0; words::PAGE_LENGTH]
-}
-
 fn main() {
     let mut file = programs::file_bytes();
     let mut state = programs::state_words();
     let mut work = programs::work_words();
-    let mut out = out_bytes();
+    let mut out = programs::page_bytes();
     let input = programs::read(&mut file);
     if input.more == 0 {
         let n = input.length;

@@ -1,7 +1,7 @@
-// The three calls, and the sheet, the Betti page, the bidegrees and the Hilbert function as one each, for programs in other languages:
+// The three calls, and the sheet, the Betti page, the minimal numbers, the bidegrees and the Hilbert function as one each, for programs in other languages:
 // include/tagetessash.h declares them.
-// Exists for: `tagetessash_read`, `tagetessash_lift`, `tagetessash_fetch`, `tagetessash_sheet`, `tagetessash_betti`, `tagetessash_bidegrees`,
-// `tagetessash_hilbert`;
+// Exists for: `tagetessash_read`, `tagetessash_lift`, `tagetessash_fetch`, `tagetessash_sheet`, `tagetessash_betti`, `tagetessash_minimal`,
+// `tagetessash_bidegrees`, `tagetessash_hilbert`;
 // `Making.all-calls`.
 // Knows: crates read_call, fetch_call, lift_call, sheet and page_calls.
 // A slice is a pointer and a length.
@@ -10,6 +10,7 @@ ghost use Prim.Native.Nat.{ℕ};
 ghost use Rattle.definitions.specs.Limits.{document-01};
 ghost use Rattle.definitions.specs.Sheet.{sheet as sheet-definition};
 ghost use Rattle.definitions.specs.Betti.{betti as betti-definition};
+ghost use Rattle.definitions.specs.Minimal.{minimal as minimal-definition};
 ghost use Rattle.definitions.specs.Bidegrees.{bidegrees as bidegrees-definition};
 ghost use Rattle.definitions.specs.Hilbert.{hilbert as hilbert-definition};
 ghost use Rattle.definitions.specs.Places.{sheet-length, page-length, bidegrees-length, hilbert-length};
@@ -102,6 +103,23 @@ pub extern "C" fn tagetessash_betti(
     let page = page_calls::betti(file, state, work, out);
     *length = page.length;
     page.number
+}
+
+// "Minimal Betti numbers": 0, and the bytes of their page are the first `length` of out; or 16.
+#[no_mangle]
+pub extern "C" fn tagetessash_minimal(
+    file: &[u8],
+    state: &mut [u16],
+    work: &mut [u16],
+    out: &mut [u8],
+    length: &mut usize,
+) -> u16
+    ensures { λ x. ⌜ ((n : ℕ) × (told-of x (now (length .exit)) (now (state .exit)) (now (work .exit)) (now (out .exit)) ≡ called page-length
+        (minimal-definition document-01) n (now (file .entry)) (now (state .entry)) (now (work .entry)) (now (out .entry)))) ⌝ }
+{
+    let numbers = page_calls::minimal(file, state, work, out);
+    *length = numbers.length;
+    numbers.number
 }
 
 // "Two degrees side by side": 0, and the bytes of the lines are the first `length` of out; or 16.

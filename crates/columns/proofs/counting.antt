@@ -1,3 +1,4 @@
 pub mod Standing
 pub mod Counts
 pub mod Ranges
+pub mod Lines

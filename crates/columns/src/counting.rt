@@ -76,7 +76,7 @@ fn count_degrees(ds: &[u16], n: usize, x: usize) -> u16
 }
 
 // "Each count must equal the number of listed vectors of that degree."
-fn betti_count(state: &[u16], r: usize, c: usize) -> u16
+pub fn betti_count(state: &[u16], r: usize, c: usize) -> u16
     requires { ⌜ (state-length ≤ length (now state)) × T (holds-state? document-01 (now state)) × (c < page-columns) × (r < page-rows) ⌝ }
     ensures { λ k. ⌜ k ≡ count-definition (columns-of (now (state .entry))) r c ⌝ }
 {

@@ -8,3 +8,4 @@ pub mod Places
 pub mod Pages
 pub mod Bidegrees
 pub mod Hilbert
+pub mod Minimal

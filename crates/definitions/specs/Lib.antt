@@ -27,4 +27,6 @@ pub mod Bidegrees
 pub mod Pascal
 pub mod Hilbert
 pub mod Standard
+pub mod Rank
+pub mod Minimal
 pub mod Layout

@@ -287,3 +287,13 @@ h-line-length = 17
 -- all of them; the lines of a refusal are longer: an X line, and a W line for each term of a working value
 abbrev pub hilbert-length : ℕ
 hilbert-length = 31_773
+
+-- ## Minimal Betti numbers (A7)
+
+-- a level's constants: a row for each vector, in it a word for each generator of the column below
+abbrev pub matrix-length : ℕ
+matrix-length = 16_384
+
+-- a mark for each generator of eleven columns
+abbrev pub marks-length : ℕ
+marks-length = 1_408

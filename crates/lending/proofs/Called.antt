@@ -17,10 +17,10 @@ use Rattle.pages.specs.bytes.Printing.{Printed}
 use Rattle.lending.specs.Called.{Told, told-of, long-enough?, called}
 
 -- what the test says of the lengths
-pub long-enough-says : (size state work out : ℕ) → long-enough? size state work out ≡ true
+pub long-enough-says : (size state work out : ℕ) {b : Bool} → b ≡ long-enough? size state work out → b ≡ true
     → (state-length ≤ state) × (value-length ≤ work) × (size ≤ out)
-long-enough-says size state work out e =
-    let t : T (long-enough? size state work out) = subst T (sym e) tt in
+long-enough-says size state work out e h =
+    let t : T (long-enough? size state work out) = subst T (sym (sym e ∙ h)) tt in
     let u = and-right (leb state-length state) (leb value-length work and leb size out) t in (
       leb→le state-length state (and-left (leb state-length state) (leb value-length work and leb size out) t),
       leb→le value-length work (and-left (leb value-length work) (leb size out) u),
@@ -42,19 +42,20 @@ module _ (size : ℕ) (prints : ℕ → Bytes → Option Bytes) (file : Bytes) (
   abbrev pub Called : Option Told → Type 0
   Called t = (n : ℕ) × (t ≡ called size prints n file state work out)
 
-  pub short-call : long-enough? size (length state) (length work) (length out) ≡ false → (number long : ℕ) → (number ≡ 16) × (long ≡ 0)
-      → Called (told-of number long state work out)
-  short-call e number long a = (0, (λ i. told-of (a .0 i) (a .1 i) state work out) ∙ sym (ap (by-test 0) e))
+  -- the test answered b, and what `lending::too_short` gives was returned
+  pub short-call : {b : Bool} → b ≡ long-enough? size (length state) (length work) (length out) → b ≡ false → {number long : ℕ}
+      → (number ≡ 16) × (long ≡ 0) → Called (told-of number long state work out)
+  short-call e h a = (0, (λ i. told-of (a .0 i) (a .1 i) state work out) ∙ sym (ap (by-test 0) (sym e ∙ h)))
 
-  -- what was printed into after, with the words of the others as s and w
-  pub whole-call : long-enough? size (length state) (length work) (length out) ≡ true → (n : ℕ) (bytes : Bytes) → some bytes ≡ prints n file
-      → (r : ℕ) (s w : Words) (after : Bytes) → Printed out after 0 r bytes → length s ≡ length state → length w ≡ length work
-      → length after ≡ length out → (t : Option Told) → t ≡ told-of 0 r (zeros s) (zeros w) (cleared after r) → Called t
-  whole-call b n bytes e r s w after p ls lw lo t f =
+  -- r bytes were printed into out, which is after then; `lending::finish` left zeros behind them and in the other buffers, which are as long as they were
+  pub whole-call : {b : Bool} → b ≡ long-enough? size (length state) (length work) (length out) → b ≡ true → (n : ℕ) {bytes after : Bytes} {r : ℕ}
+      → some bytes ≡ prints n file → Printed out after 0 r bytes → {m k : ℕ} → m ≡ length state → k ≡ length work → length after ≡ length out
+      → {t : Option Told} → t ≡ told-of 0 r (replicate m 0) (replicate k 0) (cleared after r) → Called t
+  whole-call e h n {bytes} {after} {r} g p ls lw lo f =
       let long : r ≡ length bytes = omega (arith, p .ends) in (
         n,
         f
             ∙ (λ i. told-of 0 (long i) (replicate (ls i) 0) (replicate (lw i) 0) (behind out after r bytes p lo i))
-            ∙ ap (λ x. x then λ bs. told-of 0 (length bs) (zeros state) (zeros work) (padded (length out) bs)) e
-            ∙ sym (ap (by-test n) b),
+            ∙ ap (λ x. x then λ bs. told-of 0 (length bs) (zeros state) (zeros work) (padded (length out) bs)) g
+            ∙ sym (ap (by-test n) (sym e ∙ h)),
       )

@@ -1,11 +1,12 @@
 // The calls that print the requests' pages of a file, for every file.
-// Exists for: `betti`, `bidegrees`, `hilbert`.
-// Knows: crate definitions' Betti, Bidegrees and Hilbert; betti_page::whole, bidegree_page::whole and hilbert_page::whole print them.
+// Exists for: `betti`, `minimal`, `bidegrees`, `hilbert`.
+// Knows: crate definitions' Betti, Minimal, Bidegrees and Hilbert; module whole of betti_page, minimal_page, bidegree_page and hilbert_page prints them.
 // What they test first and leave at their end is crate lending's.
 ghost use mathlib.Core.Path.{_≡_};
 ghost use Prim.Native.Nat.{ℕ};
 ghost use Rattle.definitions.specs.Limits.{document-01};
 ghost use Rattle.definitions.specs.Betti.{betti as betti-definition};
+ghost use Rattle.definitions.specs.Minimal.{minimal as minimal-definition};
 ghost use Rattle.definitions.specs.Bidegrees.{bidegrees as bidegrees-definition};
 ghost use Rattle.definitions.specs.Hilbert.{hilbert as hilbert-definition};
 ghost use Rattle.definitions.specs.Places.{page-length, bidegrees-length, hilbert-length};
@@ -20,6 +21,19 @@ pub fn betti(file: &[u8], state: &mut [u16], work: &mut [u16], out: &mut [u8]) -
     if lending::long_enough(state.len(), work.len(), out.len(), words::PAGE_LENGTH) {
         let n = betti_page::whole::print(file, state, work, out);
         return lending::finish(state, work, out, n);
+    }
+    lending::too_short()
+}
+
+// A7: "A program .. prints the numbers as a page in the same layout and rows": likewise.
+pub fn minimal(file: &[u8], state: &mut [u16], work: &mut [u16], out: &mut [u8]) -> Answer
+    ensures { λ r. ⌜ ((n : ℕ) × (told r (now (state .exit)) (now (work .exit)) (now (out .exit)) ≡ called page-length (minimal-definition document-01) n
+        (now (file .entry)) (now (state .entry)) (now (work .entry)) (now (out .entry)))) ⌝ }
+{
+    let fits = lending::long_enough(state.len(), work.len(), out.len(), words::PAGE_LENGTH);
+    if fits {
+        let bytes = minimal_page::whole::print(file, state, work, out);
+        return lending::finish(state, work, out, bytes);
     }
     lending::too_short()
 }

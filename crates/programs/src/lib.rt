@@ -1,11 +1,11 @@
 // What every program does: standard input to its end, buffers of its own, standard output.
-// Exists for: `read`, `write`; `file_bytes`, `state_words`, `work_words`.
+// Exists for: `read`, `write`; `file_bytes`, `state_words`, `work_words`, `page_bytes`.
 // Knows: the kit's io and libc.
 // What a program answers is its own.
 ghost use mathlib.Core.Path.{_≡_};
 ghost use Prim.Native.Nat.{_≤_};
 ghost use lib.ListN.{length};
-ghost use Rattle.definitions.specs.Places.{state-length, value-length, read-length};
+ghost use Rattle.definitions.specs.Places.{state-length, value-length, read-length, page-length};
 ghost use Rattle.io.specs.Counts.{Counts};
 ghost use Rattle.libc.specs.Io.{Moved};
 use libc::STDERR_FILENO;
@@ -30,6 +30,13 @@ pub fn work_words() -> [u16; words::VALUE_LENGTH]
     ensures { λ r. ⌜ value-length ≡ length r ⌝ }
 {
     [0; words::VALUE_LENGTH]
+}
+
+// For a page, which two programs print.
+pub fn page_bytes() -> [u8; words::PAGE_LENGTH]
+    ensures { λ r. ⌜ page-length ≡ length r ⌝ }
+{
+    [0; words::PAGE_LENGTH]
 }
 
 // How many bytes stand in front, and what a read behind them answered: 0 at the input's end.

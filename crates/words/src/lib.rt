@@ -75,6 +75,8 @@ ghost use Rattle.definitions.specs.Places.{
   triangle-length,
   h-line-length,
   hilbert-length,
+  matrix-length,
+  marks-length,
 };
 ghost use Rattle.words.specs.Slices.{Sixteen-bits};
 
@@ -230,9 +232,15 @@ pub const H_LINE_LENGTH: usize = 17;
 
 pub const HILBERT_LENGTH: usize = PAIR_LINE_LENGTH + MOST_TERMS * W_LINE_LENGTH;
 
+// ## Minimal Betti numbers
+
+pub const MATRIX_LENGTH: usize = MOST_VECTORS * MOST_VECTORS;
+
+pub const MARKS_LENGTH: usize = PAGE_COLUMNS * MOST_VECTORS;
+
 // ## Held to the definitions
 
-pub fn numbers() -> [usize; 59]
+pub fn numbers() -> [usize; 61]
     ensures { λ r. ⌜ r ≡ exponents-length ∷ most-vectors ∷ most-rows ∷ most-terms ∷ most-tree-terms ∷ most-levels ∷ all-levels ∷ component-offset
         ∷ exponents-offset ∷ rank-offset ∷ packed-length ∷ row-length ∷ image-length ∷ header-length ∷ counts-length ∷ ends-start ∷ rows-start ∷ level-length ∷
         degrees-start ∷ most-components ∷ carried-start ∷ state-length
@@ -240,7 +248,7 @@ pub fn numbers() -> [usize; 59]
         ∷ tables-above ∷ tables-length ∷ lifted-length ∷ grown-length ∷ file-length ∷ read-length ∷ s-line-length ∷ w-line-length ∷ pair-line-length
         ∷ s-lines-length ∷ level-lines-length ∷ all-lines-length ∷ sheet-length ∷ cell-length ∷ page-columns ∷ row-shift ∷ page-line-length ∷ page-rows
         ∷ page-length ∷ weights-length ∷ b-line-length ∷ bidegrees-length ∷ hilbert-degrees ∷ triangle-rows ∷ triangle-length ∷ h-line-length
-        ∷ hilbert-length ∷ [] ⌝ }
+        ∷ hilbert-length ∷ matrix-length ∷ marks-length ∷ [] ⌝ }
 {
     [
         EXPONENTS_LENGTH,
@@ -302,6 +310,8 @@ pub fn numbers() -> [usize; 59]
         TRIANGLE_LENGTH,
         H_LINE_LENGTH,
         HILBERT_LENGTH,
+        MATRIX_LENGTH,
+        MARKS_LENGTH,
     ]
 }
 

@@ -7,10 +7,12 @@ use crate::generate::files::{damaged_file, limit_file, plain_file};
 use crate::generate::low::{hilbert_file, low_file};
 use crate::generate::pages::{graded_file, mixed_file, page_file, stopped_file};
 use crate::generate::problems::{problem_file, random_basis, Size};
+use crate::generate::redundant::{minimal_file, redundant_file};
 use crate::generate::scripts::{random_script, with_small_limits, Reach};
 use crate::generate::weight_lines::weighted_file;
 use crate::hilbert::hilbert;
 use crate::limits::Limits;
+use crate::minimal::minimal;
 use crate::random::Random;
 use crate::script::{Run, Script};
 use crate::sheet::sheet;
@@ -26,6 +28,9 @@ pub const BIDEGREE_KINDS: [&str; 4] = ["bigraded", "bimixed", "bistopped", "bide
 
 /// The kinds of problem files for the Hilbert function.
 pub const HILBERT_KINDS: [&str; 2] = ["low", "hilbert"];
+
+/// The kinds of problem files for minimal Betti numbers.
+pub const MINIMAL_KINDS: [&str; 2] = ["redundant", "minimal"];
 
 /// Products that the sheet of a generated file may take.
 pub const SHEET_PRODUCTS: u64 = 300_000;
@@ -122,6 +127,23 @@ pub fn hilbert_case(kind: &str, seed: u64, case: u64) -> Option<(Vec<u8>, Vec<u8
             continue;
         };
         return Some((file, lines));
+    }
+}
+
+/// The problem file of a kind for minimal Betti numbers for a case of a seed, and their page; `None`
+/// if there is no such kind.
+pub fn minimal_case(kind: &str, seed: u64, case: u64) -> Option<(Vec<u8>, Vec<u8>)> {
+    let mut random = Random::for_case(seed, case);
+    loop {
+        let file = match kind {
+            "redundant" => redundant_file(&mut random),
+            "minimal" => minimal_file(&mut random),
+            _ => return None,
+        };
+        let (Some(page), _) = minimal(&Limits::document_01(), &file, Some(SHEET_PRODUCTS)) else {
+            continue;
+        };
+        return Some((file, page));
     }
 }
 

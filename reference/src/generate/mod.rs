@@ -4,7 +4,7 @@
 //! - [`files`]: files at and past the limits, and damaged files.
 //! - [`degree_lines`], [`weight_lines`]: files with D and G lines, and every way to spoil one.
 //! - [`pages`]: files for the Betti page. [`bigraded`]: files for bidegrees. [`low`]: files for the
-//!   Hilbert function.
+//!   Hilbert function. [`redundant`]: files for minimal Betti numbers.
 //! - [`states`]: the words of a state that hold degrees, altered.
 //! - [`scripts`]: lists of calls, also with limits close to what a run needs.
 //! - [`cases`]: the kinds of `reference generate`.
@@ -16,6 +16,7 @@ pub mod files;
 pub mod low;
 pub mod pages;
 pub mod problems;
+pub mod redundant;
 pub mod scripts;
 pub mod states;
 pub mod weight_lines;

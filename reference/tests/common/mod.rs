@@ -1,13 +1,14 @@
 //! What several tests use.
 #![allow(dead_code)]
 
+use reference::betti::Counts;
 use reference::engine::{Answer, State};
 use reference::lifting::Way;
 use reference::monomial::{divides, Exponents, Level, Monomial, Term, Vector, UNIT};
 use reference::reader::Problem;
 use reference::reckoning::reckon_level;
 use reference::sheet::sheet;
-use reference::Limits;
+use reference::{Limits, Printed};
 use std::collections::BTreeMap;
 
 /// A term from its coefficient, component and first exponents.
@@ -97,6 +98,91 @@ pub fn assert_level_1(state: &State, expected: &[Vector]) {
     let basis = state.basis.as_ref().expect("a basis");
     let (reckoned, _) = reckon_level(&basis.parameters, &basis.levels[..1], None);
     assert_eq!(reckoned.as_deref(), Ok(expected));
+}
+
+/// What is printed of a file, or nothing where it takes too many products.
+pub fn within(what: Printed, file: &[u8], budget: u64) -> Option<String> {
+    let (printed, _) = what(&Limits::document_01(), file, Some(budget));
+    printed.map(|printed| String::from_utf8(printed).expect("text"))
+}
+
+pub fn text(what: Printed, file: &[u8]) -> String {
+    within(what, file, u64::MAX).expect("it is not used up")
+}
+
+/// A line from its fields, written out by hand.
+pub fn row(label: &str, fields: &[&str]) -> String {
+    assert_eq!(fields.len(), 11);
+    let mut text = " ".repeat(6 - label.len()) + label;
+    for field in fields {
+        text += &(" ".repeat(6 - field.len()) + field);
+    }
+    text + "\n"
+}
+
+/// The same with dashes behind the fields.
+pub fn short_row(label: &str, fields: &[&str]) -> String {
+    let mut all = fields.to_vec();
+    all.resize(11, "-");
+    row(label, &all)
+}
+
+/// The counts of a page that are not zero, by row and column.
+pub type Table = BTreeMap<(i64, usize), u64>;
+
+/// What a page says: the counts, the last line's, and the rows. The form of the page is tested on
+/// the way.
+pub fn read_page(text: &str) -> (Table, Vec<u64>, Vec<i64>) {
+    assert!(text.ends_with('\n'));
+    let mut table = BTreeMap::new();
+    let mut rows: Vec<i64> = Vec::new();
+    let mut last = None;
+    for line in text.lines() {
+        assert!(last.is_none(), "a line behind the last one");
+        assert_eq!(line.len(), 72);
+        let (label, rest) = line.split_at(6);
+        let fields: Vec<u64> = (0..11)
+            .map(|column| {
+                let field = &rest[6 * column..6 * column + 6];
+                let word = field.trim_start();
+                assert!(word.len() < 6 && !word.is_empty() && !word.contains(' '));
+                match word {
+                    "-" => 0,
+                    number => {
+                        assert!(!number.starts_with('0'));
+                        number.parse().expect("a number")
+                    }
+                }
+            })
+            .collect();
+        if label == " total" {
+            last = Some(fields);
+            continue;
+        }
+        let number = label.trim_start().strip_suffix(':').expect("a colon");
+        rows.push(number.parse().expect("a row"));
+        assert_eq!(rows[rows.len() - 1].to_string(), number);
+        for (column, count) in fields.into_iter().enumerate() {
+            if count > 0 {
+                table.insert((rows[rows.len() - 1], column), count);
+            }
+        }
+    }
+    (table, last.expect("a line `total`"), rows)
+}
+
+/// The numbers of a page that are not zero, by column and degree.
+pub fn by_degree(counts: &Counts) -> BTreeMap<(u64, u64), u64> {
+    let of_row = |(row, columns): (&i64, &BTreeMap<u64, u64>)| {
+        let row = *row;
+        let at = move |(column, count): (u64, u64)| {
+            let degree = u64::try_from(row + column as i64).expect("a degree");
+            ((column, degree), count)
+        };
+        columns.clone().into_iter().map(at)
+    };
+    let numbers = counts.iter().flat_map(of_row);
+    numbers.filter(|(_, count)| *count > 0).collect()
 }
 
 /// The power products of degree d in n variables.

@@ -11,22 +11,20 @@ mod compare;
 
 use common::arguments::{asked, words};
 use common::examples::examples;
-use common::files::{
-    changed_at, damage_some, many_monomials, random_problem, random_size, with_each_field,
-    with_some_weights, WRITTEN,
-};
+use common::files::{damage_some, random_problem, random_size, with_some_weights, WRITTEN};
+use common::printing::{spoils, Files, BUDGET, EXAMPLE_BUDGET};
 use common::program::By;
 use common::report::counts;
+use common::series::{
+    at_the_limits, every_change, every_change_of, every_place, variables_and_one, SMALL,
+};
 use compare::{Compare, SPOILS};
 use reference::generate::bigraded::{
     bidegree_file, bigraded_file, bimultiples_of_one, bistopped_file,
 };
 use reference::generate::degree_lines::{components_of, with_degrees};
-use reference::generate::files::{exact_length_file, exact_t_lines_file, limit_file};
-use reference::generate::pages::{graded_file, graded_tails, large_product, with_mixed_elements};
-use reference::generate::problems::{
-    problem_file, random_basis, random_degrees, random_set, weight_line,
-};
+use reference::generate::pages::graded_file;
+use reference::generate::problems::{problem_file, random_basis, random_degrees, random_set};
 use reference::generate::weight_lines::{
     random_weights, spoiled_weight_lines, variables_of, with_random_weights, with_weights,
     without_weight_lines,
@@ -35,26 +33,17 @@ use reference::random::Random;
 
 const FILES: u64 = 20_000;
 const SEED: u64 = 20_261_401;
-/// Products that a generated file may take; one that takes more is left out.
-const BUDGET: u64 = 20_000;
-/// The same for files at the limits.
-const LONG_BUDGET: u64 = 300_000;
-/// The same for the files of examples/.
-const EXAMPLE_BUDGET: u64 = 10_000_000;
-
-/// x1·e_2 + x2·e_1, x3·e_1 and x2²·e_1, the components of degrees 0 and 1: one vector of level 1.
-const SMALL: &str = "R,7,3,1,2\nD,0,1\nG,1,2,2,2,3,15\nT,1,1,2,1,0,0\nT,1,1,1,0,1,0\nT,2,1,1,0,0,1\nT,3,1,1,0,2,0\nE,4\n";
 
 fn main() {
-    let (mut wanted, seed, spoil) = asked(&words(), "files", (FILES, SEED), &SPOILS);
-    let mut compare = Compare::new();
-    compare.spoil = spoil.map(|what| (70, what));
+    let (mut wanted, seed, spoil) = asked(&words(), "files", (FILES, SEED), &spoils(&SPOILS));
+    let mut compare = Compare::new(spoil);
     let mut random = Random::new(seed);
     if spoil.is_some() {
         wanted = 400;
     } else {
         printed(&mut compare);
-        every_change(&mut compare);
+        every_change(&mut compare, 37, 29);
+        every_change_of(SMALL, &mut compare, 5, 7);
         every_spoiled_line(&mut compare, &mut random);
         for (_, file) in examples() {
             // one that has elements of two bidegrees takes no product more than acceptance
@@ -65,11 +54,12 @@ fn main() {
             compare.file(&with_weights(&bare, &ones), EXAMPLE_BUDGET);
             compare.file(&with_random_weights(&mut random, &bare), EXAMPLE_BUDGET);
         }
-        at_the_limits(&mut compare, &mut random);
-        all_places(&mut compare, &mut random);
+        at_the_limits(&mut compare, &mut random, bistopped_file);
+        // 25
+        every_place(&mut compare, &mut random, bimultiples_of_one);
     }
-    let systematic = compare.files;
-    while compare.files < wanted {
+    let systematic = compare.printing.files;
+    while compare.printing.files < wanted {
         random_file(&mut compare, &mut random);
     }
     report(&compare, systematic, seed);
@@ -79,19 +69,14 @@ fn main() {
 }
 
 fn report(compare: &Compare, systematic: u64, seed: u64) {
-    println!(
-        "bidegrees: {} files agree byte for byte ({systematic} systematic, {} left out that take more products, seed {seed}); program {}",
-        compare.files,
-        compare.left_out,
-        compare.program()
-    );
-    println!("  {}", counts(&compare.met).join(", "));
+    let printing = &compare.printing;
+    printing.report("bidegrees", systematic, seed);
     println!(
         "  lines: {} files with a D line, {} with a G line, {} with both, {} with a second sum above 0; at most {} lines, the longest of {} bytes; \
          the last column in use: {}",
-        compare.with_degrees,
-        compare.with_weights,
-        compare.with_both,
+        printing.with_degrees,
+        printing.with_weights,
+        printing.with_both,
         compare.second,
         compare.most,
         compare.longest,
@@ -99,48 +84,34 @@ fn report(compare: &Compare, systematic: u64, seed: u64) {
     );
     println!(
         "  24 at lines {:?}; 25 at {} places; 13 to 15 at (number, level): {:?}",
-        compare.lines_of_24,
-        compare.places.len(),
-        compare.stops
+        printing.places(24),
+        printing.places(25).len(),
+        printing.stops()
     );
     println!(
         "  beside the Betti page: {} files with every a at 1 have its counts, summed over b; sheet and page of {} files are the same without the G line; \
          [[neither, 25], [17, both]]: {:?}",
-        compare.summed, compare.without, compare.refused
+        compare.summed, printing.without, compare.refused
     );
 }
 
 /// A run in which something hardly comes tests too little.
 fn enough(compare: &Compare) {
-    for number in [0, 1, 2, 3, 4, 5, 6, 7, 8, 9, 13, 14, 15, 18, 24, 25] {
-        assert!(compare.met[number] >= 10, "number {number} came too seldom");
-    }
-    assert_eq!(compare.met[17], 0, "17 is not tested here");
-    assert!(compare.met[0] >= 2 * compare.met[25]);
-    assert!((1..=64).all(|place| compare.places.contains(&place)));
+    let printing = &compare.printing;
+    printing.enough(&[25], &[17, 20]);
+    assert!(printing.met[0] >= 2 * printing.met[25]);
+    assert!((1..=64).all(|place| printing.places(25).contains(&place)));
     assert_eq!(
-        compare.lines_of_24.iter().collect::<Vec<_>>(),
+        printing.places(24).iter().collect::<Vec<_>>(),
         [&2, &3],
         "24 comes at lines 2 and 3"
     );
-    for stop in [
-        (13, 0),
-        (13, 1),
-        (14, 0),
-        (14, 2),
-        (14, 3),
-        (15, 0),
-        (15, 1),
-        (15, 2),
-    ] {
-        assert!(compare.stops.contains(&stop), "{stop:?} did not come");
-    }
     assert!(compare.columns[1..10].iter().all(|count| *count >= 3));
     assert_eq!(compare.columns[10], 0, "level 9 is not empty");
-    assert!(compare.with_degrees >= 500 && compare.with_weights >= 1_000);
-    assert!(compare.with_both >= 400 && compare.second >= 500);
+    assert!(printing.with_degrees >= 500 && printing.with_weights >= 1_000);
+    assert!(printing.with_both >= 400 && compare.second >= 500);
     assert!(compare.most >= 200 && compare.longest >= "B,1,30855,30600,1".len());
-    assert!(compare.summed >= 500 && compare.without >= 500);
+    assert!(compare.summed >= 500 && printing.without >= 500);
     assert!(compare.refused.concat().iter().all(|count| *count >= 20));
 }
 
@@ -161,12 +132,17 @@ fn printed(compare: &mut Compare) {
             }
         }
     }
-    let mut file = "R,7,8,3,1\nG,1,0,2,0,4,0,8,0,0,1,0,2,0,4,0,15\n".to_string();
-    for x in 1..=9 {
-        let exponents: Vec<&str> = (1..=8).map(|y| if x == y { "1" } else { "0" }).collect();
-        file.push_str(&format!("T,{x},1,1,{}\n", exponents.join(",")));
-    }
-    file.push_str("E,9\n");
+    let weights = [
+        [1, 0],
+        [2, 0],
+        [4, 0],
+        [8, 0],
+        [0, 1],
+        [0, 2],
+        [0, 4],
+        [0, 15],
+    ];
+    let file = with_weights(variables_and_one().as_bytes(), &weights);
     // a set of variables, and the same with 1 beside it, a column later
     let mut lines = vec![(0, 0, 0)];
     for set in 0_u32..256 {
@@ -183,7 +159,7 @@ fn printed(compare: &mut Compare) {
         .map(|(column, a, b)| format!("B,{column},{a},{b},1\n"))
         .collect();
     for by in ALL {
-        compare.expect(file.as_bytes(), lines.as_bytes(), by);
+        compare.expect(&file, lines.as_bytes(), by);
     }
     let (large, fifteens) = (",255".repeat(8), ",15".repeat(16));
     for order in 1..=3 {
@@ -191,28 +167,6 @@ fn printed(compare: &mut Compare) {
         let lines = "B,0,255,0,1\nB,1,30855,30600,1\n";
         compare.expect(file.as_bytes(), lines.as_bytes(), By::File);
     }
-}
-
-/// Small files changed at some bytes and in some fields, and one with all lines at every byte: the reader has a test of its own.
-fn every_change(compare: &mut Compare) {
-    compare.file(b"", BUDGET);
-    compare.file(b"\n", BUDGET);
-    for file in WRITTEN.map(str::as_bytes) {
-        compare.file(file, BUDGET);
-        for at in (0..file.len()).step_by(37) {
-            changed_at(file, at, |changed| compare.file(changed, BUDGET));
-        }
-        with_each_field(file, 29, |changed| compare.file(changed, BUDGET));
-    }
-    let file = SMALL.as_bytes();
-    compare.file(file, BUDGET);
-    for at in 0..file.len() {
-        compare.file(&file[..at], BUDGET);
-        if at % 5 == 0 {
-            changed_at(file, at, |changed| compare.file(changed, BUDGET));
-        }
-    }
-    with_each_field(file, 7, |changed| compare.file(changed, BUDGET));
 }
 
 /// Every way to spoil a G line, with a D line and without it; and every weight in each place.
@@ -237,60 +191,6 @@ fn every_spoiled_line(compare: &mut Compare, random: &mut Random) {
     for degree in (0..=255).step_by(5) {
         let file = with_degrees(WRITTEN[16].as_bytes(), &[degree, 255 - degree]);
         compare.file(&file, BUDGET);
-    }
-}
-
-/// Files of about 65,536 bytes and of about 2,048 T lines; levels and vectors about the longest; products about the largest.
-fn at_the_limits(compare: &mut Compare, random: &mut Random) {
-    for length in [65_535, 65_536, 65_537] {
-        let file = exact_length_file(random, length);
-        compare.file(&file, LONG_BUDGET);
-        compare.file(&file[..length - 1], LONG_BUDGET);
-        compare.file_by(&file, LONG_BUDGET, By::Pipe(4_096));
-        // with a G line, which counts for the length
-        let weights = random_weights(random, 8);
-        let shorter = length - weight_line(&weights).len() - 1;
-        let file = with_weights(&exact_length_file(random, shorter), &weights);
-        assert_eq!(file.len(), length);
-        compare.file(&file, LONG_BUDGET);
-        compare.file(&file[..length - 1], LONG_BUDGET);
-    }
-    compare.file_by(&vec![b'\n'; 70_000], LONG_BUDGET, By::Pipe(65_536));
-    for lines in [2_047, 2_048, 2_049] {
-        for _ in 0..3 {
-            let file = exact_t_lines_file(random, lines);
-            compare.file(&file, LONG_BUDGET);
-            compare.file(&with_random_weights(random, &file), LONG_BUDGET);
-        }
-    }
-    for _ in 0..40 {
-        let problem = large_product(random);
-        compare.file(&problem_file(&problem), LONG_BUDGET);
-        compare.file(
-            &problem_file(&with_mixed_elements(random, problem)),
-            LONG_BUDGET,
-        );
-        let problem = graded_tails(random);
-        compare.file(&problem_file(&problem), LONG_BUDGET);
-        compare.file(
-            &problem_file(&with_mixed_elements(random, problem)),
-            LONG_BUDGET,
-        );
-        compare.file(&bistopped_file(random), LONG_BUDGET);
-        let file = problem_file(&many_monomials(random));
-        compare.file(&with_random_weights(random, &file), LONG_BUDGET);
-        let file = limit_file(random);
-        compare.file(&with_random_weights(random, &file), LONG_BUDGET);
-    }
-}
-
-/// 25 in every place, of as many elements and of more.
-fn all_places(compare: &mut Compare, random: &mut Random) {
-    for first in 1..=64 {
-        for count in [first.max(2), random.between(first.max(2), 64), 64] {
-            let problem = bimultiples_of_one(random, count, first);
-            compare.file(&problem_file(&problem), BUDGET);
-        }
     }
 }
 

@@ -1,10 +1,11 @@
 //! One call on two sets of buffers: number, place (or length) and every word of every buffer.
 
 use crate::proved;
-use common::buffers::{BIDEGREES, OUT, ROW, STATE, TREE_WORK, WORK};
+use common::buffers::{BIDEGREES, MINIMAL, OUT, ROW, STATE, TREE_WORK, WORK};
 use common::report::{shown, NUMBERS};
 use reference::buffers::{
-    bidegrees_call_within, fetch_call, hilbert_call_within, lift_call_within, read_call_within,
+    bidegrees_call_within, fetch_call, hilbert_call_within, lift_call_within, minimal_call_within,
+    read_call_within,
 };
 use reference::lifting::Way;
 use reference::random::Random;
@@ -22,8 +23,10 @@ pub struct Buffers {
     pub work: Vec<u16>,
     pub cache: Vec<u16>,
     pub out: Vec<u16>,
-    /// out of a call that prints
+    /// out of a call that prints lines
     pub printed: Vec<u8>,
+    /// out of a call that prints a page, which is long: no other call is lent it
+    pub page: Vec<u8>,
 }
 
 impl Buffers {
@@ -34,6 +37,7 @@ impl Buffers {
             cache: vec![0; CACHE + MORE],
             out: vec![0; OUT + MORE],
             printed: vec![0; BIDEGREES + MORE],
+            page: vec![0; MINIMAL + MORE],
         }
     }
 }
@@ -46,6 +50,7 @@ pub struct Lent {
     pub cache: usize,
     pub out: usize,
     pub printed: usize,
+    pub page: usize,
 }
 
 /// As much as any call needs.
@@ -55,6 +60,7 @@ pub const WHOLE: Lent = Lent {
     cache: CACHE,
     out: OUT,
     printed: BIDEGREES,
+    page: MINIMAL,
 };
 
 /// A call with its arguments.
@@ -65,6 +71,7 @@ pub enum Call<'a> {
     Fetch { level: usize, vector: usize },
     Bidegrees(&'a [u8]),
     Hilbert(&'a [u8]),
+    Minimal(&'a [u8]),
 }
 
 /// What `spoil` changes in one answer of the proved calls, so that the comparison itself is tried.
@@ -77,9 +84,10 @@ pub enum Spoiled {
     Cache,
     Out,
     Printed,
+    Page,
 }
 
-pub const SPOILS: [(&str, Spoiled); 7] = [
+pub const SPOILS: [(&str, Spoiled); 8] = [
     ("number", Spoiled::Number),
     ("place", Spoiled::Place),
     ("state", Spoiled::State),
@@ -87,9 +95,10 @@ pub const SPOILS: [(&str, Spoiled); 7] = [
     ("cache", Spoiled::Cache),
     ("out", Spoiled::Out),
     ("printed", Spoiled::Printed),
+    ("page", Spoiled::Page),
 ];
 
-pub const KINDS: [&str; 8] = [
+pub const KINDS: [&str; 9] = [
     "read",
     "lift by division",
     "lift by hybrid",
@@ -98,6 +107,7 @@ pub const KINDS: [&str; 8] = [
     "fetch",
     "bidegrees",
     "Hilbert function",
+    "minimal numbers",
 ];
 
 pub struct Compare {
@@ -111,8 +121,8 @@ pub struct Compare {
     pub left_out: u64,
     /// by kind and number
     pub met: [[u64; NUMBERS]; KINDS.len()],
-    /// calls that printed lines, no refusal: of bidegrees, of the Hilbert function
-    pub lines: [u64; 2],
+    /// calls that printed lines, no refusal: of bidegrees, of the Hilbert function, of minimal numbers
+    pub lines: [u64; 3],
     pub spoil: Option<(u64, Spoiled)>,
 }
 
@@ -126,7 +136,7 @@ impl Compare {
             calls: 0,
             left_out: 0,
             met: [[0; NUMBERS]; KINDS.len()],
-            lines: [0; 2],
+            lines: [0; 3],
             spoil: None,
         }
     }
@@ -141,12 +151,13 @@ impl Compare {
     pub fn call(&mut self, call: &Call, lent: &Lent, budget: u64) -> Option<u64> {
         self.dirt();
         let theirs = &mut self.theirs;
-        let (state, work, cache, out, printed) = (
+        let (state, work, cache, out, printed, page) = (
             &mut theirs.state[..lent.state],
             &mut theirs.work[..lent.work],
             &mut theirs.cache[..lent.cache],
             &mut theirs.out[..lent.out],
             &mut theirs.printed[..lent.printed],
+            &mut theirs.page[..lent.page],
         );
         let limits = &self.limits;
         let expected = match *call {
@@ -170,18 +181,22 @@ impl Compare {
             Call::Hilbert(file) => {
                 hilbert_call_within(limits, file, state, work, printed, Some(budget))
             }
+            Call::Minimal(file) => {
+                minimal_call_within(limits, file, state, work, page, Some(budget))
+            }
         };
         let Some(expected) = expected else {
             self.left_out += 1;
             return None;
         };
         let ours = &mut self.ours;
-        let (state, work, cache, out, printed) = (
+        let (state, work, cache, out, printed, page) = (
             &mut ours.state[..lent.state],
             &mut ours.work[..lent.work],
             &mut ours.cache[..lent.cache],
             &mut ours.out[..lent.out],
             &mut ours.printed[..lent.printed],
+            &mut ours.page[..lent.page],
         );
         let mut answer = match *call {
             Call::Read(file) => proved::read(file, state, work),
@@ -189,9 +204,16 @@ impl Compare {
             Call::Fetch { level, vector } => proved::fetch(state, out, level, vector),
             Call::Bidegrees(file) => proved::bidegrees(file, state, work, printed),
             Call::Hilbert(file) => proved::hilbert(file, state, work, printed),
+            Call::Minimal(file) => proved::minimal(file, state, work, page),
         };
+        let prints_page = matches!(call, Call::Minimal(_));
         if let Some((at, what)) = self.spoil {
-            if at == self.calls {
+            // no page is compared before one is printed
+            let due = match what {
+                Spoiled::Page => prints_page && self.calls >= at,
+                _ => self.calls == at,
+            };
+            if due {
                 match what {
                     Spoiled::Number => answer.0 ^= 1,
                     Spoiled::Place => answer.1 += 1,
@@ -200,6 +222,7 @@ impl Compare {
                     Spoiled::Cache => self.ours.cache[0] ^= 1,
                     Spoiled::Out => self.ours.out[OUT] ^= 1,
                     Spoiled::Printed => self.ours.printed[BIDEGREES] ^= 1,
+                    Spoiled::Page => self.ours.page[MINIMAL] ^= 1,
                 }
             }
         }
@@ -220,11 +243,13 @@ impl Compare {
                 self.differ(call, lent, expected, &format!("{name} differs at {at:?}"));
             }
         }
-        if ours.printed != theirs.printed {
-            let mut pairs = ours.printed.iter().zip(&theirs.printed);
-            let at = pairs.position(|(a, b)| a != b);
-            let what = format!("what is printed differs at {at:?}");
-            self.differ(call, lent, expected, &what);
+        let pages = prints_page.then_some((&ours.page, &theirs.page));
+        for (ours, theirs) in [(&ours.printed, &theirs.printed)].into_iter().chain(pages) {
+            if ours != theirs {
+                let at = ours.iter().zip(theirs).position(|(a, b)| a != b);
+                let what = format!("what is printed differs at {at:?}");
+                self.differ(call, lent, expected, &what);
+            }
         }
         let kind = match call {
             Call::Read(_) => 0,
@@ -232,8 +257,14 @@ impl Compare {
             Call::Fetch { .. } => 5,
             Call::Bidegrees(_) => 6,
             Call::Hilbert(_) => 7,
+            Call::Minimal(_) => 8,
         };
-        if let (6 | 7, 0, b'B' | b'H') = (kind, expected.0, theirs.printed[0]) {
+        let first = if prints_page {
+            theirs.page[0]
+        } else {
+            theirs.printed[0]
+        };
+        if kind >= 6 && expected.0 == 0 && first != b'X' {
             self.lines[kind - 6] += 1;
         }
         self.met[kind][expected.0 as usize] += 1;
@@ -250,6 +281,7 @@ impl Compare {
                 cache,
                 out,
                 printed,
+                page,
                 ..
             } = buffers;
             for (buffer, at) in [(&mut *work, at[0]), (cache, at[1]), (out, at[2])] {
@@ -258,9 +290,11 @@ impl Compare {
                 buffer[at % 64] = word;
             }
             work[at[3] % WORK] = word;
-            let length = printed.len();
-            printed[at[3] % length] = word as u8;
-            printed[at[0] % 64] = word as u8;
+            for printed in [printed, page] {
+                let length = printed.len();
+                printed[at[3] % length] = word as u8;
+                printed[at[0] % 64] = word as u8;
+            }
         });
     }
 
@@ -270,9 +304,10 @@ impl Compare {
             self.calls
         );
         match call {
-            Call::Read(file) | Call::Bidegrees(file) | Call::Hilbert(file) => {
-                println!("read or printed: {}", shown(file, 2_000));
-            }
+            Call::Read(file)
+            | Call::Bidegrees(file)
+            | Call::Hilbert(file)
+            | Call::Minimal(file) => println!("read or printed: {}", shown(file, 2_000)),
             _ => println!("{call:?}"),
         }
         println!("state from {:?}", &self.theirs.state[..6]);

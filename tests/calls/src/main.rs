@@ -2,13 +2,13 @@
 //!
 //!     test-calls [CALLS [SEED]]                                  at least so many calls (1,000,000 without it)
 //!     test-calls primes [FILES [SEED]]                           so many files over 65,521, 65,519 and 32,771 (50,000), every level and vector of each
-//!     test-calls spoil number|place|state|work|cache|out|printed     spoils one answer: the run must find it and exit with 1
+//!     test-calls spoil number|place|state|work|cache|out|printed|page    spoils one answer: the run must find it and exit with 1
 
 mod compare;
 mod proved;
 
 use common::arguments::{asked, words};
-use common::buffers::{self, BIDEGREES, DEGREES, HILBERT, OUT, ROW, STATE, WORK};
+use common::buffers::{self, BIDEGREES, DEGREES, HILBERT, MINIMAL, OUT, ROW, STATE, WORK};
 use common::deep::{deep, on_small_stack, DEEPEST};
 use common::examples::examples;
 use common::files::{
@@ -29,6 +29,7 @@ use reference::generate::degree_lines::{
 use reference::generate::files::{edited_file, limit_file};
 use reference::generate::low::{hilbert_file, low_file};
 use reference::generate::problems::{problem_file, random_basis, random_degrees, Size as FileSize};
+use reference::generate::redundant::{minimal_file, redundant_file};
 use reference::generate::states::{carry, with_other_degrees};
 use reference::generate::weight_lines::{
     random_weights, spoiled_weight_lines, variables_of, with_weights, without_weight_lines,
@@ -68,6 +69,7 @@ impl Lists {
                 match random.below(20) {
                     0 | 1 => return bigraded_file(&mut random),
                     2 => return low_file(&mut random),
+                    3 => return redundant_file(&mut random),
                     _ => {}
                 }
                 let size = random_size(&mut random, 6);
@@ -242,6 +244,7 @@ impl Lists {
             cache,
             out: self.length(OUT),
             printed: self.length(BIDEGREES),
+            page: MINIMAL,
         }
     }
 
@@ -266,20 +269,24 @@ impl Lists {
 
     /// The state is lent for the work alone: nothing is held afterwards.
     fn printing(&mut self) -> Option<u64> {
-        let of_bidegrees = self.random.chance(50);
-        let (file, budget) = match (self.random.chance(60), of_bidegrees) {
-            (true, true) => (bidegree_file(&mut self.random), BUDGET),
-            (true, false) => (hilbert_file(&mut self.random), BUDGET),
+        // of a page every byte is compared: they are few
+        let kind = match self.random.below(24) {
+            0 | 1 => 2,
+            kind => kind % 2,
+        };
+        let (file, budget) = match (self.random.chance(60), kind) {
+            (true, 0) => (bidegree_file(&mut self.random), BUDGET),
+            (true, 1) => (hilbert_file(&mut self.random), BUDGET),
+            (true, _) => (minimal_file(&mut self.random), BUDGET),
             (false, _) => self.file(),
         };
-        let (call, room) = match of_bidegrees {
-            true => (Call::Bidegrees(&file), BIDEGREES),
-            false => (Call::Hilbert(&file), HILBERT),
+        let (call, room) = match kind {
+            0 => (Call::Bidegrees(&file), BIDEGREES),
+            1 => (Call::Hilbert(&file), HILBERT),
+            _ => (Call::Minimal(&file), MINIMAL),
         };
-        let lent = Lent {
-            printed: self.length(room),
-            ..self.lent(WORK, 0)
-        };
+        let lent = self.lent(WORK, 0);
+        let lent = with_room(&call, self.length(room), lent);
         self.compare.call(&call, &lent, budget)
     }
 
@@ -357,6 +364,17 @@ impl Lists {
     }
 }
 
+/// So many bytes for what this call prints.
+fn with_room(call: &Call, room: usize, lent: Lent) -> Lent {
+    match call {
+        Call::Minimal(_) => Lent { page: room, ..lent },
+        _ => Lent {
+            printed: room,
+            ..lent
+        },
+    }
+}
+
 /// D lines (request A5): every way to spoil one and right ones, over the files that are written out and some others.
 fn degree_lines(lists: &mut Lists) {
     let mut files: Vec<Vec<u8>> = WRITTEN.map(|file| file.as_bytes().to_vec()).to_vec();
@@ -392,7 +410,7 @@ fn degree_lines(lists: &mut Lists) {
     }
 }
 
-/// G lines (request A14): every way to spoil one, and right ones: the state is that of the file without the line; bidegrees and Hilbert function are printed.
+/// G lines (request A14): every way to spoil one, and right ones: the state is that of the file without the line; what is printed besides.
 fn weight_lines(lists: &mut Lists) {
     let mut files: Vec<Vec<u8>> = WRITTEN.map(|file| file.as_bytes().to_vec()).to_vec();
     files.extend((0..20).map(|_| bigraded_file(&mut lists.random)));
@@ -408,7 +426,11 @@ fn weight_lines(lists: &mut Lists) {
         }
         let mut held = Vec::new();
         for file in [&bare, &with_weights(&bare, &weights), &file] {
-            for call in [Call::Bidegrees(file), Call::Hilbert(file)] {
+            for call in [
+                Call::Bidegrees(file),
+                Call::Hilbert(file),
+                Call::Minimal(file),
+            ] {
                 lists.compare.call(&call, &WHOLE, LONG_BUDGET);
             }
             let number = lists.compare.call(&Call::Read(file), &WHOLE, LONG_BUDGET);
@@ -419,8 +441,9 @@ fn weight_lines(lists: &mut Lists) {
         for (call, room) in [
             (Call::Bidegrees(&file), BIDEGREES),
             (Call::Hilbert(&file), HILBERT),
+            (Call::Minimal(&file), MINIMAL),
         ] {
-            for (state, work, printed) in [
+            for (state, work, room) in [
                 (STATE - 1, WORK, room),
                 (STATE, WORK - 1, room),
                 (STATE, WORK, room - 1),
@@ -429,9 +452,9 @@ fn weight_lines(lists: &mut Lists) {
                 let lent = Lent {
                     state,
                     work,
-                    printed,
                     ..WHOLE
                 };
+                let lent = with_room(&call, room, lent);
                 let number = lists.compare.call(&call, &lent, LONG_BUDGET);
                 assert_eq!(number, Some(16));
             }
@@ -709,8 +732,10 @@ fn calls(wanted: u64, seed: u64, spoil: Option<Spoiled>) {
     for (kind, met) in KINDS.iter().zip(&compare.met) {
         println!("  {kind}: {}", counts(met).join(", "));
     }
-    let [bidegrees, hilbert] = compare.lines;
-    println!("  {bidegrees} calls printed lines of bidegrees, {hilbert} of the Hilbert function");
+    let [bidegrees, hilbert, minimal] = compare.lines;
+    println!(
+        "  {bidegrees} calls printed lines of bidegrees, {hilbert} of the Hilbert function, {minimal} a page of minimal numbers"
+    );
     let stack = on_small_stack(deepest);
     println!("  the tree at depth {DEEPEST} agrees, {stack}");
     if wanted < CALLS / 4 {
@@ -727,11 +752,12 @@ fn calls(wanted: u64, seed: u64, spoil: Option<Spoiled>) {
         &[0, 11, 12, 16],
         &[0, 16],
         &[0, 16],
+        &[0, 16],
     ];
     for ((kind, met), numbers) in KINDS.iter().zip(&compare.met).zip(expected) {
         for number in numbers {
             assert!(met[*number] > 0, "{number} did not come by {kind}");
         }
     }
-    assert!(compare.lines.iter().all(|lines| *lines >= 1_000));
+    assert!(bidegrees >= 1_000 && hilbert >= 1_000 && minimal >= 200);
 }

@@ -37,6 +37,11 @@ pub fn hilbert(file: &[u8], state: &mut [u16], work: &mut [u16], printed: &mut [
     wide(calls::hilbert(file, state, work, printed))
 }
 
+/// Number and length.
+pub fn minimal(file: &[u8], state: &mut [u16], work: &mut [u16], printed: &mut [u8]) -> (u64, u64) {
+    wide(calls::minimal(file, state, work, printed))
+}
+
 pub fn fetch(state: &[u16], out: &mut [u16], level: usize, vector: usize) -> (u64, u64) {
     wide(calls::fetch(state, out, level, vector))
 }

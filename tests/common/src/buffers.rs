@@ -42,12 +42,14 @@ pub const SHEET: usize = 1_400_000;
 pub const BIDEGREES: usize = 11 * VECTORS * 23;
 /// That of the Hilbert function: an X line and 512 W lines.
 pub const HILBERT: usize = 29 + 512 * 62;
+/// That of the minimal numbers, as of the Betti page: 20,666 rows and the totals.
+pub const MINIMAL: usize = 73 * (20_666 + 1);
 
 // as the page has them
 const _: () = assert!(ROW == 6 && rows(0) == 1_295 && LEVEL_ROWS == 12_288 && STATE == 125_471);
 const _: () = assert!(DEGREES == 124_175 && carried(0) == 124_191 && carried(9) == 125_343);
 const _: () = assert!(WORK == 3_072 && TREE_WORK == 24_576 && OUT == 3_072 && BIDEGREES == 32_384);
-const _: () = assert!(HILBERT == 31_773);
+const _: () = assert!(HILBERT == 31_773 && MINIMAL == 1_508_691);
 
 /// The word that holds how many vectors level k has; the ends of its vectors stand behind it.
 pub const fn count(k: usize) -> usize {

@@ -47,6 +47,8 @@ impl Program {
             By::File => {
                 std::fs::write(&self.input, file).expect("a temporary file");
                 let opened = std::fs::File::open(&self.input).expect("the temporary file");
+                // it is open: nothing is left behind, however the test ends
+                std::fs::remove_file(&self.input).expect("the temporary file");
                 command.stdin(Stdio::from(opened));
             }
             By::Pipe(_) => {
@@ -75,17 +77,5 @@ impl Program {
         let status = child.wait().expect("it ends");
         assert!(status.success(), "the program ended with {status}");
         printed
-    }
-
-    /// Takes away the file that stood for its standard input.
-    pub fn clean(&self) {
-        // it is not there where every file went through a pipe
-        let _ = std::fs::remove_file(&self.input);
-    }
-}
-
-impl Drop for Program {
-    fn drop(&mut self) {
-        self.clean();
     }
 }

@@ -12,61 +12,50 @@ mod count;
 
 use common::arguments::{asked, words};
 use common::examples::{examples, files_of};
-use common::files::{
-    changed_at, damage_some, many_monomials, random_problem, random_size, with_each_field,
-    with_some_weights, WRITTEN,
-};
-use common::program::{By, Program};
+use common::files::{damage_some, random_problem, random_size, with_some_weights};
+use common::printing::{spoils, Files, BUDGET, EXAMPLE_BUDGET};
+use common::program::By;
 use common::report::counts;
+use common::series::{
+    at_the_limits, every_change, every_change_of, every_place, variables_and_one, SMALL,
+};
 use compare::{Compare, SPOILS};
 use reference::generate::bigraded::bidegree_file;
 use reference::generate::degree_lines::with_degrees;
-use reference::generate::files::{exact_length_file, exact_t_lines_file, limit_file};
 use reference::generate::low::{hilbert_file, low_file};
-use reference::generate::pages::{
-    graded_tails, large_product, multiples_of_one, page_file, stopped_file, with_mixed_elements,
-};
-use reference::generate::problems::{problem_file, random_basis, random_set, weight_line};
+use reference::generate::pages::{multiples_of_one, page_file, stopped_file};
+use reference::generate::problems::{problem_file, random_basis, random_set};
 use reference::generate::weight_lines::{
-    random_weights, spoiled_weight_lines, variables_of, with_random_weights, with_weights,
-    without_weight_lines,
+    random_weights, spoiled_weight_lines, variables_of, with_random_weights, without_weight_lines,
 };
 use reference::random::Random;
 use std::path::Path;
 
 const FILES: u64 = 20_000;
 const SEED: u64 = 20_261_301;
-/// Products that a generated file may take; one that takes more is left out.
-const BUDGET: u64 = 20_000;
-/// The same for files at the limits.
-const LONG_BUDGET: u64 = 300_000;
-/// The same for the files of examples/.
-const EXAMPLE_BUDGET: u64 = 10_000_000;
-
-/// x1·e_2 + x2·e_1, x3·e_1 and x2²·e_1, the components of degrees 0 and 1: one vector of level 1.
-const SMALL: &str = "R,7,3,1,2\nD,0,1\nG,1,2,2,2,3,15\nT,1,1,2,1,0,0\nT,1,1,1,0,1,0\nT,2,1,1,0,0,1\nT,3,1,1,0,2,0\nE,4\n";
 
 fn main() {
-    let (mut wanted, seed, spoil) = asked(&words(), "files", (FILES, SEED), &SPOILS);
-    let mut compare = Compare::new(Program::new("hilbert", "HILBERT"));
-    compare.spoil = spoil.map(|what| (70, what));
+    let (mut wanted, seed, spoil) = asked(&words(), "files", (FILES, SEED), &spoils(&SPOILS));
+    let mut compare = Compare::new(spoil);
     let mut random = Random::new(seed);
     if spoil.is_some() {
         wanted = 400;
     } else {
         instances(&mut compare);
         printed(&mut compare);
-        every_change(&mut compare);
+        every_change(&mut compare, 131, 41);
+        every_change_of(SMALL, &mut compare, 11, 13);
         every_spoiled_line(&mut compare, &mut random);
         for (_, file) in examples() {
             compare.file_by(&file, EXAMPLE_BUDGET, By::Pipe(1_000));
             compare.file(&with_random_weights(&mut random, &file), EXAMPLE_BUDGET);
         }
-        at_the_limits(&mut compare, &mut random);
-        all_places(&mut compare, &mut random);
+        at_the_limits(&mut compare, &mut random, stopped_file);
+        // an element of two degrees, where the Betti page has 17
+        every_place(&mut compare, &mut random, multiples_of_one);
     }
-    let systematic = compare.files;
-    while compare.files < wanted {
+    let systematic = compare.printing.files;
+    while compare.printing.files < wanted {
         random_file(&mut compare, &mut random);
     }
     report(&compare, systematic, seed);
@@ -76,18 +65,13 @@ fn main() {
 }
 
 fn report(compare: &Compare, systematic: u64, seed: u64) {
-    println!(
-        "hilbert: {} files agree byte for byte ({systematic} systematic, {} left out that take more products, seed {seed}); program {}",
-        compare.files,
-        compare.left_out,
-        compare.program()
-    );
-    println!("  {}", counts(&compare.met).join(", "));
+    let printing = &compare.printing;
+    printing.report("hilbert", systematic, seed);
     println!(
         "  lines: {} files with a D line, {} with a G line, {} with an element of two degrees, {} with several components, {} with zeros alone, \
          {} with a last value above 0; by variables: {}; {} different lines, the longest of {} bytes",
-        compare.with_degrees,
-        compare.with_weights,
+        printing.with_degrees,
+        printing.with_weights,
         compare.mixed,
         compare.modules,
         compare.nothing,
@@ -103,39 +87,23 @@ fn report(compare: &Compare, systematic: u64, seed: u64) {
         compare.counted_mixed,
         compare.counted_modules,
         compare.counted_whole,
-        compare.without,
-        compare.stops
+        printing.without,
+        printing.stops()
     );
 }
 
 /// A run in which something hardly comes tests too little.
 fn enough(compare: &Compare) {
-    for number in [0, 1, 2, 3, 4, 5, 6, 7, 8, 9, 13, 14, 15, 18, 24] {
-        assert!(compare.met[number] >= 10, "number {number} came too seldom");
-    }
-    for number in [17, 20, 25] {
-        assert_eq!(compare.met[number], 0, "{number} is not tested here");
-    }
-    for stop in [
-        (13, 0),
-        (13, 1),
-        (14, 0),
-        (14, 2),
-        (14, 3),
-        (15, 0),
-        (15, 1),
-        (15, 2),
-    ] {
-        assert!(compare.stops.contains(&stop), "{stop:?} did not come");
-    }
+    let printing = &compare.printing;
+    printing.enough(&[], &[17, 20, 25]);
     assert!(compare.variables[1..].iter().all(|count| *count >= 20));
-    assert!(compare.with_degrees >= 1_000 && compare.with_weights >= 1_000);
+    assert!(printing.with_degrees >= 1_000 && printing.with_weights >= 1_000);
     assert!(compare.mixed >= 1_000 && compare.modules >= 1_000);
     assert!(compare.nothing >= 100 && compare.to_the_end >= 1_000);
     assert!(compare.lines.len() >= 5_000 && compare.longest == "H,32,246094992".len());
     assert!(compare.counted >= 2_000 && compare.counted_mixed >= 1_000);
     assert!(compare.counted_modules >= 500 && compare.counted_whole >= 1_000);
-    assert!(compare.without >= 300);
+    assert!(printing.without >= 300);
 }
 
 /// 33 lines with these values, the last of them repeated to the end.
@@ -183,14 +151,9 @@ fn printed(compare: &mut Compare) {
         }
     }
     // all variables, and 1 beside them: nine columns behind column 0
-    let mut file = String::new();
-    for x in 1..=9 {
-        let exponents: Vec<&str> = (1..=8).map(|y| if x == y { "1" } else { "0" }).collect();
-        file.push_str(&format!("T,{x},1,1,{}\n", exponents.join(",")));
-    }
-    let eight = file.lines().take(8).map(|line| format!("{line}\n"));
-    let eight = format!("R,7,8,3,1\n{}E,8\n", eight.collect::<String>());
-    let nine = format!("R,7,8,3,1\n{file}E,9\n");
+    let nine = variables_and_one();
+    let eight: Vec<&str> = nine.lines().take(9).chain(["E,8"]).collect();
+    let eight = eight.join("\n") + "\n";
     for by in ALL {
         compare.expect(eight.as_bytes(), lines(&[1, 0]).as_bytes(), by);
         compare.expect(nine.as_bytes(), lines(&[0]).as_bytes(), by);
@@ -220,27 +183,6 @@ fn printed(compare: &mut Compare) {
     }
 }
 
-/// Small files changed at a byte and in some fields, and one with all lines at many bytes: the reader has a test of its own.
-fn every_change(compare: &mut Compare) {
-    compare.file(b"", BUDGET);
-    compare.file(b"\n", BUDGET);
-    for (number, file) in WRITTEN.map(str::as_bytes).into_iter().enumerate() {
-        compare.file(file, BUDGET);
-        let at = 7 * (number + 1) % file.len();
-        changed_at(file, at, |changed| compare.file(changed, BUDGET));
-        with_each_field(file, 41, |changed| compare.file(changed, BUDGET));
-    }
-    let file = SMALL.as_bytes();
-    compare.file(file, BUDGET);
-    for at in 0..file.len() {
-        compare.file(&file[..at], BUDGET);
-        if at % 11 == 0 {
-            changed_at(file, at, |changed| compare.file(changed, BUDGET));
-        }
-    }
-    with_each_field(file, 13, |changed| compare.file(changed, BUDGET));
-}
-
 /// Every way to spoil a G line, and every degree of a component, with one beside it.
 fn every_spoiled_line(compare: &mut Compare, random: &mut Random) {
     let bare = without_weight_lines(SMALL.as_bytes());
@@ -252,58 +194,6 @@ fn every_spoiled_line(compare: &mut Compare, random: &mut Random) {
     for degree in 0..=256 {
         for degrees in [[degree, 2], [2, degree]] {
             compare.file(&with_degrees(&bare, &degrees), BUDGET);
-        }
-    }
-}
-
-/// Files of about 65,536 bytes and of about 2,048 T lines; levels and vectors about the longest; products about the largest.
-fn at_the_limits(compare: &mut Compare, random: &mut Random) {
-    for length in [65_535, 65_536, 65_537] {
-        let file = exact_length_file(random, length);
-        compare.file(&file, LONG_BUDGET);
-        compare.file(&file[..length - 1], LONG_BUDGET);
-        compare.file_by(&file, LONG_BUDGET, By::Pipe(4_096));
-        // with a G line, which counts for the length
-        let weights = random_weights(random, 8);
-        let shorter = length - weight_line(&weights).len() - 1;
-        let file = with_weights(&exact_length_file(random, shorter), &weights);
-        assert_eq!(file.len(), length);
-        compare.file(&file, LONG_BUDGET);
-    }
-    compare.file_by(&vec![b'\n'; 70_000], LONG_BUDGET, By::Pipe(65_536));
-    for lines in [2_047, 2_048, 2_049] {
-        for _ in 0..5 {
-            let file = exact_t_lines_file(random, lines);
-            compare.file(&file, LONG_BUDGET);
-            compare.file(&with_random_weights(random, &file), LONG_BUDGET);
-        }
-    }
-    for _ in 0..40 {
-        let problem = large_product(random);
-        compare.file(&problem_file(&problem), LONG_BUDGET);
-        compare.file(
-            &problem_file(&with_mixed_elements(random, problem)),
-            LONG_BUDGET,
-        );
-        let problem = graded_tails(random);
-        compare.file(&problem_file(&problem), LONG_BUDGET);
-        compare.file(
-            &problem_file(&with_mixed_elements(random, problem)),
-            LONG_BUDGET,
-        );
-        compare.file(&stopped_file(random), LONG_BUDGET);
-        let file = problem_file(&many_monomials(random));
-        compare.file(&with_random_weights(random, &file), LONG_BUDGET);
-        compare.file(&limit_file(random), LONG_BUDGET);
-    }
-}
-
-/// An element of two degrees in every place, where the Betti page has 17.
-fn all_places(compare: &mut Compare, random: &mut Random) {
-    for first in 1..=64 {
-        for count in [first.max(2), 64] {
-            let problem = multiples_of_one(random, count, first);
-            compare.file(&problem_file(&problem), BUDGET);
         }
     }
 }

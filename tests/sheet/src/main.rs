@@ -16,6 +16,7 @@ use common::files::{
 };
 use common::program::{By, Program};
 use common::report::counts;
+use common::series::variables_and_one;
 use compare::{Compare, Spoiled, SPOILS};
 use reference::generate::files::{edited_file, exact_length_file, exact_t_lines_file, limit_file};
 use reference::generate::problems::{problem_file, random_basis, random_set};
@@ -116,22 +117,12 @@ fn at_the_limits(compare: &mut Compare, random: &mut Random) {
     for tail in 165..185 {
         compare.file(&problem_file(&long_tails(random, tail)), LONG_BUDGET);
     }
-    compare.file(&nine_levels(), LONG_BUDGET);
+    // level 9 is printed
+    compare.file(variables_and_one().as_bytes(), LONG_BUDGET);
     for _ in 0..200 {
         compare.file(&problem_file(&many_monomials(random)), LONG_BUDGET);
         compare.file(&limit_file(random), LONG_BUDGET);
     }
-}
-
-/// The eight variables, then 1: the one basis here of which level 9 is printed.
-fn nine_levels() -> Vec<u8> {
-    let mut file = "R,7,8,3,1\n".to_string();
-    for x in 1..=9 {
-        let exponents: Vec<&str> = (1..=8).map(|y| if x == y { "1" } else { "0" }).collect();
-        file.push_str(&format!("T,{x},1,1,{}\n", exponents.join(",")));
-    }
-    file.push_str("E,9\n");
-    file.into_bytes()
 }
 
 fn random_file(compare: &mut Compare, random: &mut Random) {
@@ -149,7 +140,7 @@ fn random_file(compare: &mut Compare, random: &mut Random) {
     compare.file(&file, BUDGET);
 }
 
-/// The instances of document 01 and of requests A4, A5, A13 and A14, by name: the problem file, and the sheet that the documents say.
+/// The instances of document 01 and of requests A4, A5, A7, A13 and A14, by name: the problem file, and the sheet that the documents say.
 fn instances() -> Vec<(Vec<u8>, Vec<u8>)> {
     let folder = Path::new(env!("CARGO_MANIFEST_DIR")).join("instances");
     let files: Vec<(Vec<u8>, Vec<u8>)> = files_of(&folder)
@@ -159,7 +150,7 @@ fn instances() -> Vec<(Vec<u8>, Vec<u8>)> {
             (file, sheet)
         })
         .collect();
-    assert_eq!(files.len(), 37, "an instance is missing");
+    assert_eq!(files.len(), 39, "an instance is missing");
     files
 }
 
@@ -205,7 +196,6 @@ fn by_program(compare: &Compare, random: &mut Random) -> u64 {
                 *sheet.last_mut().expect("it prints something") ^= 1;
             }
             if sheet != *expected {
-                program.clean();
                 compare.differ(file, "the program prints something else", &sheet, expected);
             }
             runs += 1;

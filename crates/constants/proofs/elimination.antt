@@ -1,0 +1,5 @@
+pub mod Words
+pub mod Pivots
+pub mod Multiples
+pub mod Rowwise
+pub mod Turns

@@ -1,0 +1,3 @@
+pub mod elimination
+pub mod filling
+pub mod marking

@@ -1,0 +1,16 @@
+pub mod Degrees
+pub mod Sums
+pub mod OfDegree
+pub mod Constants
+pub mod Columns
+pub mod Annihilation
+pub mod Distinct
+pub mod Matrices
+pub mod Numbers
+pub mod Marked
+pub mod Pages
+pub mod Ends
+pub mod FileLevels
+pub mod Beside
+pub mod Files
+pub mod Minimal

@@ -1,0 +1,14 @@
+pub mod Choices
+pub mod Linear
+pub mod Dependence
+pub mod Spans
+pub mod Annihilation
+pub mod Elimination
+pub mod Members
+pub mod Independence
+pub mod Definition
+pub mod Apart
+pub mod Pivots
+pub mod Blocks
+pub mod Constants
+pub mod Ranks

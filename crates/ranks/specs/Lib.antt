@@ -1,0 +1,4 @@
+pub mod Notions
+pub mod Elimination
+pub mod Blocks
+pub mod Ranks
