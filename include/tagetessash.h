@@ -31,22 +31,28 @@ extern "C" {
  *     3    the state has degrees behind its rows, a D line is read, 18 is answered; all that a state of version 2 holds stands where it stood
  * tagetessash_betti, tagetessash_bidegrees, tagetessash_hilbert and tagetessash_minimal came later, one by one: a program of version 3 that does not call them
  * fits every library of version 3, and one that does is not linked with a library that has no such function. With the second came a file's G line, which was
- * refused with 1, and 24: no state holds its weights, and every file that was read before is read as before.
+ * refused with 1, and 24: no state holds its weights, and every file that was read before is read as before. Later still hybrid took work areas of fewer than
+ * TAGETESSASH_WORK_WORDS words: with as many or more every answer and every word is as before, and a library of version 3 from before refuses fewer with 16.
  * Version 1's buffers are long enough for version 3: a program that was compiled with that header is refused nothing and reads other words. Only the version
  * tells it. One of version 2 lends a state that is too short: where it does not ask for the version, every call answers 16. */
 #define TAGETESSASH_VERSION 3
 
 /* How many bytes of stack a call finds enough, from where it is called, so that a thread of this size and what its own functions need is safe. Of the stack
  * alone the library can not tell you that it is too small: the process dies. All calls but the tree's have arrays of fixed length and do not call themselves:
- * lifting by division and by hybrid take 69 KiB, the sheet 52, reading 28, fetching 11 (measured on x86-64, the thread's own few KiB included), whatever
- * the file; the rest is for what runs beside them in the thread. The tree calls itself, 4,096 deep at the most, since each unfinished subtree holds a term of
- * the work area: 3,055 KiB measured at that depth. */
+ * no file and no length of a work area makes them take more. From its caller's frame on (measured on x86-64; a thread has some 4 KiB of its own besides)
+ * lifting by division and by hybrid takes 64 KiB, among it 24,832 bytes for the level being made, 7,428 for tables of the levels below, 6,144 for a vector and
+ * 3,072 for the frame; reading takes 23 KiB, fetching 6, the sheet and the Betti page 48, the bidegrees 50, the Hilbert function 55, the minimal numbers 83.
+ * The rest is for what runs beside them in the thread. TAGETESSASH_LIFT_STACK_BYTES is enough for threads that read, lift by division or hybrid and fetch. The
+ * tree calls itself, 4,096 deep at the most, since each unfinished subtree holds a term of the work area: 3,050 KiB measured at that depth. */
 #define TAGETESSASH_STACK_BYTES 262144
+#define TAGETESSASH_LIFT_STACK_BYTES 98304
 #define TAGETESSASH_TREE_STACK_BYTES 4194304
 
-/* How many words a buffer has at the least; a shorter one is refused with 16, a longer one may be lent. The file and the cache may have any length. */
+/* How many words a buffer has at the least; a shorter one is refused with 16, a longer one may be lent. The file and the cache may have any length. The
+ * length of hybrid's work area says for how many terms of a working value there is room, see tagetessash_lift. */
 #define TAGETESSASH_STATE_WORDS 125471
-#define TAGETESSASH_WORK_WORDS 3072        /* to read, and to lift by division or hybrid */
+#define TAGETESSASH_WORK_WORDS 3072        /* to read, and to lift by division */
+#define TAGETESSASH_LEAST_WORK_WORDS 192   /* to lift by hybrid, which uses TAGETESSASH_WORK_WORDS of a longer one */
 #define TAGETESSASH_TREE_WORK_WORDS 24576  /* to lift by the tree */
 #define TAGETESSASH_OUT_WORDS 3072
 #define TAGETESSASH_SHEET_BYTES 1400000    /* the sheet's out has bytes */
@@ -55,7 +61,7 @@ extern "C" {
 #define TAGETESSASH_HILBERT_BYTES 31773    /* and that of the Hilbert function */
 
 /* The most that there can be. A longer file is refused with 1, more variables or components with 3, T lines for more terms of level 0 with 8, more terms of a
- * vector or of the tree's work area with 14, more vectors or terms of a level above 0 with 15. */
+ * vector, of a working value (as many as of a vector) or of the tree's work area with 14, more vectors or terms of a level above 0 with 15. */
 #define TAGETESSASH_FILE_BYTES 65536
 #define TAGETESSASH_VARIABLES 8
 #define TAGETESSASH_COMPONENTS 16
@@ -64,6 +70,9 @@ extern "C" {
 #define TAGETESSASH_LEVEL_TERMS 2048
 #define TAGETESSASH_VECTOR_TERMS 512
 #define TAGETESSASH_TREE_TERMS 4096
+
+/* The work area of hybrid has room for so many terms at the least, a row for each. */
+#define TAGETESSASH_LEAST_TERMS 32
 
 /* A Betti page, and a page of minimal numbers: columns 0 to 10 behind a label, each of so many bytes, and byte 10; 20,666 rows and the totals at the most. */
 #define TAGETESSASH_PAGE_COLUMNS 11
@@ -142,7 +151,8 @@ enum {
 
     /* a limit; the place is the level, 0 while a basis is being accepted */
     TAGETESSASH_EXPONENT_LIMIT = 13, /* a product has an exponent above 255 */
-    TAGETESSASH_TERM_LIMIT = 14,     /* a 513th term of a working value or vector, or a 4,097th in the tree's work area */
+    TAGETESSASH_TERM_LIMIT = 14,     /* a 513th term of a working value or vector, or a 4,097th in the tree's work area; by hybrid one for which the lent work
+                                      * area has no row */
     TAGETESSASH_LEVEL_LIMIT = 15,    /* a 129th frame term, or a 2,049th term of a level above 0 */
 
     /* No call returns these: they stand in the X line that is written instead of a page. The place is the first such element; that of 20 is the level. */
@@ -161,7 +171,13 @@ uint16_t tagetessash_read(const uint8_t *file, size_t file_bytes, uint16_t *stat
 
 /* Forms the frame of a level, 1 to 9, and lifts all its terms; the level below must be complete. After 0 the level is complete and those above it are dropped.
  * The cache is for the tree (a term takes a row); it is zeroed whichever way lifts. 4,096 rows serve every basis of examples/ well. The tree calls itself:
- * it needs TAGETESSASH_TREE_STACK_BYTES. */
+ * it needs TAGETESSASH_TREE_STACK_BYTES.
+ *
+ * By hybrid the work area may be one for w terms, w from TAGETESSASH_LEAST_TERMS to TAGETESSASH_VECTOR_TERMS: w is the number of whole rows in it, one for more
+ * is used up to 512 terms, one for fewer than 32 is refused with 16. 14 comes at term w + 1 of the working value, while the vector keeps its 512 terms. In the
+ * same call any w that finishes gives the same words of the state as 512 does; a larger w never refuses where a smaller one finished, and gives the same number
+ * where that is not 14. 14 empties the state as always: keep a copy to try again with more. The area is zeroed throughout, however long. Reading, division and
+ * the tree have no such choice, nor have the calls that print. */
 uint16_t tagetessash_lift(uint16_t *state, size_t state_words, uint16_t *work, size_t work_words, uint16_t *cache, size_t cache_words, size_t level,
     uint16_t way, uint16_t pick, size_t *place);
 

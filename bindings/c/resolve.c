@@ -1,12 +1,13 @@
 /* Resolves a problem file by all three ways, or by one: how many vectors and terms each level has, the vectors and degrees if asked, and whether the ways
  * agree.
  *
- *     resolve [-v] [-d] [-w WAY] [-c TERMS] FILE
+ *     resolve [-v] [-d] [-w WAY] [-c TERMS] [-r TERMS] FILE
  *
  *     -v          prints the vectors too, as the sheet does, after the first way that lifts a level
  *     -d          prints the degrees too, of the components and of each level's vectors in their sequence
  *     -w WAY      division, greatest, newest, oldest (hybrid by that term) or tree; without it division, greatest and tree
  *     -c TERMS    the tree's cache has so many terms, 4,096 without it
+ *     -r TERMS    hybrid's work area has room for so many terms, 32 or more, 512 without it
  *
  * Exits with 0 if the basis is accepted and the ways agree as far as they go (one way alone must go to the end), with 1 if the file is refused or they do not
  * agree, with 2 if it is used wrongly. */
@@ -168,15 +169,24 @@ static void say_vectors(const uint16_t *state, size_t level, const fetched *all)
     }
 }
 
+/* The words that so many terms take, as they are said on the command line; 0 where it says no number. */
+static int words_said(const char *said, size_t *count)
+{
+    char *end;
+    size_t terms = strtoul(said, &end, 10);
+    *count = terms * TAGETESSASH_ROW_WORDS;
+    return *end == 0 && end != said && said[0] != '-' && terms <= SIZE_MAX / sizeof(uint16_t) / TAGETESSASH_ROW_WORDS;
+}
+
 static int usage(void)
 {
-    fprintf(stderr, "resolve [-v] [-d] [-w division|greatest|newest|oldest|tree] [-c TERMS] FILE\n");
+    fprintf(stderr, "resolve [-v] [-d] [-w division|greatest|newest|oldest|tree] [-c TERMS] [-r TERMS] FILE\n");
     return 2;
 }
 
 int main(int arguments, char **argument)
 {
-    size_t file_bytes, cache_words, place, level, w, only = WAYS, cache_terms = CACHE_TERMS;
+    size_t file_bytes, place, level, w, only = WAYS, cache_words = CACHE_TERMS * TAGETESSASH_ROW_WORDS, room_words = TAGETESSASH_WORK_WORDS;
     const char *name = NULL;
     uint8_t *file;
     uint16_t *state, *out, *cache, number;
@@ -195,10 +205,10 @@ int main(int arguments, char **argument)
             if (only == WAYS)
                 return usage();
         } else if (strcmp(argument[a], "-c") == 0 && a + 1 < arguments) {
-            char *end;
-            a++;
-            cache_terms = strtoul(argument[a], &end, 10);
-            if (*end != 0 || end == argument[a] || argument[a][0] == '-' || cache_terms > SIZE_MAX / sizeof *cache / TAGETESSASH_ROW_WORDS)
+            if (!words_said(argument[++a], &cache_words))
+                return usage();
+        } else if (strcmp(argument[a], "-r") == 0 && a + 1 < arguments) {
+            if (!words_said(argument[++a], &room_words))
                 return usage();
         } else if (argument[a][0] != '-' && name == NULL)
             name = argument[a];
@@ -214,12 +224,11 @@ int main(int arguments, char **argument)
     file = read_whole(name, &file_bytes);
     state = words(TAGETESSASH_STATE_WORDS);
     out = words(TAGETESSASH_OUT_WORDS);
-    cache_words = cache_terms * TAGETESSASH_ROW_WORDS;
     cache = cache_words == 0 ? NULL : words(cache_words);
     memset(first, 0, sizeof first);
 
     for (w = 0; w < WAYS && read; w++) {
-        size_t work_words = ways[w].way == TAGETESSASH_TREE ? TAGETESSASH_TREE_WORK_WORDS : TAGETESSASH_WORK_WORDS;
+        size_t work_words = TAGETESSASH_WORK_WORDS;
         uint16_t *work;
 
         if (only == WAYS ? !ways[w].usual : w != only)
@@ -242,6 +251,12 @@ int main(int arguments, char **argument)
         say_level(state, 0);
         if (degrees)
             say_degrees(state, 0);
+        /* to lift it may be another length than to read */
+        if (ways[w].way != TAGETESSASH_DIVISION) {
+            free(work);
+            work_words = ways[w].way == TAGETESSASH_TREE ? TAGETESSASH_TREE_WORK_WORDS : room_words;
+            work = words(work_words);
+        }
         for (level = 1; level <= TAGETESSASH_HIGHEST_LEVEL; level++) {
             fetched now;
             number = tagetessash_lift(

@@ -7,7 +7,7 @@ use crate::bidegrees::bidegrees;
 use crate::engine::{Answer, Basis, Outcome, State};
 use crate::hilbert::{hilbert, HIGHEST_DEGREE};
 use crate::lifting::Way;
-use crate::limits::{Limits, MOST_DEGREE};
+use crate::limits::{Limits, LEAST_ROOM, MOST_DEGREE};
 use crate::minimal::minimal;
 use crate::monomial::{Exponents, Level, Monomial, Parameters, Term, Vector};
 use crate::program::Printed;
@@ -87,10 +87,33 @@ pub fn state_words(limits: &Limits) -> usize {
 /// The words a work buffer needs for reading (no way) or for lifting by that way.
 pub fn work_words(limits: &Limits, way: Option<Way>) -> usize {
     let rows = match way {
-        Some(Way::Tree) => limits.tree as usize,
-        _ => limits.working as usize,
+        Some(Way::Tree) => limits.tree,
+        // "A buffer for fewer than 32 is refusal 16"
+        Some(Way::Hybrid(_)) => LEAST_ROOM,
+        _ => limits.working,
     };
-    ROW * rows
+    ROW * rows as usize
+}
+
+/// The words of a work buffer that is long enough and as long as is of use: "of more 3,072 are
+/// used".
+pub fn whole_work_words(limits: &Limits, way: Option<Way>) -> usize {
+    let most = match way {
+        Some(Way::Tree) => limits.tree,
+        _ => limits.working,
+    };
+    work_words(limits, way).max(ROW * most as usize)
+}
+
+/// The limits of a lifting in a work buffer of so many words. "Hybrid's working value has room for
+/// as many terms as there are whole rows in work, its words divided by six, up to 512 (request
+/// A11)"; the vector keeps its limit, and the other ways have no such choice.
+fn limits_within(limits: &Limits, way: Way, work_words: usize) -> Limits {
+    let working = match way {
+        Way::Hybrid(_) => limits.working.min((work_words / ROW) as u64),
+        _ => limits.working,
+    };
+    Limits { working, ..*limits }
 }
 
 /// The words a buffer for a fetched vector needs.
@@ -151,13 +174,15 @@ pub fn lift_call_within(
     let mut held = read_state(limits, state);
     // "The cache's length in terms is the number of whole rows in it, its words divided by six."
     let cache_terms = (cache.len() / ROW) as u64;
-    let outcome = held.lift(limits, level, way, cache_terms, budget);
+    let within = limits_within(limits, way, work.len());
+    let outcome = held.lift(&within, level, way, cache_terms, budget);
     let Outcome::Answered(Answer { number, place, .. }) = outcome else {
         return None;
     };
     // "11, 12 and 16 change nothing in any buffer."
     if !matches!(number, 11 | 12) {
         write_state(limits, &held, state);
+        // "zeros, in the whole of it"
         work.fill(0);
         cache.fill(0);
     }

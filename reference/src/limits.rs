@@ -30,7 +30,8 @@ pub struct Limits {
     pub level_terms: u64,
     /// "levels 1 to 9"
     pub levels: u64,
-    /// "512 terms in a working value"
+    /// "512 terms in a working value"; the hybrid way may be lent a work buffer for fewer (request
+    /// A11)
     pub working: u64,
     /// "512 terms .. in a vector above level 0"
     pub vector: u64,
@@ -43,6 +44,9 @@ pub const MOST_DEGREE: u64 = 255;
 
 /// "A line `G,a1,b1,..,an,bn`, weights 0 to 15" (request A14). Nor is this.
 pub const MOST_WEIGHT: u64 = 15;
+
+/// "A buffer for fewer than 32 is refusal 16" (request A11). Nor is this.
+pub const LEAST_ROOM: u64 = 32;
 
 /// The names of the limits, in the order of the struct.
 pub const LIMIT_NAMES: [&str; 14] = [

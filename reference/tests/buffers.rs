@@ -31,8 +31,12 @@ fn lengths_of_document_01() {
     assert_eq!(state_words(&limits), 125_471);
     assert_eq!(work_words(&limits, None), 3_072);
     assert_eq!(work_words(&limits, Some(Way::Division)), 3_072);
-    assert_eq!(work_words(&limits, Some(Way::Hybrid(1))), 3_072);
+    assert_eq!(work_words(&limits, Some(Way::Hybrid(1))), 192);
     assert_eq!(work_words(&limits, Some(Way::Tree)), 24_576);
+    assert_eq!(whole_work_words(&limits, None), 3_072);
+    assert_eq!(whole_work_words(&limits, Some(Way::Division)), 3_072);
+    assert_eq!(whole_work_words(&limits, Some(Way::Hybrid(1))), 3_072);
+    assert_eq!(whole_work_words(&limits, Some(Way::Tree)), 24_576);
     assert_eq!(out_words(&limits), 3_072);
     let layout = Layout::new(&limits);
     for k in 0..10 {
@@ -156,7 +160,7 @@ fn sixteen_comes_first_and_changes_nothing() {
     let mut work = vec![0; 24_576];
     read_call(&limits, &file(&PRINTED), &mut good, &mut work);
     // a bad file, a level that is not complete, wrong numbers: 16 all the same
-    for (state_length, work_length) in [(125_470, 24_576), (125_471, 3_071), (0, 0)] {
+    for (state_length, work_length) in [(125_470, 24_576), (125_471, 191), (0, 0)] {
         let mut state = good[..state_length].to_vec();
         let mut work = vec![5; work_length];
         let before = (state.clone(), work.clone());
@@ -350,7 +354,16 @@ fn lists_of_calls_on_buffers() {
                 sixteens += 1;
                 continue;
             }
-            let answer = make_call(&limits, &mut held, call, None)
+            // "w is the number of whole rows in the area"
+            let mut within = limits;
+            if let Call::Lift {
+                way: Way::Hybrid(_),
+                ..
+            } = call
+            {
+                within.working = within.working.min(lent.work as u64 / 6);
+            }
+            let answer = make_call(&within, &mut held, call, None)
                 .answer()
                 .expect("no budget");
             assert_eq!(found, (answer.number, answer.place));
@@ -524,7 +537,7 @@ fn check_any_state(random: &mut Random, limits: &Limits, words: &[u16]) -> bool 
             way = Way::Hybrid(*random.pick(&[0, 4]));
         }
         let mut state = words.to_vec();
-        let mut work = garbage(random, work_words(limits, Some(way)));
+        let mut work = garbage(random, whole_work_words(limits, Some(way)));
         let mut cache = garbage(random, ROW * cache as usize + 3);
         let before = (state.clone(), work.clone(), cache.clone());
         let budget = Some(20_000);

@@ -1,5 +1,6 @@
-/* What the header says beyond the answers that resolve prints: its numbers, packed rows, null with length 0, buffers one word too short, wrong numbers, altered
- * states, levels dropped, degrees, weights, the accessors, the sheet, the Betti page, the minimal numbers, the bidegrees, the Hilbert function. */
+/* What the header says beyond the answers that resolve prints: its numbers, packed rows, null with length 0, buffers one word too short, work areas of many
+ * lengths for hybrid, wrong numbers, altered states, levels dropped, degrees, weights, the accessors, the sheet, the Betti page, the minimal numbers, the
+ * bidegrees, the Hilbert function. */
 #include <stdio.h>
 #include <stdlib.h>
 #include <string.h>
@@ -27,6 +28,7 @@ HOLDS(degrees_behind_rows, TAGETESSASH_DEGREES_AT == TAGETESSASH_ROWS_AT + LEVEL
 HOLDS(carried_behind_degrees, TAGETESSASH_CARRIED_AT == TAGETESSASH_DEGREES_AT + TAGETESSASH_COMPONENTS);
 HOLDS(the_state, TAGETESSASH_STATE_WORDS == TAGETESSASH_CARRIED_AT + LEVELS * TAGETESSASH_LEVEL_VECTORS);
 HOLDS(the_work_area, TAGETESSASH_WORK_WORDS == TAGETESSASH_VECTOR_TERMS * TAGETESSASH_ROW_WORDS);
+HOLDS(the_least_work_area, TAGETESSASH_LEAST_WORK_WORDS == TAGETESSASH_LEAST_TERMS * TAGETESSASH_ROW_WORDS);
 HOLDS(the_trees_work_area, TAGETESSASH_TREE_WORK_WORDS == TAGETESSASH_TREE_TERMS * TAGETESSASH_ROW_WORDS);
 HOLDS(a_pages_line, TAGETESSASH_PAGE_LINE_BYTES == (1 + TAGETESSASH_PAGE_COLUMNS) * TAGETESSASH_PAGE_CELL_BYTES + 1);
 HOLDS(whole_lines, TAGETESSASH_PAGE_BYTES % TAGETESSASH_PAGE_LINE_BYTES == 0);
@@ -318,6 +320,65 @@ static void one_word_short(void)
     CHECK(all(tree, TAGETESSASH_TREE_WORK_WORDS, 0));
 }
 
+/* Hybrid in work areas of many lengths (request A11). Of x + y^n + .. + y, y the working value has n terms by every pick code, once x y is gone, and the
+ * vector n + 2: with 33 for n it is 14 in room for 32 terms, and done in room for 33. */
+static void rooms(void)
+{
+#define ROWS(terms) ((terms) * TAGETESSASH_ROW_WORDS)
+    static const size_t lengths[] = { 0, 1, ROWS(TAGETESSASH_LEAST_TERMS - 1), TAGETESSASH_LEAST_WORK_WORDS - 1, TAGETESSASH_LEAST_WORK_WORDS,
+        TAGETESSASH_LEAST_WORK_WORDS + 1, ROWS(TAGETESSASH_LEAST_TERMS + 1) - 1, ROWS(TAGETESSASH_LEAST_TERMS + 1), ROWS(TAGETESSASH_LEAST_TERMS + 2) - 1,
+        TAGETESSASH_WORK_WORDS - 1, TAGETESSASH_WORK_WORDS, TAGETESSASH_WORK_WORDS + 1, TAGETESSASH_TREE_WORK_WORDS + 5 };
+    uint16_t *read = words(TAGETESSASH_STATE_WORDS), *area, pick, number;
+    size_t n, i;
+    for (n = TAGETESSASH_LEAST_TERMS; n <= TAGETESSASH_LEAST_TERMS + 1; n++) {
+        char text[1000], *at = text;
+        at += sprintf(at, "R,7,2,1,1\nT,1,1,1,1,0\n");
+        for (i = n; i != 0; i--)
+            at += sprintf(at, "T,1,1,1,0,%d\n", (int)i);
+        sprintf(at, "T,2,1,1,0,1\nE,%d\n", (int)n + 2);
+        CHECK(read_text(text) == TAGETESSASH_DONE);
+        memcpy(read, state, TAGETESSASH_STATE_WORDS * sizeof *state);
+        for (pick = TAGETESSASH_GREATEST; pick <= TAGETESSASH_OLDEST; pick++) {
+            memcpy(state, read, TAGETESSASH_STATE_WORDS * sizeof *state);
+            CHECK(lift(1, TAGETESSASH_HYBRID, pick) == TAGETESSASH_DONE && tagetessash_terms(state, 1, 1) == n + 2);
+            memcpy(before, state, TAGETESSASH_STATE_WORDS * sizeof *state);
+            for (i = 0; i < sizeof lengths / sizeof *lengths; i++) {
+                area = words(lengths[i] + (lengths[i] == 0));
+                fill(area, lengths[i], 5);
+                memcpy(state, read, TAGETESSASH_STATE_WORDS * sizeof *state);
+                place = 99;
+                number = tagetessash_lift(state, TAGETESSASH_STATE_WORDS, area, lengths[i], NULL, 0, 1, TAGETESSASH_HYBRID, pick, &place);
+                if (lengths[i] < TAGETESSASH_LEAST_WORK_WORDS) {
+                    CHECK(number == TAGETESSASH_SHORT_BUFFER && place == 0 && all(area, lengths[i], 5));
+                    CHECK(memcmp(state, read, TAGETESSASH_STATE_WORDS * sizeof *state) == 0);
+                } else if (lengths[i] < ROWS(n)) {
+                    CHECK(number == TAGETESSASH_TERM_LIMIT && place == 1 && all(area, lengths[i], 0) && all(state, TAGETESSASH_STATE_WORDS, 0));
+                } else {
+                    CHECK(number == TAGETESSASH_DONE && place == 0 && all(area, lengths[i], 0));
+                    CHECK(memcmp(state, before, TAGETESSASH_STATE_WORDS * sizeof *state) == 0);
+                }
+                free(area);
+            }
+        }
+    }
+    free(read);
+    /* 16 before 11 and 12, in the shortest area these; a way that there is not is a pick code of hybrid that there is not */
+    fill(state, TAGETESSASH_STATE_WORDS, 0);
+    area = words(TAGETESSASH_LEAST_WORK_WORDS);
+    fill(area, TAGETESSASH_LEAST_WORK_WORDS, 5);
+#define LIFT(length, way, pick) tagetessash_lift(state, TAGETESSASH_STATE_WORDS, area, length, NULL, 0, 1, way, pick, &place)
+    REFUSED(LIFT(TAGETESSASH_LEAST_WORK_WORDS - 1, TAGETESSASH_HYBRID, TAGETESSASH_GREATEST), TAGETESSASH_SHORT_BUFFER);
+    REFUSED(LIFT(TAGETESSASH_LEAST_WORK_WORDS, TAGETESSASH_HYBRID, TAGETESSASH_GREATEST), TAGETESSASH_NO_LEVEL);
+    CHECK(read_text(three) == TAGETESSASH_DONE);
+    REFUSED(LIFT(TAGETESSASH_LEAST_WORK_WORDS - 1, TAGETESSASH_HYBRID, 4), TAGETESSASH_SHORT_BUFFER);
+    REFUSED(LIFT(TAGETESSASH_LEAST_WORK_WORDS, TAGETESSASH_HYBRID, 4), TAGETESSASH_BAD_NUMBER);
+    REFUSED(LIFT(TAGETESSASH_LEAST_WORK_WORDS, 3, TAGETESSASH_GREATEST), TAGETESSASH_BAD_NUMBER);
+    REFUSED(LIFT(TAGETESSASH_LEAST_WORK_WORDS, TAGETESSASH_DIVISION, 0), TAGETESSASH_SHORT_BUFFER);
+    REFUSED(LIFT(TAGETESSASH_LEAST_WORK_WORDS, TAGETESSASH_TREE, 0), TAGETESSASH_SHORT_BUFFER);
+    CHECK(all(area, TAGETESSASH_LEAST_WORK_WORDS, 5));
+    free(area);
+}
+
 /* -x - y, -y modulo p: the vector x e_2 - y e_1 + y e_2 by every way; p - 1 does not fit fifteen bits */
 static void large_prime(unsigned p)
 {
@@ -574,6 +635,7 @@ int main(void)
     null_with_length_0();
     without_a_basis();
     one_word_short();
+    rooms();
     levels_and_accessors();
     large_prime(65521);
     large_prime(65519);

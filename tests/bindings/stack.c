@@ -1,6 +1,7 @@
 /* How much stack each call takes: each runs in a thread whose stack has the bytes that the header says are enough, painted before, looked at after.
  *
- *     stack FILE..            prints the most that each call took; exits with 1 if one took more than three quarters of what the header says
+ *     stack FILE..            prints the most that each call took, from its caller's frame on and with what the thread has of its own; exits with 1 if one
+ *                             took over a KiB more than the header says was measured, or its thread over three quarters of what the header says is enough
  *     stack -b BYTES FILE..   with stacks of so many bytes instead: where these are too few the process dies by a signal, at the guard page below */
 #define _DEFAULT_SOURCE
 #include <pthread.h>
@@ -17,9 +18,24 @@
 static const char deep[] = "R,7,5,1,2\nT,1,1,2,1,0,0,0,0\nT,1,1,1,0,8,11,244,1\nT,2,1,2,1,0,0,0,0\nT,2,1,1,0,8,11,244,1\nT,3,1,1,0,0,0,0,1\n"
                            "T,3,6,1,0,0,0,0,0\nT,4,1,1,0,0,1,0,0\nT,4,6,1,0,0,0,1,1\nT,4,1,1,0,0,0,1,0\nT,5,1,1,0,1,0,254,0\nT,5,6,1,0,0,254,0,0\nE,11\n";
 
-enum { READ, DIVISION, HYBRID, TREE, FETCH, SHEET, BETTI, MINIMAL, BIDEGREES, HILBERT, CALLS };
-static const char *const names[CALLS] = { "read", "lift by division", "lift by hybrid", "lift by the tree", "fetch", "sheet", "Betti page",
-    "minimal numbers", "bidegrees", "Hilbert function" };
+enum { READ, DIVISION, HYBRID, NARROW, TREE, FETCH, SHEET, BETTI, MINIMAL, BIDEGREES, HILBERT, CALLS };
+/* what is enough, and the KiB that the header says were measured */
+static const struct {
+    const char *name;
+    size_t enough, kib;
+} calls[CALLS] = {
+    { "read", TAGETESSASH_LIFT_STACK_BYTES, 23 },
+    { "lift by division", TAGETESSASH_LIFT_STACK_BYTES, 64 },
+    { "lift by hybrid", TAGETESSASH_LIFT_STACK_BYTES, 64 },
+    { "lift by hybrid in the least work area", TAGETESSASH_LIFT_STACK_BYTES, 64 },
+    { "lift by the tree", TAGETESSASH_TREE_STACK_BYTES, 3050 },
+    { "fetch", TAGETESSASH_LIFT_STACK_BYTES, 6 },
+    { "sheet", TAGETESSASH_STACK_BYTES, 48 },
+    { "Betti page", TAGETESSASH_STACK_BYTES, 48 },
+    { "minimal numbers", TAGETESSASH_STACK_BYTES, 83 },
+    { "bidegrees", TAGETESSASH_STACK_BYTES, 50 },
+    { "Hilbert function", TAGETESSASH_STACK_BYTES, 55 },
+};
 
 static uint8_t file[TAGETESSASH_FILE_BYTES], sheet[TAGETESSASH_SHEET_BYTES], page[TAGETESSASH_PAGE_BYTES], lines[TAGETESSASH_BIDEGREES_BYTES],
     values[TAGETESSASH_HILBERT_BYTES];
@@ -27,17 +43,22 @@ static size_t file_bytes, level, place;
 static uint16_t state[TAGETESSASH_STATE_WORDS], work[TAGETESSASH_TREE_WORK_WORDS], cache[CACHE_WORDS], out[TAGETESSASH_OUT_WORDS];
 static uint16_t number;
 static int call;
+static const uint8_t *frame;
+
+static uint16_t lift(size_t work_words, uint16_t way)
+{
+    return tagetessash_lift(state, TAGETESSASH_STATE_WORDS, work, work_words, cache, CACHE_WORDS, level, way, TAGETESSASH_GREATEST, &place);
+}
 
 static void *run(void *nothing)
 {
+    frame = __builtin_frame_address(0);
     switch (call) {
     case READ: number = tagetessash_read(file, file_bytes, state, TAGETESSASH_STATE_WORDS, work, TAGETESSASH_WORK_WORDS, &place); break;
-    case DIVISION:
-    case HYBRID:
-    case TREE:
-        number = tagetessash_lift(state, TAGETESSASH_STATE_WORDS, work, TAGETESSASH_TREE_WORK_WORDS, cache, CACHE_WORDS, level, (uint16_t)(call - DIVISION),
-            TAGETESSASH_GREATEST, &place);
-        break;
+    case DIVISION: number = lift(TAGETESSASH_WORK_WORDS, TAGETESSASH_DIVISION); break;
+    case HYBRID: number = lift(TAGETESSASH_WORK_WORDS, TAGETESSASH_HYBRID); break;
+    case NARROW: number = lift(TAGETESSASH_LEAST_WORK_WORDS, TAGETESSASH_HYBRID); break;
+    case TREE: number = lift(TAGETESSASH_TREE_WORK_WORDS, TAGETESSASH_TREE); break;
     case FETCH: number = tagetessash_fetch(state, TAGETESSASH_STATE_WORDS, out, TAGETESSASH_OUT_WORDS, level, 1, &place); break;
     case SHEET:
         number = tagetessash_sheet(
@@ -63,12 +84,18 @@ static void *run(void *nothing)
     return nothing;
 }
 
-/* Makes the call in a thread with so much stack, and gives how many bytes of it were written. */
-static size_t taken(int which, size_t bytes)
+/* bytes of a stack that were written: from the frame of the call's caller on, and in all */
+typedef struct {
+    size_t call, whole;
+} bytes_taken;
+
+/* Makes the call in a thread with so much stack. */
+static bytes_taken taken(int which, size_t bytes)
 {
     uint8_t *whole = mmap(NULL, GUARD + bytes, PROT_READ | PROT_WRITE, MAP_PRIVATE | MAP_ANONYMOUS, -1, 0), *stack = whole + GUARD;
     pthread_attr_t how;
     pthread_t thread;
+    bytes_taken most;
     size_t low = 0;
     call = which;
     if (whole == MAP_FAILED || mprotect(whole, GUARD, PROT_NONE) != 0)
@@ -80,13 +107,18 @@ static size_t taken(int which, size_t bytes)
     pthread_attr_destroy(&how);
     while (low < bytes && stack[low] == 0xA5)
         low++;
+    most.call = (size_t)(frame - (stack + low));
+    most.whole = bytes - low;
     munmap(whole, GUARD + bytes);
-    return bytes - low;
+    return most;
 }
+
+static size_t kib(size_t bytes) { return (bytes + 1023) / 1024; }
 
 int main(int arguments, char **argument)
 {
-    size_t most[CALLS] = { 0 }, given = 0, enough, here;
+    bytes_taken most[CALLS] = { { 0, 0 } }, here;
+    size_t given = 0, enough;
     int a = 1, which, bad = 0;
     if (arguments > 2 && strcmp(argument[1], "-b") == 0) {
         given = strtoul(argument[2], NULL, 10);
@@ -104,13 +136,19 @@ int main(int arguments, char **argument)
             fclose(in);
         }
         for (which = READ; which < CALLS; which++) {
-            enough = given != 0 ? given : which == TREE ? TAGETESSASH_TREE_STACK_BYTES : TAGETESSASH_STACK_BYTES;
+            enough = given != 0 ? given : calls[which].enough;
             level = 1;
             number = 0;
             do {
                 here = taken(which, enough);
-                if (here > most[which])
-                    most[which] = here;
+                if (here.call > most[which].call)
+                    most[which].call = here.call;
+                if (here.whole > most[which].whole)
+                    most[which].whole = here.whole;
+                if (number == TAGETESSASH_SHORT_BUFFER) {
+                    printf("stack: %s: refused 16\n", calls[which].name);
+                    bad = 1;
+                }
                 level++;
             } while (number == 0 && which >= DIVISION && which <= FETCH && level <= TAGETESSASH_HIGHEST_LEVEL);
             /* a limit empties the state */
@@ -122,9 +160,10 @@ int main(int arguments, char **argument)
         }
     }
     for (which = READ; which < CALLS; which++) {
-        enough = which == TREE ? TAGETESSASH_TREE_STACK_BYTES : TAGETESSASH_STACK_BYTES;
-        printf("stack: %s: %zu KiB of %zu\n", names[which], (most[which] + 1023) / 1024, enough / 1024);
-        if (most[which] > enough / 4 * 3)
+        enough = calls[which].enough;
+        printf("stack: %s: %zu bytes, %zu KiB; the thread %zu KiB of %zu\n", calls[which].name, most[which].call, kib(most[which].call),
+            kib(most[which].whole), enough / 1024);
+        if (kib(most[which].call) > calls[which].kib + 1 || most[which].whole > enough / 4 * 3)
             bad = 1;
     }
     return bad;

@@ -1,19 +1,20 @@
 //! Resolves a problem file by all three ways, or by one: how many vectors and terms each level has, the vectors and degrees if asked, and whether the ways
 //! agree. Prints what bindings/c/resolve.c prints.
 //!
-//!     resolve [-v] [-d] [-w WAY] [-c TERMS] FILE
+//!     resolve [-v] [-d] [-w WAY] [-c TERMS] [-r TERMS] FILE
 //!
 //!     -v          prints the vectors too, as the sheet does, after the first way that lifts a level
 //!     -d          prints the degrees too, of the components and of each level's vectors in their sequence
 //!     -w WAY      division, greatest, newest, oldest (hybrid by that term) or tree; without it division, greatest and tree
 //!     -c TERMS    the tree's cache has so many terms, 4,096 without it
+//!     -r TERMS    hybrid's work area has room for so many terms, 32 or more, 512 without it
 //!
 //! Exits with 0 if the basis is accepted and the ways agree as far as they go (one way alone must go to the end), with 1 if the file is refused or they do
 //! not agree, with 2 if it is used wrongly.
 
 use std::io::{stdout, BufWriter, Result, Write};
 use std::process::ExitCode;
-use tagetessash::{Engine, Pick, Refusal, Term, Way, CACHE_TERMS, HIGHEST_LEVEL};
+use tagetessash::{Engine, Pick, Refusal, Term, Way, CACHE_TERMS, HIGHEST_LEVEL, WORKING_TERMS};
 
 /// A way's name on the command line, what is printed for it, and whether it is taken when none is named.
 const WAYS: [(&str, &str, Way, bool); 5] = [
@@ -45,11 +46,12 @@ struct Asked {
     degrees: bool,
     way: Option<String>,
     cache: usize,
+    room: usize,
 }
 
 fn asked() -> Option<Asked> {
     let (mut file, mut vectors, mut degrees) = (None, false, false);
-    let (mut way, mut cache) = (None, CACHE_TERMS);
+    let (mut way, mut cache, mut room) = (None, CACHE_TERMS, WORKING_TERMS);
     let mut arguments = std::env::args().skip(1);
     while let Some(word) = arguments.next() {
         match word.as_str() {
@@ -63,6 +65,7 @@ fn asked() -> Option<Asked> {
                 )
             }
             "-c" => cache = arguments.next()?.parse().ok()?,
+            "-r" => room = arguments.next()?.parse().ok()?,
             _ if word.starts_with('-') || file.is_some() => return None,
             _ => file = Some(word),
         }
@@ -73,12 +76,13 @@ fn asked() -> Option<Asked> {
         degrees,
         way,
         cache,
+        room,
     })
 }
 
 fn main() -> ExitCode {
     let Some(asked) = asked() else {
-        eprintln!("resolve [-v] [-d] [-w division|greatest|newest|oldest|tree] [-c TERMS] FILE");
+        eprintln!("resolve [-v] [-d] [-w division|greatest|newest|oldest|tree] [-c TERMS] [-r TERMS] FILE");
         return ExitCode::from(2);
     };
     let resolved = std::fs::read(&asked.file)
@@ -126,7 +130,7 @@ fn resolve(file: &[u8], asked: &Asked, out: &mut impl Write) -> Result<bool> {
             say_degrees(&engine, 0, out)?;
         }
         for level in 1..=HIGHEST_LEVEL {
-            let vectors = match lifted(&mut engine, level, way) {
+            let vectors = match lifted(&mut engine, level, way, asked.room) {
                 Ok(vectors) => vectors,
                 Err(refusal) => {
                     writeln!(out, "  {refusal}")?;
@@ -173,13 +177,17 @@ fn resolve(file: &[u8], asked: &Asked, out: &mut impl Write) -> Result<bool> {
     Ok(agree && (whole || asked.way.is_none()))
 }
 
-/// A level lifted, and all its vectors fetched.
+/// A level lifted, by hybrid in this room, and all its vectors fetched.
 fn lifted(
     engine: &mut Engine,
     level: usize,
     way: Way,
+    room: usize,
 ) -> std::result::Result<Vec<Vec<Term>>, Refusal> {
-    engine.lift(level, way)?;
+    match way {
+        Way::Hybrid(pick) => engine.lift_within(level, pick, room)?,
+        _ => engine.lift(level, way)?,
+    }
     (1..=engine.count(level))
         .map(|v| engine.fetch(level, v))
         .collect()

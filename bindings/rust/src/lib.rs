@@ -40,6 +40,10 @@ pub const VERSION: u16 = 3;
 
 /// The highest level.
 pub const HIGHEST_LEVEL: usize = 9;
+/// The terms of a working value for which the hybrid way may be given room at the least ([`Engine::lift_within`]): `TAGETESSASH_LEAST_TERMS` of the header.
+pub const LEAST_TERMS: usize = 32;
+/// The terms of a working value at the most, and of a vector above level 0: `TAGETESSASH_VECTOR_TERMS` of the header.
+pub const WORKING_TERMS: usize = 512;
 /// The length of the tree's cache in terms, unless [`Engine::with_cache`] says another.
 pub const CACHE_TERMS: usize = 4_096;
 
@@ -204,7 +208,7 @@ impl Engine {
         fitting();
         Engine {
             state: vec![0; STATE_WORDS],
-            work: vec![0; TREE_WORK_WORDS],
+            work: vec![0; WORK_WORDS],
             cache: vec![0; terms.saturating_mul(ROW_WORDS)],
             out: vec![0; OUT_WORDS],
         }
@@ -234,16 +238,10 @@ impl Engine {
                 let work = &mut self.work[..WORK_WORDS];
                 calls::lift(state, work, cache, level, 0, 0)
             }
-            Way::Hybrid(pick) => {
-                let work = &mut self.work[..WORK_WORDS];
-                let code = match pick {
-                    Pick::Greatest => 1,
-                    Pick::Newest => 2,
-                    Pick::Oldest => 3,
-                };
-                calls::lift(state, work, cache, level, 1, code)
-            }
+            Way::Hybrid(pick) => return self.lift_within(level, pick, WORKING_TERMS),
             Way::Tree => {
+                // the only call that needs so much
+                self.work.resize(TREE_WORK_WORDS, 0);
                 let work = &mut self.work[..];
                 std::thread::scope(|scope| {
                     std::thread::Builder::new()
@@ -255,6 +253,39 @@ impl Engine {
                 })
             }
         })
+    }
+
+    /// Lifts a level as [`Engine::lift`] does, by the hybrid way with room for so many terms of a working value: [`LEAST_TERMS`] to [`WORKING_TERMS`]. More
+    /// are used up to [`WORKING_TERMS`], fewer are refused with [`Refusal::ShortBuffer`], which changes nothing. [`Refusal::TermLimit`] comes at the next term;
+    /// a vector keeps its 512. Wherever it finishes the level is the same, and with more room it finishes too.
+    ///
+    /// ```
+    /// use tagetessash::{Engine, Pick, Refusal, Way, LEAST_TERMS};
+    /// let file = b"R,7,2,1,1\nT,1,1,1,1,0\nT,1,1,1,0,1\nT,2,1,1,0,2\nT,2,1,1,0,0\nE,4\n";
+    /// let mut engine = Engine::new();
+    /// engine.read(file)?;
+    /// assert_eq!(engine.lift_within(1, Pick::Greatest, 31), Err(Refusal::ShortBuffer));
+    /// engine.lift_within(1, Pick::Greatest, LEAST_TERMS)?;
+    /// let narrow = engine.fetch(1, 1)?;
+    /// engine.lift(1, Way::Hybrid(Pick::Greatest))?;
+    /// assert_eq!(engine.fetch(1, 1)?, narrow);
+    /// # Ok::<(), tagetessash::Refusal>(())
+    /// ```
+    pub fn lift_within(&mut self, level: usize, pick: Pick, terms: usize) -> Result<(), Refusal> {
+        let words = terms.saturating_mul(ROW_WORDS).min(WORK_WORDS);
+        let code = match pick {
+            Pick::Greatest => 1,
+            Pick::Newest => 2,
+            Pick::Oldest => 3,
+        };
+        answer(calls::lift(
+            &mut self.state,
+            &mut self.work[..words],
+            &mut self.cache,
+            level,
+            1,
+            code,
+        ))
     }
 
     /// Vector 1 to [`Engine::count`] of a complete level, 1 to 9, its greatest term first.

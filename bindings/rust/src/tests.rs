@@ -1,6 +1,6 @@
 use crate::{
     betti, bidegrees, calls, hilbert, layout, minimal, sheet, Engine, Order, Pick, Printing,
-    Problem, Refusal, Term, Way, HIGHEST_LEVEL, VERSION,
+    Problem, Refusal, Term, Way, HIGHEST_LEVEL, LEAST_TERMS, VERSION, WORKING_TERMS,
 };
 
 const PRINTED: &[u8] = b"R,7,2,1,1\nT,1,1,1,1,0\nT,1,1,1,0,1\nT,2,1,1,0,2\nT,2,1,1,0,0\nE,4\n";
@@ -118,6 +118,97 @@ fn the_deepest_tree() {
     engine.lift(1, Way::Tree).expect("no limit is met");
     let by_tree: Vec<_> = (1..=engine.count(1)).map(|v| engine.fetch(1, v)).collect();
     assert_eq!(by_division, by_tree);
+}
+
+/// x + y^n + .. + y, y: by every pick code the working value has n terms and the vector n + 2
+fn tailed(n: u8) -> Vec<u8> {
+    let mut problem = Problem::new(7, 2, Order::Lexicographic, 1);
+    let tail = (1..=n).map(|i| Term::new(1, 1, &[0, i]));
+    problem.element(tail.chain([Term::new(1, 1, &[1])]));
+    problem.element([Term::new(1, 1, &[0, 1])]);
+    problem.file()
+}
+
+/// request A11: 16 below 32 terms, then 14 below as many as the value has, then the same words of the state
+#[test]
+fn hybrid_in_every_room() {
+    for n in [5, 32, 33, 40, 100, 254] {
+        for pick in [Pick::Greatest, Pick::Newest, Pick::Oldest] {
+            let mut read = Engine::with_cache(3);
+            read.read(&tailed(n)).expect("a Gröbner basis");
+            let mut whole = read.clone();
+            whole.lift(1, Way::Hybrid(pick)).expect("no limit is met");
+            let terms = usize::from(n);
+            assert_eq!(whole.terms(1), terms + 2);
+            let rooms = (30..=42).chain([0, 1, 99, 100, 101, 253, 254, 255]);
+            for room in rooms.chain([511, 512, 513, 100_000, usize::MAX]) {
+                let mut engine = read.clone();
+                let lifted = engine.lift_within(1, pick, room);
+                if room < LEAST_TERMS {
+                    assert_eq!(lifted, Err(Refusal::ShortBuffer));
+                    assert_eq!(engine.state, read.state);
+                } else if room < terms {
+                    assert_eq!(lifted, Err(Refusal::TermLimit { level: 1 }));
+                    assert_eq!(engine.complete(), 0);
+                } else {
+                    assert_eq!(lifted, Ok(()));
+                    assert_eq!(engine.state, whole.state);
+                }
+            }
+        }
+    }
+}
+
+/// the call itself with slices of any length: whole rows count, and what is lent is zero afterwards
+#[test]
+fn hybrid_in_slices_of_any_length() {
+    let least = LEAST_TERMS * layout::ROW_WORDS;
+    assert_eq!(of_header("LEAST_WORK_WORDS"), Some(least));
+    let mut read = Engine::new();
+    read.read(&tailed(33)).expect("a Gröbner basis");
+    for (words, number) in [
+        (0, 16),
+        (least - 1, 16),
+        (least, 14),
+        (least + layout::ROW_WORDS - 1, 14),
+        (least + layout::ROW_WORDS, 0),
+        (least + layout::ROW_WORDS + 1, 0),
+        (layout::WORK_WORDS - 1, 0),
+        (layout::WORK_WORDS + 1, 0),
+        (layout::TREE_WORK_WORDS + 1, 0),
+    ] {
+        let (mut state, mut work, mut cache) = (read.state.clone(), vec![5; words], vec![5; 20]);
+        let place = usize::from(number == 14);
+        let answer = calls::lift(&mut state, &mut work, &mut cache, 1, 1, 3);
+        assert_eq!(answer, (number, place), "{words} words");
+        let left = if number == 16 { 5 } else { 0 };
+        assert!(work.iter().chain(&cache).all(|word| *word == left));
+        assert_eq!(state == read.state, number == 16);
+    }
+}
+
+/// engines on threads of their own, each in the least room, give what one alone gives
+#[test]
+fn engines_side_by_side() {
+    let file = include_bytes!("../../../examples/delpezzo6.txt");
+    let lifted = |room: usize, pick: Pick| {
+        let mut engine = Engine::with_cache(0);
+        engine.read(file).expect("a Gröbner basis");
+        let mut levels = 0;
+        while levels == 0 || engine.count(levels) != 0 {
+            levels += 1;
+            let done = engine.lift_within(levels, pick, room);
+            done.expect("no limit is met");
+        }
+        engine.state
+    };
+    let alone = lifted(WORKING_TERMS, Pick::Greatest);
+    std::thread::scope(|scope| {
+        for pick in [Pick::Greatest, Pick::Newest, Pick::Oldest].repeat(8) {
+            let (lifted, alone) = (&lifted, &alone);
+            scope.spawn(move || assert_eq!(lifted(LEAST_TERMS, pick), *alone));
+        }
+    });
 }
 
 /// the printed example of document 01, and instance 10: "empty file prints `X,1,1`"
@@ -506,6 +597,8 @@ fn the_library_is_of_this_version() {
     assert_eq!(calls::version(), VERSION);
     assert_eq!(of_header("VERSION"), Some(usize::from(VERSION)));
     assert_eq!(of_header("HIGHEST_LEVEL"), Some(HIGHEST_LEVEL));
+    assert_eq!(of_header("LEAST_TERMS"), Some(LEAST_TERMS));
+    assert_eq!(of_header("VECTOR_TERMS"), Some(WORKING_TERMS));
 }
 
 /// The number that the header has by this name.

@@ -33,7 +33,7 @@ limits-1 = record {
 
 abbrev list-1 : List Call
 list-1 = fetching true 1 1 ∷ reading true (text ("R,3,4,2,1" ∷ "T,1,1,1,1,0,1,0" ∷ "T,1,2,1,0,0,0,2" ∷ "T,2,1,1,0,1,0,0" ∷ "T,2,2,1,0,0,0,1" ∷ "E,4" ∷ []))
-    ∷ lifting true 1 by-division ∷ lifting true 2 (by-tree 2) ∷ lifting true 3 (by-tree 60) ∷ lifting true 3 (by-hybrid 3) ∷ []
+    ∷ lifting true 1 by-division ∷ lifting true 2 (by-tree 2) ∷ lifting true 3 (by-tree 60) ∷ lifting true 3 (by-hybrid 3 512) ∷ []
 
 seen-1 : seen limits-1 2000 empty list-1 ≡ some (text ("A,11,0" ∷ "A,0,0" ∷ "A,0,0" ∷ "A,0,0" ∷ "A,0,0" ∷ "A,0,0" ∷ []))
 seen-1 = refl
@@ -67,14 +67,14 @@ limits-2 = record {
 }
 
 abbrev list-2 : List Call
-list-2 = lifting true 1 (by-hybrid 0) ∷ reading true (82 ∷ 44 ∷ 51 ∷ 50 ∷ 55 ∷ 52 ∷ 57 ∷ 44 ∷ 52 ∷ 44 ∷ 51 ∷ 44 ∷ 50 ∷ 10 ∷ 68 ∷ 44 ∷ 49 ∷ 13 ∷ 44 ∷ 48 ∷ 10
+list-2 = lifting true 1 (by-hybrid 0 512) ∷ reading true (82 ∷ 44 ∷ 51 ∷ 50 ∷ 55 ∷ 52 ∷ 57 ∷ 44 ∷ 52 ∷ 44 ∷ 51 ∷ 44 ∷ 50 ∷ 10 ∷ 68 ∷ 44 ∷ 49 ∷ 13 ∷ 44 ∷ 48 ∷ 10
     ∷ 84 ∷ 44 ∷ 49 ∷ 44 ∷ 51 ∷ 50 ∷ 55 ∷ 52 ∷ 56 ∷ 44 ∷ 50 ∷ 44 ∷ 48 ∷ 44 ∷ 48 ∷ 44 ∷ 48 ∷ 44 ∷ 49 ∷ 10 ∷ 84 ∷ 44 ∷ 50 ∷ 44 ∷ 51 ∷ 50 ∷ 55 ∷ 52 ∷ 56 ∷ 44 ∷ 50
     ∷ 44 ∷ 48 ∷ 44 ∷ 48 ∷ 44 ∷ 51 ∷ 44 ∷ 48 ∷ 10 ∷ 84 ∷ 44 ∷ 50 ∷ 44 ∷ 51 ∷ 50 ∷ 55 ∷ 52 ∷ 56 ∷ 44 ∷ 50 ∷ 44 ∷ 50 ∷ 44 ∷ 48 ∷ 44 ∷ 48 ∷ 44 ∷ 49 ∷ 10 ∷ 84 ∷ 44
     ∷ 50 ∷ 44 ∷ 51 ∷ 50 ∷ 55 ∷ 52 ∷ 56 ∷ 44 ∷ 50 ∷ 44 ∷ 48 ∷ 44 ∷ 48 ∷ 44 ∷ 48 ∷ 44 ∷ 48 ∷ 10 ∷ 84 ∷ 44 ∷ 51 ∷ 44 ∷ 51 ∷ 50 ∷ 55 ∷ 52 ∷ 56 ∷ 44 ∷ 50 ∷ 44 ∷ 51
     ∷ 44 ∷ 48 ∷ 44 ∷ 48 ∷ 44 ∷ 48 ∷ 10 ∷ 84 ∷ 44 ∷ 51 ∷ 44 ∷ 51 ∷ 50 ∷ 55 ∷ 52 ∷ 56 ∷ 44 ∷ 50 ∷ 44 ∷ 48 ∷ 44 ∷ 48 ∷ 44 ∷ 48 ∷ 44 ∷ 48 ∷ 10 ∷ 69 ∷ 44 ∷ 54 ∷ 10
     ∷ []) ∷ reading true (text ("R,2,5,3,3" ∷ "D,2,3,3" ∷ "T,1,1,2,1,0,0,0,0" ∷ "T,1,1,2,0,1,0,0,0" ∷ "T,2,1,2,0,1,1,1,0" ∷ "T,2,1,2,0,0,1,2,0"
     ∷ "T,2,1,2,0,1,0,1,0" ∷ "T,2,1,2,0,0,0,2,0" ∷ "T,3,1,2,1,0,0,0,0" ∷ "T,3,1,2,0,0,0,1,0" ∷ "T,4,1,2,0,1,0,0,0" ∷ "T,4,1,2,0,0,0,1,0" ∷ "E,10" ∷ []))
-    ∷ lifting true 1 (by-hybrid 2) ∷ []
+    ∷ lifting true 1 (by-hybrid 2 512) ∷ []
 
 seen-2 : seen limits-2 2000 empty list-2 ≡ some (text ("A,11,0" ∷ "A,1,2" ∷ "A,0,0" ∷ "A,13,1" ∷ []))
 seen-2 = refl
@@ -107,7 +107,7 @@ limits-3 = record {
 
 abbrev list-3 : List Call
 list-3 = reading true (text ("R,32749,5,1,1" ∷ "T,1,32748,1,2,0,0,0,0" ∷ "T,2,1,1,0,0,3,0,0" ∷ "T,2,32748,1,0,0,1,0,0" ∷ "T,3,32748,1,0,0,0,3,0"
-    ∷ "T,4,32748,1,0,0,0,0,1" ∷ "E,5" ∷ [])) ∷ lifting true 1 (by-tree 3) ∷ fetching true 1 5 ∷ lifting true 2 (by-hybrid 2) ∷ fetching true 2 3 ∷ []
+    ∷ "T,4,32748,1,0,0,0,0,1" ∷ "E,5" ∷ [])) ∷ lifting true 1 (by-tree 3) ∷ fetching true 1 5 ∷ lifting true 2 (by-hybrid 2 512) ∷ fetching true 2 3 ∷ []
 
 seen-3 : seen limits-3 2000 empty list-3 ≡ some (text ("A,0,0" ∷ "A,15,1" ∷ "A,11,0" ∷ "A,11,0" ∷ "A,11,0" ∷ []))
 seen-3 = refl
@@ -141,7 +141,7 @@ limits-4 = record {
 abbrev list-4 : List Call
 list-4 = reading true (text ("R,251,4,2,1" ∷ "T,1,250,1,1,0,1,0" ∷ "T,1,1,1,0,2,0,0" ∷ "T,2,200,1,1,0,1,0" ∷ "T,2,26,1,1,0,0,1" ∷ "T,2,51,1,0,2,0,0"
     ∷ "T,2,225,1,0,1,1,0" ∷ "T,3,172,1,1,0,0,1" ∷ "T,3,79,1,0,1,1,0" ∷ "T,4,122,1,0,1,0,1" ∷ "T,4,129,1,0,0,2,0" ∷ "E,10" ∷ [])) ∷ lifting true 1 (by-tree 60)
-    ∷ lifting true 2 (by-tree 9) ∷ fetching true 1 2 ∷ fetching true 1 2 ∷ fetching true 1 2 ∷ lifting true 3 (by-hybrid 3) ∷ []
+    ∷ lifting true 2 (by-tree 9) ∷ fetching true 1 2 ∷ fetching true 1 2 ∷ fetching true 1 2 ∷ lifting true 3 (by-hybrid 3 512) ∷ []
 
 seen-4 : seen limits-4 2000 empty list-4 ≡ some (text ("A,0,0" ∷ "A,0,0" ∷ "A,0,0" ∷ "A,0,0" ∷ "V,1,3,0,0,1,0,0,0,0,0" ∷ "V,172,1,0,0,0,1,0,0,0,0"
     ∷ "V,85,4,0,1,0,0,0,0,0,0" ∷ "A,0,0" ∷ "V,1,3,0,0,1,0,0,0,0,0" ∷ "V,172,1,0,0,0,1,0,0,0,0" ∷ "V,85,4,0,1,0,0,0,0,0,0" ∷ "A,0,0" ∷ "V,1,3,0,0,1,0,0,0,0,0"
@@ -184,7 +184,7 @@ limits-5 = record {
 
 abbrev list-5 : List Call
 list-5 = reading true (text ([])) ∷ fetching true 1 1 ∷ reading true (text ("R,7,2,3,1" ∷ "T,1,6,1,2,1" ∷ "T,1,6,1,1,2" ∷ "T,1,5,1,0,3" ∷ "E,3" ∷ []))
-    ∷ lifting true 1 (by-hybrid 1) ∷ lifting true 2 (by-hybrid 2) ∷ lifting true 3 (by-hybrid 1) ∷ lifting true 11 (by-hybrid 3) ∷ []
+    ∷ lifting true 1 (by-hybrid 1 512) ∷ lifting true 2 (by-hybrid 2 512) ∷ lifting true 3 (by-hybrid 1 512) ∷ lifting true 11 (by-hybrid 3 512) ∷ []
 
 seen-5 : seen limits-5 2000 empty list-5 ≡ some (text ("A,1,1" ∷ "A,11,0" ∷ "A,0,0" ∷ "A,0,0" ∷ "A,0,0" ∷ "A,0,0" ∷ "A,12,0" ∷ []))
 seen-5 = refl
@@ -216,9 +216,9 @@ limits-6 = record {
 }
 
 abbrev list-6 : List Call
-list-6 = reading true (text ("R,32003,4,2,1" ∷ "T,1,28091,1,0,0,1,0" ∷ "T,7,26668,1,0,0,0,0" ∷ "E,2" ∷ [])) ∷ lifting true 1 (by-hybrid 2)
+list-6 = reading true (text ("R,32003,4,2,1" ∷ "T,1,28091,1,0,0,1,0" ∷ "T,7,26668,1,0,0,0,0" ∷ "E,2" ∷ [])) ∷ lifting true 1 (by-hybrid 2 512)
     ∷ reading true (text ("R,5,5,3,1" ∷ "T,1,3,1,0,0,0,0,1" ∷ "T,2,1,1,0,0,0,1,0" ∷ "T,3,1,1,0,0,1,0,0" ∷ "T,3,1,1,0,0,0,0,0" ∷ "T,4,4,1,0,1,0,0,0"
-    ∷ "T,5,3,1,1,0,0,0,0" ∷ "E,6" ∷ [])) ∷ lifting true 1 (by-hybrid 2) ∷ lifting true 2 by-division ∷ []
+    ∷ "T,5,3,1,1,0,0,0,0" ∷ "E,6" ∷ [])) ∷ lifting true 1 (by-hybrid 2 512) ∷ lifting true 2 by-division ∷ []
 
 seen-6 : seen limits-6 2000 empty list-6 ≡ some (text ("A,5,3" ∷ "A,11,0" ∷ "A,0,0" ∷ "A,0,0" ∷ "A,0,0" ∷ []))
 seen-6 = refl
@@ -278,7 +278,7 @@ limits-7 = record {
 abbrev list-7 : List Call
 list-7 = reading true (text ("R,2,2,1,3" ∷ "D,3,1,0" ∷ "T,1,1,1,4,0" ∷ "T,2,1,2,2,2" ∷ "T,3,1,1,1,3" ∷ "T,4,1,1,0,4" ∷ "E,4" ∷ [])) ∷ fetching true 1 1
     ∷ reading true (text ("R,2,4,2,2" ∷ "T,1,1,2,0,2,0,0" ∷ "T,1,1,2,0,0,0,2" ∷ "T,2,1,2,0,0,3,0" ∷ "T,2,1,2,0,0,2,1" ∷ "T,2,1,2,0,0,1,2" ∷ "T,2,1,2,0,0,0,3"
-    ∷ "T,3,1,1,0,2,1,0" ∷ "T,3,1,1,0,2,0,1" ∷ "T,3,1,1,0,0,1,2" ∷ "T,3,1,1,0,0,0,3" ∷ "E,10" ∷ [])) ∷ fetching true 10 1 ∷ lifting true 1 (by-hybrid 3)
+    ∷ "T,3,1,1,0,2,1,0" ∷ "T,3,1,1,0,2,0,1" ∷ "T,3,1,1,0,0,1,2" ∷ "T,3,1,1,0,0,0,3" ∷ "E,10" ∷ [])) ∷ fetching true 10 1 ∷ lifting true 1 (by-hybrid 3 512)
     ∷ fetching true 1 1 ∷ lifting true 2 by-division ∷ []
 
 seen-7 : seen limits-7 2000 empty list-7 ≡ some (text ("A,0,0" ∷ "A,11,0" ∷ "A,0,0" ∷ "A,12,0" ∷ "A,0,0" ∷ "A,0,0" ∷ "V,1,2,0,2,0,0,0,0,0,0"
@@ -319,7 +319,7 @@ limits-8 = record {
 
 abbrev list-8 : List Call
 list-8 = reading true (text ("R,5,1,3,1" ∷ "D,0" ∷ "T,1,1,1,0" ∷ "T,2,1,1,1" ∷ "T,2,1,1,0" ∷ "T,3,1,1,2" ∷ "E,4" ∷ [])) ∷ lifting true 1 (by-tree 4)
-    ∷ fetching true 1 1 ∷ reading true (text ("R,101,2,3,3" ∷ "D,3,3,1" ∷ "T,1,11,1,0,3" ∷ "T,2,27,1,2,1" ∷ [])) ∷ lifting true 1 (by-hybrid 1) ∷ []
+    ∷ fetching true 1 1 ∷ reading true (text ("R,101,2,3,3" ∷ "D,3,3,1" ∷ "T,1,11,1,0,3" ∷ "T,2,27,1,2,1" ∷ [])) ∷ lifting true 1 (by-hybrid 1 512) ∷ []
 
 seen-8 : seen limits-8 2000 empty list-8 ≡ some (text ("A,0,0" ∷ "A,0,0" ∷ "A,0,0" ∷ "V,1,2,0,0,0,0,0,0,0,0" ∷ "V,4,1,1,0,0,0,0,0,0,0"
     ∷ "V,4,1,0,0,0,0,0,0,0,0" ∷ "A,1,5" ∷ "A,11,0" ∷ []))
@@ -353,8 +353,8 @@ limits-9 = record {
 
 abbrev list-9 : List Call
 list-9 = reading true (text ("R,3,4,3,1" ∷ "T,1,1,1,0,2,0,0" ∷ "T,1,2,1,0,1,1,0" ∷ "T,1,1,1,0,0,2,0" ∷ "T,1,2,1,0,1,0,1" ∷ "T,1,2,1,0,0,1,1"
-    ∷ "T,1,1,1,0,0,0,2" ∷ "T,2,2,1,1,0,0,0" ∷ "T,2,2,1,0,0,1,0" ∷ "T,2,1,1,0,0,0,1" ∷ "E,9" ∷ [])) ∷ lifting true 1 (by-hybrid 2)
-    ∷ lifting true 2 (by-hybrid 2) ∷ lifting true 3 (by-tree 0) ∷ lifting true 3 (by-tree 3) ∷ []
+    ∷ "T,1,1,1,0,0,0,2" ∷ "T,2,2,1,1,0,0,0" ∷ "T,2,2,1,0,0,1,0" ∷ "T,2,1,1,0,0,0,1" ∷ "E,9" ∷ [])) ∷ lifting true 1 (by-hybrid 2 512)
+    ∷ lifting true 2 (by-hybrid 2 512) ∷ lifting true 3 (by-tree 0) ∷ lifting true 3 (by-tree 3) ∷ []
 
 seen-9 : seen limits-9 2000 empty list-9 ≡ some (text ("A,0,0" ∷ "A,0,0" ∷ "A,0,0" ∷ "A,0,0" ∷ "A,0,0" ∷ []))
 seen-9 = refl
@@ -393,7 +393,7 @@ limits-10 = record {
 
 abbrev list-10 : List Call
 list-10 = reading true (text ("R,32003,3,3,1" ∷ "T,1,32002,1,1,0,0" ∷ "T,1,1,1,0,1,0" ∷ "T,1,1,1,0,0,0" ∷ "T,2,1,1,1,0,0" ∷ "T,2,32002,1,0,1,0"
-    ∷ "T,2,32002,1,0,0,0" ∷ "T,3,1,1,0,0,1" ∷ "T,3,32002,1,0,0,0" ∷ "E,8" ∷ [])) ∷ lifting true 1 (by-hybrid 1) ∷ lifting true 1 (by-hybrid 2)
+    ∷ "T,2,32002,1,0,0,0" ∷ "T,3,1,1,0,0,1" ∷ "T,3,32002,1,0,0,0" ∷ "E,8" ∷ [])) ∷ lifting true 1 (by-hybrid 1 512) ∷ lifting true 1 (by-hybrid 2 512)
     ∷ lifting true 2 (by-tree 1000) ∷ []
 
 seen-10 : seen limits-10 2000 empty list-10 ≡ some (text ("A,0,0" ∷ "A,0,0" ∷ "A,0,0" ∷ "A,0,0" ∷ []))
@@ -432,7 +432,7 @@ limits-11 = record {
 }
 
 abbrev list-11 : List Call
-list-11 = reading true (text ("R,11,3,1,1" ∷ "D," ∷ "T,1,7,1,0,1,1" ∷ "T,2,10,1,3,0,1" ∷ "E,2" ∷ [])) ∷ lifting true 1 (by-hybrid 2)
+list-11 = reading true (text ("R,11,3,1,1" ∷ "D," ∷ "T,1,7,1,0,1,1" ∷ "T,2,10,1,3,0,1" ∷ "E,2" ∷ [])) ∷ lifting true 1 (by-hybrid 2 512)
     ∷ reading true (text ("R,32749,5,1,2" ∷ "D,2,3" ∷ "T,1,26413,2,1,0,1,0,0" ∷ "T,1,6336,2,0,1,1,0,0" ∷ "T,2,32748,2,0,2,0,0,1" ∷ "T,2,1,2,0,0,0,0,3"
     ∷ "T,3,32748,1,0,0,1,0,0" ∷ "T,3,1,2,0,0,0,0,1" ∷ "E,6" ∷ [])) ∷ fetching true 1 1 ∷ []
 
@@ -471,7 +471,7 @@ abbrev list-12 : List Call
 list-12 = reading true (text ("R,101,2,2,1" ∷ "D,3" ∷ "T,1,100,1,0,2" ∷ "T,1,100,1,0,1" ∷ "T,1,1,1,0,0" ∷ "T,2,81,1,1,0" ∷ "T,3,1,1,0,1" ∷ "T,4,100,1,0,0"
     ∷ "E,6" ∷ [])) ∷ fetching true 3 1 ∷ lifting true 1 (by-tree 0) ∷ fetching true 1 5 ∷ lifting true 2 (by-tree 6) ∷ reading true (text ("R,251,4,2,1"
     ∷ "D,6" ∷ "T,1,47,1,0,0,1,0" ∷ "T,2,1,1,0,1,0,0" ∷ "T,3,250,1,1,0,0,1" ∷ "T,3,108,1,0,0,0,0" ∷ "E,4" ∷ [])) ∷ lifting true 1 (by-tree 12)
-    ∷ lifting true 2 (by-hybrid 3) ∷ []
+    ∷ lifting true 2 (by-hybrid 3 512) ∷ []
 
 seen-12 : seen limits-12 2000 empty list-12 ≡ some (text ("A,14,0" ∷ "A,11,0" ∷ "A,11,0" ∷ "A,11,0" ∷ "A,11,0" ∷ "A,0,0" ∷ "A,0,0" ∷ "A,14,2" ∷ []))
 seen-12 = refl
@@ -535,8 +535,8 @@ limits-14 = record {
 }
 
 abbrev list-14 : List Call
-list-14 = reading true (text ("R,32003,2,3,1" ∷ "T,1,29190,1,0,3" ∷ "E,1" ∷ [])) ∷ lifting true 1 (by-tree 3) ∷ lifting true 2 (by-hybrid 2)
-    ∷ fetching true 2 1 ∷ lifting true 2 (by-hybrid 65535) ∷ lifting true 5 (by-tree 12) ∷ fetching true 1 1 ∷ []
+list-14 = reading true (text ("R,32003,2,3,1" ∷ "T,1,29190,1,0,3" ∷ "E,1" ∷ [])) ∷ lifting true 1 (by-tree 3) ∷ lifting true 2 (by-hybrid 2 512)
+    ∷ fetching true 2 1 ∷ lifting true 2 (by-hybrid 65535 512) ∷ lifting true 5 (by-tree 12) ∷ fetching true 1 1 ∷ []
 
 seen-14 : seen limits-14 2000 empty list-14 ≡ some (text ("A,0,0" ∷ "A,0,0" ∷ "A,0,0" ∷ "A,12,0" ∷ "A,12,0" ∷ "A,11,0" ∷ "A,12,0" ∷ []))
 seen-14 = refl
@@ -569,8 +569,8 @@ limits-15 = record {
 
 abbrev list-15 : List Call
 list-15 = reading true (text ("R,32003,3,2,1" ∷ "D,255" ∷ "T,1,26478,1,1,0,3" ∷ "T,2,32002,1,2,1,0" ∷ "T,2,5525,1,1,0,2" ∷ "T,2,21868,1,0,3,0"
-    ∷ "T,3,1,1,0,1,1" ∷ "E,5" ∷ [])) ∷ fetching true 1 129 ∷ lifting true 1 (by-tree 12) ∷ lifting true 1 (by-hybrid 2) ∷ lifting true 2 (by-hybrid 1)
-    ∷ fetching true 2 1 ∷ lifting true 3 (by-tree 0) ∷ lifting true 3 (by-hybrid 2) ∷ []
+    ∷ "T,3,1,1,0,1,1" ∷ "E,5" ∷ [])) ∷ fetching true 1 129 ∷ lifting true 1 (by-tree 12) ∷ lifting true 1 (by-hybrid 2 512) ∷ lifting true 2 (by-hybrid 1 512)
+    ∷ fetching true 2 1 ∷ lifting true 3 (by-tree 0) ∷ lifting true 3 (by-hybrid 2 512) ∷ []
 
 seen-15 : seen limits-15 2000 empty list-15 ≡ some (text ("A,0,0" ∷ "A,11,0" ∷ "A,0,0" ∷ "A,0,0" ∷ "A,0,0" ∷ "A,0,0" ∷ "V,1,3,0,0,2,0,0,0,0,0"
     ∷ "V,32002,2,1,0,0,0,0,0,0,0" ∷ "V,32002,1,0,0,0,0,0,0,0,0" ∷ "A,0,0" ∷ "A,0,0" ∷ []))
@@ -613,7 +613,7 @@ limits-16 = record {
 abbrev list-16 : List Call
 list-16 = reading true (text ("R,101,4,1,1" ∷ "D,65536" ∷ "T,1,1,1,1,1,1,0" ∷ "T,1,1,1,0,1,1,1" ∷ "T,1,1,1,0,0,0,3" ∷ "T,2,100,1,1,0,0,0" ∷ "T,2,1,1,0,0,0,1"
     ∷ "T,3,1,1,0,2,0,0" ∷ "T,3,100,1,0,0,0,2" ∷ "E,7" ∷ [])) ∷ reading true (text ("R,7,5,1,1" ∷ "T,1,1,1,1,0,0,0,0" ∷ "T,1,6,1,0,1,0,0,1"
-    ∷ "T,1,1,1,0,0,0,0,0" ∷ "E,3" ∷ [])) ∷ lifting true 1 (by-tree 5) ∷ lifting true 2 (by-hybrid 3) ∷ []
+    ∷ "T,1,1,1,0,0,0,0,0" ∷ "E,3" ∷ [])) ∷ lifting true 1 (by-tree 5) ∷ lifting true 2 (by-hybrid 3 512) ∷ []
 
 seen-16 : seen limits-16 2000 empty list-16 ≡ some (text ("A,1,2" ∷ "A,4,2" ∷ "A,11,0" ∷ "A,11,0" ∷ []))
 seen-16 = refl
@@ -646,7 +646,7 @@ limits-17 = record {
 
 abbrev list-17 : List Call
 list-17 = reading true (text ("R,3,3,1,2" ∷ "D,255,255" ∷ "T,1,1,1,1,0,3" ∷ "T,1,2,1,1,0,0" ∷ "T,2,2,1,1,0,1" ∷ "T,2,2,1,0,0,3" ∷ "T,3,2,1,0,0,3"
-    ∷ "T,4,2,1,1,0,0" ∷ "T,5,2,1,0,3,0" ∷ "E,7" ∷ [])) ∷ lifting true 1 (by-hybrid 3) ∷ lifting true 2 by-division ∷ fetching true 1 5
+    ∷ "T,4,2,1,1,0,0" ∷ "T,5,2,1,0,3,0" ∷ "E,7" ∷ [])) ∷ lifting true 1 (by-hybrid 3 512) ∷ lifting true 2 by-division ∷ fetching true 1 5
     ∷ reading true (text ("R,251,3,1,1" ∷ "D,1" ∷ "T,1,124,1,3,0,0" ∷ "T,1,130,1,2,0,1" ∷ "T,1,121,1,1,0,2" ∷ "T,1,127,1,0,0,3" ∷ "T,2,250,1,3,0,0"
     ∷ "T,2,3,1,2,0,1" ∷ "T,2,248,1,1,0,2" ∷ "T,2,1,1,0,0,3" ∷ "T,3,58,1,3,0,0" ∷ "T,3,77,1,2,0,1" ∷ "T,3,174,1,1,0,2" ∷ "T,3,193,1,0,0,3" ∷ "E,12" ∷ []))
     ∷ lifting true 1 by-division ∷ reading true (text ("R,7,5,3,1" ∷ "D,0" ∷ "T,1,1,1,0,0,0,0,0" ∷ "T,2,3,1,1,1,0,0,0" ∷ "T,2,1,1,1,0,1,0,0" ∷ "E,3" ∷ [])) ∷ []
@@ -752,8 +752,8 @@ limits-20 = record {
 }
 
 abbrev list-20 : List Call
-list-20 = reading true (text ("R,5,1,1,1" ∷ "T,1,2,1,3" ∷ "T,2,3,1,3" ∷ "E,2" ∷ [])) ∷ lifting true 1 (by-hybrid 2) ∷ reading true (text ("R,7,3,3,1"
-    ∷ "T,1,2,1,1,0,0" ∷ "T,2,1,1,0,3,0" ∷ "T,2,1,1,0,2,0" ∷ "E,3" ∷ [])) ∷ fetching true 1 1 ∷ lifting true 1 (by-tree 12) ∷ lifting true 2 (by-hybrid 2)
+list-20 = reading true (text ("R,5,1,1,1" ∷ "T,1,2,1,3" ∷ "T,2,3,1,3" ∷ "E,2" ∷ [])) ∷ lifting true 1 (by-hybrid 2 512) ∷ reading true (text ("R,7,3,3,1"
+    ∷ "T,1,2,1,1,0,0" ∷ "T,2,1,1,0,3,0" ∷ "T,2,1,1,0,2,0" ∷ "E,3" ∷ [])) ∷ fetching true 1 1 ∷ lifting true 1 (by-tree 12) ∷ lifting true 2 (by-hybrid 2 512)
     ∷ lifting true 3 (by-tree 0) ∷ lifting true 3 (by-tree 1) ∷ []
 
 seen-20 : seen limits-20 2000 empty list-20 ≡ some (text ("A,0,0" ∷ "A,0,0" ∷ "A,0,0" ∷ "A,11,0" ∷ "A,0,0" ∷ "A,0,0" ∷ "A,0,0" ∷ "A,0,0" ∷ []))

@@ -32,8 +32,8 @@ limits-1 = record {
 }
 
 abbrev list-1 : List Call
-list-1 = reading true (text ("R,251,2,3,1" ∷ "D,1" ∷ "T,1,1,1,0,4" ∷ "T,2,250,1,0,4" ∷ "E,2" ∷ [])) ∷ lifting true 1 (by-hybrid 1) ∷ fetching true 1 0
-    ∷ fetching true 1 1 ∷ lifting true 2 (by-hybrid 2) ∷ fetching true 2 1 ∷ lifting true 3 (by-hybrid 1) ∷ []
+list-1 = reading true (text ("R,251,2,3,1" ∷ "D,1" ∷ "T,1,1,1,0,4" ∷ "T,2,250,1,0,4" ∷ "E,2" ∷ [])) ∷ lifting true 1 (by-hybrid 1 512) ∷ fetching true 1 0
+    ∷ fetching true 1 1 ∷ lifting true 2 (by-hybrid 2 512) ∷ fetching true 2 1 ∷ lifting true 3 (by-hybrid 1 512) ∷ []
 
 seen-1 : seen limits-1 2000 empty list-1 ≡ some (text ("A,0,0" ∷ "A,0,0" ∷ "A,12,0" ∷ "A,0,0" ∷ "V,1,2,0,0,0,0,0,0,0,0" ∷ "V,1,1,0,0,0,0,0,0,0,0" ∷ "A,0,0"
     ∷ "A,12,0" ∷ "A,0,0" ∷ []))
@@ -69,7 +69,7 @@ limits-2 = record {
 
 abbrev list-2 : List Call
 list-2 = reading true (text ("R,32749,4,3,1" ∷ "D,255" ∷ "T,1,1,1,3,0,0,0" ∷ "T,2,32748,1,0,3,0,0" ∷ "T,3,32748,1,0,0,3,0" ∷ "T,4,1,1,0,0,2,1"
-    ∷ "T,5,4047,1,0,0,0,3" ∷ "T,6,3353,1,1,0,0,1" ∷ "T,6,2002,1,0,0,0,2" ∷ "E,7" ∷ [])) ∷ lifting true 1 (by-hybrid 3) ∷ lifting true 2 by-division
+    ∷ "T,5,4047,1,0,0,0,3" ∷ "T,6,3353,1,1,0,0,1" ∷ "T,6,2002,1,0,0,0,2" ∷ "E,7" ∷ [])) ∷ lifting true 1 (by-hybrid 3 512) ∷ lifting true 2 by-division
     ∷ lifting true 5 by-division ∷ lifting true 3 (by-tree 0) ∷ []
 
 seen-2 : seen limits-2 2000 empty list-2 ≡ some (text ("A,0,0" ∷ "A,0,0" ∷ "A,0,0" ∷ "A,11,0" ∷ "A,14,3" ∷ []))
@@ -103,8 +103,8 @@ limits-3 = record {
 
 abbrev list-3 : List Call
 list-3 = reading true (text ("R,32003,1,3,1" ∷ "D,3" ∷ "T,1,22982,1,4" ∷ "T,1,9021,1,3" ∷ "T,2,3855,1,6" ∷ "T,2,28148,1,5" ∷ "T,3,22982,1,5" ∷ "T,3,9021,1,4"
-    ∷ "T,4,22982,1,3" ∷ "T,4,9021,1,2" ∷ "E,8" ∷ [])) ∷ lifting true 1 (by-tree 60) ∷ lifting true 1 (by-hybrid 1) ∷ lifting true 2 (by-hybrid 2)
-    ∷ lifting true 3 (by-hybrid 3) ∷ fetching true 3 1 ∷ []
+    ∷ "T,4,22982,1,3" ∷ "T,4,9021,1,2" ∷ "E,8" ∷ [])) ∷ lifting true 1 (by-tree 60) ∷ lifting true 1 (by-hybrid 1 512) ∷ lifting true 2 (by-hybrid 2 512)
+    ∷ lifting true 3 (by-hybrid 3 512) ∷ fetching true 3 1 ∷ []
 
 seen-3 : seen limits-3 2000 empty list-3 ≡ some (text ("A,0,0" ∷ "A,15,1" ∷ "A,11,0" ∷ "A,11,0" ∷ "A,11,0" ∷ "A,11,0" ∷ []))
 seen-3 = refl
@@ -172,7 +172,7 @@ limits-5 = record {
 }
 
 abbrev list-5 : List Call
-list-5 = lifting true 1 (by-hybrid 3) ∷ reading true (text ("R,7,2,1,1" ∷ "D,2" ∷ "T,1,5,1,1,2" ∷ "T,1,4,1,0,3" ∷ "T,2,6,1,1,2" ∷ "T,3,3,1,1,1" ∷ "E,4" ∷ []))
+list-5 = lifting true 1 (by-hybrid 3 512) ∷ reading true (text ("R,7,2,1,1" ∷ "D,2" ∷ "T,1,5,1,1,2" ∷ "T,1,4,1,0,3" ∷ "T,2,6,1,1,2" ∷ "T,3,3,1,1,1" ∷ "E,4" ∷ []))
     ∷ reading true (text ("T,2,5979,1,2,0" ∷ "T,1,1,1,2,0" ∷ "T,1,32748,1,0,2" ∷ "R,32749,2,2,1" ∷ "T,2,26770,1,1,1" ∷ "E,4" ∷ []))
     ∷ reading true (text ("R,32749,3,1,1" ∷ "D,0" ∷ "T,1,32748,1,1,0,0" ∷ "T,1,1,1,0,0,1" ∷ "T,2,10791,1,1,0,0" ∷ "T,2,21958,1,0,1,0" ∷ "T,3,32748,1,2,0,0"
     ∷ "T,3,1,1,0,1,1" ∷ "E,6" ∷ [])) ∷ []
@@ -209,7 +209,7 @@ limits-6 = record {
 
 abbrev list-6 : List Call
 list-6 = reading true (text ("R,101,1,3,1" ∷ "D,3" ∷ "T,1,49,1,3" ∷ "T,1,52,1,1" ∷ "T,2,77,1,3" ∷ "T,2,24,1,1" ∷ "T,3,99,1,2" ∷ "T,3,2,1,0" ∷ "E,6" ∷ []))
-    ∷ fetching true 1 1 ∷ lifting true 1 (by-hybrid 3) ∷ lifting true 2 (by-tree 3) ∷ lifting true 3 by-division ∷ []
+    ∷ fetching true 1 1 ∷ lifting true 1 (by-hybrid 3 512) ∷ lifting true 2 (by-tree 3) ∷ lifting true 3 by-division ∷ []
 
 seen-6 : seen limits-6 2000 empty list-6 ≡ some (text ("A,0,0" ∷ "A,11,0" ∷ "A,15,1" ∷ "A,11,0" ∷ "A,11,0" ∷ []))
 seen-6 = refl
@@ -242,7 +242,7 @@ limits-7 = record {
 
 abbrev list-7 : List Call
 list-7 = fetching true 1 1 ∷ reading true (text ("R,32749,4,2,1" ∷ "T,1,19473,1,0,0,0,1" ∷ "T,2,20723,1,0,1,0,0" ∷ "T,2,1,1,0,0,0,1" ∷ "T,3,9486,1,0,2,0,0"
-    ∷ "T,3,2580,1,0,1,0,1" ∷ "T,3,32738,1,0,0,0,2" ∷ "E,6" ∷ [])) ∷ lifting true 1 (by-hybrid 3) ∷ fetching true 1 3 ∷ fetching true 2 50 ∷ []
+    ∷ "T,3,2580,1,0,1,0,1" ∷ "T,3,32738,1,0,0,0,2" ∷ "E,6" ∷ [])) ∷ lifting true 1 (by-hybrid 3 2) ∷ fetching true 1 3 ∷ fetching true 2 50 ∷ []
 
 seen-7 : seen limits-7 2000 empty list-7 ≡ some (text ("A,11,0" ∷ "A,14,0" ∷ "A,11,0" ∷ "A,11,0" ∷ "A,11,0" ∷ []))
 seen-7 = refl
@@ -276,7 +276,7 @@ limits-8 = record {
 abbrev list-8 : List Call
 list-8 = fetching true 1 1 ∷ lifting true 1 (by-tree 1) ∷ reading true (text ("R,2,4,1,1" ∷ "D" ∷ "T,1,1,1,1,0,0,0" ∷ "T,1,1,1,0,0,0,0" ∷ "T,2,1,1,0,1,1,0"
     ∷ "T,2,1,1,0,0,2,0" ∷ "T,3,1,1,0,0,0,1" ∷ "T,3,1,1,0,0,0,0" ∷ "E,6" ∷ [])) ∷ reading true (text ("R,5,2,2,1" ∷ "D,0" ∷ "T,1,1,1,1,1" ∷ "T,2,1,1,1,1"
-    ∷ "T,3,1,1,1,0" ∷ "T,4,1,1,0,2" ∷ "T,5,2,1,1,0" ∷ "T,6,1,1,2,2" ∷ "E,6" ∷ [])) ∷ lifting true 0 (by-hybrid 0) ∷ reading true (text ("R,5,3,2,2"
+    ∷ "T,3,1,1,1,0" ∷ "T,4,1,1,0,2" ∷ "T,5,2,1,1,0" ∷ "T,6,1,1,2,2" ∷ "E,6" ∷ [])) ∷ lifting true 0 (by-hybrid 0 512) ∷ reading true (text ("R,5,3,2,2"
     ∷ "T,1,1,2,1,1,0" ∷ "T,1,2,2,0,0,0" ∷ "T,2,4,2,2,1,0" ∷ "T,2,4,2,1,1,1" ∷ "T,2,3,2,1,0,0" ∷ "T,2,3,2,0,0,1" ∷ "E,6" ∷ [])) ∷ []
 
 seen-8 : seen limits-8 2000 empty list-8 ≡ some (text ("A,11,0" ∷ "A,11,0" ∷ "A,1,2" ∷ "A,0,0" ∷ "A,12,0" ∷ "A,0,0" ∷ []))
@@ -451,7 +451,7 @@ limits-13 = record {
 
 abbrev list-13 : List Call
 list-13 = reading true (text ("R,2,5,2,1" ∷ "T,1,1,1,0,0,0,0,2" ∷ "T,1,1,1,1,0,0,0,0" ∷ "T,1,1,1,0,0,0,0,0" ∷ "T,2,1,1,0,0,2,0,0" ∷ "T,3,1,1,0,1,0,0,0"
-    ∷ "T,4,1,1,0,0,0,2,0" ∷ "E,6" ∷ [])) ∷ lifting true 1 (by-tree 12) ∷ lifting true 2 (by-hybrid 3) ∷ []
+    ∷ "T,4,1,1,0,0,0,2,0" ∷ "E,6" ∷ [])) ∷ lifting true 1 (by-tree 12) ∷ lifting true 2 (by-hybrid 3 512) ∷ []
 
 seen-13 : seen limits-13 2000 empty list-13 ≡ some (text ("A,0,0" ∷ "A,0,0" ∷ "A,0,0" ∷ []))
 seen-13 = refl
@@ -500,7 +500,7 @@ limits-14 = record {
 
 abbrev list-14 : List Call
 list-14 = reading true (text ("R,251,5,2,1" ∷ "T,1,250,1,0,0,0,0,2" ∷ "T,2,219,1,1,1,0,1,0" ∷ "T,2,88,1,0,0,1,1,1" ∷ "T,2,96,1,0,0,0,2,1" ∷ "E,4" ∷ []))
-    ∷ lifting true 1 (by-hybrid 1) ∷ lifting true 1 (by-hybrid 2) ∷ lifting true 2 by-division ∷ fetching true 1 1 ∷ lifting true 3 (by-hybrid 2)
+    ∷ lifting true 1 (by-hybrid 1 512) ∷ lifting true 1 (by-hybrid 2 512) ∷ lifting true 2 by-division ∷ fetching true 1 1 ∷ lifting true 3 (by-hybrid 2 512)
     ∷ lifting true 3 (by-tree 4) ∷ []
 
 seen-14 : seen limits-14 2000 empty list-14 ≡ some (text ("A,0,0" ∷ "A,0,0" ∷ "A,0,0" ∷ "A,0,0" ∷ "A,0,0" ∷ "V,1,2,0,0,0,0,2,0,0,0"
@@ -539,7 +539,7 @@ limits-15 = record {
 
 abbrev list-15 : List Call
 list-15 = fetching true 11 1 ∷ reading true (text ("R,7,2,2,1" ∷ "T,1,6,1,0,1" ∷ "T,1,5,1,0,0" ∷ "T,2,3,1,2,0" ∷ "T,2,1,1,0,0" ∷ "E,4" ∷ []))
-    ∷ lifting true 1 (by-hybrid 2) ∷ lifting true 2 (by-hybrid 3) ∷ []
+    ∷ lifting true 1 (by-hybrid 2 512) ∷ lifting true 2 (by-hybrid 3 512) ∷ []
 
 seen-15 : seen limits-15 2000 empty list-15 ≡ some (text ("A,11,0" ∷ "A,0,0" ∷ "A,0,0" ∷ "A,0,0" ∷ []))
 seen-15 = refl
@@ -576,7 +576,7 @@ abbrev list-16 : List Call
 list-16 = reading true (text ("R,3,5,1,1" ∷ "T,1,1,1,0,0,0,0,0" ∷ "T,2,2,1,3,0,0,1,0" ∷ "T,3,1,1,0,0,0,0,0" ∷ "T,4,1,1,1,0,0,0,0" ∷ "T,5,2,1,0,0,1,2,0"
     ∷ "T,6,2,1,0,1,1,2,0" ∷ "E,6" ∷ [])) ∷ lifting true 1 by-division ∷ lifting true 2 (by-tree 1000) ∷ lifting true 3 (by-tree 1)
     ∷ reading true (text ("R,7,2,2,1" ∷ "D,3" ∷ "T,1,6,1,0,1" ∷ "E,2" ∷ [])) ∷ reading true (text ("R,2,3,3,2" ∷ "T,1,1,1,0,2,0" ∷ "T,1,1,1,1,0,1"
-    ∷ "T,2,1,1,0,2,0" ∷ "T,2,1,1,1,0,1" ∷ "T,3,1,1,0,2,0" ∷ "T,3,1,1,1,0,1" ∷ "E,6" ∷ [])) ∷ fetching true 1 1 ∷ lifting true 1 (by-hybrid 1) ∷ []
+    ∷ "T,2,1,1,0,2,0" ∷ "T,2,1,1,1,0,1" ∷ "T,3,1,1,0,2,0" ∷ "T,3,1,1,1,0,1" ∷ "E,6" ∷ [])) ∷ fetching true 1 1 ∷ lifting true 1 (by-hybrid 1 512) ∷ []
 
 seen-16 : seen limits-16 2000 empty list-16 ≡ some (text ("A,0,0" ∷ "A,0,0" ∷ "A,0,0" ∷ "A,0,0" ∷ "A,7,4" ∷ "A,0,0" ∷ "A,11,0" ∷ "A,0,0" ∷ []))
 seen-16 = refl
@@ -612,9 +612,9 @@ limits-17 = record {
 }
 
 abbrev list-17 : List Call
-list-17 = reading true (text ("R,5,2,3,1" ∷ "D,3" ∷ "T,1,1,1,1,0" ∷ "T,2,3,1,1,1" ∷ "T,3,4,1,2,0" ∷ "E,3" ∷ [])) ∷ lifting true 1 (by-hybrid 1)
-    ∷ fetching true 1 2 ∷ lifting true 2 (by-hybrid 3) ∷ fetching true 0 1 ∷ lifting true 3 (by-hybrid 3) ∷ lifting true 3 (by-hybrid 3)
-    ∷ lifting true 3 (by-hybrid 3) ∷ []
+list-17 = reading true (text ("R,5,2,3,1" ∷ "D,3" ∷ "T,1,1,1,1,0" ∷ "T,2,3,1,1,1" ∷ "T,3,4,1,2,0" ∷ "E,3" ∷ [])) ∷ lifting true 1 (by-hybrid 1 512)
+    ∷ fetching true 1 2 ∷ lifting true 2 (by-hybrid 3 512) ∷ fetching true 0 1 ∷ lifting true 3 (by-hybrid 3 512) ∷ lifting true 3 (by-hybrid 3 512)
+    ∷ lifting true 3 (by-hybrid 3 512) ∷ []
 
 seen-17 : seen limits-17 2000 empty list-17 ≡ some (text ("A,0,0" ∷ "A,0,0" ∷ "A,0,0" ∷ "V,1,3,0,0,0,0,0,0,0,0" ∷ "V,1,1,1,0,0,0,0,0,0,0" ∷ "A,0,0" ∷ "A,12,0"
     ∷ "A,0,0" ∷ "A,0,0" ∷ "A,0,0" ∷ []))
@@ -656,7 +656,7 @@ list-18 = reading true (text ("R,5,3,3,1" ∷ "D,1" ∷ "T,1,1,1,0,0,2" ∷ "T,2
     ∷ "T,2,235,1,0,1,1,0,0" ∷ "T,3,213,1,0,2,0,1,1" ∷ "T,3,193,1,0,1,3,0,0" ∷ "E,6" ∷ [])) ∷ reading true (text ("R,101,5,3,1" ∷ "D,0" ∷ "T,1,81,1,1,0,0,0,0"
     ∷ "T,1,100,1,0,0,1,0,0" ∷ "T,1,47,1,0,0,0,0,0" ∷ "T,2,33,1,0,1,1,0,0" ∷ "T,2,1,1,1,0,0,1,0" ∷ "T,2,100,1,0,0,0,0,0" ∷ "T,3,78,1,1,1,0,0,0" ∷ "E,7" ∷ []))
     ∷ reading true (text ("R,32749,5,3,1" ∷ "D,3" ∷ "T,1,12958,1,0,0,1,0,0" ∷ "T,1,3110,1,0,0,0,0,0" ∷ "T,2,1,1,0,1,0,0,0" ∷ "T,2,25141,1,0,0,0,0,1"
-    ∷ "T,2,1,1,0,0,0,0,0" ∷ "T,3,1,1,1,0,0,0,0" ∷ "T,3,1,1,0,0,0,0,0" ∷ "E,7" ∷ [])) ∷ lifting true 1 (by-hybrid 1) ∷ lifting true 2 (by-tree 20) ∷ []
+    ∷ "T,2,1,1,0,0,0,0,0" ∷ "T,3,1,1,1,0,0,0,0" ∷ "T,3,1,1,0,0,0,0,0" ∷ "E,7" ∷ [])) ∷ lifting true 1 (by-hybrid 1 512) ∷ lifting true 2 (by-tree 20) ∷ []
 
 seen-18 : seen limits-18 2000 empty list-18 ≡ some (text ("A,0,0" ∷ "A,1,5" ∷ "A,9,1" ∷ "V,4,2,1,2,0,0,0,0,0,0" ∷ "V,1,1,1,2,0,0,0,0,0,0"
     ∷ "V,4,2,0,3,0,0,0,0,0,0" ∷ "A,0,0" ∷ "A,9,2" ∷ "V,97,1,0,0,1,1,0,0,0,0" ∷ "V,52,1,0,1,0,0,0,0,0,0" ∷ "V,87,1,0,0,0,1,0,0,0,0" ∷ "V,21,1,0,0,0,0,0,0,0,0"
@@ -692,7 +692,7 @@ limits-19 = record {
 abbrev list-19 : List Call
 list-19 = reading true (text ([])) ∷ reading true (text ("R,11,5,2,1" ∷ "T,1,1,1,0,1,0,0,0" ∷ "T,1,10,1,0,0,1,0,0" ∷ "T,2,1,1,1,0,0,0,0"
     ∷ "T,2,10,1,0,0,0,0,0" ∷ "T,3,10,1,0,0,1,1,1" ∷ "T,3,1,1,0,0,0,1,0" ∷ "T,4,4,1,0,1,0,1,1" ∷ "T,4,7,1,0,0,0,1,0" ∷ "E,8" ∷ [])) ∷ fetching true 1 1
-    ∷ lifting true 1 (by-hybrid 3) ∷ fetching true 1 4 ∷ lifting true 2 (by-hybrid 2) ∷ []
+    ∷ lifting true 1 (by-hybrid 3 2) ∷ fetching true 1 4 ∷ lifting true 2 (by-hybrid 2 2) ∷ []
 
 seen-19 : seen limits-19 2000 empty list-19 ≡ some (text ("A,1,1" ∷ "A,0,0" ∷ "A,11,0" ∷ "A,0,0" ∷ "A,0,0" ∷ "V,1,4,0,0,0,0,0,0,0,0" ∷ "V,7,1,0,0,0,1,1,0,0,0"
     ∷ "V,4,3,0,0,0,0,0,0,0,0" ∷ "A,14,2" ∷ []))
@@ -725,8 +725,8 @@ limits-20 = record {
 }
 
 abbrev list-20 : List Call
-list-20 = reading true (text ("R,7,2,2,1" ∷ "T,1,3,1,0,1" ∷ "T,2,1,1,1,0" ∷ "E,2" ∷ [])) ∷ lifting true 1 (by-hybrid 3) ∷ lifting true 2 by-division
-    ∷ lifting true 1 (by-tree 1000) ∷ fetching true 1 2 ∷ lifting true 2 (by-hybrid 1) ∷ fetching true 1 1 ∷ lifting true 3 (by-hybrid 1) ∷ []
+list-20 = reading true (text ("R,7,2,2,1" ∷ "T,1,3,1,0,1" ∷ "T,2,1,1,1,0" ∷ "E,2" ∷ [])) ∷ lifting true 1 (by-hybrid 3 0) ∷ lifting true 2 by-division
+    ∷ lifting true 1 (by-tree 1000) ∷ fetching true 1 2 ∷ lifting true 2 (by-hybrid 1 0) ∷ fetching true 1 1 ∷ lifting true 3 (by-hybrid 1 0) ∷ []
 
 seen-20 : seen limits-20 2000 empty list-20 ≡ some (text ("A,14,0" ∷ "A,11,0" ∷ "A,11,0" ∷ "A,11,0" ∷ "A,11,0" ∷ "A,11,0" ∷ "A,11,0" ∷ "A,11,0" ∷ []))
 seen-20 = refl

@@ -34,7 +34,7 @@ limits-1 = record {
 abbrev list-1 : List Call
 list-1 = lifting true 1 (by-tree 2) ∷ reading true (text ("R,7,3,2,1" ∷ "D,3" ∷ "T,1,5,1,1,1,1" ∷ "T,1,6,1,1,0,2" ∷ "T,1,2,1,0,2,1" ∷ "T,1,1,1,0,1,2"
     ∷ "T,1,2,1,1,0,1" ∷ "T,1,5,1,0,1,1" ∷ "T,2,6,1,1,0,0" ∷ "T,2,5,1,0,0,0" ∷ "T,3,2,1,0,1,0" ∷ "T,3,1,1,0,0,1" ∷ "T,3,5,1,0,0,0" ∷ "E,11" ∷ []))
-    ∷ lifting true 1 (by-tree 1000) ∷ lifting true 2 (by-tree 12) ∷ lifting true 3 (by-hybrid 3) ∷ lifting true 3 (by-tree 0) ∷ fetching true 3 1
+    ∷ lifting true 1 (by-tree 1000) ∷ lifting true 2 (by-tree 12) ∷ lifting true 3 (by-hybrid 3 512) ∷ lifting true 3 (by-tree 0) ∷ fetching true 3 1
     ∷ lifting true 3 by-division ∷ []
 
 seen-1 : seen limits-1 2000 empty list-1 ≡ some (text ("A,11,0" ∷ "A,0,0" ∷ "A,13,1" ∷ "A,11,0" ∷ "A,11,0" ∷ "A,11,0" ∷ "A,11,0" ∷ "A,11,0" ∷ []))
@@ -67,7 +67,7 @@ limits-2 = record {
 }
 
 abbrev list-2 : List Call
-list-2 = reading true (text ("R,32003,3,1,1" ∷ "T,1,29849,1,0,1,1" ∷ "T,2,32002,1,0,1,2" ∷ "E,2" ∷ [])) ∷ lifting true 1 (by-hybrid 0)
+list-2 = reading true (text ("R,32003,3,1,1" ∷ "T,1,29849,1,0,1,1" ∷ "T,2,32002,1,0,1,2" ∷ "E,2" ∷ [])) ∷ lifting true 1 (by-hybrid 0 512)
     ∷ lifting true 1 by-division ∷ fetching true 1 1 ∷ lifting true 1 by-division ∷ []
 
 seen-2 : seen limits-2 2000 empty list-2 ≡ some (text ("A,0,0" ∷ "A,12,0" ∷ "A,0,0" ∷ "A,0,0" ∷ "V,1,2,0,0,0,0,0,0,0,0" ∷ "V,12822,1,0,0,1,0,0,0,0,0"
@@ -103,8 +103,8 @@ limits-3 = record {
 }
 
 abbrev list-3 : List Call
-list-3 = reading true (text ("R,7,5,2,1" ∷ "D,3" ∷ "T,1,5,1,1,0,0,0,1" ∷ "T,2,5,1,0,0,2,2,0" ∷ "E,2" ∷ [])) ∷ lifting true 1 (by-hybrid 3)
-    ∷ lifting true 1 (by-tree 60) ∷ lifting true 2 (by-hybrid 2) ∷ lifting true 3 (by-hybrid 1) ∷ fetching true 1 1 ∷ []
+list-3 = reading true (text ("R,7,5,2,1" ∷ "D,3" ∷ "T,1,5,1,1,0,0,0,1" ∷ "T,2,5,1,0,0,2,2,0" ∷ "E,2" ∷ [])) ∷ lifting true 1 (by-hybrid 3 512)
+    ∷ lifting true 1 (by-tree 60) ∷ lifting true 2 (by-hybrid 2 512) ∷ lifting true 3 (by-hybrid 1 512) ∷ fetching true 1 1 ∷ []
 
 seen-3 : seen limits-3 2000 empty list-3 ≡ some (text ("A,0,0" ∷ "A,0,0" ∷ "A,0,0" ∷ "A,0,0" ∷ "A,0,0" ∷ "A,0,0" ∷ "V,1,2,1,0,0,0,1,0,0,0"
     ∷ "V,6,1,0,0,2,2,0,0,0,0" ∷ []))
@@ -140,7 +140,7 @@ limits-4 = record {
 
 abbrev list-4 : List Call
 list-4 = reading true (text ("R,101,4,3,3" ∷ "D,1,3,2" ∷ "T,1,1,2,0,3,0,0" ∷ "T,2,24,2,0,0,3,0" ∷ "T,2,77,2,0,0,2,1" ∷ "T,3,64,2,0,0,0,1" ∷ "E,4" ∷ []))
-    ∷ fetching true 1 1 ∷ lifting true 1 (by-hybrid 3) ∷ lifting true 2 (by-hybrid 65535) ∷ lifting true 2 (by-hybrid 1) ∷ lifting true 3 by-division
+    ∷ fetching true 1 1 ∷ lifting true 1 (by-hybrid 3 512) ∷ lifting true 2 (by-hybrid 65535 512) ∷ lifting true 2 (by-hybrid 1 512) ∷ lifting true 3 by-division
     ∷ fetching true 1 0 ∷ []
 
 seen-4 : seen limits-4 2000 empty list-4 ≡ some (text ("A,0,0" ∷ "A,11,0" ∷ "A,0,0" ∷ "A,12,0" ∷ "A,14,2" ∷ "A,11,0" ∷ "A,11,0" ∷ []))
@@ -210,7 +210,7 @@ abbrev list-6 : List Call
 list-6 = reading true (text ("R,2,3,1,11" ∷ "D,2" ∷ "T,1,1,1,2,0,0" ∷ "T,1,1,1,1,0,1" ∷ "T,1,1,1,1,0,0" ∷ "T,1,1,1,0,2,0" ∷ "T,1,1,1,0,1,1" ∷ "T,1,1,1,0,1,0"
     ∷ "T,2,1,1,2,0,0" ∷ "T,2,1,1,1,0,1" ∷ "T,2,1,1,1,0,0" ∷ "T,2,1,1,0,2,0" ∷ "T,2,1,1,0,1,1" ∷ "T,2,1,1,0,1,0" ∷ "E,12" ∷ []))
     ∷ reading true (text ("R,5,5,1,3" ∷ "T,1,1,3,0,0,0,0,0" ∷ "T,2,1,3,1,0,0,0,0" ∷ "T,2,4,2,0,0,0,1,0" ∷ "T,3,4,2,1,1,0,0,0" ∷ "T,3,3,3,0,0,0,0,0"
-    ∷ "T,3,1,1,0,0,0,0,0" ∷ "E,6" ∷ [])) ∷ lifting true 1 (by-hybrid 3) ∷ fetching true 1 1 ∷ reading true (text ("R,2,2,1,3" ∷ "D,0,0,0" ∷ "T,1,1,1,0,1"
+    ∷ "T,3,1,1,0,0,0,0,0" ∷ "E,6" ∷ [])) ∷ lifting true 1 (by-hybrid 3 512) ∷ fetching true 1 1 ∷ reading true (text ("R,2,2,1,3" ∷ "D,0,0,0" ∷ "T,1,1,1,0,1"
     ∷ "T,2,1,1,0,1" ∷ "T,3,1,3,0,1" ∷ "T,3,1,2,0,1" ∷ "T,3,1,1,0,1" ∷ "E,5" ∷ [])) ∷ []
 
 seen-6 : seen limits-6 2000 empty list-6 ≡ some (text ("A,1,2" ∷ "A,9,1" ∷ "V,4,2,0,0,0,1,0,0,0,0" ∷ "A,11,0" ∷ "A,11,0" ∷ "A,0,0" ∷ []))
@@ -247,7 +247,7 @@ limits-7 = record {
 abbrev list-7 : List Call
 list-7 = reading true (text ("R,2,4,3,1" ∷ "D,0" ∷ "T,1,1,1,1,0,0,0" ∷ "T,1,1,1,0,0,0,0" ∷ "T,2,1,1,0,1,0,0" ∷ "T,3,1,1,0,0,1,0" ∷ "T,4,1,2,0,0,0,1"
     ∷ "T,4,1,1,0,0,0,0" ∷ "E,6" ∷ [])) ∷ reading true (text ("R,5,2,2,1" ∷ "T,1,3,1,1,0" ∷ "T,2,3,1,1,0" ∷ "T,3,3,1,0,1" ∷ "E,3" ∷ [])) ∷ fetching true 2 1
-    ∷ lifting true 1 (by-tree 0) ∷ lifting true 2 (by-hybrid 2) ∷ lifting true 1 (by-tree 9) ∷ []
+    ∷ lifting true 1 (by-tree 0) ∷ lifting true 2 (by-hybrid 2 512) ∷ lifting true 1 (by-tree 9) ∷ []
 
 seen-7 : seen limits-7 2000 empty list-7 ≡ some (text ("A,4,7" ∷ "A,0,0" ∷ "A,11,0" ∷ "A,14,1" ∷ "A,11,0" ∷ "A,11,0" ∷ []))
 seen-7 = refl
@@ -280,9 +280,9 @@ limits-8 = record {
 
 abbrev list-8 : List Call
 list-8 = reading true (text ("R,32003,4,3,1" ∷ "T,1,13803,1,0,2,0,0" ∷ "T,1,18200,1,1,0,1,0" ∷ "T,2,23441,1,0,1,1,0" ∷ "T,2,8562,1,1,0,0,1"
-    ∷ "T,3,21693,1,0,0,2,0" ∷ "T,3,10310,1,0,1,0,1" ∷ "E,6" ∷ [])) ∷ fetching true 1 1 ∷ lifting true 1 (by-hybrid 1) ∷ fetching true 1 2
-    ∷ lifting true 10 (by-tree 6) ∷ reading true (text ("R,32749,2,1,2" ∷ "T,1,25481,2,1,0" ∷ "T,1,7268,1,0,0" ∷ "E,2" ∷ [])) ∷ lifting true 1 (by-hybrid 2)
-    ∷ lifting true 2 (by-hybrid 3) ∷ []
+    ∷ "T,3,21693,1,0,0,2,0" ∷ "T,3,10310,1,0,1,0,1" ∷ "E,6" ∷ [])) ∷ fetching true 1 1 ∷ lifting true 1 (by-hybrid 1 512) ∷ fetching true 1 2
+    ∷ lifting true 10 (by-tree 6) ∷ reading true (text ("R,32749,2,1,2" ∷ "T,1,25481,2,1,0" ∷ "T,1,7268,1,0,0" ∷ "E,2" ∷ [])) ∷ lifting true 1 (by-hybrid 2 512)
+    ∷ lifting true 2 (by-hybrid 3 512) ∷ []
 
 seen-8 : seen limits-8 2000 empty list-8 ≡ some (text ("A,0,0" ∷ "A,11,0" ∷ "A,0,0" ∷ "A,0,0" ∷ "V,1,3,0,1,0,0,0,0,0,0" ∷ "V,5755,2,0,0,1,0,0,0,0,0"
     ∷ "V,405,1,0,0,0,1,0,0,0,0" ∷ "A,12,0" ∷ "A,0,0" ∷ "A,0,0" ∷ "A,0,0" ∷ []))
@@ -316,7 +316,7 @@ limits-9 = record {
 
 abbrev list-9 : List Call
 list-9 = reading true (text ("R,3,3,3,1" ∷ "T,1,2,1,3,0,0" ∷ "T,1,1,1,0,0,1" ∷ "T,2,2,1,0,0,3" ∷ "T,2,1,1,0,1,0" ∷ "T,3,2,1,0,2,0" ∷ "E,5" ∷ []))
-    ∷ lifting true 1 (by-hybrid 3) ∷ lifting true 2 by-division ∷ []
+    ∷ lifting true 1 (by-hybrid 3 512) ∷ lifting true 2 by-division ∷ []
 
 seen-9 : seen limits-9 2000 empty list-9 ≡ some (text ("A,0,0" ∷ "A,0,0" ∷ "A,14,2" ∷ []))
 seen-9 = refl
@@ -385,8 +385,8 @@ limits-11 = record {
 }
 
 abbrev list-11 : List Call
-list-11 = fetching true 1 1 ∷ lifting true 1 (by-hybrid 3) ∷ fetching true 1 1 ∷ fetching true 1 1 ∷ lifting true 1 (by-hybrid 3)
-    ∷ lifting true 1 (by-hybrid 3) ∷ []
+list-11 = fetching true 1 1 ∷ lifting true 1 (by-hybrid 3 512) ∷ fetching true 1 1 ∷ fetching true 1 1 ∷ lifting true 1 (by-hybrid 3 512)
+    ∷ lifting true 1 (by-hybrid 3 512) ∷ []
 
 seen-11 : seen limits-11 2000 empty list-11 ≡ some (text ("A,11,0" ∷ "A,11,0" ∷ "A,11,0" ∷ "A,11,0" ∷ "A,11,0" ∷ "A,11,0" ∷ []))
 seen-11 = refl
@@ -419,7 +419,7 @@ limits-12 = record {
 
 abbrev list-12 : List Call
 list-12 = reading true (text ("R,101,5,2,3" ∷ "T,1,97,1,2,0,0,0,0" ∷ "T,2,8,1,0,0,2,0,0" ∷ "T,2,44,1,0,0,1,1,0" ∷ "T,3,100,1,0,0,0,2,0" ∷ "T,4,64,1,0,0,0,0,2"
-    ∷ "E,5" ∷ [])) ∷ lifting true 1 (by-tree 9) ∷ lifting true 2 (by-hybrid 1) ∷ reading true (text ("R,251,5,1,1" ∷ "D,3" ∷ "T,1,1,1,0,0,0,3,0"
+    ∷ "E,5" ∷ [])) ∷ lifting true 1 (by-tree 9) ∷ lifting true 2 (by-hybrid 1 512) ∷ reading true (text ("R,251,5,1,1" ∷ "D,3" ∷ "T,1,1,1,0,0,0,3,0"
     ∷ "T,2,250,1,0,0,3,0,0" ∷ "T,3,250,1,0,3,0,0,0" ∷ "T,4,1,1,0,1,0,0,0" ∷ "T,4,250,1,0,0,1,0,0" ∷ "T,5,1,1,3,0,0,0,0" ∷ "T,6,27,1,0,1,0,0,0"
     ∷ "T,6,224,1,0,0,1,0,0" ∷ "T,7,60,1,0,0,0,0,3" ∷ "E,9" ∷ [])) ∷ fetching true 1 0 ∷ reading true (text ("R,32003,5,2,1" ∷ "T,1,32002,1,0,0,1,0,0"
     ∷ "T,1,1,1,0,0,0,1,0" ∷ "T,2,28554,1,0,1,0,0,0" ∷ "T,2,3449,1,0,0,0,0,1" ∷ "E,4" ∷ [])) ∷ []
@@ -457,7 +457,7 @@ limits-13 = record {
 
 abbrev list-13 : List Call
 list-13 = reading true (text ("R,32749,4,3,1" ∷ "D,246" ∷ "T,1,1,1,0,0,0,1" ∷ "T,2,32748,1,0,0,1,0" ∷ "T,3,1,1,0,1,0,0" ∷ "T,4,21682,1,1,0,0,0"
-    ∷ "T,4,32748,1,0,0,1,0" ∷ "T,5,32748,1,1,0,0,0" ∷ "T,6,23618,1,0,1,1,1" ∷ "T,6,9131,1,0,0,0,1" ∷ "E,8" ∷ [])) ∷ lifting true 1 (by-hybrid 3)
+    ∷ "T,4,32748,1,0,0,1,0" ∷ "T,5,32748,1,1,0,0,0" ∷ "T,6,23618,1,0,1,1,1" ∷ "T,6,9131,1,0,0,0,1" ∷ "E,8" ∷ [])) ∷ lifting true 1 (by-hybrid 3 512)
     ∷ fetching true 1 3 ∷ fetching true 2 129 ∷ lifting true 2 (by-tree 20) ∷ fetching true 2 3 ∷ []
 
 seen-13 : seen limits-13 2000 empty list-13 ≡ some (text ("A,0,0" ∷ "A,0,0" ∷ "A,0,0" ∷ "V,1,3,0,0,1,0,0,0,0,0" ∷ "V,1,2,0,1,0,0,0,0,0,0" ∷ "A,11,0"
@@ -523,8 +523,8 @@ limits-15 = record {
 }
 
 abbrev list-15 : List Call
-list-15 = reading true (text ("R,2,2,2,1" ∷ "T,1,1,1,0,1" ∷ "T,2,1,1,0,1" ∷ "E,2" ∷ [])) ∷ lifting true 1 (by-hybrid 3) ∷ fetching true 1 1
-    ∷ lifting true 2 (by-hybrid 1) ∷ lifting true 3 (by-tree 4) ∷ []
+list-15 = reading true (text ("R,2,2,2,1" ∷ "T,1,1,1,0,1" ∷ "T,2,1,1,0,1" ∷ "E,2" ∷ [])) ∷ lifting true 1 (by-hybrid 3 512) ∷ fetching true 1 1
+    ∷ lifting true 2 (by-hybrid 1 512) ∷ lifting true 3 (by-tree 4) ∷ []
 
 seen-15 : seen limits-15 2000 empty list-15 ≡ some (text ("A,0,0" ∷ "A,0,0" ∷ "A,0,0" ∷ "V,1,2,0,0,0,0,0,0,0,0" ∷ "V,1,1,0,0,0,0,0,0,0,0" ∷ "A,0,0" ∷ "A,0,0"
     ∷ []))
@@ -594,7 +594,7 @@ limits-17 = record {
 abbrev list-17 : List Call
 list-17 = reading true (text ("R,251,3,2,1" ∷ "T,1,198,1,1,1,2" ∷ "T,1,243,1,1,0,3" ∷ "T,1,23,1,1,0,1" ∷ "T,2,53,1,0,1,1" ∷ "T,2,8,1,0,0,2" ∷ "T,3,1,1,0,0,1"
     ∷ "E,6" ∷ [])) ∷ lifting true 1 by-division ∷ lifting true 1 (by-tree 9) ∷ lifting true 2 (by-tree 6) ∷ lifting true 3 (by-tree 7) ∷ fetching true 4 65535
-    ∷ fetching true 2 1 ∷ lifting true 3 (by-hybrid 3) ∷ []
+    ∷ fetching true 2 1 ∷ lifting true 3 (by-hybrid 3 512) ∷ []
 
 seen-17 : seen limits-17 2000 empty list-17 ≡ some (text ("A,0,0" ∷ "A,0,0" ∷ "A,0,0" ∷ "A,0,0" ∷ "A,0,0" ∷ "A,11,0" ∷ "A,12,0" ∷ "A,0,0" ∷ []))
 seen-17 = refl
@@ -631,7 +631,7 @@ limits-18 = record {
 
 abbrev list-18 : List Call
 list-18 = reading true (text ("R,101,2,3,1" ∷ "D,73" ∷ "T,1,81,1,1,1" ∷ "T,1,14,1,0,2" ∷ "T,2,87,1,2,1" ∷ "T,2,30,1,1,2" ∷ "E,4" ∷ [])) ∷ fetching true 1 1
-    ∷ lifting true 1 (by-hybrid 3) ∷ lifting true 2 (by-tree 9) ∷ lifting true 3 (by-tree 20) ∷ lifting true 10 (by-hybrid 1) ∷ lifting true 3 (by-tree 0) ∷ []
+    ∷ lifting true 1 (by-hybrid 3 512) ∷ lifting true 2 (by-tree 9) ∷ lifting true 3 (by-tree 20) ∷ lifting true 10 (by-hybrid 1 512) ∷ lifting true 3 (by-tree 0) ∷ []
 
 seen-18 : seen limits-18 2000 empty list-18 ≡ some (text ("A,0,0" ∷ "A,11,0" ∷ "A,0,0" ∷ "A,0,0" ∷ "A,0,0" ∷ "A,12,0" ∷ "A,0,0" ∷ []))
 seen-18 = refl
@@ -666,8 +666,8 @@ limits-19 = record {
 
 abbrev list-19 : List Call
 list-19 = reading true (text ("R,251,1,2,1" ∷ "E,1" ∷ "D,2" ∷ "T,1,1,1,1" ∷ "E,1" ∷ [])) ∷ lifting true 1 by-division ∷ reading true (text ("R,7,2,2,1"
-    ∷ "D,99999" ∷ "T,1,4,1,1,1" ∷ "E,1" ∷ [])) ∷ fetching true 1 1 ∷ lifting true 1 (by-hybrid 0) ∷ lifting true 1 by-division
-    ∷ reading true (text ("R,3,2,3,1" ∷ "D,2" ∷ "T,1,2,1,1,1" ∷ "T,1,2,1,0,1" ∷ "T,2,2,1,0,2" ∷ "T,2,1,1,0,1" ∷ "D,4" ∷ [])) ∷ lifting true 1 (by-hybrid 1) ∷ []
+    ∷ "D,99999" ∷ "T,1,4,1,1,1" ∷ "E,1" ∷ [])) ∷ fetching true 1 1 ∷ lifting true 1 (by-hybrid 0 512) ∷ lifting true 1 by-division
+    ∷ reading true (text ("R,3,2,3,1" ∷ "D,2" ∷ "T,1,2,1,1,1" ∷ "T,1,2,1,0,1" ∷ "T,2,2,1,0,2" ∷ "T,2,1,1,0,1" ∷ "D,4" ∷ [])) ∷ lifting true 1 (by-hybrid 1 512) ∷ []
 
 seen-19 : seen limits-19 2000 empty list-19 ≡ some (text ("A,7,2" ∷ "A,11,0" ∷ "A,1,2" ∷ "A,11,0" ∷ "A,11,0" ∷ "A,11,0" ∷ "A,1,7" ∷ "A,11,0" ∷ []))
 seen-19 = refl
@@ -699,7 +699,7 @@ limits-20 = record {
 }
 
 abbrev list-20 : List Call
-list-20 = reading true (text ("R,251,2,2,1" ∷ "T,1,1,1,0,0" ∷ "E,1" ∷ [])) ∷ lifting true 1 (by-hybrid 2) ∷ fetching true 1 1 ∷ fetching true 1 1
+list-20 = reading true (text ("R,251,2,2,1" ∷ "T,1,1,1,0,0" ∷ "E,1" ∷ [])) ∷ lifting true 1 (by-hybrid 2 512) ∷ fetching true 1 1 ∷ fetching true 1 1
     ∷ lifting true 2 by-division ∷ []
 
 seen-20 : seen limits-20 2000 empty list-20 ≡ some (text ("A,0,0" ∷ "A,0,0" ∷ "A,12,0" ∷ "A,12,0" ∷ "A,0,0" ∷ []))

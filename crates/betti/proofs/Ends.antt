@@ -24,8 +24,9 @@ use Rattle.laws.proofs.Bound.{read-steady, lift-steady}
 pub lifted-steady : (lim : Limits) (left k : ℕ) (X : State) → Steady finished? (λ n. lifted-from lim n left k X)
 lifted-steady lim zero k X = steady-fixed finished? (done X)
 lifted-steady lim (suc left) k X =
-    bind-steady (λ n. lift lim n X k (by-hybrid 2)) (λ n Y. unless-empty (empty? (highest (Y .levels))) Y (λ Z. lifted-from lim n left (suc k) Z))
-    (lift-steady lim X k (by-hybrid 2)) (λ Y. next (empty? (highest (Y .levels))) Y (lifted-steady lim left (suc k) Y))
+    bind-steady (λ n. lift lim n X k (by-hybrid 2 (lim .working)))
+    (λ n Y. unless-empty (empty? (highest (Y .levels))) Y (λ Z. lifted-from lim n left (suc k) Z))
+    (lift-steady lim X k (by-hybrid 2 (lim .working))) (λ Y. next (empty? (highest (Y .levels))) Y (lifted-steady lim left (suc k) Y))
   where
     next : (b : Bool) (Y : State) → Steady finished? (λ n. lifted-from lim n left (suc k) Y)
         → Steady finished? (λ n. unless-empty b Y (λ Z. lifted-from lim n left (suc k) Z))
@@ -51,7 +52,7 @@ module _ (lim : Limits) (n : ℕ) where
 
   lifted-ends : (left k : ℕ) (X : State) → T (answered? (levels-from lim n left k X)) → T (finished? (lifted-from lim n left k X))
   lifted-ends zero k X t = tt
-  lifted-ends (suc left) k X t = go (lift lim n X k (by-hybrid 2)) t (lifted-ends left (suc k))
+  lifted-ends (suc left) k X t = go (lift lim n X k (by-hybrid 2 (lim .working))) t (lifted-ends left (suc k))
     where
       next : (b : Bool) (f : Level) (Y : State) → T (answered? (if-more b (X .parameters .n) k f (λ u. levels-from lim n left (suc k) Y)))
           → (T (answered? (levels-from lim n left (suc k) Y)) → T (finished? (lifted-from lim n left (suc k) Y)))

@@ -82,7 +82,7 @@ module _ (lim : Limits) (o : T (sensible? lim)) (q : Parameters) (f : Level) (bo
   goes-on zero g below s t l =
       all-lifted s (and-right (filled? g) (every filled? below) t) (inr (omega arith)) (sym (append-nil (printed-levels (q .n) (g ∷ below))))
   goes-on (suc left) g below s t l =
-      go (lifted-to lim o (so-far g below) (s .sound) k (by-hybrid 2) bound) (λ h st u. goes-on left h (g ∷ below) st u (omega arith))
+      go (lifted-to lim o (so-far g below) (s .sound) k (by-hybrid 2 (lim .working)) bound) (λ h st u. goes-on left h (g ∷ below) st u (omega arith))
     where
       k : ℕ
       k = suc (length below)

@@ -96,7 +96,7 @@ read-decides state file work a q f t e = holds-at (sym (t .1 .1)) (go (long-enou
 
 -- Demand 3: what the calls left is the reckoning's, and each fetch gave its vector
 pub made-right : (state : Words) (cs : List Lent) (ls : List Left) → Made state cs ls → Starts state cs ls
-    → Leaves document-01 (reckon-all document-01 nothing (numbered cs ls)) (left-by state ls) × Fetches-right document-01 nothing cs ls
+    → Leaves document-01 (reckon-all document-01 nothing (numbered document-01 cs ls)) (left-by state ls) × Fetches-right document-01 nothing cs ls
 made-right state cs ls t s =
     let x : (n : ℕ) × (lent-calls document-01 n state cs ≡ some ls) = all-calls state cs ls t in
     demand-3-of-document-01 .calls (x .0) state cs ls (x .1) s

@@ -32,12 +32,12 @@ file-2 = text ("R,251,3,1,16" ∷ "T,1,130,1,1,0,0" ∷ "T,1,233,1,0,1,0" ∷ "T
     ∷ "T,5,120,1,0,1,0" ∷ "T,5,64,1,0,0,1" ∷ "T,5,88,1,0,0,0" ∷ "E,16" ∷ [])
 
 -- A combined term that became the newest would give 14.
-combined-in-place : seen (limited 2 128 2048 10 6 5) 999 empty (first-vector file-2 (by-hybrid 2))
+combined-in-place : seen (limited 2 128 2048 10 6 5) 999 empty (first-vector file-2 (by-hybrid 2 10))
     ≡ some (text ("A,0,0" ∷ "A,0,0" ∷ "A,0,0" ∷ "V,1,2,0,0,0,0,0,0,0,0" ∷ "V,222,1,0,1,1,0,0,0,0,0" ∷ "V,138,3,0,1,1,0,0,0,0,0" ∷ []))
 combined-in-place = refl
 
 -- The oldest picked by code 2 would finish.
-newest-by-code-2 : seen (limited 52 128 2048 11 6 4) 999 empty (first-vector file-1 (by-hybrid 2)) ≡ some (text ("A,0,0" ∷ "A,14,1" ∷ "A,11,0" ∷ []))
+newest-by-code-2 : seen (limited 52 128 2048 11 6 4) 999 empty (first-vector file-1 (by-hybrid 2 11)) ≡ some (text ("A,0,0" ∷ "A,14,1" ∷ "A,11,0" ∷ []))
 newest-by-code-2 = refl
 
 abbrev file-3 : Bytes
@@ -53,7 +53,7 @@ file-4 = text ("R,2,3,2,1" ∷ "T,1,1,1,0,1,2" ∷ "T,1,1,1,0,0,3" ∷ "T,2,1,1,
     ∷ "T,4,1,1,0,1,1" ∷ "T,5,1,1,0,2,0" ∷ "T,5,1,1,0,1,1" ∷ "E,10" ∷ [])
 
 -- 13 only for products that are kept would let the lifting finish.
-dropped-products-are-tested : seen (limited 4 128 2048 512 11 50) 999 empty (first-vector file-4 (by-hybrid 2))
+dropped-products-are-tested : seen (limited 4 128 2048 512 11 50) 999 empty (first-vector file-4 (by-hybrid 2 512))
     ≡ some (text ("A,0,0" ∷ "A,13,1" ∷ "A,11,0" ∷ []))
 dropped-products-are-tested = refl
 
@@ -61,7 +61,7 @@ abbrev file-5 : Bytes
 file-5 = text ("R,5,3,3,1" ∷ "T,1,4,1,0,0,2" ∷ "T,2,3,1,0,1,0" ∷ "T,2,2,1,0,0,1" ∷ "T,3,3,1,1,0,0" ∷ "T,3,3,1,0,1,0" ∷ "T,3,3,1,0,0,1" ∷ "E,6" ∷ [])
 
 -- The newest picked by code 3 would finish.
-oldest-by-code-3 : seen (limited 3 128 2048 5 5 3) 999 empty (first-vector file-5 (by-hybrid 3)) ≡ some (text ("A,0,0" ∷ "A,14,1" ∷ "A,11,0" ∷ []))
+oldest-by-code-3 : seen (limited 3 128 2048 5 5 3) 999 empty (first-vector file-5 (by-hybrid 3 5)) ≡ some (text ("A,0,0" ∷ "A,14,1" ∷ "A,11,0" ∷ []))
 oldest-by-code-3 = refl
 
 abbrev file-6 : Bytes
@@ -83,7 +83,7 @@ abbrev accepted-file : State
 accepted-file = record { parameters = record { p = 7; n = 2; code = 1; s = 1; degrees = 0 ∷ [] }; levels = f₁ ∷ [] }
 
 -- "a 513th term would be stored in a .. vector": four terms fit four places, not three
-vector-of-four : seen (limited 255 128 2048 512 4 4096) 99 empty (first-vector printed-file (by-hybrid 2))
+vector-of-four : seen (limited 255 128 2048 512 4 4096) 99 empty (first-vector printed-file (by-hybrid 2 512))
     ≡ some (text ("A,0,0" ∷ "A,0,0" ∷ "A,0,0" ∷ "V,1,2,1,0,0,0,0,0,0,0" ∷ "V,6,1,0,2,0,0,0,0,0,0" ∷ "V,6,1,0,0,0,0,0,0,0,0" ∷ "V,1,2,0,1,0,0,0,0,0,0"
     ∷ []))
 vector-of-four = refl
@@ -107,10 +107,10 @@ value-of-one : seen (limited 255 128 2048 1 512 4096) 99 accepted-file (lifting 
 value-of-one = refl
 
 -- "a 2,049th term of a level above 0, when a finished vector is added"
-four-terms : seen (limited 255 128 4 512 512 4096) 99 accepted-file (lifting true 1 (by-hybrid 2) ∷ []) ≡ some (text ("A,0,0" ∷ []))
+four-terms : seen (limited 255 128 4 512 512 4096) 99 accepted-file (lifting true 1 (by-hybrid 2 512) ∷ []) ≡ some (text ("A,0,0" ∷ []))
 four-terms = refl
 
-three-terms : seen (limited 255 128 3 512 512 4096) 99 accepted-file (lifting true 1 (by-hybrid 2) ∷ fetching true 1 1 ∷ [])
+three-terms : seen (limited 255 128 3 512 512 4096) 99 accepted-file (lifting true 1 (by-hybrid 2 512) ∷ fetching true 1 1 ∷ [])
     ≡ some (text ("A,15,1" ∷ "A,11,0" ∷ []))
 three-terms = refl
 
@@ -155,7 +155,7 @@ level-2-by-tree = refl
 -- "lower order terms are dropped as they arise": f = x + y + z, y² + 1 in two places; y and z of −f_1 would want a third
 dropped-as-they-arise : seen (limited 255 128 2048 2 512 4096) 99 (with-level-0
     (((1, (xyz 1 0 0, 1)) ∷ (1, (xyz 0 1 0, 1)) ∷ (1, (xyz 0 0 1, 1)) ∷ []) ∷ ((1, (xyz 0 2 0, 1)) ∷ (1, (xyz 0 0 0, 1)) ∷ []) ∷ []))
-    (lifting true 1 (by-hybrid 2) ∷ []) ≡ some (text ("A,0,0" ∷ []))
+    (lifting true 1 (by-hybrid 2 2) ∷ []) ≡ some (text ("A,0,0" ∷ []))
 dropped-as-they-arise = refl
 
 -- division drops none

@@ -3,6 +3,7 @@ pub mod Instances
 pub mod Views
 pub mod Printed
 pub mod Edges
+pub mod Space
 pub mod Degrees
 pub mod Places
 pub mod Pages

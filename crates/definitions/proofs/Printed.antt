@@ -136,16 +136,16 @@ abbrev levels-0-and-1 : State
 levels-0-and-1 = record { parameters = record { p = 7; n = 2; code = 1; s = 1; degrees = 0 ∷ [] }; levels = g₁ ∷ f₁ ∷ [] }
 
 -- 16 before all else; 11 before 12
-without-basis : seen document-01 9 empty (reading false [] ∷ lifting false 10 by-division ∷ lifting true 10 by-division ∷ lifting true 1 (by-hybrid 4)
+without-basis : seen document-01 9 empty (reading false [] ∷ lifting false 10 by-division ∷ lifting true 10 by-division ∷ lifting true 1 (by-hybrid 4 512)
     ∷ fetching true 0 0 ∷ [])
     ≡ some (text ("A,16,0" ∷ "A,16,0" ∷ "A,11,0" ∷ "A,11,0" ∷ "A,11,0" ∷ []))
 without-basis = refl
 
 -- 12 for levels 0 and 10, pick codes 0 and 4, vectors 0 and 2; 11 where the level below is missing
 with-basis : seen document-01 9 levels-0-and-1 (
-    lifting true 10 by-division ∷ lifting true 0 by-division ∷ lifting true 1 (by-hybrid 0) ∷ lifting true 1 (by-hybrid 4) ∷ fetching true 0 1
+    lifting true 10 by-division ∷ lifting true 0 by-division ∷ lifting true 1 (by-hybrid 0 512) ∷ lifting true 1 (by-hybrid 4 512) ∷ fetching true 0 1
     ∷ fetching true 10 1 ∷
-    fetching true 1 0 ∷ fetching true 1 2 ∷ lifting true 3 (by-hybrid 4) ∷ fetching true 2 1 ∷ [])
+    fetching true 1 0 ∷ fetching true 1 2 ∷ lifting true 3 (by-hybrid 4 512) ∷ fetching true 2 1 ∷ [])
     ≡ some (text ("A,12,0" ∷ "A,12,0" ∷ "A,12,0" ∷ "A,12,0" ∷ "A,12,0" ∷ "A,12,0" ∷ "A,12,0" ∷ "A,12,0" ∷ "A,11,0" ∷ "A,11,0" ∷ []))
 with-basis = refl
 

@@ -2,7 +2,7 @@
 use mathlib.Core.Bool.{Bool, true, false}
 use mathlib.Core.Option.{Option, none, some}
 use mathlib.Core.List.{List, [], _∷_, _++_, reverse}
-use Prim.Native.Nat.{ℕ, zero, suc, _+_, _-_, _*_, _/_, _%_, max}
+use Prim.Native.Nat.{ℕ, zero, suc, _+_, _-_, _*_, _/_, _%_, max, min}
 use lib.Dec.{leb, ltb}
 use lib.ListN.{length, getD, take, drop, replicate}
 use Rattle.definitions.specs.Limits.{Limits}
@@ -14,7 +14,7 @@ use Rattle.definitions.specs.Problem.{Bytes}
 use Rattle.definitions.specs.State.{State, empty, sound?}
 use Rattle.definitions.specs.Degrees.{carried}
 use Rattle.definitions.specs.Calls.{Reply, read-reply, lift-reply, fetch-reply}
-use Rattle.definitions.specs.Places.{row-length, component-offset, exponents-offset, header-length}
+use Rattle.definitions.specs.Places.{row-length, component-offset, exponents-offset, header-length, least-terms}
 
 -- the contents of a lent buffer: numbers of 16 bits
 abbrev pub Words : Type 0
@@ -190,16 +190,17 @@ pub data Way : Type 0 where
   hybrid : ℕ → Way
   tree : Way
 
--- "the cache may have any length": as many terms as it has whole rows
-abbrev pub lifting-by : Way → Words → Lifting
-lifting-by division cache = by-division
-lifting-by (hybrid pick) cache = by-hybrid pick
-lifting-by tree cache = by-tree (length cache / row-length)
+-- "the cache may have any length": as many terms as it has whole rows. "refusal 14 then comes at term w + 1 of the working value", "one for more is used
+-- up to 512" (A11): as many as the work area has whole rows
+abbrev pub lifting-by : Limits → Way → Words → Words → Lifting
+lifting-by lim division work cache = by-division
+lifting-by lim (hybrid pick) work cache = by-hybrid pick (min (lim .working) (length work / row-length))
+lifting-by lim tree work cache = by-tree (length cache / row-length)
 
--- the work area is that of the working value, or the tree's
+-- the work area is that of the working value, or the tree's; for hybrid "a buffer for fewer than 32 is refusal 16" (A11)
 abbrev pub work-words : Limits → Way → ℕ
 work-words lim division = lim .working * row-length
-work-words lim (hybrid pick) = lim .working * row-length
+work-words lim (hybrid pick) = min least-terms (lim .working) * row-length
 work-words lim tree = lim .tree * row-length
 
 abbrev pub out-words : Limits → ℕ
@@ -253,7 +254,7 @@ lift-left lim state work cache a = (
 -- lifting level k
 abbrev pub lift-call : Limits → ℕ → ℕ → Way → Words → Words → Words → Option Lift
 lift-call lim n k way state work cache =
-    lift-reply lim n (meant lim state) (long-enough? lim way state work) k (lifting-by way cache) then λ a.
+    lift-reply lim n (meant lim state) (long-enough? lim way state work) k (lifting-by lim way work cache) then λ a.
     some (lift-left lim state work cache a)
 
 -- number, place; the words of the fetched vector's buffer

@@ -1,5 +1,5 @@
 -- "Limits": each a named number, so that the rules on 13, 14 and 15 can be tried with small ones.
--- Requests A4 and A10 have changed prime-bound and numbering; request A11 changes working.
+-- Requests A4 and A10 have changed prime-bound and numbering; by request A11 a caller may lend less than working.
 use Prim.Native.Nat.{ℕ}
 
 pub record Limits : Type 0 where
@@ -53,4 +53,24 @@ document-01 = record {
   vector = 512;
   tree = 4_096;
   numbering = λ code. 1;
+}
+
+-- the same with another limit on the working value (A11)
+abbrev pub with-working : ℕ → Limits → Limits
+with-working working lim = record {
+  prime-bound = lim .prime-bound;
+  variables = lim .variables;
+  components = lim .components;
+  elements = lim .elements;
+  exponent = lim .exponent;
+  t-lines = lim .t-lines;
+  file = lim .file;
+  field = lim .field;
+  vectors = lim .vectors;
+  level-terms = lim .level-terms;
+  levels = lim .levels;
+  working = working;
+  vector = lim .vector;
+  tree = lim .tree;
+  numbering = lim .numbering;
 }

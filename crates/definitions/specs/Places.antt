@@ -49,6 +49,10 @@ most-rows = 2_048
 abbrev pub most-terms : ℕ
 most-terms = 512
 
+-- terms of a working value for which the work area of hybrid must have room (A11)
+abbrev pub least-terms : ℕ
+least-terms = 32
+
 -- terms of the tree's work area
 abbrev pub most-tree-terms : ℕ
 most-tree-terms = 4_096

@@ -23,7 +23,7 @@ unless-empty false X go = go X
 abbrev pub lifted-from : Limits → ℕ → ℕ → ℕ → State → Result State
 lifted-from lim n zero k X = done X
 lifted-from lim n (suc left) k X =
-    lift lim n X k (by-hybrid 2) >>= λ Y. unless-empty (empty? (highest (Y .levels))) Y (λ Z. lifted-from lim n left (suc k) Z)
+    lift lim n X k (by-hybrid 2 (lim .working)) >>= λ Y. unless-empty (empty? (highest (Y .levels))) Y (λ Z. lifted-from lim n left (suc k) Z)
 
 abbrev pub lifted : Limits → ℕ → State → Result State
 lifted lim n X = lifted-from lim n (lim .levels) 1 X

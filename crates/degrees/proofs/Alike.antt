@@ -188,8 +188,9 @@ module _ (lim : Limits) (o : T (sensible? lim)) where
   from-alike : (bound left k : ℕ) (X Y : State) → Alike-states X Y → levels-from lim bound left k X ≡ levels-from lim bound left k Y
   from-alike bound zero k X Y a = refl
   from-alike bound (suc left) k X Y a =
-      ap (λ n. level-then n k (λ Z. levels-from lim bound left (suc k) Z) (lift lim bound X k (by-hybrid 2))) (ap (λ (q : Parameters). q .n) (a .parameters))
-      ∙ go (lifted lim bound X Y a k (by-hybrid 2)) (λ X Y a. from-alike bound left (suc k) X Y a)
+      ap (λ n. level-then n k (λ Z. levels-from lim bound left (suc k) Z) (lift lim bound X k (by-hybrid 2 (lim .working))))
+      (ap (λ (q : Parameters). q .n) (a .parameters))
+      ∙ go (lifted lim bound X Y a k (by-hybrid 2 (lim .working))) (λ X Y a. from-alike bound left (suc k) X Y a)
     where
       if-more-alike : (f g : Level) → f ≡ g → (x y : Option Bytes) → x ≡ y
           → if-more (empty? f) (Y .parameters .n) k f (λ u. x) ≡ if-more (empty? g) (Y .parameters .n) k g (λ u. y)

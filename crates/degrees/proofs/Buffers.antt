@@ -193,10 +193,10 @@ module _ (lim : Limits) (o : T (sensible? lim)) (n : ℕ) where
         (λ z. some (record { number = z .0; place = z .1; state = z .2; out = [] }))
         (λ z. some (record { number = z .0; place = z .1; state = z .2; out = [] })) (λ z y k. both-some k)
       where
-        replies : Both (Two lim s s′) (lift-reply lim n (meant lim s) (long-enough? lim way s work) k (lifting-by way cache))
-            (lift-reply lim n (meant lim s′) (long-enough? lim way s′ work) k (lifting-by way cache))
+        replies : Both (Two lim s s′) (lift-reply lim n (meant lim s) (long-enough? lim way s work) k (lifting-by lim way work cache))
+            (lift-reply lim n (meant lim s′) (long-enough? lim way s′ work) k (lifting-by lim way work cache))
         replies =
-            let by = lifting-by way cache in
+            let by = lifting-by lim way work cache in
             two (subst (λ b. Both Alike-replies (lift-reply lim n (meant lim s) (long-enough? lim way s work) k by) (lift-reply lim n (meant lim s′) b k by))
             (long-alike way work) (lift-replies lim n (meant lim s) (meant lim s′) m (long-enough? lim way s work) k by))
             (lift-spelled lim o n s (meant lim s) (long-enough? lim way s work) (long-state way s work) k by)

@@ -113,12 +113,12 @@ module _ (lim : Limits) (X : State) (s : T (sound? lim X)) where
 
 module _ (lim : Limits) (o : T (sensible? lim)) where
   left : (n : ℕ) (state : Words) (cs : List Lent) (ls : List Left) → lent-calls lim n state cs ≡ some ls → Starts state cs ls
-      → (q : Parameters) (f : Level) (levels : List Level) → reckon-all lim nothing (numbered cs ls) .basis ≡ some (q, f)
-      → Reckons lim (reckon-all lim nothing (numbered cs ls)) levels
+      → (q : Parameters) (f : Level) (levels : List Level) → reckon-all lim nothing (numbered lim cs ls) .basis ≡ some (q, f)
+      → Reckons lim (reckon-all lim nothing (numbered lim cs ls)) levels
       → (k v : ℕ) → Has-vector levels k v → carried-word lim (left-by state ls) k v ≡ degree-at (q .degrees) levels k v
   left n state cs ls e t q f levels b r k v h =
       let W = left-by state ls in
-      let R = reckon-all lim nothing (numbered cs ls) in
+      let R = reckon-all lim nothing (numbered lim cs ls) in
       let L = demand-3 lim o .calls n state cs ls e t .0 in
       let same : levels ≡ meant lim W .levels = demand-3 lim o .one-reckoning R levels (meant lim W .levels) r (L .levels) in
       let p : meant lim W .parameters ≡ q = subst (Of-basis (meant lim W)) b (L .parameters) in

@@ -91,7 +91,7 @@ module _ (lim : Limits) (s : Words) (k v : ℕ) (h : Has-vector (decode lim s .l
   pub wrong-lifting : (n level : ℕ) (way : Way) (work cache : Words) → T (long-enough? lim way s work)
       → lift-call lim n level way s work cache ≡ some (11, 0, s, work, cache)
   wrong-lifting n level way work cache t =
-      let by = lifting-by way cache in
+      let by = lifting-by lim way work cache in
       ap (λ X. lift-reply lim n X (long-enough? lim way s work) level by then λ a. some (lift-left lim s work cache a)) wrong-empty
       ∙ ap (λ b. lift-reply lim n empty b level by then λ a. some (lift-left lim s work cache a)) (true-is (long-enough? lim way s work) t)
       ∙ ap (λ b. choose b (some (refuse 11 empty)) (choose (not (lifts? lim level by)) (some (refuse 12 empty)) (settled (lift lim n empty level by)))

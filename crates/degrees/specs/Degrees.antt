@@ -43,8 +43,8 @@ pub record Carries (lim : Limits) : Type 0 where
       → carried-word lim s k v ≡ degree-at (meant lim s .parameters .degrees) (meant lim s .levels) k v
   -- "from the reading on": after any list of calls the words hold the degrees of the reckoning's vectors, by the degrees of the file that was read last
   pub left : (n : ℕ) (state : Words) (cs : List Lent) (ls : List Left) → lent-calls lim n state cs ≡ some ls → Starts state cs ls
-      → (q : Parameters) (f : Level) (levels : List Level) → reckon-all lim nothing (numbered cs ls) .basis ≡ some (q, f)
-      → Reckons lim (reckon-all lim nothing (numbered cs ls)) levels
+      → (q : Parameters) (f : Level) (levels : List Level) → reckon-all lim nothing (numbered lim cs ls) .basis ≡ some (q, f)
+      → Reckons lim (reckon-all lim nothing (numbered lim cs ls)) levels
       → (k v : ℕ) → Has-vector levels k v → carried-word lim (left-by state ls) k v ≡ degree-at (q .degrees) levels k v
   -- "a state where it is not counts as no accepted basis (11)": with one wrong degree every lifting and every fetch is 11 and changes no buffer
   pub wrong-lifting : (s : Words) (k v : ℕ) → Has-vector (decode lim s .levels) k v

@@ -36,12 +36,12 @@ module _ (lim : Limits) (o : T (sensible? lim)) where
   call-right n state R s (fetch-with k v out) = fetch-stored lim o n state R s k v out
 
   abbrev All-right : Words → Reckoning → List Lent → List Left → Type 0
-  All-right state R cs ls = Leaves lim (reckon-all lim R (numbered cs ls)) (left-by state ls) × Fetches-right lim R cs ls
+  All-right state R cs ls = Leaves lim (reckon-all lim R (numbered lim cs ls)) (left-by state ls) × Fetches-right lim R cs ls
 
   calls-right : (n : ℕ) (cs : List Lent) (state : Words) (R : Reckoning) → Stored lim R state → Holds (All-right state R cs) (lent-calls lim n state cs)
   calls-right n [] state R s = holds (stored-leaves R state s, tt)
   calls-right n (c ∷ cs) state R s = holds-then (call-right n state R s c) (λ a h.
-      holds-then (calls-right n cs (a .state) (reckon lim R (as-call c) (a .number)) (h .0)) (λ ls k. holds (k .0, (h .1, k .1))))
+      holds-then (calls-right n cs (a .state) (reckon lim R (as-call lim c) (a .number)) (h .0)) (λ ls k. holds (k .0, (h .1, k .1))))
 
   -- the first call reads, and is not refused with 16
   first-call : (n : ℕ) (state : Words) (c : Lent) → Holds (λ a. Reads c a → Called lim o nothing c a × Fetch-right lim nothing c a)
@@ -53,7 +53,7 @@ module _ (lim : Limits) (o : T (sensible? lim)) where
   first-right : (n : ℕ) (state : Words) (cs : List Lent) → Holds (λ ls. First-reads cs ls → All-right state nothing cs ls) (lent-calls lim n state cs)
   first-right n state [] = holds (λ r. absurd r)
   first-right n state (c ∷ cs) = holds-then (first-call n state c) (λ a h.
-      holds-then (holds-given (lent-calls lim n (a .state) cs) (λ r. calls-right n cs (a .state) (reckon lim nothing (as-call c) (a .number)) (h r .0)))
+      holds-then (holds-given (lent-calls lim n (a .state) cs) (λ r. calls-right n cs (a .state) (reckon lim nothing (as-call lim c) (a .number)) (h r .0)))
       (λ ls k. holds (λ r. (k r .0, (h r .1, k r .1)))))
 
   calls : (n : ℕ) (state : Words) (cs : List Lent) (ls : List Left) → lent-calls lim n state cs ≡ some ls → Starts state cs ls

@@ -89,7 +89,7 @@ module _ (lim : Limits) (o : T (sensible? lim)) where
       X = meant lim state
 
       by : Lifting
-      by = lifting-by way cache
+      by = lifting-by lim way work cache
 
       left : Reply → Lift
       left a = lift-left lim state work cache a

@@ -112,7 +112,7 @@ module _ (lim : Limits) (o : T (sensible? lim)) where
         holds (subst (Sheet-form lim bytes) (sym (append-nil (printed-levels (q .n) (g ∷ below))))
         (listing (listed g below s (and-right (filled? g) (every filled? below) t)) (inr (omega arith))))
     levels-form (suc left) g below s t l =
-        go refl (lifted-to lim o (so-far g below) (s .sound) k (by-hybrid 2) bound) (λ h st u. levels-form left h (g ∷ below) st u (omega arith))
+        go refl (lifted-to lim o (so-far g below) (s .sound) k (by-hybrid 2 (lim .working)) bound) (λ h st u. levels-form left h (g ∷ below) st u (omega arith))
       where
         k : ℕ
         k = suc (length below)
@@ -130,7 +130,7 @@ module _ (lim : Limits) (o : T (sensible? lim)) where
         grown (v ∷ h) st more = holds-then (more (v ∷ h) st t) (λ out p.
             holds (subst (Sheet-form lim bytes) (append-assoc (printed-levels (q .n) (g ∷ below)) (level-lines (q .n) k (v ∷ h)) out) p))
 
-        go : {x : Result State} → lift lim bound (so-far g below) k (by-hybrid 2) ≡ x → Lifted-to lim (so-far g below) k x → Further
+        go : {x : Result State} → lift lim bound (so-far g below) k (by-hybrid 2 (lim .working)) ≡ x → Lifted-to lim (so-far g below) k x → Further
             → Holds (After g below) (level-then (q .n) k (λ Y. levels-from lim bound left (suc k) Y) x)
         go d (one-more h w) more =
             subst (λ z. Holds (After g below) (if-more (empty? h) (q .n) k h

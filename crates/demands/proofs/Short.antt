@@ -12,7 +12,7 @@ use Rattle.definitions.specs.Order.{Comparison, greater, equal, smaller}
 use Rattle.definitions.specs.Reducer.{Answer, reducer, lower-order, answer}
 use Rattle.definitions.specs.Result.{Result, done, refused, unfinished, _>>=_}
 use Rattle.definitions.specs.Vectors.{unless-zero, insert, inserted, descending, behind, combined, appended, or-last, store}
-use Rattle.definitions.specs.Stage.{Stage}
+use Rattle.definitions.specs.Stage.{Stage, narrowed}
 use Rattle.definitions.specs.Run
 use Rattle.definitions.specs.Lists.{without}
 use Rattle.definitions.specs.Run.{Strategy, on, end, multiple, dropped?, unless-dropped, if-fits, add-products, start, reduced, without-reducer, by-answer}
@@ -216,11 +216,12 @@ module _ (S : Stage) where
   run-gives : 1 ≤ most → (W : Strategy) (N : ℕ) (cache : Cache) (m : Monomial) → Gives ShortSum (run S W N m >>= λ v. done (v, cache))
   run-gives o W N cache m = ends-then (ends-turn (λ v l. l) (λ number value l. tt) (run-short o W N m)) (λ v l. gives l)
 
-  one-short : 1 ≤ most → (way : Lifting) (N : ℕ) (cache : Cache) (m : Monomial) → Gives ShortSum (lift-one S way N cache m)
-  one-short o by-division N cache m = run-gives o (division-strategy S) N cache m
-  one-short o (by-hybrid pick) N cache m = run-gives o (hybrid-strategy S pick) N cache m
+module _ (S : Stage) where
+  one-short : 1 ≤ most S → (way : Lifting) (N : ℕ) (cache : Cache) (m : Monomial) → Gives (ShortSum S) (lift-one S way N cache m)
+  one-short o by-division N cache m = run-gives S o (division-strategy S) N cache m
+  one-short o (by-hybrid pick w) N cache m = run-gives (narrowed w S) o (hybrid-strategy (narrowed w S) pick) N cache m
   one-short o (by-tree room) N cache m =
-      lift-vector-short (lift-term S room (S .reduction .limits .tree)) 1 (m .0) (vector-of (S .family) (m .1)) ((1, m) ∷ [], cache) o
+      lift-vector-short S (lift-term S room (S .reduction .limits .tree)) 1 (m .0) (vector-of (S .family) (m .1)) ((1, m) ∷ [], cache) o
 
   abbrev pub All-short : ℕ → Level → Type 0
   All-short k [] = Unit {0}
@@ -238,8 +239,8 @@ module _ (S : Stage) where
       ends-then (one-short o way N cache m) (λ s k. added s k (leb (l .1 + length (s .0)) (S .reduction .limits .level-terms))
       (λ l′ h′. all-short o way N l′ (s .1) ms h′))
     where
-      added : (s : Tree.Sum) → ShortSum s → (b : Bool) → ((l′ : Lifted) → All-short most (l′ .0)
-          → Gives (All-short most) (lift-all S (lift-one S way N) l′ (s .1) ms))
-          → Gives (All-short most) (add-vector b l (s .0) >>= λ l′. lift-all S (lift-one S way N) l′ (s .1) ms)
+      added : (s : Tree.Sum) → ShortSum S s → (b : Bool) → ((l′ : Lifted) → All-short (most S) (l′ .0)
+          → Gives (All-short (most S)) (lift-all S (lift-one S way N) l′ (s .1) ms))
+          → Gives (All-short (most S)) (add-vector b l (s .0) >>= λ l′. lift-all S (lift-one S way N) l′ (s .1) ms)
       added s k false ih = refuses tt
-      added s k true ih = ih (l .0 ++ s .0 ∷ [], l .1 + length (s .0)) (short-append most (l .0) (s .0) h k)
+      added s k true ih = ih (l .0 ++ s .0 ∷ [], l .1 + length (s .0)) (short-append (most S) (l .0) (s .0) h k)

@@ -131,7 +131,7 @@ module _ (lim : Limits) (o : T (sensible? lim)) where
 
   -- a call leaves what the reckoning holds after it
   abbrev pub Called : Reckoning → Lent → Left → Type 0
-  Called R c a = Stored lim (reckon lim R (as-call c) (a .number)) (a .state)
+  Called R c a = Stored lim (reckon lim R (as-call lim c) (a .number)) (a .state)
 
   module _ (n : ℕ) (state : Words) where
     -- what a reply to a call leaves in the state's words
@@ -184,8 +184,8 @@ module _ (lim : Limits) (o : T (sensible? lim)) where
       pub lift-stored : (k : ℕ) (way : Way) (work cache : Words) → Holds (Called R (lift-with k way work cache))
           (lent-call lim n state (lift-with k way work cache))
       lift-stored k way work cache =
-          holds-then {P = λ (z : Lift). Stored lim (reckon lim R (lifting true k (lifting-by way cache)) (z .0)) (z .2)}
-          (holds-then (lift-replied (long-enough? lim way state work) (long-state way work) k (lifting-by way cache)) (λ a m. holds m)) (λ a m. holds m)
+          holds-then {P = λ (z : Lift). Stored lim (reckon lim R (lifting true k (lifting-by lim way work cache)) (z .0)) (z .2)}
+          (holds-then (lift-replied (long-enough? lim way state work) (long-state way work) k (lifting-by lim way work cache)) (λ a m. holds m)) (λ a m. holds m)
 
       -- fetching changes nothing, and gives the reckoning's vector
       module _ (k v : ℕ) (out : Words) where

@@ -11,7 +11,7 @@ use Rattle.theory.specs.Reckon.{reckon}
 use Rattle.theory.proofs.Vec
 use Rattle.theory.proofs.Canon.{canonical-is}
 use Rattle.theory.proofs.Runs.{run-reckons}
-use Rattle.definitions.specs.Limits.{Limits}
+use Rattle.definitions.specs.Limits.{Limits, with-working}
 use Rattle.definitions.specs.Monomial
 use Rattle.definitions.specs.Monomial.{Monomial, Vector}
 use Rattle.definitions.specs.Result.{Result, done, refused, unfinished, _>>=_}
@@ -88,17 +88,21 @@ module _ (Z : Setting) (lim : Limits) where
           e = canonical-is (S Z) (module-over (Z .n) (Z .code) (Z .f ∷ Z .b)) (h .form) (reckon (S Z) (L Z) (F Z) (red Z) x) (h .canonical)
               (Vec.same-trans (S Z) (h .like) (run-reckons (S Z) (L Z) (F Z) (red Z) x (h .end) (h .run)))
 
-  run-lifts : (W : Strategy) → Picks W → (N : ℕ) (cache : Cache) → CacheOk Z lim cache → (x : Mono (Z .n)) → x .1 < length (Z .f) → Fits Z lim x
-      → Gives (Grown Z lim x) (run (stage Z lim) W N (mono (Z .n) x) >>= λ v. done (v, cache))
-  run-lifts W K N cache k x l fx =
-      ends-then (subst (Gives (Lifts x)) (sym (run-as (stage Z lim) W N (mono (Z .n) x)))
-      (picks-lift W (copies N W) (copies-in Free ⊥ never W K tt N) x l fx))
-      (λ v h. gives (record { is = h .is; ok = h .ok; cache = k }))
+  run-lifts : (W : Strategy) → Picks W → (N : ℕ) (x : Mono (Z .n)) → x .1 < length (Z .f) → Fits Z lim x
+      → Gives (Lifts x) (run (stage Z lim) W N (mono (Z .n) x))
+  run-lifts W K N x l fx =
+      subst (Gives (Lifts x)) (sym (run-as (stage Z lim) W N (mono (Z .n) x))) (picks-lift W (copies N W) (copies-in Free ⊥ never W K tt N) x l fx)
 
+module _ (Z : Setting) (lim : Limits) where
   one-lifted : (way : Lifting) (N : ℕ) (cache : Cache) → CacheOk Z lim cache → (x : Mono (Z .n)) → x .1 < length (Z .f) → Fits Z lim x
       → Gives (Grown Z lim x) (lift-one (stage Z lim) way N cache (mono (Z .n) x))
-  one-lifted by-division N cache k x l fx = run-lifts (division-strategy (stage Z lim)) (division-picks (stage Z lim)) N cache k x l fx
-  one-lifted (by-hybrid pick) N cache k x l fx = run-lifts (hybrid-strategy (stage Z lim) pick) (hybrid-picks (stage Z lim) pick) N cache k x l fx
+  one-lifted by-division N cache k x l fx =
+      ends-then (run-lifts Z lim (division-strategy (stage Z lim)) (division-picks (stage Z lim)) N x l fx)
+      (λ v h. gives (record { is = h .is; ok = h .ok; cache = k }))
+  one-lifted (by-hybrid pick w) N cache k x l fx =
+      let own = with-working w lim in
+      ends-then (run-lifts Z own (hybrid-strategy (stage Z own) pick) (hybrid-picks (stage Z own) pick) N x l fx)
+      (λ v h. gives (record { is = h .is; ok = h .ok; cache = k }))
   one-lifted (by-tree room) N cache k x l fx = tree-ok Z lim room cache x l fx k
 
   -- ## All frame terms

@@ -90,7 +90,8 @@ pub data Sheet-form (lim : Limits) (bytes : Bytes) : Bytes → Type 0 where
   listing : {q : Parameters} {g : Level} {below : List Level} → Listed lim bytes q g below → (g ≡ []) ⊎ (length below ≡ lim .levels)
       → Sheet-form lim bytes (printed-levels (q .n) (g ∷ below))
   cut-off : {q : Parameters} {g : Level} {below : List Level} (number bound : ℕ) → Listed lim bytes q g below → ¬ (g ≡ []) → length below < lim .levels
-      → lift lim bound (record { parameters = q; levels = g ∷ below }) (suc (length below)) (by-hybrid 2) ≡ refused number (suc (length below)) []
+      → lift lim bound (record { parameters = q; levels = g ∷ below }) (suc (length below)) (by-hybrid 2 (lim .working))
+      ≡ refused number (suc (length below)) []
       → T (limit? number)
       → Sheet-form lim bytes (printed-levels (q .n) (g ∷ below) ++ x-lines (q .n) number (suc (length below)) [])
   not-read : {number place : ℕ} → Refused-right lim bytes number place → Sheet-form lim bytes (printed letter-X (number ∷ place ∷ []))
@@ -110,17 +111,18 @@ pub data Read-form (lim : Limits) (file : Bytes) (state work : Words) : Read →
 -- "Lifting a complete level again drops the levels above it", "11, 12, 16 change no buffer and no state".
 pub data Lift-form (lim : Limits) (k : ℕ) (way : Way) (state work cache : Words) : Lift → Type 0 where
   lifted-as : (X : State) (g : Level) (bound : ℕ) → T (long-enough? lim way state work) → meant lim state ≡ X
-      → T (not (eleven? lim X k (k - 1))) → T (lifts? lim k (lifting-by way cache))
+      → T (not (eleven? lim X k (k - 1))) → T (lifts? lim k (lifting-by lim way work cache))
       → reckoned-level lim bound (X .parameters .p) (X .parameters .code) (up-to X (k - 1)) ≡ some g
       → T (sound? lim (record { parameters = X .parameters; levels = g ∷ up-to X (k - 1) }))
       → Lift-form lim k way state work cache
       (0, 0, encode lim (length state) (record { parameters = X .parameters; levels = g ∷ up-to X (k - 1) }), zeros work, zeros cache)
   refused-as : {number : ℕ} (bound : ℕ) → T (long-enough? lim way state work) → T (not (eleven? lim (meant lim state) k (k - 1)))
-      → T (lifts? lim k (lifting-by way cache)) → lift lim bound (meant lim state) k (lifting-by way cache) ≡ refused number k [] → T (limit? number)
+      → T (lifts? lim k (lifting-by lim way work cache)) → lift lim bound (meant lim state) k (lifting-by lim way work cache) ≡ refused number k []
+      → T (limit? number)
       → Lift-form lim k way state work cache (number, k, zeros state, zeros work, zeros cache)
   no-level : T (long-enough? lim way state work) → T (eleven? lim (meant lim state) k (k - 1))
       → Lift-form lim k way state work cache (11, 0, state, work, cache)
-  no-number : T (long-enough? lim way state work) → T (not (eleven? lim (meant lim state) k (k - 1))) → T (not (lifts? lim k (lifting-by way cache)))
+  no-number : T (long-enough? lim way state work) → T (not (eleven? lim (meant lim state) k (k - 1))) → T (not (lifts? lim k (lifting-by lim way work cache)))
       → Lift-form lim k way state work cache (12, 0, state, work, cache)
   too-short : T (not (long-enough? lim way state work)) → Lift-form lim k way state work cache (16, 0, state, work, cache)
 
@@ -196,16 +198,16 @@ pub record Demand-2 (lim : Limits) : Type 0 where
 -- ## Demand 3: a whole list of calls
 
 -- the call that the reckoning is fed
-abbrev pub as-call : Lent → Call
-as-call (read-with file work) = reading true file
-as-call (lift-with k way work cache) = lifting true k (lifting-by way cache)
-as-call (fetch-with k v out) = fetching true k v
+abbrev pub as-call : Limits → Lent → Call
+as-call lim (read-with file work) = reading true file
+as-call lim (lift-with k way work cache) = lifting true k (lifting-by lim way work cache)
+as-call lim (fetch-with k v out) = fetching true k v
 
 -- ".. and, of the answers, whether and by which number they refuse"
-abbrev pub numbered : List Lent → List Left → List (Call × ℕ)
-numbered [] ls = []
-numbered (c ∷ cs) [] = []
-numbered (c ∷ cs) (a ∷ ls) = (as-call c, a .number) ∷ numbered cs ls
+abbrev pub numbered : Limits → List Lent → List Left → List (Call × ℕ)
+numbered lim [] ls = []
+numbered lim (c ∷ cs) [] = []
+numbered lim (c ∷ cs) (a ∷ ls) = (as-call lim c, a .number) ∷ numbered lim cs ls
 
 -- the state's words after the calls
 abbrev pub left-by : Words → List Left → Words
@@ -237,7 +239,7 @@ Fetch-right lim R (fetch-with k v out) a =
 abbrev pub Fetches-right : Limits → Reckoning → List Lent → List Left → Type 0
 Fetches-right lim R [] ls = Unit {0}
 Fetches-right lim R (c ∷ cs) [] = Unit {0}
-Fetches-right lim R (c ∷ cs) (a ∷ ls) = Fetch-right lim R c a × Fetches-right lim (reckon lim R (as-call c) (a .number)) cs ls
+Fetches-right lim R (c ∷ cs) (a ∷ ls) = Fetch-right lim R c a × Fetches-right lim (reckon lim R (as-call lim c) (a .number)) cs ls
 
 -- the state holds the basis' parameters; "without a basis, as at the start, none"
 abbrev pub Of-basis : State → Option (Parameters × Level) → Type 0
@@ -257,7 +259,7 @@ pub record Leaves (lim : Limits) (R : Reckoning) (words : Words) : Type 0 where
 
 pub record Demand-3 (lim : Limits) : Type 0 where
   pub calls : (n : ℕ) (state : Words) (cs : List Lent) (ls : List Left) → lent-calls lim n state cs ≡ some ls → Starts state cs ls
-      → Leaves lim (reckon-all lim nothing (numbered cs ls)) (left-by state ls) × Fetches-right lim nothing cs ls
+      → Leaves lim (reckon-all lim nothing (numbered lim cs ls)) (left-by state ls) × Fetches-right lim nothing cs ls
   -- the depth bound of the reckoning changes nothing
   pub one-reckoning : (R : Reckoning) (f g : List Level) → Reckons lim R f → Reckons lim R g → f ≡ g
   -- "Whichever term each hybrid step picks, codes or not, a run that comes to zero gives its vector": in every sound state, accepted or not

@@ -30,7 +30,7 @@ Empty-always lim E = (file : Bytes) (f : Parameters × Level) → problem lim fi
 
 -- "Level 1 right, then `Z,2,0` regardless"
 abbrev pub Level-2-empty : Limits → Engine → Type 0
-Level-2-empty lim E = (n : ℕ) (file : Bytes) (X Y : State) → read lim n file ≡ done X → lift lim n X 1 (by-hybrid 2) ≡ done Y
+Level-2-empty lim E = (n : ℕ) (file : Bytes) (X Y : State) → read lim n file ≡ done X → lift lim n X 1 (by-hybrid 2 (lim .working)) ≡ done Y
     → E file ≡ level-lines (X .parameters .n) 1 (highest (Y .levels)) ++ printed letter-Z (2 ∷ 0 ∷ [])
 
 -- "Refusing all files"
@@ -39,7 +39,7 @@ Refuses-all E = (file : Bytes) → (n number place : ℕ) × ((value : Vector) �
 
 -- "A Z count invented": whatever the file
 abbrev pub Count-invented : Limits → ℕ → Engine → Type 0
-Count-invented lim count E = (n : ℕ) (file : Bytes) (X Y : State) → read lim n file ≡ done X → lift lim n X 1 (by-hybrid 2) ≡ done Y
+Count-invented lim count E = (n : ℕ) (file : Bytes) (X Y : State) → read lim n file ≡ done X → lift lim n X 1 (by-hybrid 2 (lim .working)) ≡ done Y
     → (later : Bytes) × (E file ≡ vector-lines (X .parameters .n) 1 1 (highest (Y .levels)) ++ printed letter-Z (1 ∷ count ∷ []) ++ later)
 
 -- document 01's limits on what 14 counts, changed: the terms of a working value, of a vector, of the tree's area

@@ -119,7 +119,7 @@ module _ (lim : Limits) (B : Bytewise lim) where
       (read-reply-ends (meant lim state) long file))
   lent-call-ends state (lift-with k way work cache) =
       let long = long-enough? lim way state work in
-      let by = lifting-by way cache in
+      let by = lifting-by lim way work cache in
       then-fixed-ends (λ a. record { number = a .0; place = a .1; state = a .2; out = [] })
       (λ n. lift-reply lim n (meant lim state) long k by then λ a. some (lift-left lim state work cache a))
       (then-fixed-ends (λ a. lift-left lim state work cache a) (λ n. lift-reply lim n (meant lim state) long k by)

@@ -8,7 +8,7 @@ use Rattle.definitions.specs.Limits.{Limits}
 use Rattle.definitions.specs.Monomial.{Monomial, Vector, Level, leading-monomials}
 use Rattle.definitions.specs.Frame.{frame}
 use Rattle.definitions.specs.Result.{Result, done, refused, unfinished, finished?, _>>=_}
-use Rattle.definitions.specs.Stage.{Stage, highest, stage-over}
+use Rattle.definitions.specs.Stage.{Stage, highest, stage-over, narrowed}
 use Rattle.definitions.specs.Run.{Strategy, run, division-strategy, hybrid-strategy, accepting-strategy}
 use Rattle.definitions.specs.Tree.{Cache}
 use Rattle.definitions.specs.Lifting.{Lifting, by-division, by-hybrid, by-tree, lift-one, Lifted, with-vector, lift-all, if-few, limited-frame}
@@ -45,14 +45,19 @@ limited-frame-shaped lim p code below d =
 
 -- ## Lifting
 
+-- the room of a working value is no part of it
+pub well-narrowed : (w : ℕ) (S : Stage) → Well S → Well (narrowed w S)
+well-narrowed w S X = record { prime = X .prime; small = X .small; heads-are = X .heads-are; order = X .order; family = X .family }
+
 module _ (S : Stage) (X : Well S) where
   lift-one-ends : (way : Lifting) (cache : Cache) (m : Monomial) → Shaped 8 m → Ends finished? (λ n. lift-one S way n cache m)
   lift-one-ends by-division cache m s =
       bind-fixed-ends (λ v. done (v, cache)) (λ n. run S (division-strategy S) n m)
       (run-ends S X (division-strategy S) (picks-by-code (S .below) 1) m (s .long)) (λ v. tt)
-  lift-one-ends (by-hybrid pick) cache m s =
-      bind-fixed-ends (λ v. done (v, cache)) (λ n. run S (hybrid-strategy S pick) n m)
-      (run-ends S X (hybrid-strategy S pick) (picks-by-code (S .below) pick) m (s .long)) (λ v. tt)
+  lift-one-ends (by-hybrid pick w) cache m s =
+      let N = narrowed w S in
+      bind-fixed-ends (λ v. done (v, cache)) (λ n. run N (hybrid-strategy N pick) n m)
+      (run-ends N (well-narrowed w S X) (hybrid-strategy N pick) (picks-by-code (S .below) pick) m (s .long)) (λ v. tt)
   lift-one-ends (by-tree room) cache m s = (0, tree-finished S room cache m)
 
   lift-all-ends : (way : Lifting) (l : Lifted) (cache : Cache) (ms : List Monomial) → All (Shaped 8) ms

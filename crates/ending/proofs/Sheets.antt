@@ -5,12 +5,12 @@ use mathlib.Core.List.{List, [], _∷_, _++_}
 use Prim.Native.Nat.{ℕ, zero, suc, _+_, _-_, _≤_}
 use lib.Dec.{T, leb}
 use lib.ListN.{length}
-use Rattle.definitions.specs.Limits.{Limits}
+use Rattle.definitions.specs.Limits.{Limits, with-working}
 use Rattle.definitions.specs.Lists.{empty?}
 use Rattle.definitions.specs.Monomial.{Monomial, Vector, Level}
 use Rattle.definitions.specs.Order.{compare-over}
 use Rattle.definitions.specs.Result.{Result, done, refused, unfinished, finished?, at-level, _>>=_}
-use Rattle.definitions.specs.Stage.{Stage, highest, stage-over}
+use Rattle.definitions.specs.Stage.{Stage, highest, stage-over, narrowed}
 use Rattle.definitions.specs.Run.{run, hybrid-strategy}
 use Rattle.definitions.specs.Tree.{Cache, Sum}
 use Rattle.definitions.specs.Lifting.{by-hybrid, lift-one, Lifted, add-vector, with-vector, lift-all, limited-frame, lift-level, accept}
@@ -52,23 +52,26 @@ module _ (S : Stage) (D : Vector → Type 0) (lift : Cache → Monomial → Resu
       lift-all-all l′ a′ (v .1) ms (s .1)
 
 -- what hybrid lifts is descending in the induced order
-pub hybrid-descending : (lim : Limits) (p code : ℕ) (below : List Level) → Prime p → lim .exponent ≤ 255 → Descending-levels p code below → (pick n : ℕ)
-    → If-done (All (Descending p (compare-over code below))) (lift-level lim p code below (by-hybrid pick) n)
-hybrid-descending lim p code below P l d pick n =
-    if-done-bind (All (Shaped 8)) (All D) (limited-frame lim code (highest below)) (λ ms. lift-all S (lift-one S (by-hybrid pick) n) ([], 0) [] ms)
-    (limited-frame-shaped lim p code below d) (lift-all-all S D (lift-one S (by-hybrid pick) n) one ([], 0) tt [])
+pub hybrid-descending : (lim : Limits) (p code : ℕ) (below : List Level) → Prime p → lim .exponent ≤ 255 → Descending-levels p code below → (pick w n : ℕ)
+    → If-done (All (Descending p (compare-over code below))) (lift-level lim p code below (by-hybrid pick w) n)
+hybrid-descending lim p code below P l d pick w n =
+    if-done-bind (All (Shaped 8)) (All D) (limited-frame lim code (highest below)) (λ ms. lift-all S (lift-one S (by-hybrid pick w) n) ([], 0) [] ms)
+    (limited-frame-shaped lim p code below d) (lift-all-all S D (lift-one S (by-hybrid pick w) n) one ([], 0) tt [])
   where
     S : Stage
     S = stage-over lim p code below
 
+    N : Stage
+    N = narrowed w S
+
     D : Vector → Type 0
     D = Descending p (compare-over code below)
 
-    one : (cache : Cache) (m : Monomial) → Shaped 8 m → If-done (λ s. D (s .0)) (lift-one S (by-hybrid pick) n cache m)
+    one : (cache : Cache) (m : Monomial) → Shaped 8 m → If-done (λ s. D (s .0)) (lift-one S (by-hybrid pick w) n cache m)
     one cache m s =
-        if-done-bind D (λ s. D (s .0)) (run S (hybrid-strategy S pick) n m) (λ v. done (v, cache))
-        (run-descending S (descending-well lim p code below P l d) (compare-order 8 code below (levels-lead p code below d) .orders)
-        (hybrid-strategy S pick) (picks-by-code (S .below) pick) m s n) (λ v k. k)
+        if-done-bind D (λ s. D (s .0)) (run N (hybrid-strategy N pick) n m) (λ v. done (v, cache))
+        (run-descending N (descending-well (with-working w lim) p code below P l d) (compare-order 8 code below (levels-lead p code below d) .orders)
+        (hybrid-strategy N pick) (picks-by-code (S .below) pick) m s n) (λ v k. k)
 
 -- ## The next state
 
@@ -80,10 +83,10 @@ sound-descending : (lim : Limits) (X : State) → T (sound? lim X) → Descendin
 sound-descending lim X s = record { prime = sound-prime lim X s; levels = sound-levels lim X s }
 
 module _ (lim : Limits) (B : Bytewise lim) where
-  lift-descending : (X : State) → Descending-state X → (k pick n : ℕ) → If-done Descending-state (lift lim n X k (by-hybrid pick))
-  lift-descending X d k pick n =
+  lift-descending : (X : State) → Descending-state X → (k pick w n : ℕ) → If-done Descending-state (lift lim n X k (by-hybrid pick w))
+  lift-descending X d k pick w n =
       if-done-bind D Descending-state (at-level k lifted) (λ f. done (record { parameters = X .parameters; levels = f ∷ below }))
-      (placed lifted (hybrid-descending lim (X .parameters .p) (X .parameters .code) below (d .prime) (B .exponents) under pick n))
+      (placed lifted (hybrid-descending lim (X .parameters .p) (X .parameters .code) below (d .prime) (B .exponents) under pick w n))
       (λ f h. record { prime = d .prime; levels = (h, under) })
     where
       below : List Level
@@ -93,7 +96,7 @@ module _ (lim : Limits) (B : Bytewise lim) where
       under = drop-descending (X .parameters .p) (X .parameters .code) (length (X .levels) - suc (k - 1)) (X .levels) (d .levels)
 
       lifted : Result Level
-      lifted = lift-level lim (X .parameters .p) (X .parameters .code) below (by-hybrid pick) n
+      lifted = lift-level lim (X .parameters .p) (X .parameters .code) below (by-hybrid pick w) n
 
       D : Level → Type 0
       D = All (Descending (X .parameters .p) (compare-over (X .parameters .code) below))
@@ -115,9 +118,9 @@ module _ (lim : Limits) (B : Bytewise lim) where
   levels-end : (left k : ℕ) (X : State) → Descending-state X → Ends answered? (λ b. levels-from lim b left k X)
   levels-end zero k X d = (0, tt)
   levels-end (suc left) k X d =
-      ends-after finished? answered? (λ b x. level-then n k (more b) x) g (lift-steady lim X k (by-hybrid 2))
+      ends-after finished? answered? (λ b x. level-then n k (more b) x) g (lift-steady lim X k (by-hybrid 2 (lim .working)))
       (level-then-steady n k more (levels-from-steady lim left (suc k)))
-      ends (go (g (ends .0)) (lift-descending X d k 2 (ends .0)) (ends .1) (levels-end left (suc k)))
+      ends (go (g (ends .0)) (lift-descending X d k 2 (lim .working) (ends .0)) (ends .1) (levels-end left (suc k)))
     where
       n : ℕ
       n = X .parameters .n
@@ -126,10 +129,10 @@ module _ (lim : Limits) (B : Bytewise lim) where
       more b Y = levels-from lim b left (suc k) Y
 
       g : ℕ → Result State
-      g b = lift lim b X k (by-hybrid 2)
+      g b = lift lim b X k (by-hybrid 2 (lim .working))
 
       ends : Ends finished? g
-      ends = lift-ends lim B X (d .prime) (d .levels) k (by-hybrid 2)
+      ends = lift-ends lim B X (d .prime) (d .levels) k (by-hybrid 2 (lim .working))
 
       last : (f : Level) (b : Bool) (Y : State) → Ends answered? (λ b. more b Y) → Ends answered? (λ i. if-more b n k f (λ u. more i Y))
       last f true Y e = (0, tt)

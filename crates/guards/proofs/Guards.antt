@@ -161,5 +161,5 @@ unfolding low-bytes row-at rows
 degree-as-it-was = refl
 
 -- the cache's length in terms: six words a row
-six-words : lifting-by tree (replicate 119 0) ≡ by-tree 19
+six-words : lifting-by document-01 tree [] (replicate 119 0) ≡ by-tree 19
 six-words = refl

@@ -9,7 +9,7 @@ use Rattle.definitions.specs.Limits.{Limits}
 use Rattle.definitions.specs.Lists.{_then_, choose, empty?}
 use Rattle.definitions.specs.Monomial.{Monomial, Level}
 use Rattle.definitions.specs.Result.{Result, done, refused, unfinished, finished?, at-level, _>>=_}
-use Rattle.definitions.specs.Stage.{Stage, highest, stage-over}
+use Rattle.definitions.specs.Stage.{Stage, highest, stage-over, narrowed}
 use Rattle.definitions.specs.Run.{Run, Strategy, Step, on, end, start, step, continued, runs, run, division-strategy, hybrid-strategy}
 use Rattle.definitions.specs.Run.{accepting-strategy}
 use Rattle.definitions.specs.Tree.{Cache, Sum}
@@ -44,8 +44,9 @@ run-steady S W m = bind-steady (λ n. start S W m) (λ n r. runs S W n r) (stead
 
 pub lift-one-steady : (S : Stage) (way : Lifting) (cache : Cache) (m : Monomial) → Steady finished? (λ n. lift-one S way n cache m)
 lift-one-steady S by-division cache m = bind-fixed (λ v. done (v, cache)) (λ n. run S (division-strategy S) n m) (run-steady S (division-strategy S) m)
-lift-one-steady S (by-hybrid pick) cache m =
-    bind-fixed (λ v. done (v, cache)) (λ n. run S (hybrid-strategy S pick) n m) (run-steady S (hybrid-strategy S pick) m)
+lift-one-steady S (by-hybrid pick w) cache m =
+    let N = narrowed w S in
+    bind-fixed (λ v. done (v, cache)) (λ n. run N (hybrid-strategy N pick) n m) (run-steady N (hybrid-strategy N pick) m)
 lift-one-steady S (by-tree room) cache m = steady-fixed finished? (lift-one S (by-tree room) 0 cache m)
 
 -- what follows a lifted vector
@@ -158,7 +159,7 @@ pub levels-from-steady : (lim : Limits) (left k : ℕ) (X : State) → Steady an
 levels-from-steady lim zero k X = steady-fixed answered? (some [])
 levels-from-steady lim (suc left) k X =
     level-steady (X .parameters .n) k (λ b Y. levels-from lim b left (suc k) Y) (levels-from-steady lim left (suc k))
-    (λ b. lift lim b X k (by-hybrid 2)) (lift-steady lim X k (by-hybrid 2))
+    (λ b. lift lim b X k (by-hybrid 2 (lim .working))) (lift-steady lim X k (by-hybrid 2 (lim .working)))
 
 -- what reading gave is given
 pub sheet-of-steady : (lim : Limits) (n : ℕ) (x : Result State) → Steady answered? (λ b. sheet-of lim b n x)
@@ -189,7 +190,7 @@ lent-call-steady lim state (read-with file work) =
     (read-reply-steady lim (meant lim state) long file))
 lent-call-steady lim state (lift-with k way work cache) =
     let long = long-enough? lim way state work in
-    let by = lifting-by way cache in
+    let by = lifting-by lim way work cache in
     then-fixed (λ a. some (record { number = a .0; place = a .1; state = a .2; out = [] }))
     (λ n. lift-reply lim n (meant lim state) long k by then λ a. some (lift-left lim state work cache a))
     (then-fixed (λ a. some (lift-left lim state work cache a)) (λ n. lift-reply lim n (meant lim state) long k by)

@@ -16,7 +16,7 @@ use Rattle.definitions.specs.Reducer.{Answer, reducer, lower-order, answer}
 use Rattle.definitions.specs.Frame.{frame}
 use Rattle.definitions.specs.Result.{Result, done, refused, unfinished, _>>=_, refusal, at-level, unless-refused}
 use Rattle.definitions.specs.Vectors.{insert, combined, appended, or-last, store}
-use Rattle.definitions.specs.Stage.{Reduction, Stage, highest, stage-over}
+use Rattle.definitions.specs.Stage.{Reduction, Stage, highest, stage-over, narrowed}
 use Rattle.definitions.specs.Run
 use Rattle.definitions.specs.Run.{Strategy, Step, on, end, dropped?, unless-dropped, if-fits, multiple, add-products, start, reduced, without-reducer}
 use Rattle.definitions.specs.Run.{by-answer, by-pick, continued, runs, run, hybrid-strategy, division-strategy, accepting-strategy}
@@ -225,7 +225,7 @@ lift-vector-number S lift h c q (t ∷ f) s =
 
 lift-one-number : (S : Stage) (way : Lifting) (n : ℕ) (cache : Cache) (m : Monomial) → Numbered limit-number? (lift-one S way n cache m)
 lift-one-number S by-division n cache m = numbered-then (run-number S (division-strategy S) n m) (λ v. gives)
-lift-one-number S (by-hybrid pick) n cache m = numbered-then (run-number S (hybrid-strategy S pick) n m) (λ v. gives)
+lift-one-number S (by-hybrid pick w) n cache m = numbered-then (run-number (narrowed w S) (hybrid-strategy (narrowed w S) pick) n m) (λ v. gives)
 lift-one-number S (by-tree room) n cache m =
     let left = S .reduction .limits .tree in
     lift-vector-number S (lift-term S room left) (lift-term-number S room left) 1 (m .0) (vector-of (S .family) (m .1)) ((1, m) ∷ [], cache)

@@ -153,8 +153,8 @@ pub lift-keeps : (lim : Limits) (n k : ℕ) (way : Way) (state work cache : Word
 lift-keeps lim n k way state work cache r e q =
     let X = meant lim state in
     let long = long-enough? lim way state work in
-    let f = from-reply lim (lift-left lim state work cache) r (lift-reply lim n X long k (lifting-by way cache))
-    (lift-fair lim n X long k (lifting-by way cache)) e in
+    let f = from-reply lim (lift-left lim state work cache) r (lift-reply lim n X long k (lifting-by lim way work cache))
+    (lift-fair lim n X long k (lifting-by lim way work cache)) e in
     go (f .0) (f .1) (f .3)
   where
     go : (a : Reply) → Fair lim a → lift-left lim state work cache a ≡ r → r ≡ (r .0, 0, state, work, cache)
@@ -194,11 +194,11 @@ pub lift-empties : (lim : Limits) (n k : ℕ) (way : Way) (state work cache : Wo
 lift-empties lim n k way state work cache r e q = go (long-enough? lim way state work)
     (λ t. leb→le (state-words lim) (length state) (and-left (leb (state-words lim) (length state)) (leb (work-words lim way) (length work)) t)) e
   where
-    go : (long : Bool) → (T long → state-words lim ≤ length state) → (lift-reply lim n (meant lim state) long k (lifting-by way cache)
+    go : (long : Bool) → (T long → state-words lim ≤ length state) → (lift-reply lim n (meant lim state) long k (lifting-by lim way work cache)
         then λ a. some (lift-left lim state work cache a)) ≡ some r → r .2 ≡ zeros state
     go false l e = absurd (subst (λ (x : Lift). T (read-number? (x .0))) (sym (some-is e)) q)
     go true l e =
-        let f = from-reply lim (lift-left lim state work cache) r (lift-reply lim n (meant lim state) true k (lifting-by way cache))
-        (lift-fair lim n (meant lim state) true k (lifting-by way cache)) e in
+        let f = from-reply lim (lift-left lim state work cache) r (lift-reply lim n (meant lim state) true k (lifting-by lim way work cache))
+        (lift-fair lim n (meant lim state) true k (lifting-by lim way work cache)) e in
         ap (λ (x : Lift). x .2) (sym (f .3)) ∙ emptied-words lim state (f .0) (f .1) (l tt)
         (subst (λ (x : Lift). T (read-number? (x .0))) (sym (f .3)) q)

@@ -157,7 +157,7 @@ module _ (lim : Limits) (o : T (sensible? lim)) (one : (code : ℕ) → lim .num
   calls : (n : ℕ) (state : Words) (cs : List Lent) (ls : List Left) → lent-calls lim n state cs ≡ some ls → Starts state cs ls
       → Ends-in (meant lim (left-by state ls) .parameters .n) (level-of (meant lim (left-by state ls) .levels) 0) (meant lim (left-by state ls) .levels)
   calls n state cs ls e s =
-      let l : Leaves lim (reckon-all lim nothing (numbered cs ls)) (left-by state ls) = demand-3 lim o .calls n state cs ls e s .0 in
+      let l : Leaves lim (reckon-all lim nothing (numbered lim cs ls)) (left-by state ls) = demand-3 lim o .calls n state cs ls e s .0 in
       held (meant lim (left-by state ls)) (l .exact) (l .sound)
 
   held-variables : (X : State) → (X ≡ empty) ⊎ T (sound? lim X) → X .parameters .n ≤ lim .variables

@@ -3,7 +3,7 @@
 // The state is sound, so that nothing is tested again and nothing is zeroed between levels.
 ghost use mathlib.Core.Path.{_≡_};
 ghost use mathlib.Core.List.{[]};
-ghost use Prim.Native.Nat.{_≤_};
+ghost use Prim.Native.Nat.{_*_, _≤_};
 ghost use lib.ListN.{length};
 ghost use Rattle.level.specs.by_runs.Stages.{Base, leveled-of};
 ghost use Rattle.level.specs.all_levels.Level.{
@@ -19,7 +19,7 @@ ghost use Rattle.level.specs.all_levels.Level.{
   Lifted-next,
   Reached,
 };
-ghost use Rattle.definitions.specs.Places.{value-length};
+ghost use Rattle.definitions.specs.Places.{row-length, value-length};
 use crate::by_runs;
 use crate::by_runs::Leveled;
 use crate::storing;
@@ -48,13 +48,13 @@ pub fn store(state: &mut [u16], k: usize, x: Leveled, out: &[u16]) -> u16
     }
 }
 
-// Level k by division or hybrid.
-pub fn lift_level(state: &mut [u16], work: &mut [u16], k: usize, w: Strategy) -> u16
-    requires { ⌜ Liftable (now state) k × (value-length ≤ length (now work)) × Chosen w ⌝ }
-    ensures { λ r. ⌜ Lifted-by (now (state .entry)) k (way-by w) r (now (state .exit)) ⌝ }
+// Level k by division or hybrid, with room for so many terms in a working value.
+pub fn lift_level(state: &mut [u16], work: &mut [u16], k: usize, w: Strategy, working: usize) -> u16
+    requires { ⌜ Liftable (now state) k × (working * row-length ≤ length (now work)) × Chosen w working ⌝ }
+    ensures { λ r. ⌜ Lifted-by (now (state .entry)) k (way-by w working) r (now (state .exit)) ⌝ }
 {
     let mut out = [0u16; words::LIFTED_LENGTH];
-    let b = by_runs::usual();
+    let b = by_runs::with_working(working);
     let x = by_runs::lift_level(&mut out, work, state, k - 1, w, b);
     store(state, k, x, &out)
 }

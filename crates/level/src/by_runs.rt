@@ -13,6 +13,7 @@ ghost use Rattle.state.specs.soundness.Places.{count-below};
 ghost use Rattle.runs.specs.frame_terms.Vectors.{frame-terms};
 ghost use Rattle.level.specs.by_runs.Stages.{
   Base,
+  with-working,
   usual,
   Within,
   ground-at,
@@ -50,16 +51,23 @@ pub struct Bounds {
     pub room: usize,
 }
 
-// Document 01's.
-pub fn usual() -> Bounds
-    ensures { λ b. ⌜ b ≡ usual ⌝ }
+// Document 01's, but with room for so many terms in a working value (A11).
+pub fn with_working(working: usize) -> Bounds
+    ensures { λ b. ⌜ b ≡ with-working working ⌝ }
 {
     Bounds {
-        working: words::MOST_TERMS,
+        working,
         vector: words::MOST_TERMS,
         tree: words::MOST_TREE_TERMS,
         room: words::MOST_ROWS,
     }
+}
+
+// Document 01's.
+pub fn usual() -> Bounds
+    ensures { λ b. ⌜ b ≡ usual ⌝ }
+{
+    with_working(words::MOST_TERMS)
 }
 
 // How many vectors and rows they have; a refusal's number; a value without a reducer, which lifting does not meet.
@@ -140,7 +148,7 @@ fn lift_frame(
     b: Bounds,
 ) -> Lifted
     requires { ⌜ Base (now state) j × Tables-at (now state) j (now tables) × Framed-by (now state) j count (now frame)
-        × (lifted-length ≤ length (now out)) × (value-length ≤ length (now work)) × Within b ⌝ }
+        × (lifted-length ≤ length (now out)) × (b .working * row-length ≤ length (now work)) × Within b ⌝ }
     ensures { λ x. ⌜ lifted-over b (now (state .entry)) j w count (now (frame .entry)) x (now (out .exit)) ⌝ }
 {
     let mut vector = [0u16; words::VECTOR_LENGTH];
@@ -169,7 +177,7 @@ fn lift_with(
     w: Strategy,
     b: Bounds,
 ) -> Leveled
-    requires { ⌜ Base (now state) j × Tables-at (now state) j (now tables) × (lifted-length ≤ length (now out)) × (value-length ≤ length (now work))
+    requires { ⌜ Base (now state) j × Tables-at (now state) j (now tables) × (lifted-length ≤ length (now out)) × (b .working * row-length ≤ length (now work))
         × Within b ⌝ }
     ensures { λ x. ⌜ ((n : ℕ) × (v : Words) × (leveled-of x (now (out .exit)) v ≡ lift-over b (now (state .entry)) j w n))
         × Stored-as x (now (out .exit)) ⌝ }
@@ -197,7 +205,7 @@ pub fn lift_level(
     w: Strategy,
     b: Bounds,
 ) -> Leveled
-    requires { ⌜ Base (now state) j × (lifted-length ≤ length (now out)) × (value-length ≤ length (now work)) × Within b ⌝ }
+    requires { ⌜ Base (now state) j × (lifted-length ≤ length (now out)) × (b .working * row-length ≤ length (now work)) × Within b ⌝ }
     ensures { λ x. ⌜ ((n : ℕ) × (v : Words) × (leveled-of x (now (out .exit)) v ≡ lift-over b (now (state .entry)) j w n))
         × Stored-as x (now (out .exit)) ⌝ }
 {

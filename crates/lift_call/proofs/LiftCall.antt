@@ -43,22 +43,22 @@ module _ (number k : ℕ) (s w z : Words) where
 
 -- ## The call, test by test
 
-own-pick-is : (way : Way) (cache : Words) → pick-code? (lifting-by way cache) ≡ own-pick? way
-own-pick-is division cache = refl
-own-pick-is (hybrid pick) cache = refl
-own-pick-is tree cache = refl
+own-pick-is : (way : Way) (work cache : Words) → pick-code? (lifting-by document-01 way work cache) ≡ own-pick? way
+own-pick-is division work cache = refl
+own-pick-is (hybrid pick) work cache = refl
+own-pick-is tree work cache = refl
 
 module _ (s w z : Words) (k : ℕ) (way : Way) where
   -- by the tests' values
   abbrev by-tests : ℕ → Bool → Bool → State → Bool → Bool → Bool → Bool → Option Lift
   by-tests n long long′ X sound inside has own =
       choose (not (long and long′)) (some (refuse 16 X)) (choose (not sound || (inside and not has)) (some (refuse 11 X))
-      (choose (not (inside and own)) (some (refuse 12 X)) (settled (lift document-01 n X k (lifting-by way z)))))
+      (choose (not (inside and own)) (some (refuse 12 X)) (settled (lift document-01 n X k (lifting-by document-01 way w z)))))
       then λ a. some (lift-left document-01 s w z a)
 
   abbrev at-tests : ℕ → Bool → Bool → State → Option Lift
   at-tests n long long′ X = by-tests n long long′ X (sound? document-01 X) (between 1 k most-levels) (has-level? X (k - 1))
-      (pick-code? (lifting-by way z))
+      (pick-code? (lifting-by document-01 way w z))
 
   -- the call's contract
   abbrev Called : Lift → Type 0
@@ -99,18 +99,18 @@ module _ (s w z : Words) (k : ℕ) (way : Way) where
         sound-is : sound? document-01 X ≡ true
         sound-is = true-is (sound? document-01 X) (holds-sound s holds)
 
-        in-state : (n : ℕ) (inside has own : Bool) → between 1 k most-levels ≡ inside → has-level? X (k - 1) ≡ has → pick-code? (lifting-by way z) ≡ own
-            → by-tests n true true X true inside has own ≡ lift-call document-01 n k way s w z
+        in-state : (n : ℕ) (inside has own : Bool) → between 1 k most-levels ≡ inside → has-level? X (k - 1) ≡ has
+            → pick-code? (lifting-by document-01 way w z) ≡ own → by-tests n true true X true inside has own ≡ lift-call document-01 n k way s w z
         in-state n inside has own a b c =
             sym (λ i. by-tests n true true X (sound-is i) (a i) (b i) (c i)) ∙ after-lengths n X (sym (meant-is s holds))
 
         pub no-such-level : false ≡ between 1 k most-levels → Called (12, 0, s, w, z)
-        no-such-level e = (0, in-state 0 false (has-level? X (k - 1)) (pick-code? (lifting-by way z)) (sym e) refl refl)
+        no-such-level e = (0, in-state 0 false (has-level? X (k - 1)) (pick-code? (lifting-by document-01 way w z)) (sym e) refl refl)
 
         pub not-complete : true ≡ between 1 k most-levels → getD s 4 0 ≤ k - 1 → Called (11, 0, s, w, z)
         not-complete e h = (
           0,
-          in-state 0 true false (pick-code? (lifting-by way z)) (sym e)
+          in-state 0 true false (pick-code? (lifting-by document-01 way w z)) (sym e)
               (le-ltb (k - 1) (length (levels-at document-01 s (getD s 4 0))) (omega (arith, length-levels s (getD s 4 0), h))) refl,
         )
 
@@ -119,20 +119,20 @@ module _ (s w z : Words) (k : ℕ) (way : Way) where
           has-it = lt-ltb (k - 1) (length (levels-at document-01 s (getD s 4 0))) (omega (arith, length-levels s (getD s 4 0), has))
 
           pub no-such-pick : false ≡ own-pick? way → Called (12, 0, s, w, z)
-          no-such-pick e = (0, in-state 0 true true false inside has-it (own-pick-is way z ∙ sym e))
+          no-such-pick e = (0, in-state 0 true true false inside has-it (own-pick-is way w z ∙ sym e))
 
           -- no test refuses
-          pub after-tests : true ≡ own-pick? way → (n : ℕ) → (settled (lift document-01 n X k (lifting-by way z))
+          pub after-tests : true ≡ own-pick? way → (n : ℕ) → (settled (lift document-01 n X k (lifting-by document-01 way w z))
               then λ a. some (lift-left document-01 s w z a)) ≡ lift-call document-01 n k way s w z
-          after-tests e n = in-state n true true true inside has-it (own-pick-is way z ∙ sym e)
+          after-tests e n = in-state n true true true inside has-it (own-pick-is way w z ∙ sym e)
 
           -- the level lifted, stored and settled
-          pub left-is : true ≡ own-pick? way → (number : ℕ) (t w′ z′ : Words) → Lifted-by s k (lifting-by way z) number t → length w′ ≡ length w
+          pub left-is : true ≡ own-pick? way → (number : ℕ) (t w′ z′ : Words) → Lifted-by s k (lifting-by document-01 way w z) number t → length w′ ≡ length w
               → length z′ ≡ length z
               → Called (left-by number k t w′ z′)
           left-is e number t w′ z′ (n, p, f) lw lz = (
             n,
-            go (lifted-to document-01 tt X (holds-sound s holds) k (lifting-by way z) n) p f
+            go (lifted-to document-01 tt X (holds-sound s holds) k (lifting-by document-01 way w z) n) p f
                 ∙ after-tests e n,
           )
             where

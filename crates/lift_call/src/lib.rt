@@ -35,7 +35,7 @@ pub fn work_length(way: Way) -> usize
 {
     match way {
         Way::Division => words::VALUE_LENGTH,
-        Way::Hybrid(_pick) => words::VALUE_LENGTH,
+        Way::Hybrid(_pick) => words::LEAST_TERMS * words::ROW_LENGTH,
         Way::Tree => words::TREE_LENGTH,
     }
 }

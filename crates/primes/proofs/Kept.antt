@@ -19,8 +19,8 @@ use Rattle.definitions.specs.Problem.{Bytes, Parameters, problem}
 use Rattle.definitions.specs.State.{State, has-level?, up-to, term-sound?, vector-sound?, levels-sound?, sound?}
 use Rattle.definitions.specs.Calls.{Reply, refuse, settled, read, lift, fetch, eleven?, lifts?, fetches?, read-reply, lift-reply, fetch-reply}
 use Rattle.definitions.specs.Sheet.{if-more, level-then, levels-from, variables-of, sheet-of, sheet}
-use Rattle.definitions.specs.Layout.{Words, meant, Way, division, lifting-by, state-words, work-words, out-words, long-enough?, state-after, rows-after}
-use Rattle.definitions.specs.Layout.{cache-after}
+use Rattle.definitions.specs.Layout.{Words, meant, Way, division, hybrid, tree, lifting-by, state-words, work-words, out-words, long-enough?, state-after}
+use Rattle.definitions.specs.Layout.{rows-after, cache-after}
 use Rattle.definitions.specs.Layout.{Read, read-left, read-call, Lift, lift-left, lift-call, Fetch, fetch-left, fetch-call, Lent, read-with, lift-with}
 use Rattle.definitions.specs.Layout.{fetch-with, Left}
 use Rattle.definitions.specs.Layout.{lent-call, lent-calls}
@@ -53,9 +53,9 @@ module _ (lim : Limits) (bound : ℕ) (l : lim .prime-bound ≤ bound) where
   levels-same : (n left k : ℕ) (X : State) → levels-from wide n left k X ≡ levels-from lim n left k X
   levels-same n zero k X = refl
   levels-same n (suc left) k X =
-      ap (level-then (X .parameters .n) k (λ Y. levels-from wide n left (suc k) Y)) (lift-same lim bound n X k (by-hybrid 2))
+      ap (level-then (X .parameters .n) k (λ Y. levels-from wide n left (suc k) Y)) (lift-same lim bound n X k (by-hybrid 2 (lim .working)))
       ∙ then-same (X .parameters .n) k (λ Y. levels-from lim n left (suc k) Y) (λ Y. levels-from wide n left (suc k) Y)
-      (λ Y. levels-same n left (suc k) Y) (lift lim n X k (by-hybrid 2))
+      (λ Y. levels-same n left (suc k) Y) (lift lim n X k (by-hybrid 2 (lim .working)))
 
   sheet-of-same : (n v : ℕ) (x : Result State) → sheet-of wide n v x ≡ sheet-of lim n v x
   sheet-of-same n v (done X) = levels-same n (lim .levels) 1 X
@@ -92,6 +92,11 @@ module _ (lim : Limits) (bound : ℕ) (l : lim .prime-bound ≤ bound) where
 
   -- ## Calls
 
+  by-same : (way : Way) (work cache : Words) → lifting-by wide way work cache ≡ lifting-by lim way work cache
+  by-same division work cache = refl
+  by-same (hybrid pick) work cache = refl
+  by-same tree work cache = refl
+
   read-call-same : (n : ℕ) (file : Bytes) (state work : Words) → prime-of lim file ≤ lim .prime-bound
       → read-call wide n file state work ≡ read-call lim n file state work
   read-call-same n file state work h = go (long-enough? lim division state work)
@@ -107,9 +112,10 @@ module _ (lim : Limits) (bound : ℕ) (l : lim .prime-bound ≤ bound) where
   lift-call-same : (n k : ℕ) (way : Way) (state work cache : Words) → getD state 0 0 ≤ lim .prime-bound
       → lift-call wide n k way state work cache ≡ lift-call lim n k way state work cache
   lift-call-same n k way state work cache h =
-      (λ i. lift-reply wide n (meant-same lim bound l state h i) (long-same way state work i) k (lifting-by way cache) then λ a. some (left-same a i))
+      (λ i. lift-reply wide n (meant-same lim bound l state h i) (long-same way state work i) k (by-same way work cache i) then λ a.
+      some (left-same a i))
       ∙ ap (λ (o : Option Reply). o then λ a. some (lift-left lim state work cache a))
-      (lift-reply-same n (meant lim state) (meant-within lim bound state h) (long-enough? lim way state work) k (lifting-by way cache))
+      (lift-reply-same n (meant lim state) (meant-within lim bound state h) (long-enough? lim way state work) k (lifting-by lim way work cache))
     where
       left-same : (a : Reply) → lift-left wide state work cache a ≡ lift-left lim state work cache a
       left-same a = λ i. (a .number, a .place, after-same state (a .state) (a .work) i, rows-after work (a .work), cache-after cache (a .work))
@@ -173,7 +179,7 @@ module _ (lim : Limits) (bound : ℕ) (l : lim .prime-bound ≤ bound) where
     lifting-keeps : (k : ℕ) (way : Way) (work cache : Words) → Kept-p (lent-call lim n state (lift-with k way work cache))
     lifting-keeps k way work cache =
         let X : State = meant lim state in
-        let w : Lifting = lifting-by way cache in
+        let w : Lifting = lifting-by lim way work cache in
         let runs : Option Reply = settled (lift lim n X k w) in
         let twelve : Option Reply = choose (not (lifts? lim k w)) (some (refuse 12 X)) runs in
         let eleven : Option Reply = choose (eleven? lim X k (k - 1)) (some (refuse 11 X)) twelve in

@@ -6,7 +6,7 @@ use mathlib.Core.List.{List, [], _∷_}
 use Prim.Native.Nat.{ℕ, zero, suc, _+_, _-_}
 use lib.Dec.{ltb}
 use lib.ListN.{length}
-use Rattle.definitions.specs.Limits.{Limits}
+use Rattle.definitions.specs.Limits.{Limits, with-working}
 use Rattle.definitions.specs.Lists.{rest}
 use Rattle.definitions.specs.Field.{minus}
 use Rattle.definitions.specs.Monomial.{Exponents, Monomial, Term, Vector, Level, fits?, vector-of}
@@ -101,7 +101,8 @@ module _ (lim : Limits) (bound : ℕ) where
 
     one-same : (way : Lifting) (n : ℕ) (cache : Cache) (m : Monomial) → lift-one S′ way n cache m ≡ lift-one S way n cache m
     one-same by-division n cache m = ap (λ x. x >>= λ v. done (v, cache)) (run-same lim bound p code below (division-strategy S) n m)
-    one-same (by-hybrid pick) n cache m = ap (λ x. x >>= λ v. done (v, cache)) (run-same lim bound p code below (hybrid-strategy S pick) n m)
+    one-same (by-hybrid pick w) n cache m =
+        ap (λ x. x >>= λ v. done (v, cache)) (run-same (with-working w lim) bound p code below (hybrid-strategy S pick) n m)
     one-same (by-tree room) n cache m = tree-same room cache m
 
     all-same : (way : Lifting) (n : ℕ) (l : Lifted) (cache : Cache) (ms : List Monomial)

@@ -54,17 +54,17 @@ pub enum Accepted {
     Stopped(usize, usize),
 }
 
-// The first v rows of value behind the used ones, as vector i, counted from 0.
-fn append(out: &mut [u16], i: usize, used: usize, value: &[u16], v: usize)
+// The first v rows of vector behind the used ones, as vector i, counted from 0.
+fn append(out: &mut [u16], i: usize, used: usize, vector: &[u16], v: usize)
     requires { ⌜ (i < most-vectors) × (used + v < 65536) × ((used + v) * row-length + ends-length ≤ length (now out))
-        × (v * row-length ≤ length (now value)) ⌝ }
-    ensures { λ _. ⌜ now (out .exit) ≡ set (paste (now (out .entry)) (used * row-length + ends-length) (now (value .entry)) (v * row-length)) i
+        × (v * row-length ≤ length (now vector)) ⌝ }
+    ensures { λ _. ⌜ now (out .exit) ≡ set (paste (now (out .entry)) (used * row-length + ends-length) (now (vector .entry)) (v * row-length)) i
         (used + v) ⌝ }
 {
     terms::copy(
         out,
         used * words::ROW_LENGTH + words::ENDS_LENGTH,
-        value,
+        vector,
         v * words::ROW_LENGTH,
     );
     out[i] = (used + v) as u16;
@@ -100,7 +100,7 @@ fn lift_one(
             if g.room - used < v {
                 return One::Refused(15);
             }
-            append(out, i, used, value, v);
+            append(out, i, used, vector, v);
             One::Used(used + v)
         }
         Outcome::Refused(x) => One::Refused(x),

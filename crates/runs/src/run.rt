@@ -186,18 +186,17 @@ fn steps(
     Outcome::Finished(v)
 }
 
-// A finished vector descending, in the value's place; a value without a reducer descending, in the vector's.
+// A finished vector descending, in its own place, since the value's may have less room; a value without a reducer descending, in the vector's.
 fn sorted(value: &mut [u16], vector: &mut [u16], x: Outcome, tables: &[u16], g: Ground) -> Outcome
     requires { ⌜ Tables g (now tables) × Images (g .images) (below-in (now tables)) × Images (g .r) (above-in (now tables))
         × Rooms g (now value) (now vector) × Ended g x ⌝ }
-    ensures { λ y. ⌜ (outcome-of y (now (value .exit)) (now (vector .exit))
+    ensures { λ y. ⌜ (outcome-of y (now (vector .exit))
         ≡ ended-of (order-of g (now (tables .entry))) (table-order (g .code) (table-of (g .r) (above-in (now (tables .entry))))) (g .p) x
         (now (value .entry)) (now (vector .entry))) × Ended g y ⌝ }
 {
     match x {
         Outcome::Finished(v) => {
-            let k = sums::sort(
-                value,
+            let k = sums::sort_in_place(
                 vector,
                 v,
                 g.code,
@@ -255,7 +254,7 @@ pub fn run(
     requires { ⌜ Tables g (now tables) × Family g (now level) (ends-in (now tables)) × Images (g .images) (below-in (now tables))
         × Images (g .r) (above-in (now tables)) × Rooms g (now value) (now vector) × (1 ≤ g .vector)
         × Well (stage-of g (now level) (now tables) (order-of g (now tables))) × (1 ≤ monomial-of m .1) × (monomial-of m .1 ≤ g .r) ⌝ }
-    ensures { λ x. ⌜ ((k : ℕ) × (outcome-of x (now (value .exit)) (now (vector .exit))
+    ensures { λ x. ⌜ ((k : ℕ) × (outcome-of x (now (vector .exit))
         ≡ run-definition (stage-of g (now (level .entry)) (now (tables .entry))
         (table-order (g .code) (table-of (g .r) (above-in (now (tables .entry)))))) (strategy-of g (now (tables .entry)) w) k (monomial-of m)))
         × Ended g x ⌝ }

@@ -11,19 +11,23 @@ use lib.ListN.{length, getD}
 use Rattle.definitions.specs.Limits.{document-01}
 use Rattle.definitions.specs.Lists.{_and_, choose}
 use Rattle.definitions.specs.Monomial.{Vector, Level}
-use Rattle.definitions.specs.Result.{Result, done, refused, refusal}
-use Rattle.definitions.specs.Layout.{Words, Way, lifting-by, work-words, rows, levels-at}
+use Rattle.definitions.specs.Result.{Result, done, refused, refusal, _>>=_}
+use Rattle.definitions.specs.Stage.{Stage}
+use Rattle.definitions.specs.Run.{hybrid-strategy}
+use Rattle.definitions.specs.Lifting.{by-hybrid, limited-frame, lift-level}
+use Rattle.definitions.specs.Layout.{Words, Way, lifting-by, work-words, rows, level-at, levels-at}
 use Rattle.laws.proofs.Tests.{and-left, and-right}
 use Rattle.laws.proofs.Numbers as numbers
 use Rattle.laws.proofs.Numbers.{limit-number?, Numbered, lift-level-number}
 use Rattle.definitions.specs.Places.{most-rows, most-terms, most-tree-terms, state-length, grown-length}
-use Rattle.runs.specs.frame_terms.Vectors.{lifted-vectors}
-use Rattle.level.specs.by_runs.Stages.{Within, limits-with, leveled-of, Stored-as}
+use Rattle.runs.specs.frame_terms.Vectors.{lifted-vectors, lifts}
+use Rattle.level.specs.by_runs.Stages.{Within, limits-with, stage-at, lift-over, leveled-of, Stored-as}
 use Rattle.level.specs.declared.by_runs.Bounds.{Bounds}
 use Rattle.level.specs.declared.by_runs.Leveled.{Leveled}
 use Rattle.level.specs.declared.by_runs.Leveled.the-variants.{Vectors, Refused, Stopped}
+use Rattle.level.proofs.all_levels.Lifting.{all-narrowed}
 use Rattle.lift_call.specs.Lifts.{complete-number}
-use Rattle.testing.specs.Lifts.{within?, fits?, lifted-within, number-of, count-of, used-of, told, Counted, called}
+use Rattle.testing.specs.Lifts.{within?, fits?, lifted-within, number-of, count-of, used-of, told, Counted, bounds-by, called}
 
 -- ## Not 16
 
@@ -66,29 +70,29 @@ limited : (number : ℕ) → Numbered limit-number? (refusal {A = Level} number)
 limited number (numbers.refuses t) z = subst (λ i. T (limit-number? i)) z t
 limited number (numbers.stops t) z = absurd t
 
-answered : (b : Bounds) (s cache out : Words) (k : ℕ) (way : Way) (n : ℕ) (x : Leveled) (v : Words) → leveled-of x out v
-    ≡ lifted-within b s k way cache n
-    → (u : Vector) × (told (number-of x) (count-of x) out u ≡ lifted-within b s k way cache n)
-answered b s cache out k way n (Vectors count used) v e = ([], e)
-answered b s cache out k way n (Refused number) v e =
+answered : (b : Bounds) (s work cache out : Words) (k : ℕ) (way : Way) (n : ℕ) (x : Leveled) (v : Words) → leveled-of x out v
+    ≡ lifted-within b s k way work cache n
+    → (u : Vector) × (told (number-of x) (count-of x) out u ≡ lifted-within b s k way work cache n)
+answered b s work cache out k way n (Vectors count used) v e = ([], e)
+answered b s work cache out k way n (Refused number) v e =
     let m = limited number (subst (Numbered limit-number?) (sym e) (lift-level-number (limits-with b) (getD s 0 0) (getD s 2 0)
-    (levels-at document-01 s (suc (k - 1))) (lifting-by way cache) n)) in
+    (levels-at document-01 s (suc (k - 1))) (lifting-by (limits-with b) way work cache) n)) in
     ([], ap (λ t. choose t (done (lifted-vectors out 0)) (refused number 0 [])) (ne-eqb number 0 m) ∙ e)
-answered b s cache out k way n (Stopped i) v e = (rows v 0 i, e)
+answered b s work cache out k way n (Stopped i) v e = (rows v 0 i, e)
 
-counted : (b : Bounds) (s cache out : Words) (k : ℕ) (way : Way) (n : ℕ) (x : Leveled) (v : Words) → leveled-of x out v
-    ≡ lifted-within b s k way cache n → Stored-as x out
+counted : (b : Bounds) (s work cache out : Words) (k : ℕ) (way : Way) (n : ℕ) (x : Leveled) (v : Words) → leveled-of x out v
+    ≡ lifted-within b s k way work cache n → Stored-as x out
     → Counted (number-of x) (count-of x) (used-of x) out
-counted b s cache out k way n (Vectors count used) v e h = (λ z. h .1, λ m. absurd (m refl))
-counted b s cache out k way n (Refused number) v e h =
+counted b s work cache out k way n (Vectors count used) v e h = (λ z. h .1, λ m. absurd (m refl))
+counted b s work cache out k way n (Refused number) v e h =
     let m = limited number (subst (Numbered limit-number?) (sym e) (lift-level-number (limits-with b) (getD s 0 0) (getD s 2 0)
-    (levels-at document-01 s (suc (k - 1))) (lifting-by way cache) n)) in
+    (levels-at document-01 s (suc (k - 1))) (lifting-by (limits-with b) way work cache) n)) in
     (λ z. absurd (m z), λ o. (refl, refl))
-counted b s cache out k way n (Stopped i) v e h = (λ z. absurd (not-suc-le-zero {n = 0} (omega (arith, z))), λ o. (refl, refl))
+counted b s work cache out k way n (Stopped i) v e h = (λ z. absurd (not-suc-le-zero {n = 0} (omega (arith, z))), λ o. (refl, refl))
 
 module _ (b : Bounds) (s work out cache : Words) (k : ℕ) (way : Way) where
   abbrev by-tests : ℕ → Bool → ℕ → Result Level
-  by-tests n fit number = choose fit (choose (eqb number 0) (lifted-within b s k way cache n) (refused number 0 [])) (refused 16 0 [])
+  by-tests n fit number = choose fit (choose (eqb number 0) (lifted-within b s k way work cache n) (refused number 0 [])) (refused 16 0 [])
 
   abbrev pub Called : ℕ → ℕ → ℕ → Words → Type 0
   Called number count used z = ((n : ℕ) × (v : Vector) × (told number count z v ≡ called b s work out cache k way n)) × Counted number count used z
@@ -106,7 +110,7 @@ module _ (b : Bounds) (s work out cache : Words) (k : ℕ) (way : Way) where
         0,
         [],
         ap (λ t. choose t (done (lifted-vectors z 0)) (refused number 0 [])) (ne-eqb number 0 m)
-            ∙ sym (ap (λ t. choose t (lifted-within b s k way cache 0) (refused number 0 [])) (ne-eqb number 0 m))
+            ∙ sym (ap (λ t. choose t (lifted-within b s k way work cache 0) (refused number 0 [])) (ne-eqb number 0 m))
             ∙ (λ i. by-tests 0 (fit i) (e i)),
       ),
       none-counted number m z,
@@ -114,9 +118,19 @@ module _ (b : Bounds) (s work out cache : Words) (k : ℕ) (way : Way) where
 
     pub lifted : 0 ≡ complete-number s k way → (x : Leveled) (number count used n : ℕ) (z v : Words) → number ≡ number-of x → count ≡ count-of x → used
         ≡ used-of x → Stored-as x z
-        → leveled-of x z v ≡ lifted-within b s k way cache n → Called number count used z
+        → leveled-of x z v ≡ lifted-within b s k way work cache n → Called number count used z
     lifted e x number count used n z v p q u g h =
-        let a = answered b s cache z k way n x v h in (
+        let a = answered b s work cache z k way n x v h in (
           (n, a .0, (λ i. told (p i) (q i) z (a .0)) ∙ a .1 ∙ (λ i. by-tests n (fit i) (e i))),
-          subst₃ (λ number count used. Counted number count used z) (sym p) (sym q) (sym u) (counted b s cache z k way n x v h g),
+          subst₃ (λ number count used. Counted number count used z) (sym p) (sym q) (sym u) (counted b s work cache z k way n x v h g),
         )
+
+-- ## Hybrid in less room
+
+pub hybrid-within : (b : Bounds) (s : Words) (k pick working n : ℕ)
+    → lift-over (bounds-by working (b .vector) (b .tree) (b .room)) s (k - 1) (record { drops = true; pick = pick; stops = false }) n
+    ≡ lift-level (limits-with b) (getD s 0 0) (getD s 2 0) (levels-at document-01 s (suc (k - 1))) (by-hybrid pick working) n
+hybrid-within b s k pick working n =
+    let N : Stage = stage-at (bounds-by working (b .vector) (b .tree) (b .room)) s (k - 1) in
+    λ i. limited-frame document-01 (getD s 2 0) (level-at document-01 s (k - 1))
+    >>= λ ms. all-narrowed (stage-at b s (k - 1)) working (lifts N (hybrid-strategy N pick) n) ([], 0) [] ms i

@@ -31,8 +31,9 @@ abbrev pub fits? : Words → Words → Words → Way → Bounds → Bool
 fits? s work out way b = leb state-length (length s) and leb (work-words document-01 way) (length work) and leb grown-length (length out) and within? b
 
 -- level k over the levels below it in the state that the words hold
-abbrev pub lifted-within : Bounds → Words → ℕ → Way → Words → ℕ → Result Level
-lifted-within b s k way cache n = lift-level (limits-with b) (getD s 0 0) (getD s 2 0) (levels-at document-01 s (suc (k - 1))) (lifting-by way cache) n
+abbrev pub lifted-within : Bounds → Words → ℕ → Way → Words → Words → ℕ → Result Level
+lifted-within b s k way work cache n =
+    lift-level (limits-with b) (getD s 0 0) (getD s 2 0) (levels-at document-01 s (suc (k - 1))) (lifting-by (limits-with b) way work cache) n
 
 abbrev pub number-of : Leveled → ℕ
 number-of (Vectors n used) = 0
@@ -60,5 +61,5 @@ Counted number count used out = (number ≡ 0 → Kept count used out) × ((numb
 -- 16, then 11 and 12, then the level
 abbrev pub called : Bounds → Words → Words → Words → Words → ℕ → Way → ℕ → Result Level
 called b s work out cache k way n =
-    choose (fits? s work out way b) (choose (eqb (complete-number s k way) 0) (lifted-within b s k way cache n)
+    choose (fits? s work out way b) (choose (eqb (complete-number s k way) 0) (lifted-within b s k way work cache n)
     (refused (complete-number s k way) 0 [])) (refused 16 0 [])

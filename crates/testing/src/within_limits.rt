@@ -17,6 +17,7 @@ use level::by_runs;
 use level::by_runs::Bounds;
 use level::by_runs::Leveled;
 use runs::run::Strategy;
+use ways::any_way;
 use ways::any_way::Way;
 use ways::by_tree;
 
@@ -39,6 +40,18 @@ fn within(b: Bounds) -> bool
     b.room <= words::MOST_ROWS
 }
 
+// Room for so many terms in a working value.
+fn with_working(b: Bounds, working: usize) -> Bounds
+    ensures { λ c. ⌜ c ≡ bounds-by working (b .vector) (b .tree) (b .room) ⌝ }
+{
+    Bounds {
+        working,
+        vector: b.vector,
+        tree: b.tree,
+        room: b.room,
+    }
+}
+
 // Every test is passed.
 fn lift_by(
     out: &mut [u16],
@@ -52,7 +65,7 @@ fn lift_by(
     requires { ⌜ Base (now state) (k - 1) × (1 ≤ k) × (k ≤ most-levels) × (grown-length ≤ length (now out))
         × (work-words document-01 (way-of way) ≤ length (now work)) × Within b ⌝ }
     ensures { λ x. ⌜ ((n : ℕ) × (v : Words) × (leveled-of x (now (out .exit)) v
-        ≡ lifted-within b (now (state .entry)) k (way-of way) (now (cache .entry)) n)) × Stored-as x (now (out .exit)) ⌝ }
+        ≡ lifted-within b (now (state .entry)) k (way-of way) (now (work .entry)) (now (cache .entry)) n)) × Stored-as x (now (out .exit)) ⌝ }
 {
     match way {
         Way::Division => {
@@ -69,7 +82,9 @@ fn lift_by(
                 pick,
                 stops: false,
             };
-            by_runs::lift_level(out, work, state, k - 1, w, b)
+            let room = any_way::room_of(work.len(), b.working);
+            let c = with_working(b, room);
+            by_runs::lift_level(out, work, state, k - 1, w, c)
         }
         Way::Tree => by_tree::lift_level(out, cache, work, state, k - 1, b),
     }

@@ -1,6 +1,7 @@
 // A level of a sound state lifted by any of the three ways, and stored.
 // Knows: crate definitions' Calls, through level::all_levels and by_tree.
-ghost use Prim.Native.Nat.{_/_, _≤_};
+ghost use mathlib.Core.Path.{_≡_};
+ghost use Prim.Native.Nat.{_/_, _≤_, min};
 ghost use lib.ListN.{length};
 ghost use Rattle.definitions.specs.Limits.{document-01};
 ghost use Rattle.definitions.specs.Lifting.{by-tree};
@@ -31,10 +32,21 @@ fn lift_tree(state: &mut [u16], work: &mut [u16], cache: &mut [u16], k: usize) -
     all_levels::store(state, k, x, &out)
 }
 
+// For how many terms of a working value a work area has room: whole rows, "and one for more is used up to" the limit (A11).
+pub fn room_of(length: usize, limit: usize) -> usize
+    ensures { λ r. ⌜ r ≡ min limit (length / row-length) ⌝ }
+{
+    let rows = length / words::ROW_LENGTH;
+    if limit < rows {
+        return limit;
+    }
+    rows
+}
+
 // Level k.
 pub fn lift_by(state: &mut [u16], work: &mut [u16], cache: &mut [u16], k: usize, way: Way) -> u16
     requires { ⌜ Liftable (now state) k × (work-words document-01 (way-of way) ≤ length (now work)) ⌝ }
-    ensures { λ r. ⌜ Lifted-by (now (state .entry)) k (lifting-by (way-of way) (now (cache .entry))) r (now (state .exit)) ⌝ }
+    ensures { λ r. ⌜ Lifted-by (now (state .entry)) k (lifting-by document-01 (way-of way) (now (work .entry)) (now (cache .entry))) r (now (state .exit)) ⌝ }
 {
     match way {
         Way::Division => {
@@ -43,7 +55,7 @@ pub fn lift_by(state: &mut [u16], work: &mut [u16], cache: &mut [u16], k: usize,
                 pick: 1,
                 stops: false,
             };
-            all_levels::lift_level(state, work, k, w)
+            all_levels::lift_level(state, work, k, w, words::MOST_TERMS)
         }
         Way::Hybrid(pick) => {
             let w = Strategy {
@@ -51,7 +63,8 @@ pub fn lift_by(state: &mut [u16], work: &mut [u16], cache: &mut [u16], k: usize,
                 pick,
                 stops: false,
             };
-            all_levels::lift_level(state, work, k, w)
+            let room = room_of(work.len(), words::MOST_TERMS);
+            all_levels::lift_level(state, work, k, w, room)
         }
         Way::Tree => lift_tree(state, work, cache, k),
     }

@@ -77,6 +77,7 @@ ghost use Rattle.definitions.specs.Places.{
   hilbert-length,
   matrix-length,
   marks-length,
+  least-terms,
 };
 ghost use Rattle.words.specs.Slices.{Sixteen-bits};
 
@@ -105,6 +106,8 @@ pub const MOST_VECTORS_U16: u16 = 128;
 pub const MOST_ROWS: usize = 2048;
 
 pub const MOST_TERMS: usize = 512;
+
+pub const LEAST_TERMS: usize = 32;
 
 pub const MOST_TREE_TERMS: usize = 4096;
 
@@ -240,7 +243,7 @@ pub const MARKS_LENGTH: usize = PAGE_COLUMNS * MOST_VECTORS;
 
 // ## Held to the definitions
 
-pub fn numbers() -> [usize; 61]
+pub fn numbers() -> [usize; 62]
     ensures { λ r. ⌜ r ≡ exponents-length ∷ most-vectors ∷ most-rows ∷ most-terms ∷ most-tree-terms ∷ most-levels ∷ all-levels ∷ component-offset
         ∷ exponents-offset ∷ rank-offset ∷ packed-length ∷ row-length ∷ image-length ∷ header-length ∷ counts-length ∷ ends-start ∷ rows-start ∷ level-length ∷
         degrees-start ∷ most-components ∷ carried-start ∷ state-length
@@ -248,7 +251,7 @@ pub fn numbers() -> [usize; 61]
         ∷ tables-above ∷ tables-length ∷ lifted-length ∷ grown-length ∷ file-length ∷ read-length ∷ s-line-length ∷ w-line-length ∷ pair-line-length
         ∷ s-lines-length ∷ level-lines-length ∷ all-lines-length ∷ sheet-length ∷ cell-length ∷ page-columns ∷ row-shift ∷ page-line-length ∷ page-rows
         ∷ page-length ∷ weights-length ∷ b-line-length ∷ bidegrees-length ∷ hilbert-degrees ∷ triangle-rows ∷ triangle-length ∷ h-line-length
-        ∷ hilbert-length ∷ matrix-length ∷ marks-length ∷ [] ⌝ }
+        ∷ hilbert-length ∷ matrix-length ∷ marks-length ∷ least-terms ∷ [] ⌝ }
 {
     [
         EXPONENTS_LENGTH,
@@ -312,6 +315,7 @@ pub fn numbers() -> [usize; 61]
         HILBERT_LENGTH,
         MATRIX_LENGTH,
         MARKS_LENGTH,
+        LEAST_TERMS,
     ]
 }
 

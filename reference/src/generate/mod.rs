@@ -5,6 +5,7 @@
 //! - [`degree_lines`], [`weight_lines`]: files with D and G lines, and every way to spoil one.
 //! - [`pages`]: files for the Betti page. [`bigraded`]: files for bidegrees. [`low`]: files for the
 //!   Hilbert function. [`redundant`]: files for minimal Betti numbers.
+//! - [`rooms`]: bases for lifting in less work space.
 //! - [`states`]: the words of a state that hold degrees, altered.
 //! - [`scripts`]: lists of calls, also with limits close to what a run needs.
 //! - [`cases`]: the kinds of `reference generate`.
@@ -17,6 +18,7 @@ pub mod low;
 pub mod pages;
 pub mod problems;
 pub mod redundant;
+pub mod rooms;
 pub mod scripts;
 pub mod states;
 pub mod weight_lines;

@@ -1,6 +1,6 @@
 //! Lists of calls, also with limits close to what a run needs.
 
-use crate::buffers::{out_words, work_words, ROW};
+use crate::buffers::{out_words, whole_work_words, work_words, ROW};
 use crate::engine::State;
 use crate::generate::degree_lines::spoil_degree_line;
 use crate::generate::files::{damage, plain_file};
@@ -315,11 +315,22 @@ pub struct Lent {
     pub out: usize,
 }
 
-/// Lengths for a call: mostly as long as they have to be or longer, at times too short. The state
-/// keeps its length.
+/// Lengths for a call: mostly as long as they have to be or longer, at times too short; a work
+/// buffer for the hybrid way has all room that is of use, or less. The state keeps its length.
 pub fn random_lengths(random: &mut Random, limits: &Limits, call: &Call, state: usize) -> Lent {
     let (work, cache) = match call {
-        Call::Lift { way, cache, .. } => (work_words(limits, Some(*way)), ROW * *cache as usize),
+        Call::Lift { way, cache, .. } => {
+            let (least, whole) = (
+                work_words(limits, Some(*way)),
+                whole_work_words(limits, Some(*way)),
+            );
+            let work = match random.below(3) {
+                0 => least,
+                1 => random.between(least as u64, whole as u64) as usize,
+                _ => whole,
+            };
+            (work, ROW * *cache as usize)
+        }
         _ => (work_words(limits, None), 0),
     };
     let mut length = |needed: usize| match random.below(20) {

@@ -1,7 +1,7 @@
 //! One call on two sets of buffers: number, place (or length) and every word of every buffer.
 
 use crate::proved;
-use common::buffers::{BIDEGREES, MINIMAL, OUT, ROW, STATE, TREE_WORK, WORK};
+use common::buffers::{BIDEGREES, LEAST_WORK, MINIMAL, OUT, ROW, STATE, TREE_WORK, WORK};
 use common::report::{shown, NUMBERS};
 use reference::buffers::{
     bidegrees_call_within, fetch_call, hilbert_call_within, lift_call_within, minimal_call_within,
@@ -74,6 +74,74 @@ pub enum Call<'a> {
     Minimal(&'a [u8]),
 }
 
+impl<'a> Call<'a> {
+    fn file(&self) -> &'a [u8] {
+        match *self {
+            Call::Read(file)
+            | Call::Bidegrees(file)
+            | Call::Hilbert(file)
+            | Call::Minimal(file) => file,
+            Call::Lift { .. } | Call::Fetch { .. } => &[],
+        }
+    }
+
+    /// The same call with another file.
+    fn of<'b>(&self, file: &'b [u8]) -> Call<'b> {
+        match *self {
+            Call::Read(_) => Call::Read(file),
+            Call::Lift { level, way, pick } => Call::Lift { level, way, pick },
+            Call::Fetch { level, vector } => Call::Fetch { level, vector },
+            Call::Bidegrees(_) => Call::Bidegrees(file),
+            Call::Hilbert(_) => Call::Hilbert(file),
+            Call::Minimal(_) => Call::Minimal(file),
+        }
+    }
+
+    fn by_hybrid(&self) -> bool {
+        matches!(self, Call::Lift { way: 1, .. })
+    }
+}
+
+/// What a list of calls did, so that it can be done again.
+pub enum Step {
+    /// these words were written into the state
+    Words(Vec<(usize, u16)>),
+    Made(Made),
+}
+
+pub struct Made {
+    call: Call<'static>,
+    file: Vec<u8>,
+    pub lent: Lent,
+    pub budget: u64,
+    pub number: u64,
+    /// the state after a lifting by hybrid that finished with less room than there can be
+    pub narrow: Option<Vec<u16>>,
+}
+
+impl Made {
+    pub fn call(&self) -> Call<'_> {
+        self.call.of(&self.file)
+    }
+}
+
+/// Liftings by hybrid whose work buffer was not that for 512 terms (request A11).
+#[derive(Default)]
+pub struct Rooms {
+    /// 16: it was too short
+    pub short: u64,
+    /// 14 where it is not 14 with room for 512
+    pub by_room: u64,
+    /// 14 with room for 512 too, or not known: there it takes more products than the budget
+    pub anyway: u64,
+    /// finished, or 13 or 15, with room for fewer than 512
+    pub finished: u64,
+    pub stopped: u64,
+    /// finished, or 14, in a buffer for more than 512
+    pub longer: u64,
+    pub full: u64,
+}
+
 /// What `spoil` changes in one answer of the proved calls, so that the comparison itself is tried.
 #[derive(Clone, Copy, PartialEq, Eq)]
 pub enum Spoiled {
@@ -124,6 +192,9 @@ pub struct Compare {
     /// calls that printed lines, no refusal: of bidegrees, of the Hilbert function, of minimal numbers
     pub lines: [u64; 3],
     pub spoil: Option<(u64, Spoiled)>,
+    pub rooms: Rooms,
+    /// where a list is recorded, what it did so far
+    pub record: Option<Vec<Step>>,
 }
 
 impl Compare {
@@ -138,6 +209,8 @@ impl Compare {
             met: [[0; NUMBERS]; KINDS.len()],
             lines: [0; 3],
             spoil: None,
+            rooms: Rooms::default(),
+            record: None,
         }
     }
 
@@ -150,6 +223,8 @@ impl Compare {
     /// Makes the call both ways. Where the unrelated implementation would take more products than the budget neither makes it, and there is no number.
     pub fn call(&mut self, call: &Call, lent: &Lent, budget: u64) -> Option<u64> {
         self.dirt();
+        let narrow = call.by_hybrid() && lent.work < WORK;
+        let before = narrow.then(|| self.theirs.state[..lent.state].to_vec());
         let theirs = &mut self.theirs;
         let (state, work, cache, out, printed, page) = (
             &mut theirs.state[..lent.state],
@@ -268,7 +343,62 @@ impl Compare {
             self.lines[kind - 6] += 1;
         }
         self.met[kind][expected.0 as usize] += 1;
+        if call.by_hybrid() {
+            self.count_room(call, lent, expected.0, before, budget);
+        }
+        if let Some(steps) = &mut self.record {
+            let finished = narrow && expected.0 == 0;
+            steps.push(Step::Made(Made {
+                call: call.of(&[]),
+                file: call.file().to_vec(),
+                lent: *lent,
+                budget,
+                number: expected.0,
+                narrow: finished.then(|| self.theirs.state.clone()),
+            }));
+        }
         Some(expected.0)
+    }
+
+    /// Counts what a lifting by hybrid answered. With a narrow buffer the state before it is given.
+    fn count_room(
+        &mut self,
+        call: &Call,
+        lent: &Lent,
+        number: u64,
+        before: Option<Vec<u16>>,
+        budget: u64,
+    ) {
+        let rooms = &mut self.rooms;
+        match (number, before) {
+            (16, Some(_)) => rooms.short += u64::from(lent.work < LEAST_WORK),
+            (14, Some(mut state)) => {
+                let Call::Lift { level, pick, .. } = *call else {
+                    unreachable!("it is a lifting");
+                };
+                let (way, mut work) = (Way::Hybrid(u64::from(pick)), vec![0; WORK]);
+                let limits = &self.limits;
+                let level = level as u64;
+                let with_512 = lift_call_within(
+                    limits,
+                    &mut state,
+                    level,
+                    way,
+                    &mut work,
+                    &mut [],
+                    Some(budget),
+                );
+                match with_512 {
+                    Some((0 | 13 | 15, _)) => rooms.by_room += 1,
+                    _ => rooms.anyway += 1,
+                }
+            }
+            (0, Some(_)) => rooms.finished += 1,
+            (13 | 15, Some(_)) => rooms.stopped += 1,
+            (0, None) => rooms.longer += u64::from(lent.work >= WORK + ROW),
+            (14, None) => rooms.full += u64::from(lent.work >= WORK + ROW),
+            _ => {}
+        }
     }
 
     /// What stands in work, cache, out and what was printed before a call must not matter.

@@ -8,7 +8,9 @@ mod compare;
 mod proved;
 
 use common::arguments::{asked, words};
-use common::buffers::{self, BIDEGREES, DEGREES, HILBERT, MINIMAL, OUT, ROW, STATE, WORK};
+use common::buffers::{
+    self, BIDEGREES, DEGREES, HILBERT, LEAST_WORK, MINIMAL, OUT, ROW, STATE, WORK,
+};
 use common::deep::{deep, on_small_stack, DEEPEST};
 use common::examples::examples;
 use common::files::{
@@ -19,9 +21,9 @@ use common::states::{
     alter, basis_of, degree_is_free, degree_words, leading_variable, random_basis as random_state,
     write_basis, Size,
 };
-use compare::{Call, Compare, Lent, Spoiled, CACHE, KINDS, MORE, SPOILS, WHOLE};
+use compare::{Call, Compare, Lent, Spoiled, Step, CACHE, KINDS, MORE, SPOILS, WHOLE};
 use reference::buffers::read_state;
-use reference::engine::Basis;
+use reference::engine::{Basis, State};
 use reference::generate::bigraded::{bidegree_file, bigraded_file};
 use reference::generate::degree_lines::{
     components_of, spoiled_degree_lines, with_degrees, without_degree_lines,
@@ -30,10 +32,12 @@ use reference::generate::files::{edited_file, limit_file};
 use reference::generate::low::{hilbert_file, low_file};
 use reference::generate::problems::{problem_file, random_basis, random_degrees, Size as FileSize};
 use reference::generate::redundant::{minimal_file, redundant_file};
+use reference::generate::rooms::{roomy_problem, twins};
 use reference::generate::states::{carry, with_other_degrees};
 use reference::generate::weight_lines::{
     random_weights, spoiled_weight_lines, variables_of, with_weights, without_weight_lines,
 };
+use reference::lifting::Way;
 use reference::random::Random;
 use reference::reader::read_problem;
 use reference::Limits;
@@ -57,6 +61,8 @@ struct Lists {
     long_files: Vec<Vec<u8>>,
     lists: u64,
     altered: u64,
+    /// lists made again with all room
+    again: u64,
 }
 
 impl Lists {
@@ -70,6 +76,7 @@ impl Lists {
                     0 | 1 => return bigraded_file(&mut random),
                     2 => return low_file(&mut random),
                     3 => return redundant_file(&mut random),
+                    4..=6 => return problem_file(&roomy_problem(&mut random)),
                     _ => {}
                 }
                 let size = random_size(&mut random, 6);
@@ -85,6 +92,8 @@ impl Lists {
             problem_file(&long_tails(&mut random, tail))
         }));
         long_files.push(problem_file(&deep(DEEPEST + 1)));
+        long_files.extend((0..60).map(|_| problem_file(&roomy_problem(&mut random))));
+        long_files.extend((505..=514).map(|terms| problem_file(&twins(&mut random, terms))));
         long_files.extend(
             examples()
                 .into_iter()
@@ -99,6 +108,7 @@ impl Lists {
             long_files,
             lists: 0,
             altered: 0,
+            again: 0,
         }
     }
 
@@ -116,27 +126,85 @@ impl Lists {
             7..=40 if altered => self.write_state(),
             _ => {}
         }
+        let before = self.random.chance(25).then(|| {
+            self.compare.record = Some(Vec::new());
+            self.compare.theirs.state.clone()
+        });
         let mut undo = Vec::new();
         for _ in 0..self.random.between(2, 24) {
             if altered && self.random.chance(30) {
                 undo = self.alter();
+                let state = &self.compare.theirs.state;
+                let words = undo.iter().map(|(at, _)| (*at, state[*at])).collect();
+                self.note(words);
             }
             let number = self.call();
             // most alterations make the state unsound; back to what it was
             if number == Some(11) && self.random.chance(80) {
-                for (at, word) in undo.drain(..).rev() {
-                    self.compare.both(|buffers| buffers.state[at] = word);
+                undo.reverse();
+                for (at, word) in &undo {
+                    self.compare.both(|buffers| buffers.state[*at] = *word);
                 }
+                self.note(std::mem::take(&mut undo));
             }
             if number != Some(11) {
                 undo.clear();
             }
         }
+        let steps = self.compare.record.take();
+        if let (Some(before), Some(steps)) = (before, steps) {
+            self.again(&before, &steps);
+        }
     }
 
-    /// A state that no call made: any sound one, or a file's basis without acceptance.
+    /// Words that were written into the state, for a list that is recorded.
+    fn note(&mut self, words: Vec<(usize, u16)>) {
+        if let Some(steps) = &mut self.compare.record {
+            steps.push(Step::Words(words));
+        }
+    }
+
+    /// A list in which some lifting by hybrid finished with less room, once more with room for 512 there (request A11): every call answers the same, each of
+    /// these leaves the same state, and the list ends in the same one.
+    fn again(&mut self, before: &[u16], steps: &[Step]) {
+        let narrow = |step: &Step| matches!(step, Step::Made(made) if made.narrow.is_some());
+        if !steps.iter().any(narrow) {
+            return;
+        }
+        self.again += 1;
+        let end = self.compare.ours.state.clone();
+        self.compare
+            .both(|buffers| buffers.state.copy_from_slice(before));
+        for step in steps {
+            let made = match step {
+                Step::Words(words) => {
+                    for (at, word) in words {
+                        self.compare.both(|buffers| buffers.state[*at] = *word);
+                    }
+                    continue;
+                }
+                Step::Made(made) => made,
+            };
+            let work = match made.narrow {
+                Some(_) => WORK,
+                None => made.lent.work,
+            };
+            let lent = Lent { work, ..made.lent };
+            let number = self.compare.call(&made.call(), &lent, made.budget);
+            assert_eq!(number, Some(made.number), "with room for 512");
+            if let Some(state) = &made.narrow {
+                assert!(*state == self.compare.ours.state, "with room for 512");
+            }
+        }
+        assert!(end == self.compare.ours.state, "with room for 512");
+    }
+
+    /// A state that no call made: any sound one, or a file's basis without acceptance, or one whose values have 509 to 515 terms.
     fn write_state(&mut self) {
-        let basis = if self.random.chance(20) {
+        let basis = if self.random.chance(10) {
+            let terms = self.random.between(508, 514);
+            basis_of(twins(&mut self.random, terms))
+        } else if self.random.chance(20) {
             let file = self.random.pick(&self.long_files);
             match read_problem(&self.limits, file) {
                 Err(_) => return,
@@ -237,6 +305,18 @@ impl Lists {
         }
     }
 
+    /// The length of work for hybrid: rows for 0 to 600 terms, near 32 and near 512 more often, and up to five words more.
+    fn hybrid_work(&mut self) -> usize {
+        let random = &mut self.random;
+        let terms = match random.below(20) {
+            0..=7 => random.between(30, 40),
+            8..=11 => random.between(505, 520),
+            12..=16 => random.between(0, 600),
+            _ => 512,
+        };
+        ROW * terms as usize + random.below(ROW as u64) as usize
+    }
+
     fn lent(&mut self, work: usize, cache: usize) -> Lent {
         Lent {
             state: self.length(STATE),
@@ -310,7 +390,14 @@ impl Lists {
             _ => ROW * *random.pick(&[0, 0, 1, 2, 3, 5, 7, 12, 20, 60]),
         };
         let cache = cache + random.below(ROW as u64) as usize;
-        let lent = self.lent(buffers::work(way), cache);
+        let mut lent = self.lent(buffers::work(way), cache);
+        match way {
+            0 | 2 => {}
+            1 => lent.work = self.hybrid_work(),
+            // no page says whether a way that there is not needs what hybrid does or more
+            _ if lent.work < WORK => lent.work = LEAST_WORK - 1,
+            _ => {}
+        }
         let call = Call::Lift {
             level: level as usize,
             way,
@@ -362,6 +449,94 @@ impl Lists {
             }
         }
     }
+}
+
+/// Less room (request A11): the files of the field and bases of which much is known, accepted or not, level after level by each pick code, with all the room
+/// that a run takes, one term less, the least and the most; and one file, x + y^33 + .. + y and y, with room for each number of terms up to 600.
+fn less_room(lists: &mut Lists) {
+    let mut files: Vec<Vec<u8>> = examples().into_iter().map(|(_, file)| file).collect();
+    files.extend((0..120).map(|_| problem_file(&roomy_problem(&mut lists.random))));
+    files.extend((509..=513).map(|terms| problem_file(&twins(&mut lists.random, terms))));
+    for file in files {
+        let Ok(problem) = read_problem(&lists.limits, &file) else {
+            continue;
+        };
+        let mut basis = basis_of(problem);
+        for level in 1..=9 {
+            let Some(lifted) = each_room(lists, &basis, level) else {
+                break;
+            };
+            basis = lifted;
+        }
+    }
+    let powers: String = (1..=33).rev().map(|d| format!("T,1,1,1,0,{d}\n")).collect();
+    let file = format!("R,7,2,1,1\nT,1,1,1,1,0\n{powers}T,2,1,1,0,1\nE,35\n");
+    for (terms, pick) in (0..=600).flat_map(|terms| [(terms, 1), (terms, 2), (terms, 3)]) {
+        let read = Call::Read(file.as_bytes());
+        assert_eq!(lists.compare.call(&read, &WHOLE, BUDGET), Some(0));
+        let more = lists.random.below(ROW as u64) as usize;
+        let expected = match terms {
+            0..=31 => 16,
+            32 => 14,
+            _ => 0,
+        };
+        let number = lift_in(lists, 1, pick, ROW * terms + more);
+        assert_eq!(number, Some(expected), "room for {terms}");
+    }
+}
+
+/// A level by each pick code and in several rooms; gives the basis with it, if it has vectors and some run finished.
+fn each_room(lists: &mut Lists, basis: &Basis, level: usize) -> Option<Basis> {
+    let before = State {
+        basis: Some(basis.clone()),
+    };
+    let mut next = None;
+    for pick in 1..=3 {
+        let mut after = before.clone();
+        let way = Way::Hybrid(pick);
+        let outcome = after.lift(&lists.limits, level as u64, way, 0, Some(LONG_BUDGET));
+        let Some(answer) = outcome.answer() else {
+            continue;
+        };
+        let taken = answer.usage.working as usize;
+        let mut rooms = vec![31, 32, taken.saturating_sub(1), taken, taken + 1, 511, 512];
+        rooms.extend([513, 600, lists.random.between(32, 511) as usize]);
+        rooms.retain(|terms| *terms >= 31);
+        for terms in rooms {
+            lists
+                .compare
+                .both(|buffers| write_basis(basis.clone(), &mut buffers.state[..STATE]));
+            let more = lists.random.below(ROW as u64) as usize;
+            let expected = match terms {
+                0..=31 => 16,
+                _ if terms < taken => 14,
+                _ => answer.number,
+            };
+            let number = lift_in(lists, level, pick as u16, ROW * terms + more);
+            assert_eq!(number, Some(expected), "room for {terms}, {taken} taken");
+        }
+        next = after
+            .basis
+            .filter(|basis| !basis.levels[level].is_empty())
+            .or(next);
+    }
+    next
+}
+
+/// Lifts by hybrid with a work buffer of so many words.
+fn lift_in(lists: &mut Lists, level: usize, pick: u16, work: usize) -> Option<u64> {
+    let call = Call::Lift {
+        level,
+        way: 1,
+        pick,
+    };
+    let cache = lists.random.below(100) as usize;
+    let lent = Lent {
+        work,
+        cache,
+        ..WHOLE
+    };
+    lists.compare.call(&call, &lent, LONG_BUDGET)
 }
 
 /// So many bytes for what this call prints.
@@ -717,6 +892,7 @@ fn calls(wanted: u64, seed: u64, spoil: Option<Spoiled>) {
         degree_lines(&mut lists);
         weight_lines(&mut lists);
         degrees = altered_degrees(&mut lists);
+        less_room(&mut lists);
     }
     let systematic = lists.compare.calls;
     while lists.compare.calls < wanted {
@@ -725,8 +901,8 @@ fn calls(wanted: u64, seed: u64, spoil: Option<Spoiled>) {
     let compare = &lists.compare;
     println!(
         "calls: {} calls agree in number, place and every word \
-         ({systematic} on the files of the field, with D and G lines and with {degrees} degrees altered, then {} lists, {} of them with altered \
-         states; {} calls left out; seed {seed})",
+         ({systematic} on the files of the field, with D and G lines, with {degrees} degrees altered and with less room, then {} lists, {} of them with \
+         altered states; {} calls left out; seed {seed})",
         compare.calls, lists.lists, lists.altered, compare.left_out
     );
     for (kind, met) in KINDS.iter().zip(&compare.met) {
@@ -735,6 +911,12 @@ fn calls(wanted: u64, seed: u64, spoil: Option<Spoiled>) {
     let [bidegrees, hilbert, minimal] = compare.lines;
     println!(
         "  {bidegrees} calls printed lines of bidegrees, {hilbert} of the Hilbert function, {minimal} a page of minimal numbers"
+    );
+    let rooms = &compare.rooms;
+    println!(
+        "  by hybrid with room for fewer than 512: 16: {}, 14 by the room: {}, 14 with 512 too: {}, finished: {}, 13 or 15: {}; in a buffer for more: \
+         finished: {}, 14: {}; {} lists in which a call finished with less room end the same with 512",
+        rooms.short, rooms.by_room, rooms.anyway, rooms.finished, rooms.stopped, rooms.longer, rooms.full, lists.again
     );
     let stack = on_small_stack(deepest);
     println!("  the tree at depth {DEEPEST} agrees, {stack}");
@@ -760,4 +942,7 @@ fn calls(wanted: u64, seed: u64, spoil: Option<Spoiled>) {
         }
     }
     assert!(bidegrees >= 1_000 && hilbert >= 1_000 && minimal >= 200);
+    assert!(rooms.short >= 2_000 && rooms.by_room >= 800 && rooms.anyway >= 50);
+    assert!(rooms.finished >= 10_000 && rooms.stopped >= 20 && lists.again >= 1_000);
+    assert!(rooms.longer >= 5_000 && rooms.full >= 50);
 }

@@ -34,6 +34,8 @@ pub const DEGREES: usize = rows(LEVELS);
 /// The lengths that calls need.
 pub const STATE: usize = carried(LEVELS);
 pub const WORK: usize = ROW * 512;
+/// By hybrid a shorter one may be lent (request A11); of a longer one WORK is used.
+pub const LEAST_WORK: usize = ROW * 32;
 pub const TREE_WORK: usize = ROW * 4_096;
 pub const OUT: usize = ROW * 512;
 /// The sheet's, in bytes.
@@ -49,6 +51,7 @@ pub const MINIMAL: usize = 73 * (20_666 + 1);
 const _: () = assert!(ROW == 6 && rows(0) == 1_295 && LEVEL_ROWS == 12_288 && STATE == 125_471);
 const _: () = assert!(DEGREES == 124_175 && carried(0) == 124_191 && carried(9) == 125_343);
 const _: () = assert!(WORK == 3_072 && TREE_WORK == 24_576 && OUT == 3_072 && BIDEGREES == 32_384);
+const _: () = assert!(LEAST_WORK == 192);
 const _: () = assert!(HILBERT == 31_773 && MINIMAL == 1_508_691);
 
 /// The word that holds how many vectors level k has; the ends of its vectors stand behind it.
@@ -94,7 +97,7 @@ pub const fn exponent_at(x: usize) -> (usize, u16) {
     (ROW - 1 - x / 2, [256, 1][x % 2])
 }
 
-/// What lifting needs as work, by the code of the way: 0 division, 1 hybrid, 2 tree.
+/// What lifting needs as work, by hybrid what it can use, by the code of the way: 0 division, 1 hybrid, 2 tree.
 pub const fn work(way: u16) -> usize {
     if way == 2 {
         TREE_WORK

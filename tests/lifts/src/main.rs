@@ -7,7 +7,7 @@
 mod compare;
 
 use common::arguments::{asked, words};
-use common::buffers::{work, COMPLETE, PRIME, STATE};
+use common::buffers::{work, COMPLETE, LEAST_WORK, PRIME, STATE};
 use common::deep::{deep, on_small_stack, DEEPEST};
 use common::examples::examples;
 use common::files::many_monomials;
@@ -295,8 +295,10 @@ fn refusals(bases: &mut Bases) {
             level: 10,
             ..full
         };
+        // of hybrid's work area fewer rows may be lent (A11)
+        let least = [OUT, if way == 1 { LEAST_WORK } else { work(way) }, 0, STATE];
         for short in [0, 1, 3] {
-            for length in [0, lengths(way)[short] - 1] {
+            for length in [0, least[short] - 1] {
                 let mut lengths = lengths(way);
                 lengths[short] = length;
                 // 16 before 12

@@ -27,7 +27,7 @@ use Rattle.state.proofs.preparing.Complete.{length-levels, holds-sound}
 use Rattle.level.specs.by_runs.Stages.{Base}
 use Rattle.definitions.specs.Program.{unless-empty, lifted-from, lifted}
 use Rattle.level.specs.all_levels.Levels.{Levels, unless-last, then-levels, reached-from, reached}
-use Rattle.level.specs.all_levels.Level.{Liftable, kept, told-of, Lifted-next}
+use Rattle.level.specs.all_levels.Level.{Liftable, kept, told-of, usual-way, Lifted-next}
 
 -- ## What a lifting leaves
 
@@ -41,7 +41,7 @@ module _ (s : Words) (k : ℕ) (h : Liftable s k) where
   -- the level is complete, and the state with it is in the words
   pub record Next (n : ℕ) (t : Words) : Type 0 where
     pub next : State
-    pub lifts : lift document-01 n X k (by-hybrid 2) ≡ done next
+    pub lifts : lift document-01 n X k usual-way ≡ done next
     pub decoded : decode document-01 t ≡ next
     pub height : getD t 4 0 ≡ suc k
     pub base : Base t k
@@ -50,9 +50,9 @@ module _ (s : Words) (k : ℕ) (h : Liftable s k) where
   tall = omega (arith, length-levels s (getD s 4 0), h .base .has)
 
   pub next-of : (number : ℕ) (t : Words) (L : Lifted-next s k number t) → number ≡ 0 → Next (L .bound) t
-  next-of number t L z = go (lifted-to document-01 tt X sound-is k (by-hybrid 2) (L .bound)) refl (L .gives) (L .finishes)
+  next-of number t L z = go (lifted-to document-01 tt X sound-is k usual-way (L .bound)) refl (L .gives) (L .finishes)
     where
-      go : {x : Result State} → Lifted-to document-01 X k x → lift document-01 (L .bound) X k (by-hybrid 2) ≡ x → told-of number t ≡ kept X x
+      go : {x : Result State} → Lifted-to document-01 X k x → lift document-01 (L .bound) X k usual-way ≡ x → told-of number t ≡ kept X x
           → T (finished? x) → Next (L .bound) t
       go (one-more g r) p q f =
           let d : decode document-01 t ≡ record { parameters = X .parameters; levels = g ∷ up-to X (k - 1) } = ap (λ o. o .1) q in
@@ -69,13 +69,13 @@ module _ (s : Words) (k : ℕ) (h : Liftable s k) where
       go still-lifting p q f = absurd f
 
   pub record Stays (n number : ℕ) (t : Words) : Type 0 where
-    pub refuses : lift document-01 n X k (by-hybrid 2) ≡ refused number k []
+    pub refuses : lift document-01 n X k usual-way ≡ refused number k []
     pub same : decode document-01 t ≡ X
 
   pub stays-of : (number : ℕ) (t : Words) (L : Lifted-next s k number t) → (number ≡ 0 → ⊥) → Stays (L .bound) number t
-  stays-of number t L z = go (lifted-to document-01 tt X sound-is k (by-hybrid 2) (L .bound)) refl (L .gives) (L .finishes)
+  stays-of number t L z = go (lifted-to document-01 tt X sound-is k usual-way (L .bound)) refl (L .gives) (L .finishes)
     where
-      go : {x : Result State} → Lifted-to document-01 X k x → lift document-01 (L .bound) X k (by-hybrid 2) ≡ x → told-of number t ≡ kept X x
+      go : {x : Result State} → Lifted-to document-01 X k x → lift document-01 (L .bound) X k usual-way ≡ x → told-of number t ≡ kept X x
           → T (finished? x) → Stays (L .bound) number t
       go (one-more g r) p q f = absurd (z (ap (λ o. o .0) q))
       go (limit-met u) p q f = record { refuses = p ∙ sym (ap (λ o. refused (o .0) k []) q); same = ap (λ o. o .1) q }
@@ -115,16 +115,16 @@ module _ (s₀ s : Words) (k : ℕ) (h : Liftable s k) (g : Going s₀ s k) wher
   on n x = then-levels S (λ Y. reached-from document-01 n (most-levels - k) (suc k) Y) x
 
   -- the step at a bound that suffices for the levels before and for this one
-  here : (n m : ℕ) → T (finished? (lift document-01 n S k (by-hybrid 2))) → reached document-01 (g .0 + (n + m)) (decode document-01 s₀)
-      ≡ on (g .0 + (n + m)) (lift document-01 n S k (by-hybrid 2))
+  here : (n m : ℕ) → T (finished? (lift document-01 n S k usual-way)) → reached document-01 (g .0 + (n + m)) (decode document-01 s₀)
+      ≡ on (g .0 + (n + m)) (lift document-01 n S k usual-way)
   here n m t =
       let e : g .0 + (n + m) ≡ n + (g .0 + m) = omega arith in
       g .1 (n + m)
       ∙ ap (λ l. reached-from document-01 (g .0 + (n + m)) l k S) one-left
-      ∙ ap (on (g .0 + (n + m))) (ap (λ i. lift document-01 i S k (by-hybrid 2)) e
-      ∙ steady-from finished? (λ i. lift document-01 i S k (by-hybrid 2)) (lift-steady document-01 S k (by-hybrid 2)) n (g .0 + m) t)
+      ∙ ap (on (g .0 + (n + m))) (ap (λ i. lift document-01 i S k usual-way) e
+      ∙ steady-from finished? (λ i. lift document-01 i S k usual-way) (lift-steady document-01 S k usual-way) n (g .0 + m) t)
 
-  pub going-refused : (n number : ℕ) (t : Words) → Stays s k h n number t → T (finished? (lift document-01 n S k (by-hybrid 2)))
+  pub going-refused : (n number : ℕ) (t : Words) → Stays s k h n number t → T (finished? (lift document-01 n S k usual-way))
       → Ended-as s₀ number k t
   going-refused n number t r f = (
     g .0 + (n + 0),
@@ -187,7 +187,9 @@ limited Y (suc number) place value (numbers.stops t) = absurd t
 
 pub lifted-reached : (lim : Limits) (n left k : ℕ) (X : State) → lifted-from lim n left k X ≡ result-of (reached-from lim n left k X)
 lifted-reached lim n zero k X = refl
-lifted-reached lim n (suc left) k X = go (lift lim n X k (by-hybrid 2)) (lift-number lim n X k (by-hybrid 2)) (λ Y. lifted-reached lim n left (suc k) Y)
+lifted-reached lim n (suc left) k X =
+    let way = by-hybrid 2 (lim .working) in
+    go (lift lim n X k way) (lift-number lim n X k way) (λ Y. lifted-reached lim n left (suc k) Y)
   where
     more : (b : Bool) (Y : State) → lifted-from lim n left (suc k) Y ≡ result-of (reached-from lim n left (suc k) Y)
         → unless-empty b Y (λ Z. lifted-from lim n left (suc k) Z) ≡ result-of (unless-last b Y (λ Z. reached-from lim n left (suc k) Z))

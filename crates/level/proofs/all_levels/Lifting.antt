@@ -11,12 +11,14 @@ use lib.ListN.{length, getD, take, drop, replicate}
 use lib.Seq.{length-take-le, getD-take}
 use Rattle.definitions.specs.Limits.{document-01}
 use Rattle.definitions.specs.Lists.{_and_, choose, every, between}
-use Rattle.definitions.specs.Monomial.{Level}
+use Rattle.definitions.specs.Monomial.{Monomial, Level}
 use Rattle.definitions.specs.Result.{Result, done, refused, unfinished, finished?, at-level, _>>=_}
 use Rattle.definitions.specs.Problem.{Parameters}
 use Rattle.definitions.specs.State.{State, sound?, vector-sound?, levels-sound?}
-use Rattle.definitions.specs.Run.{by-code}
-use Rattle.definitions.specs.Lifting.{Lifting, by-division, by-hybrid, limited-frame, lift-all, lift-level}
+use Rattle.definitions.specs.Stage.{Stage, narrowed}
+use Rattle.definitions.specs.Run.{by-code, hybrid-strategy}
+use Rattle.definitions.specs.Tree.{Cache, Sum}
+use Rattle.definitions.specs.Lifting.{Lifting, by-division, by-hybrid, Lifted, with-vector, limited-frame, lift-all, lift-level}
 use Rattle.definitions.specs.Calls.{lift}
 use Rattle.definitions.specs.Layout.{Words, rows, encode, decode, vectors-at, degrees-at, level-at, levels-at, all-words-sound?, holds-state?}
 use Rattle.laws.proofs.Degrees.{carries-below}
@@ -37,18 +39,29 @@ use Rattle.state.specs.degrees.Carrying.{carried-right?}
 use Rattle.state.proofs.soundness.StateTests.{holds-said}
 use Rattle.runs.specs.declared.run.Strategy.{Strategy}
 use Rattle.runs.specs.frame_terms.Vectors.{lifted-vectors, Kept, lifts}
-use Rattle.level.specs.by_runs.Stages.{Base, usual, stage-at, lift-over, leveled-of, Stored-as}
+use Rattle.level.specs.by_runs.Stages.{Base, with-working, usual, stage-at, lift-over, leveled-of, Stored-as}
 use Rattle.level.specs.declared.by_runs.Leveled.{Leveled}
 use Rattle.level.specs.declared.by_runs.Leveled.the-variants.{Vectors, Refused, Stopped}
 use Rattle.level.proofs.by_runs.GroundOfLevel.{sound-levels, prime-at}
 use Rattle.level.specs.storing.Stored.{Kept-apart, with-level, Added}
 use Rattle.state.proofs.preparing.Complete.{up-to-is, length-levels, holds-sound}
 use Rattle.level.specs.all_levels.Level.{Liftable, Chosen, by-picks, by-leading, way-by, Settles, state-over, stored, told, Lifted-by, kept, Kept-as}
-use Rattle.level.specs.all_levels.Level.{Lifted-next}
+use Rattle.level.specs.all_levels.Level.{usual-way, Lifted-next}
 
 pub few-variables : (s : Words) → state-length ≤ length s → T (holds-state? document-01 s) → getD s 1 0 ≤ 8
 few-variables s long holds = between-high 1 (getD s 1 0) 8 (and-left (between 1 (getD s 1 0) 8) (between 1 (getD s 2 0) 3 and between 1 (getD s 3 0) 16)
     (holds-said s long holds .3))
+
+pub chosen-few : (w : Strategy) (working : ℕ) → Chosen w working → working ≤ most-terms
+chosen-few w working (by-picks d e h) = h
+chosen-few w working (by-leading d p e f) = omega (arith, f)
+
+-- whatever room the working value has, the level has its own
+pub all-narrowed : (S : Stage) (working : ℕ) (lift-term : Cache → Monomial → Result Sum) (l : Lifted) (cache : Cache) (ms : List Monomial)
+    → lift-all (narrowed working S) lift-term l cache ms ≡ lift-all S lift-term l cache ms
+all-narrowed S working lift-term l cache [] = refl
+all-narrowed S working lift-term l cache (m ∷ ms) =
+    λ i. lift-term cache m >>= λ s. with-vector S l s >>= λ l′. all-narrowed S working lift-term l′ (s .1) ms i
 
 module _ (s : Words) (j : ℕ) (b : Base s j) where
   abbrev below : List Level
@@ -75,19 +88,24 @@ module _ (s : Words) (j : ℕ) (b : Base s j) where
       go open-yet h = tt
 
   -- a run's strategy is one of the ways
-  chosen-is : (w : Strategy) → Chosen w → (n : ℕ) → lift-over usual s j w n ≡ lift-level document-01 (q .p) (q .code) below (way-by w) n
-  chosen-is w (by-picks d e) n =
+  chosen-is : (w : Strategy) (working : ℕ) → Chosen w working → (n : ℕ) → lift-over (with-working working) s j w n
+      ≡ lift-level document-01 (q .p) (q .code) below (way-by w working) n
+  chosen-is w working (by-picks d e h) n =
+      let N : Stage = stage-at (with-working working) s j in
       (λ i.
       limited-frame document-01 (q .code) (level-at document-01 s j) >>= λ ms.
-      lift-all (stage-at usual s j)
-      (lifts (stage-at usual s j) (record { drops = d i; pick = by-code (stage-at usual s j .below) (w .pick); stops = e i }) n) ([], 0) [] ms)
-      ∙ ap (λ t. lift-level document-01 (q .p) (q .code) below (choose t (by-hybrid (w .pick)) by-division) n) (sym d)
-  chosen-is w (by-leading d p e) n =
-      (λ i.
+      lift-all N (lifts N (record { drops = d i; pick = by-code (N .below) (w .pick); stops = e i }) n) ([], 0) [] ms)
+      ∙ (λ i.
+      limited-frame document-01 (q .code) (level-at document-01 s j) >>= λ ms.
+      all-narrowed (stage-at usual s j) working (lifts N (hybrid-strategy N (w .pick)) n) ([], 0) [] ms i)
+      ∙ ap (λ t. lift-level document-01 (q .p) (q .code) below (choose t (by-hybrid (w .pick) working) by-division) n) (sym d)
+  chosen-is w working (by-leading d p e f) n =
+      ap (λ x. lift-over (with-working x) s j w n) f
+      ∙ (λ i.
       limited-frame document-01 (q .code) (level-at document-01 s j) >>= λ ms.
       lift-all (stage-at usual s j) (lifts (stage-at usual s j) (record { drops = d i; pick = by-code (stage-at usual s j .below) (p i); stops = e i })
       n) ([], 0) [] ms)
-      ∙ ap (λ t. lift-level document-01 (q .p) (q .code) below (choose t (by-hybrid (w .pick)) by-division) n) (sym d)
+      ∙ ap (λ t. lift-level document-01 (q .p) (q .code) below (choose t (by-hybrid (w .pick) working) by-division) n) (sym d)
 
 pub lowest : (s : Words) (j : ℕ) → Base s j → Base s 0
 lowest s j b = record { long = b .long; holds = b .holds; has = omega (arith, b .has); low = omega arith }
@@ -164,9 +182,10 @@ module _ (s : Words) (j : ℕ) (b : Base s j) (out : Words) (long : lifted-lengt
       ≡ lift-level document-01 (getD s 0 0) (getD s 2 0) (levels-at document-01 s (suc j)) way n → Stored-as x out → Apart x out
   way-apart way n x v e k = stands x v (way-right way n x v e) k
 
-  pub run-way : (w : Strategy) → Chosen w → (n : ℕ) (x : Leveled) (v : Words) → leveled-of x out v ≡ lift-over usual s j w n
-      → leveled-of x out v ≡ lift-level document-01 (getD s 0 0) (getD s 2 0) (levels-at document-01 s (suc j)) (way-by w) n
-  run-way w c n x v e = e ∙ chosen-is s j b w c n
+  pub run-way : (w : Strategy) (working : ℕ) → Chosen w working → (n : ℕ) (x : Leveled) (v : Words) → leveled-of x out v
+      ≡ lift-over (with-working working) s j w n
+      → leveled-of x out v ≡ lift-level document-01 (getD s 0 0) (getD s 2 0) (levels-at document-01 s (suc j)) (way-by w working) n
+  run-way w working c n x v e = e ∙ chosen-is s j b w working c n
 
 -- ## The state with it
 
@@ -267,18 +286,18 @@ module _ (s : Words) (k : ℕ) (h : Liftable s k) where
       }
 
   next-of : (n : ℕ) (out : Words) (x : Leveled) (number : ℕ) (t : Words) → Kept-as s k x out number t
-      → leveled-of x out [] ≡ lift-level document-01 (getD s 0 0) (getD s 2 0) (levels-at document-01 s (suc (k - 1))) (by-hybrid 2) n
+      → leveled-of x out [] ≡ lift-level document-01 (getD s 0 0) (getD s 2 0) (levels-at document-01 s (suc (k - 1))) usual-way n
       → Lifted-next s k number t
   next-of n out (Vectors count used) number t (z, A) e =
-      let p : lift document-01 n here k (by-hybrid 2) ≡ done (with-level s k count out) = sym (lift-is (by-hybrid 2) n) ∙ ap (state-over s k) (sym e) in
+      let p : lift document-01 n here k usual-way ≡ done (with-level s k count out) = sym (lift-is usual-way n) ∙ ap (state-over s k) (sym e) in
       record {
         bound = n;
         gives = (λ i. (z i, A .state i)) ∙ ap (kept here) (sym p);
         finishes = subst (λ y. T (finished? y)) (sym p) tt;
-        base = added-base t count out A (sound-next (by-hybrid 2) n (with-level s k count out) p);
+        base = added-base t count out A (sound-next usual-way n (with-level s k count out) p);
       }
   next-of n out (Refused m) number t (z, same) e =
-      let p : lift document-01 n here k (by-hybrid 2) ≡ refused m k [] = sym (lift-is (by-hybrid 2) n) ∙ ap (state-over s k) (sym e) in
+      let p : lift document-01 n here k usual-way ≡ refused m k [] = sym (lift-is usual-way n) ∙ ap (state-over s k) (sym e) in
       record {
         bound = n;
         gives = (λ i. (z i, decode document-01 (same i))) ∙ ap (kept here) (sym p);
@@ -288,10 +307,10 @@ module _ (s : Words) (k : ℕ) (h : Liftable s k) where
   next-of n out (Stopped m) number t a e = absurd a
 
   pub lifted-next : (n : ℕ) (out : Words) → lifted-length ≤ length out → (x : Leveled) (v : Words)
-      → leveled-of x out v ≡ lift-level document-01 (getD s 0 0) (getD s 2 0) (levels-at document-01 s (suc (k - 1))) (by-hybrid 2) n → Stored-as x out
+      → leveled-of x out v ≡ lift-level document-01 (getD s 0 0) (getD s 2 0) (levels-at document-01 s (suc (k - 1))) usual-way n → Stored-as x out
       → (number : ℕ) (t : Words) → Kept-as s k x out number t → Lifted-next s k number t
   lifted-next n out long x v e saved number t a =
-      let settled = way-apart s (k - 1) (h .base) out long (by-hybrid 2) n x v e saved in
+      let settled = way-apart s (k - 1) (h .base) out long usual-way n x v e saved in
       next-of n out x number t a (valueless s (k - 1) (h .base) out long x v settled ∙ e)
 
   pub kept-words : (x : Leveled) (count used : ℕ) (out t : Words) → x ≡ Vectors count used → Added s t k count out → Kept-as s k x out 0 t

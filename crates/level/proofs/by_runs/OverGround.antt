@@ -32,7 +32,8 @@ use Rattle.runs.specs.declared.run.Strategy.{Strategy}
 use Rattle.runs.specs.frame_terms.Vectors.{Framed, lifts, accepted-of, Left}
 use Rattle.runs.specs.declared.frame_terms.Accepted.{Accepted}
 use Rattle.runs.specs.declared.frame_terms.Accepted.the-variants.{Yes, Refused as Accepted-refused, Stopped as Accepted-stopped}
-use Rattle.level.specs.by_runs.Stages.{Base, usual, Within, ground-at, stage-at, strategy-at, Tables-at, Framed-by, accepted-with, value-in, Left-in}
+use Rattle.level.specs.by_runs.Stages.{Base, with-working, usual, Within, ground-at, stage-at, strategy-at, Tables-at, Framed-by, accepted-with}
+use Rattle.level.specs.by_runs.Stages.{value-in, Left-in}
 use Rattle.level.specs.declared.by_runs.Bounds.{Bounds}
 use Rattle.level.proofs.by_runs.GroundOfLevel.{tables-at, family-at, family-in, images-below, images-above, below-is, stage-is, well-at}
 
@@ -159,5 +160,8 @@ answer-same Yes vector = refl
 answer-same (Accepted-refused number place) vector = refl
 answer-same (Accepted-stopped i n) vector = refl
 
+pub working-within : (working : ℕ) → working ≤ most-terms → Within (with-working working)
+working-within working h = record { working = h; vector = omega arith; filled = omega arith; tree = omega arith; room = omega arith }
+
 pub usual-within : Within usual
-usual-within = record { working = omega arith; vector = omega arith; filled = omega arith; tree = omega arith; room = omega arith }
+usual-within = working-within most-terms (omega arith)

@@ -14,7 +14,7 @@ use Rattle.definitions.specs.Lifting.{Lifting, by-division, by-hybrid}
 use Rattle.definitions.specs.State.{State, sound?}
 use Rattle.definitions.specs.Calls.{lift}
 use Rattle.definitions.specs.Layout.{Words, encode, decode, levels-at}
-use Rattle.definitions.specs.Places.{most-levels}
+use Rattle.definitions.specs.Places.{most-terms, most-levels}
 use Rattle.state.specs.soundness.Places.{parameters-at}
 use Rattle.runs.specs.declared.run.Strategy.{Strategy}
 use Rattle.level.specs.by_runs.Stages.{Base}
@@ -30,13 +30,13 @@ pub record Liftable (s : Words) (k : ℕ) : Type 0 where
   pub high : k ≤ most-levels
   pub base : Base s (k - 1)
 
--- division, or hybrid with any pick
-pub data Chosen (w : Strategy) : Type 0 where
-  by-picks : w .drops ≡ true → w .stops ≡ false → Chosen w
-  by-leading : w .drops ≡ false → w .pick ≡ 1 → w .stops ≡ false → Chosen w
+-- hybrid with any pick and room for any number of terms up to the limit, or division, which has the limit's
+pub data Chosen (w : Strategy) (working : ℕ) : Type 0 where
+  by-picks : w .drops ≡ true → w .stops ≡ false → working ≤ most-terms → Chosen w working
+  by-leading : w .drops ≡ false → w .pick ≡ 1 → w .stops ≡ false → working ≡ most-terms → Chosen w working
 
-abbrev pub way-by : Strategy → Lifting
-way-by w = choose (w .drops) (by-hybrid (w .pick)) by-division
+abbrev pub way-by : Strategy → ℕ → Lifting
+way-by w working = choose (w .drops) (by-hybrid (w .pick) working) by-division
 
 -- vectors that can be stored as level k and leave the state sound, or a refusal
 abbrev pub Settles : Words → ℕ → Leveled → Words → Type 0
@@ -78,11 +78,15 @@ Kept-as s k (Vectors n used) out number t = (number ≡ 0) × Added s t k n out
 Kept-as s k (Refused m) out number t = (number ≡ m) × (t ≡ s)
 Kept-as s k (Stopped n) out number t = ⊥
 
+-- hybrid, pick code 2, with all the room that a working value can have: as the sheet and other programs lift
+abbrev pub usual-way : Lifting
+usual-way = by-hybrid 2 most-terms
+
 -- level k of the state that the words hold, lifted as for the sheet; the words are sound again
 pub record Lifted-next (s : Words) (k number : ℕ) (t : Words) : Type 0 where
   pub bound : ℕ
-  pub gives : told-of number t ≡ kept (decode document-01 s) (lift document-01 bound (decode document-01 s) k (by-hybrid 2))
-  pub finishes : T (finished? (lift document-01 bound (decode document-01 s) k (by-hybrid 2)))
+  pub gives : told-of number t ≡ kept (decode document-01 s) (lift document-01 bound (decode document-01 s) k usual-way)
+  pub finishes : T (finished? (lift document-01 bound (decode document-01 s) k usual-way))
   pub base : Base t 0
 
 -- all levels as for the sheet, in the words that a sound state is left in

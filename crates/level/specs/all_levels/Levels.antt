@@ -28,7 +28,7 @@ then-levels X go unfinished = none
 -- so many levels from level k on; none where the bound does not suffice
 abbrev pub reached-from : Limits → ℕ → ℕ → ℕ → State → Option Levels
 reached-from lim n zero k X = some (0, 0, X)
-reached-from lim n (suc left) k X = then-levels X (λ Y. reached-from lim n left (suc k) Y) (lift lim n X k (by-hybrid 2))
+reached-from lim n (suc left) k X = then-levels X (λ Y. reached-from lim n left (suc k) Y) (lift lim n X k (by-hybrid 2 (lim .working)))
 
 abbrev pub reached : Limits → ℕ → State → Option Levels
 reached lim n X = reached-from lim n (lim .levels) 1 X

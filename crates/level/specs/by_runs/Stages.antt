@@ -38,9 +38,13 @@ pub record Base (s : Words) (j : ℕ) : Type 0 where
   pub has : j < getD s 4 0
   pub low : j < all-levels
 
--- document 01's limits of a lifting
+-- document 01's limits of a lifting, but with room for so many terms in a working value (A11)
+abbrev pub with-working : ℕ → Bounds
+with-working working = record { working = working; vector = most-terms; tree = most-tree-terms; room = most-rows }
+
+-- document 01's
 abbrev pub usual : Bounds
-usual = record { working = most-terms; vector = most-terms; tree = most-tree-terms; room = most-rows }
+usual = with-working most-terms
 
 -- at most those, so that the tables and the lent slices suffice
 pub record Within (b : Bounds) : Type 0 where

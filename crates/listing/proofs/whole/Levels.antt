@@ -130,8 +130,8 @@ pub listed : (lim : Limits) (n left k : ℕ) (X : State) → 1 ≤ k → length 
     (all-lines (reached-from lim n left k X))
 listed lim n zero k X h e = refl
 listed lim n (suc left) k X h e =
-    next-listed lim n left k X h e (lift-level lim (X .parameters .p) (X .parameters .code) (up-to X (k - 1)) (by-hybrid 2) n)
-    (lift-level-number lim (X .parameters .p) (X .parameters .code) (up-to X (k - 1)) (by-hybrid 2) n)
+    next-listed lim n left k X h e (lift-level lim (X .parameters .p) (X .parameters .code) (up-to X (k - 1)) (by-hybrid 2 (lim .working)) n)
+    (lift-level-number lim (X .parameters .p) (X .parameters .code) (up-to X (k - 1)) (by-hybrid 2 (lim .working)) n)
     λ f. listed lim n left (suc k) (record { parameters = X .parameters; levels = f ∷ up-to X (k - 1) }) (omega arith)
     (ap suc (stay lim n left k X h e))
 

@@ -39,8 +39,8 @@ abbrev Keeps : State → Option Levels → Type 0
 Keeps X none = Unit {0}
 Keeps X (some (number, place, Y)) = Y .parameters ≡ X .parameters
 
-lift-keeps : (n k : ℕ) (X : State) → If-done (λ (Y : State). Y .parameters ≡ X .parameters) (lift document-01 n X k (by-hybrid 2))
-lift-keeps n k X = go (at-level k (lift-level document-01 (X .parameters .p) (X .parameters .code) (up-to X (k - 1)) (by-hybrid 2) n))
+lift-keeps : (n k : ℕ) (X : State) → If-done (λ (Y : State). Y .parameters ≡ X .parameters) (lift document-01 n X k (by-hybrid 2 (document-01 .working)))
+lift-keeps n k X = go (at-level k (lift-level document-01 (X .parameters .p) (X .parameters .code) (up-to X (k - 1)) (by-hybrid 2 (document-01 .working)) n))
   where
     go : (x : Result Level) → If-done (λ (Y : State). Y .parameters ≡ X .parameters)
         (x >>= λ f. done (record { parameters = X .parameters; levels = f ∷ up-to X (k - 1) }))
@@ -51,7 +51,7 @@ lift-keeps n k X = go (at-level k (lift-level document-01 (X .parameters .p) (X 
 -- whatever levels are reached, the parameters stay
 reached-keeps : (n left k : ℕ) (X : State) → Keeps X (reached-from document-01 n left k X)
 reached-keeps n zero k X = refl
-reached-keeps n (suc left) k X = go (lift document-01 n X k (by-hybrid 2)) (lift-keeps n k X) (λ Y. reached-keeps n left (suc k) Y)
+reached-keeps n (suc left) k X = go (lift document-01 n X k (by-hybrid 2 (document-01 .working))) (lift-keeps n k X) (λ Y. reached-keeps n left (suc k) Y)
   where
     over : (Y : State) (o : Option Levels) → Y .parameters ≡ X .parameters → Keeps Y o → Keeps X o
     over Y none e h = tt

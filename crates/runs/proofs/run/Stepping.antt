@@ -109,6 +109,5 @@ pub rooms-again : (g : Ground) (value vector value′ vector′ : Words) → len
 rooms-again g value vector value′ vector′ e h r = record {
   value-fits = omega (arith, r .value-fits);
   vector-fits = omega (arith, r .vector-fits);
-  sorted-fits = omega (arith, r .sorted-fits);
   left-fits = omega (arith, r .left-fits);
 }

@@ -45,11 +45,10 @@ pub record Images (n : ℕ) (table : Words) : Type 0 where
   pub fits : n * image-length ≤ length table
   pub tabled : Tabled n table
 
--- each slice has room for the value and for the vector: a finished vector is sorted where the value was, a value without a reducer where the vector was
+-- each has its own room; the vector's has room for the value, too, since one without a reducer is sorted there
 pub record Rooms (g : Ground) (value vector : Words) : Type 0 where
   pub value-fits : g .working * row-length ≤ length value
   pub vector-fits : g .vector * row-length ≤ length vector
-  pub sorted-fits : g .vector * row-length ≤ length value
   pub left-fits : g .working * row-length ≤ length vector
 
 -- ## A step
@@ -88,11 +87,11 @@ ended-of order above p (Finished v) value vector = done (descending above p (row
 ended-of order above p (Refused number) value vector = refusal number
 ended-of order above p (Stopped n) value vector = refused 9 0 (descending order p (rows value 0 n))
 
--- sorted: a finished vector in the value's place, a value in the vector's
-abbrev pub outcome-of : Outcome → Words → Words → Result Vector
-outcome-of (Finished v) value vector = done (rows value 0 v)
-outcome-of (Refused number) value vector = refusal number
-outcome-of (Stopped n) value vector = refused 9 0 (rows vector 0 n)
+-- sorted, in the vector's place
+abbrev pub outcome-of : Outcome → Words → Result Vector
+outcome-of (Finished v) vector = done (rows vector 0 v)
+outcome-of (Refused number) vector = refusal number
+outcome-of (Stopped n) vector = refused 9 0 (rows vector 0 n)
 
 abbrev pub Ended : Ground → Outcome → Type 0
 Ended g (Finished v) = v ≤ g .vector

@@ -16,15 +16,6 @@ use Rattle.bidegree_page.proofs.whole.Weighing.{by-own-weights}
 use Rattle.bidegree_page.proofs.whole.print.Statement.{statement}
 use Rattle.bidegree_page.proofs.whole.print.Tie as tie
 
-begin-requires : tie.Need-begin-requires
-begin-requires c κs = omega arith
-
-enum-told : tie.Need-enum-told
-enum-told c = search needs
-
-weights-requires : tie.Need-weights-requires
-weights-requires c κs = search needs
-
 print-accepted-requires : tie.Need-print-accepted-requires
 print-accepted-requires c κs =
     let P = let at-8 = c .before .before .before .before .before .before .before .before in
@@ -36,18 +27,6 @@ print-accepted-requires c κs =
     let fits = c .before .before .before .weights .ensures .1 in
     let B = begun-basis (a .file .now) (b .last .1 .0) (a .out .now) (b .last .1 .1 .1 .0) (b .result) (b .ensures) told in
     (B .base, B .alone, omega (arith, P .1), omega (arith, P .2), subst T (sym fits) tt)
-
-enum-known-length : tie.Need-enum-known-length
-enum-known-length c = search needs
-
-same-length : tie.Need-same-length
-same-length c = search needs
-
-same-length-2 : tie.Need-same-length-2
-same-length-2 c = search needs
-
-same-length-3 : tie.Need-same-length-3
-same-length-3 c = search needs
 
 returns : tie.Need-returns
 returns c =
@@ -68,15 +47,6 @@ returns c =
       R .1,
     )
 
-same-length-4 : tie.Need-same-length-4
-same-length-4 c = search needs
-
-same-length-5 : tie.Need-same-length-5
-same-length-5 c = search needs
-
-same-length-6 : tie.Need-same-length-6
-same-length-6 c = search needs
-
 returns-2 : tie.Need-returns-2
 returns-2 c =
     let a = let at-8 = c .before .before .before .before .before .before .before .before in
@@ -92,5 +62,5 @@ returns-2 c =
 pub print-spec : {M : Type 1} → statement M
 print-spec =
     tie.close
-    (tie.spec begin-requires enum-told weights-requires print-accepted-requires enum-known-length same-length same-length-2 same-length-3 returns
-    same-length-4 same-length-5 same-length-6 returns-2)
+    (tie.spec (λ c κs. omega arith) (λ c. search needs) (λ c κs. search needs) print-accepted-requires (λ c. search needs) (λ c. search needs)
+    (λ c. search needs) (λ c. search needs) returns (λ c. search needs) (λ c. search needs) (λ c. search needs) returns-2)

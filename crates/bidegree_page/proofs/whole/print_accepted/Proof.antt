@@ -26,15 +26,6 @@ print-lifted-requires c κs =
     let P = let at-8 = c .before .before .before .before .before .before .before .before in (at-8 .before) .pre in
     (P .0, P .2, P .3, P .4)
 
-same-length : tie.Need-same-length
-same-length c = search needs
-
-same-length-2 : tie.Need-same-length-2
-same-length-2 c = search needs
-
-same-length-3 : tie.Need-same-length-3
-same-length-3 c = search needs
-
 returns : tie.Need-returns
 returns c =
     let s = let at-8 = c .before .before .before .before .before .before .before .before in
@@ -54,12 +45,6 @@ returns c =
 pair-line-requires : tie.Need-pair-line-requires
 pair-line-requires c κs = let long = c .before .before .before .before .before .before .before .pre .3 in omega (arith, long)
 
-same-length-4 : tie.Need-same-length-4
-same-length-4 c = search needs
-
-same-length-5 : tie.Need-same-length-5
-same-length-5 c = search needs
-
 returns-2 : tie.Need-returns-2
 returns-2 c =
     let s = let at-8 = c .before .before .before .before .before .before .before .before in (at-8 .before .before) .args .state .now in
@@ -74,6 +59,7 @@ returns-2 c =
     )
 
 pub print-accepted-spec : {M : Type 1} → statement M
-print-accepted-spec = tie.close
-    (tie.spec first-mixed-by-requires print-lifted-requires same-length same-length-2 same-length-3 returns pair-line-requires same-length-4 same-length-5
-    returns-2)
+print-accepted-spec =
+    tie.close
+    (tie.spec first-mixed-by-requires print-lifted-requires (λ c. search needs) (λ c. search needs) (λ c. search needs) returns pair-line-requires
+    (λ c. search needs) (λ c. search needs) returns-2)

@@ -3,11 +3,12 @@ use native.Mathlib.Omega.{arith}
 use mathlib.Core.Bool.{true, false}
 use mathlib.Core.Path.{refl, sym, ap, _∙_, subst}
 use Prim.Native.Nat.{_-_}
-use Rattle.definitions.specs.Lifting.{by-hybrid}
+use Rattle.definitions.specs.Places.{most-terms}
 use Rattle.runs.specs.declared.run.Strategy.{Strategy}
 use Rattle.level.proofs.by_runs.OverGround.{usual-within}
 use Rattle.level.specs.by_runs.Stages.{Within, lift-over}
-use Rattle.level.specs.all_levels.Level.{by-picks}
+use Rattle.level.specs.declared.by_runs.Bounds.{Bounds}
+use Rattle.level.specs.all_levels.Level.{by-picks, usual-way}
 use Rattle.level.proofs.all_levels.Lifting.{way-settles, run-way, lifted-next}
 use Rattle.level.proofs.all_levels.lift_next.Statement.{statement}
 use Rattle.level.proofs.all_levels.lift_next.Tie as tie
@@ -27,7 +28,12 @@ sub-lift-level c = omega (arith, c .before .before .before .before .before .befo
 lift-level-requires : tie.Need-lift-level-requires
 lift-level-requires c κs =
     let P = c .before .before .before .before .before .before .pre in
-    (P .0 .base, omega arith, P .1, subst Within (sym (c .before .before .before .usual .ensures)) usual-within)
+    let b = c .before .before .before .usual in (
+      P .0 .base,
+      omega arith,
+      omega (arith, ap (λ (x : Bounds). x .working) (b .ensures), P .1),
+      subst Within (sym (b .ensures)) usual-within,
+    )
 
 slice-aggregate-keep : tie.Need-slice-aggregate-keep
 slice-aggregate-keep c = search needs
@@ -43,8 +49,8 @@ keep-requires c κs =
     let n = L .ensures .0 .0 in
     let v = L .ensures .0 .1 in
     let e = L .ensures .0 .2 ∙ ap (λ x. lift-over x s (a .k - 1) hybrid-2 n) (m .before .before .before .before .usual .ensures) in
-    let r = run-way s (a .k - 1) b (L .last .0) (omega arith) hybrid-2 (by-picks refl refl) n (L .result) v e in
-    (P .0, way-settles s (a .k) (P .0) (L .last .0) (omega arith) (by-hybrid 2) n (L .result) v r (L .ensures .1))
+    let r = run-way s (a .k - 1) b (L .last .0) (omega arith) hybrid-2 most-terms (by-picks refl refl (omega arith)) n (L .result) v e in
+    (P .0, way-settles s (a .k) (P .0) (L .last .0) (omega arith) usual-way n (L .result) v r (L .ensures .1))
 
 same-length : tie.Need-same-length
 same-length c = search needs
@@ -63,7 +69,7 @@ returns c =
     let n = L .ensures .0 .0 in
     let v = L .ensures .0 .1 in
     let e = L .ensures .0 .2 ∙ ap (λ x. lift-over x s (a .k - 1) hybrid-2 n) (m .before .before .before .before .usual .ensures) in
-    let r = run-way s (a .k - 1) b (L .last .0) (omega arith) hybrid-2 (by-picks refl refl) n (L .result) v e in
+    let r = run-way s (a .k - 1) b (L .last .0) (omega arith) hybrid-2 most-terms (by-picks refl refl (omega arith)) n (L .result) v e in
     let t = c .before .before .keep in
     lifted-next s (a .k) (P .0) n (L .last .0) (omega arith) (L .result) v r (L .ensures .1) (t .result) (t .last .0) (t .ensures)
 

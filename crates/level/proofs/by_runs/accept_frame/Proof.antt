@@ -48,8 +48,6 @@ accept-all-requires c κs =
       record {
         value-fits = omega (arith, w, P .3);
         vector-fits = omega (arith, v);
-        sorted-fits =
-            omega (arith, v, P .3);
         left-fits = omega (arith, w);
       },
       omega (arith, v),

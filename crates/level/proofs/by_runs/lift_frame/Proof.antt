@@ -52,10 +52,8 @@ lift-all-requires c κs =
       ask .2,
       ask .3,
       record {
-        value-fits = omega (arith, w, i .working, P .4);
+        value-fits = omega (arith, w, P .4);
         vector-fits = omega (arith, v, i .vector);
-        sorted-fits =
-            omega (arith, v, i .vector, P .4);
         left-fits = omega (arith, w, i .working);
       },
       omega (arith, v, i .vector),

@@ -4,17 +4,11 @@ use Rattle.minimal_page.proofs.whole.Stages.{last-none, last-some}
 use Rattle.minimal_page.proofs.whole.print_tested.Statement.{statement}
 use Rattle.minimal_page.proofs.whole.print_tested.Tie as tie
 
-add-column-length : tie.Need-add-column-length
-add-column-length c = search needs
-
 column-length-requires : tie.Need-column-length-requires
 column-length-requires c κs = let P = c .before .before .pre in (P .0, P .1, omega arith)
 
 print-page-requires : tie.Need-print-page-requires
 print-page-requires c κs = let P = c .before .before .before .before .before .pre in (P .0, P .1, P .2)
-
-same-length : tie.Need-same-length
-same-length c = search needs
 
 returns : tie.Need-returns
 returns c =
@@ -27,9 +21,6 @@ returns c =
 pair-line-requires : tie.Need-pair-line-requires
 pair-line-requires c κs = omega (arith, c .before .before .before .before .before .pre .2)
 
-same-length-2 : tie.Need-same-length-2
-same-length-2 c = search needs
-
 returns-2 : tie.Need-returns-2
 returns-2 c =
     let s = c .before .before .before .before .before .before .before .before .args .state .now in
@@ -39,5 +30,6 @@ returns-2 c =
     (last-some s (n .result) (n .ensures) some (q .0), omega (arith, q .1))
 
 pub print-tested-spec : {M : Type 1} → statement M
-print-tested-spec = tie.close
-    (tie.spec add-column-length column-length-requires print-page-requires same-length returns pair-line-requires same-length-2 returns-2)
+print-tested-spec =
+    tie.close
+    (tie.spec (λ c. search needs) column-length-requires print-page-requires (λ c. search needs) returns pair-line-requires (λ c. search needs) returns-2)

@@ -112,11 +112,11 @@ returns c =
     ≡ row-at (a .frame .now) (l .i) =
     row-there .ensures in
     let k = r .ensures .0 .0 in
-    let came : outcome-of (r .result) (r .last .0) (r .last .1 .0) ≡ run S (accepting-strategy S) k (row-at (a .frame .now) (l .i) .1) =
+    let came : outcome-of (r .result) (r .last .1 .0) ≡ run S (accepting-strategy S) k (row-at (a .frame .now) (l .i) .1) =
     r .ensures .0 .1 ∙ ap (λ x. run S (accepting-strategy S) k (x .1)) t in
     let x = c .before .before .x .given .0 .0 in
     let z = accepting-refused S (a .frame .now) (a .count) (l .i) k x 0 [] (l .inv .3) (omega arith)
-    (sym (ap (λ y. outcome-of y (r .last .0) (r .last .1 .0)) (c .before .before .x .given .1)) ∙ came) in
+    (sym (ap (λ y. outcome-of y (r .last .1 .0)) (c .before .before .x .given .1)) ∙ came) in
     ((z .0, ap (λ y. refused x y []) (c .place-of .ensures) ∙ z .1), tt)
 
 enum-known-n : tie.Need-enum-known-n Inv-loop μ-loop
@@ -165,11 +165,11 @@ returns-2 c =
     let t : term-of (row-there .result)
     ≡ row-at (a .frame .now) (l .i) = row-there .ensures in
     let k = r .ensures .0 .0 in
-    let came : outcome-of (r .result) (r .last .0) (r .last .1 .0) ≡ run S (accepting-strategy S) k (row-at (a .frame .now) (l .i) .1) =
+    let came : outcome-of (r .result) (r .last .1 .0) ≡ run S (accepting-strategy S) k (row-at (a .frame .now) (l .i) .1) =
     r .ensures .0 .1 ∙ ap (λ x. run S (accepting-strategy S) k (x .1)) t in
     let n = c .before .n .given .0 .0 in (
       accepting-refused S (a .frame .now) (a .count) (l .i) k 9 0 (rows (r .last .1 .0) 0 n) (l .inv .3) (omega arith)
-          (sym (ap (λ y. outcome-of y (r .last .0) (r .last .1 .0)) (c .before .n .given .1)) ∙ came),
+          (sym (ap (λ y. outcome-of y (r .last .1 .0)) (c .before .n .given .1)) ∙ came),
       subst (Ended g) (c .before .n .given .1) (r .ensures .1),
     )
 
@@ -205,14 +205,14 @@ loop-again c =
     let t : term-of (row-there .result)
     ≡ row-at (a .frame .now) (l .i) = row-there .ensures in
     let k = r .ensures .0 .0 in
-    let came : outcome-of (r .result) (r .last .0) (r .last .1 .0) ≡ run S (accepting-strategy S) k (row-at (a .frame .now) (l .i) .1) =
+    let came : outcome-of (r .result) (r .last .1 .0) ≡ run S (accepting-strategy S) k (row-at (a .frame .now) (l .i) .1) =
     r .ensures .0 .1 ∙ ap (λ x. run S (accepting-strategy S) k (x .1)) t in
     let v = c .before .-v .given .0 .0 in (
       omega arith,
       omega (arith, l .inv .1),
       omega (arith, l .inv .2),
-      accepting-on S (a .frame .now) (a .count) (l .i) k (rows (r .last .0) 0 v)
-          (l .inv .3) (omega arith) (sym (ap (λ y. outcome-of y (r .last .0) (r .last .1 .0)) (c .before .-v .given .1)) ∙ came),
+      accepting-on S (a .frame .now) (a .count) (l .i) k (rows (r .last .1 .0) 0 v)
+          (l .inv .3) (omega arith) (sym (ap (λ y. outcome-of y (r .last .1 .0)) (c .before .-v .given .1)) ∙ came),
     )
 
 same-length-5 : tie.Need-same-length-5 Inv-loop μ-loop

@@ -81,14 +81,14 @@ returns c =
     let t : term-of (row-there .result)
     ≡ row-at (a .frame .now) (a .i) =
     row-there .ensures in
-    let came : (k : ℕ) × (outcome-of (r .result) (r .last .0) (r .last .1 .0) ≡ run S W k (row-at (a .frame .now) (a .i) .1)) =
+    let came : (k : ℕ) × (outcome-of (r .result) (r .last .1 .0) ≡ run S W k (row-at (a .frame .now) (a .i) .1)) =
     (r .ensures .0 .0, r .ensures .0 .1 ∙ ap (λ x. run S W (r .ensures .0 .0) (x .1)) t) in
     let v = c .before .before .before .v .given .0 .0 in (
       (
         came .0,
-        without-room S l (rows (r .last .0) 0 v) v (length-rows (r .last .0) 0 v)
+        without-room S l (rows (r .last .1 .0) 0 v) v (length-rows (r .last .1 .0) 0 v)
             (omega (arith, asked .11))
-            ∙ ap (λ x. x >>= λ w. with-vector S l (w, [])) (sym (ap (λ y. outcome-of y (r .last .0) (r .last .1 .0))
+            ∙ ap (λ x. x >>= λ w. with-vector S l (w, [])) (sym (ap (λ y. outcome-of y (r .last .1 .0))
             (c .before .before .before .v .given .1)) ∙ came .1),
       ),
       tt,
@@ -113,7 +113,7 @@ append-requires c κs =
       omega (
         arith,
         subst (Ended (args-2 .g)) (c .before .before .before .before .before .v .given .1) (run-there .ensures .1),
-        asked .4 .sorted-fits,
+        asked .4 .vector-fits,
       ),
     )
 
@@ -169,29 +169,29 @@ returns-2 c =
     let W = strategy-of g (a .tables .now) (a .w) in
     let l : Lifted = (lifted-vectors (a .out .now) (a .i), a .used) in
     let t : term-of (row-there .result) ≡ row-at (a .frame .now) (a .i) = row-there .ensures in
-    let came : (k : ℕ) × (outcome-of (r .result) (r .last .0) (r .last .1 .0) ≡ run S W k (row-at (a .frame .now) (a .i) .1)) =
+    let came : (k : ℕ) × (outcome-of (r .result) (r .last .1 .0) ≡ run S W k (row-at (a .frame .now) (a .i) .1)) =
     (r .ensures .0 .0, r .ensures .0 .1 ∙ ap (λ x. run S W (r .ensures .0 .0) (x .1)) t) in
     let v = c .before .before .before .before .before .before .before .before .v .given .0 .0 in
     let room : a .used + v ≤ g .room = omega (arith, P .11) in
-    let has : v * row-length ≤ length (r .last .0) = omega (
+    let has : v * row-length ≤ length (r .last .1 .0) = omega (
       arith,
       subst (Ended g)
           (c .before .before .before .before .before .before .before .before .v .given .1) (r .ensures .1),
-      P .4 .sorted-fits,
+      P .4 .vector-fits,
     ) in
     let o = c .before .before .append in (
       (
         came .0,
         ap (λ z. done (lifted-vectors z (a .i + 1), a .used + v)) (o .ensures)
-            ∙ ap (λ f. done (f, a .used + v)) (vectors-grown (a .out .now) (r .last .0) (a .i) (a .used) v (omega (arith, P .7 .few, P .8))
+            ∙ ap (λ f. done (f, a .used + v)) (vectors-grown (a .out .now) (r .last .1 .0) (a .i) (a .used) v (omega (arith, P .7 .few, P .8))
             (omega (arith, P .9)) has (P .12))
-            ∙ with-room S l (rows (r .last .0) 0 v) v (length-rows (r .last .0) 0 v) room
-            ∙ ap (λ x. x >>= λ w. with-vector S l (w, [])) (sym (ap (λ y. outcome-of y (r .last .0) (r .last .1 .0))
+            ∙ with-room S l (rows (r .last .1 .0) 0 v) v (length-rows (r .last .1 .0) 0 v) room
+            ∙ ap (λ x. x >>= λ w. with-vector S l (w, [])) (sym (ap (λ y. outcome-of y (r .last .1 .0))
             (c .before .before .before .before .before .before .before .before .v .given .1)) ∙ came .1),
       ),
       (
         room,
-        subst (Kept (a .i + 1) (a .used + v)) (sym (o .ensures)) (kept-grown (a .out .now) (r .last .0) (a .i) (a .used) v
+        subst (Kept (a .i + 1) (a .used + v)) (sym (o .ensures)) (kept-grown (a .out .now) (r .last .1 .0) (a .i) (a .used) v
             (omega (arith, P .7 .few, P .8)) (omega (arith, P .9)) has (P .12)),
       ),
     )
@@ -218,11 +218,11 @@ returns-3 c =
     let r = c .before .before .before .before .before .before .before .run in
     let t : term-of (row-there .result)
     ≡ row-at (a .frame .now) (a .i) = row-there .ensures in
-    let came : (k : ℕ) × (outcome-of (r .result) (r .last .0) (r .last .1 .0) ≡ run S W k (row-at (a .frame .now) (a .i) .1)) =
+    let came : (k : ℕ) × (outcome-of (r .result) (r .last .1 .0) ≡ run S W k (row-at (a .frame .now) (a .i) .1)) =
     (r .ensures .0 .0, r .ensures .0 .1 ∙ ap (λ x. run S W (r .ensures .0 .0) (x .1)) t) in (
       (
         came .0,
-        ap (λ x. x >>= λ w. with-vector S l (w, [])) (sym (ap (λ y. outcome-of y (r .last .0) (r .last .1 .0)) (c .before .x .given .1))
+        ap (λ x. x >>= λ w. with-vector S l (w, [])) (sym (ap (λ y. outcome-of y (r .last .1 .0)) (c .before .x .given .1))
             ∙ came .1),
       ),
       tt,
@@ -250,11 +250,11 @@ returns-4 c =
     let r = c .before .before .before .before .before .before .before .run in
     let t : term-of (row-there .result)
     ≡ row-at (a .frame .now) (a .i) = row-there .ensures in
-    let came : (k : ℕ) × (outcome-of (r .result) (r .last .0) (r .last .1 .0) ≡ run S W k (row-at (a .frame .now) (a .i) .1)) =
+    let came : (k : ℕ) × (outcome-of (r .result) (r .last .1 .0) ≡ run S W k (row-at (a .frame .now) (a .i) .1)) =
     (r .ensures .0 .0, r .ensures .0 .1 ∙ ap (λ x. run S W (r .ensures .0 .0) (x .1)) t) in (
       (
         came .0,
-        ap (λ x. x >>= λ w. with-vector S l (w, [])) (sym (ap (λ y. outcome-of y (r .last .0) (r .last .1 .0)) (c .before .n .given .1))
+        ap (λ x. x >>= λ w. with-vector S l (w, [])) (sym (ap (λ y. outcome-of y (r .last .1 .0)) (c .before .n .given .1))
             ∙ came .1),
       ),
       subst (Ended g) (c .before .n .given .1) (r .ensures .1),

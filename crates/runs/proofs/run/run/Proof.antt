@@ -143,8 +143,7 @@ returns-2 c =
     ap (λ z. rows z 0 1) (p .ensures .0) ∙ rows-appended (a .vector .now) 0 (1, m)
     (omega (arith, asked .4 .vector-fits, asked .5)) (p .ensures .1) ∙ ap (λ v. v ++ (1, m) ∷ []) (rows-none (a .vector .now) 0) in (
       from-start (stage-of g (a .level .now) (a .tables .now) above) W m (rows (s .last .0) 0 n) (rows (p .last .0) 0 1)
-          (outcome-of (c .before .before .before .before .sorted .result) (c .before .before .before .before .sorted .last .0)
-          (c .before .before .before .before .sorted .last .1 .0))
+          (outcome-of (c .before .before .before .before .sorted .result) (c .before .before .before .before .sorted .last .1 .0))
           (sym (ap (λ y. added-of y (s .last .0))
           (n-there .given .1)) ∙ s .ensures .0) one (t .0, c .before .before .before .before .sorted .ensures .0 ∙ t .1),
       c .before .before .before .before .sorted .ensures .1,

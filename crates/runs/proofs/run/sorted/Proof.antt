@@ -12,6 +12,34 @@ use Rattle.runs.proofs.run.sorted.Tie as tie
 enum-known-x : tie.Need-enum-known-x
 enum-known-x c = search needs
 
+sub-sort-in-place : tie.Need-sub-sort-in-place
+sub-sort-in-place c = search needs
+
+part-sort-in-place-start : tie.Need-part-sort-in-place-start
+part-sort-in-place-start c = search needs
+
+part-sort-in-place-end : tie.Need-part-sort-in-place-end
+part-sort-in-place-end c = search needs
+
+sort-in-place-requires : tie.Need-sort-in-place-requires
+sort-in-place-requires c κs =
+    let at-8 = c .before .before .before .before .before .before .before .before in (
+      at-8 .pre .0 .prime,
+      omega (
+        arith,
+        at-8 .pre .3 .vector-fits,
+        subst (Ended (at-8 .args .g)) (c .before .before .before .x .given .1) (at-8 .pre .4),
+      ),
+      at-8 .pre .2 .fits,
+      at-8 .pre .2 .tabled,
+    )
+
+enum-known-x-2 : tie.Need-enum-known-x-2
+enum-known-x-2 c = search needs
+
+enum-known-x-3 : tie.Need-enum-known-x-3
+enum-known-x-3 c = search needs
+
 sub-sort : tie.Need-sub-sort
 sub-sort c = search needs
 
@@ -23,41 +51,6 @@ part-sort-end c = search needs
 
 sort-requires : tie.Need-sort-requires
 sort-requires c κs =
-    let at-8 = c .before .before .before .before .before .before .before .before in (
-      at-8 .before .pre .0 .prime,
-      omega (
-        arith,
-        at-8 .before .pre .3 .vector-fits,
-        subst (Ended (at-8 .before .args .g)) (c .before .before .before .before .x .given .1)
-            (at-8 .before .pre .4),
-      ),
-      omega (
-        arith,
-        at-8 .before .pre .3 .sorted-fits,
-        subst (Ended (at-8 .before .args .g)) (c .before .before .before .before .x .given .1)
-            (at-8 .before .pre .4),
-      ),
-      at-8 .before .pre .2 .fits,
-      at-8 .before .pre .2 .tabled,
-    )
-
-enum-known-x-2 : tie.Need-enum-known-x-2
-enum-known-x-2 c = search needs
-
-enum-known-x-3 : tie.Need-enum-known-x-3
-enum-known-x-3 c = search needs
-
-sub-sort-2 : tie.Need-sub-sort-2
-sub-sort-2 c = search needs
-
-part-sort-start-2 : tie.Need-part-sort-start-2
-part-sort-start-2 c = search needs
-
-part-sort-end-2 : tie.Need-part-sort-end-2
-part-sort-end-2 c = search needs
-
-sort-requires-2 : tie.Need-sort-requires-2
-sort-requires-2 c κs =
     let at-8 = c .before .before .before .before .before .before .before .before in (
       at-8 .before .pre .0 .prime,
       omega (
@@ -79,25 +72,20 @@ sort-requires-2 c κs =
 same-length : tie.Need-same-length
 same-length c = search needs
 
-same-length-2 : tie.Need-same-length-2
-same-length-2 c = search needs
-
 returns : tie.Need-returns
 returns c =
     let at-8 = c .before .before .before .before .before .before .before .before in
-    let a = at-8 .before .before .before .before .args in
+    let a = at-8 .before .before .before .args in
     let g = a .g in
     let order = order-of g (a .tables .now) in
     let above = table-order (g .code) (table-of (g .r) (above-in (a .tables .now))) in
-    let s = c .before .before .sort in (
-      ap done (s .ensures) ∙ sym (ap (λ y. ended-of order above (g .p) y (a .value .now) (a .vector .now))
-          (c .before .before .before .before .before .before .before .x .given .1)),
+    let s = c .before .before .sort-in-place in
+    let x = c .before .before .before .before .before .before .x in (
+      ap done (s .ensures) ∙ sym (ap (λ y. ended-of order above (g .p) y (a .value .now) (a .vector .now)) (x .given .1)),
       omega (
         arith,
-        sorted-rows above (g .p) (s .last .0) (s .result) (a .vector .now)
-            (c .before .before .before .before .before .before .before .x .given .0 .0) (s .ensures),
-        subst (Ended g) (c .before .before .before .before .before .before .before .x .given .1)
-            (at-8 .before .before .before .before .pre .4),
+        sorted-rows above (g .p) (s .last .0) (s .result) (a .vector .now) (x .given .0 .0) (s .ensures),
+        subst (Ended g) (x .given .1) (at-8 .before .before .before .pre .4),
       ),
     )
 
@@ -109,11 +97,11 @@ returns-2 c =
     let above = table-order (g .code) (table-of (g .r) (above-in (a .tables .now))) in
     (sym (ap (λ y. ended-of order above (g .p) y (a .value .now) (a .vector .now)) (c .before .x2 .given .1)), tt)
 
+same-length-2 : tie.Need-same-length-2
+same-length-2 c = search needs
+
 same-length-3 : tie.Need-same-length-3
 same-length-3 c = search needs
-
-same-length-4 : tie.Need-same-length-4
-same-length-4 c = search needs
 
 returns-3 : tie.Need-returns-3
 returns-3 c =
@@ -122,7 +110,7 @@ returns-3 c =
     let g = a .g in
     let order = order-of g (a .tables .now) in
     let above = table-order (g .code) (table-of (g .r) (above-in (a .tables .now))) in
-    let s = c .before .before .sort2 in (
+    let s = c .before .before .sort in (
       ap (refused 9 0) (s .ensures) ∙ sym (ap (λ y. ended-of order above (g .p) y (a .value .now) (a .vector .now))
           (c .before .before .before .before .before .before .before .x3 .given .1)),
       omega (
@@ -139,20 +127,19 @@ sorted-spec =
     tie.close
     (tie.spec
     enum-known-x
+    sub-sort-in-place
+    part-sort-in-place-start
+    part-sort-in-place-end
+    sort-in-place-requires
+    enum-known-x-2
+    enum-known-x-3
     sub-sort
     part-sort-start
     part-sort-end
     sort-requires
-    enum-known-x-2
-    enum-known-x-3
-    sub-sort-2
-    part-sort-start-2
-    part-sort-end-2
-    sort-requires-2
     same-length
-    same-length-2
     returns
     returns-2
+    same-length-2
     same-length-3
-    same-length-4
     returns-3)

@@ -1,8 +1,10 @@
 use borrow.Author.Needs.{needs}
+use native.Mathlib.Omega.{arith}
 use mathlib.Core.Path.{refl, sym, subst}
 use Prim.Native.Nat.{_-_, _≤_}
 use lib.ListN.{length}
 use Rattle.definitions.specs.Limits.{document-01}
+use Rattle.definitions.specs.Lifting.{by-hybrid}
 use Rattle.definitions.specs.Layout.{work-words, lifting-by}
 use Rattle.definitions.specs.Places.{value-length, tree-length}
 use Rattle.level.specs.all_levels.Level.{by-picks, by-leading, Lifted-by}
@@ -19,18 +21,20 @@ lift-level-requires c κs =
     let P = c .before .before .before .before .before .before .before .pre in
     let h : value-length ≤ length (a .work .now) = subst (λ x. work-words document-01 (way-of x) ≤ length (a .work .now))
     (c .before .before .enum-told .given .1) (P .1) in
-    (P .0, h, by-leading refl refl refl)
+    (P .0, omega (arith, h), by-leading refl refl refl refl)
 
 enum-known-way : tie.Need-enum-known-way
 enum-known-way c = search needs
 
+room-of-requires : tie.Need-room-of-requires
+room-of-requires c κs = search needs
+
 lift-level-requires-2 : tie.Need-lift-level-requires-2
 lift-level-requires-2 c κs =
-    let a = c .before .before .before .before .before .before .before .before .args in
-    let P = c .before .before .before .before .before .before .before .before .pre in
-    let h : value-length ≤ length (a .work .now) = subst (λ x. work-words document-01 (way-of x) ≤ length (a .work .now))
-    (c .before .before .before .way .given .1) (P .1) in
-    (P .0, h, by-picks refl refl)
+    let at-8 = c .before .before .before .before .before .before .before .before in
+    let P = at-8 .before .pre in
+    let r = c .before .before .room-of .ensures in
+    (P .0, omega (arith, r), by-picks refl refl (omega (arith, r)))
 
 enum-told-2 : tie.Need-enum-told-2
 enum-told-2 c = search needs
@@ -54,8 +58,8 @@ returns c =
     let m = c .before .before .before .before .before .before .before in
     let a = m .before .before .before .before .before .args in
     let L = c .before .before .before .before .lift-level in
-    subst (λ x. Lifted-by (a .state .now) (a .k) (lifting-by (way-of x) (a .cache .now)) (L .result) (L .last .0)) (sym (m .enum-told .given .1))
-    (L .ensures)
+    subst (λ x. Lifted-by (a .state .now) (a .k) (lifting-by document-01 (way-of x) (a .work .now) (a .cache .now)) (L .result) (L .last .0))
+    (sym (m .enum-told .given .1)) (L .ensures)
 
 same-length-3 : tie.Need-same-length-3
 same-length-3 c = search needs
@@ -65,10 +69,14 @@ same-length-4 c = search needs
 
 returns-2 : tie.Need-returns-2
 returns-2 c =
-    let m = c .before .before .before .before .before .before .before .before in
+    let at-8 = c .before .before .before .before .before .before .before .before in
+    let m = at-8 .before in
     let a = m .before .before .before .before .before .args in
     let L = c .before .before .before .before .lift-level2 in
-    subst (λ x. Lifted-by (a .state .now) (a .k) (lifting-by (way-of x) (a .cache .now)) (L .result) (L .last .0)) (sym (m .way .given .1)) (L .ensures)
+    let r = c .before .before .before .before .before .before .before .room-of .ensures in
+    subst (λ x. Lifted-by (a .state .now) (a .k) (lifting-by document-01 (way-of x) (a .work .now) (a .cache .now)) (L .result) (L .last .0))
+    (sym (m .way .given .1))
+    (subst (λ x. Lifted-by (a .state .now) (a .k) (by-hybrid (m .way .given .0 .0) x) (L .result) (L .last .0)) r (L .ensures))
 
 same-length-5 : tie.Need-same-length-5
 same-length-5 c = search needs
@@ -85,8 +93,8 @@ returns-3 c =
     let m = at-8 .before .before in
     let a = m .before .before .before .before .before .args in
     let L = c .before .before .before .before .before .before .lift-tree in
-    subst (λ x. Lifted-by (a .state .now) (a .k) (lifting-by (way-of x) (a .cache .now)) (L .result) (L .last .0)) (sym (m .enum-told2 .given .1))
-    (L .ensures)
+    subst (λ x. Lifted-by (a .state .now) (a .k) (lifting-by document-01 (way-of x) (a .work .now) (a .cache .now)) (L .result) (L .last .0))
+    (sym (m .enum-told2 .given .1)) (L .ensures)
 
 pub lift-by-spec : {M : Type 1} → statement M
 lift-by-spec =
@@ -95,6 +103,7 @@ lift-by-spec =
     enum-told
     lift-level-requires
     enum-known-way
+    room-of-requires
     lift-level-requires-2
     enum-told-2
     lift-tree-requires
