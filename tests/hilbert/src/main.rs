@@ -1,7 +1,7 @@
 //! The program that prints the Hilbert function against the unrelated implementation, byte for byte: on generated and damaged files, on the files of examples/,
 //! the instances and files about the longest. Values also against a count of monomials from the file's text alone, and files with a G line also without it.
 //!
-//!     test-hilbert [FILES [SEED]]      at least so many files (20,000 without it)
+//!     test-hilbert [FILES [SEED]]      at least so many files (10,000 without it)
 //!     test-hilbert spoil first|last|middle|shorter|longer|line|counted|without
 //!                                      spoils what the program printed, once: the run must find it and exit with 1
 //!
@@ -31,7 +31,7 @@ use reference::generate::weight_lines::{
 use reference::random::Random;
 use std::path::Path;
 
-const FILES: u64 = 20_000;
+const FILES: u64 = 10_000;
 const SEED: u64 = 20_261_301;
 
 fn main() {

@@ -1,7 +1,7 @@
 //! The program that prints minimal Betti numbers against the unrelated implementation, byte for byte: on generated and damaged files, the files of examples/,
 //! the instances and files about the longest. Beside it the program of the Betti page; the same module with more elements; files with a G line without it.
 //!
-//!     test-minimal [FILES [SEED]]      at least so many files (20,000 without it)
+//!     test-minimal [FILES [SEED]]      at least so many files (10,000 without it)
 //!     test-minimal spoil first|last|middle|shorter|longer|line|label|above|rank|more|refused|without
 //!                                      spoils what a program printed, once: the run must find it and exit with 1
 //!
@@ -26,7 +26,7 @@ use reference::generate::weight_lines::with_random_weights;
 use reference::random::Random;
 use std::path::Path;
 
-const FILES: u64 = 20_000;
+const FILES: u64 = 10_000;
 const SEED: u64 = 20_260_701;
 
 /// x·e_1 + e_2 and y·e_2, the components of degrees 0 and 1, and the first of them again: constants in two columns.
