@@ -1,5 +1,5 @@
-/* The three calls of Tagetessash: read a problem file, lift a level, fetch a vector; and the sheet, the Betti page, the minimal Betti numbers, the bidegrees
- * and the Hilbert function of a file, each in one call.
+/* The three calls of Tagetessash: read a problem file, lift a level, fetch a vector; a fourth that divides a vector by the elements of a state; and the sheet,
+ * the Betti page, the minimal Betti numbers, the bidegrees and the Hilbert function of a file, and whether a vector is in its module, each in one call.
  *
  * A header of one version does not fit a library of another: if (tagetessash_version() != TAGETESSASH_VERSION) do not go on.
  *
@@ -10,10 +10,11 @@
  * length 0 a pointer may be null, else it must not. Words are aligned as a uint16_t. The buffers of one call and its place do not overlap. place and
  * length are not null. The library can not test any of this; whatever else the buffers hold, every call returns and keeps to them.
  *
- * Each of the three calls returns a number, 0 or a refusal's, and writes its place (see below). After
- *     11, 12, 16                no buffer is changed
- *     1 to 9, 13 to 15, 18, 24  every buffer lent for writing is zero throughout, the state with it; but 9 leaves a value in the work area
- *     0                         the work area, the cache and what is unused of the state and of out are zero
+ * Each of these four calls returns a number, 0 or a refusal's, and writes its place (see below). After
+ *     11, 12, 16                    no buffer is changed
+ *     1 to 9, 13 to 15, 18, 23, 24  every buffer lent for writing is zero throughout, the state with it (dividing only reads it); but 9 leaves a value in the
+ *                                   work area
+ *     0                             the work area, the cache and what is unused of the state, of out, of quotients and of remainder are zero
  */
 #ifndef TAGETESSASH_H
 #define TAGETESSASH_H
@@ -29,23 +30,26 @@ extern "C" {
  *     1    an exponent has a word of its own, a row ten words
  *     2    the exponents are packed, a row has six words; what the accessors below give and what the sheet prints is as it was
  *     3    the state has degrees behind its rows, a D line is read, 18 is answered; all that a state of version 2 holds stands where it stood
- * tagetessash_betti, tagetessash_bidegrees, tagetessash_hilbert and tagetessash_minimal came later, one by one: a program of version 3 that does not call them
- * fits every library of version 3, and one that does is not linked with a library that has no such function. With the second came a file's G line, which was
- * refused with 1, and 24: no state holds its weights, and every file that was read before is read as before. Later still hybrid took work areas of fewer than
- * TAGETESSASH_WORK_WORDS words: with as many or more every answer and every word is as before, and a library of version 3 from before refuses fewer with 16.
- * Version 1's buffers are long enough for version 3: a program that was compiled with that header is refused nothing and reads other words. Only the version
- * tells it. One of version 2 lends a state that is too short: where it does not ask for the version, every call answers 16. */
+ * tagetessash_betti, tagetessash_bidegrees, tagetessash_hilbert, tagetessash_minimal, tagetessash_member and tagetessash_divide came later: a program of
+ * version 3 that does not call them fits every library of version 3, and one that does is not linked with a library that has no such function. With the second
+ * came a file's G line, which was refused with 1, and 24: no state holds its weights, and every file that was read before is read as before. Later still hybrid
+ * took work areas of fewer than TAGETESSASH_WORK_WORDS words: with as many or more every answer and every word is as before, and a library of version 3 from
+ * before refuses fewer with 16. Version 1's buffers are long enough for version 3: a program that was compiled with that header is refused nothing and reads
+ * other words. Only the version tells it. One of version 2 lends a state that is too short: where it does not ask for the version, every call answers 16. */
 #define TAGETESSASH_VERSION 3
 
 /* How many bytes of stack a call finds enough, from where it is called, so that a thread of this size and what its own functions need is safe. Of the stack
- * alone the library can not tell you that it is too small: the process dies. All calls but the tree's have arrays of fixed length and do not call themselves:
- * no file and no length of a work area makes them take more. From its caller's frame on (measured on x86-64; a thread has some 4 KiB of its own besides)
- * lifting by division and by hybrid takes 64 KiB, among it 24,832 bytes for the level being made, 7,428 for tables of the levels below, 6,144 for a vector and
- * 3,072 for the frame; reading takes 23 KiB, fetching 6, the sheet and the Betti page 48, the bidegrees 50, the Hilbert function 55, the minimal numbers 83.
- * The rest is for what runs beside them in the thread. TAGETESSASH_LIFT_STACK_BYTES is enough for threads that read, lift by division or hybrid and fetch. The
- * tree calls itself, 4,096 deep at the most, since each unfinished subtree holds a term of the work area: 3,050 KiB measured at that depth. */
+ * alone the library can not tell you that it is too small: the process dies. All calls but the tree's have arrays of fixed length, and no function calls itself
+ * more than once: no file makes them take more. From its caller's frame on (measured on x86-64; a thread has some 4 KiB of its own besides)
+ * lifting by division and by hybrid takes 171 KiB, most of it for a table of what the frame terms of a level reach; in a work area with room for at most 128
+ * terms the table is a small one, and lifting by hybrid takes 92 KiB. Reading takes 127 KiB, fetching 6, dividing 21, the sheet 155, the Betti page 152, the
+ * bidegrees 154, the Hilbert function 161, the minimal numbers 186, membership MEMBERKIB. The rest is for what runs beside them in the thread.
+ * TAGETESSASH_LIFT_STACK_BYTES is enough for threads that read, lift by division or hybrid, fetch and divide, TAGETESSASH_NARROW_STACK_BYTES for those that
+ * lift by hybrid in so little room, fetch and divide. The tree calls itself, 4,096 deep at the most, since each unfinished subtree holds a term of the work
+ * area: 3,050 KiB measured at that depth. */
 #define TAGETESSASH_STACK_BYTES 262144
-#define TAGETESSASH_LIFT_STACK_BYTES 98304
+#define TAGETESSASH_LIFT_STACK_BYTES 262144
+#define TAGETESSASH_NARROW_STACK_BYTES 131072
 #define TAGETESSASH_TREE_STACK_BYTES 4194304
 
 /* How many words a buffer has at the least; a shorter one is refused with 16, a longer one may be lent. The file and the cache may have any length. The
@@ -54,11 +58,12 @@ extern "C" {
 #define TAGETESSASH_WORK_WORDS 3072        /* to read, and to lift by division */
 #define TAGETESSASH_LEAST_WORK_WORDS 192   /* to lift by hybrid, which uses TAGETESSASH_WORK_WORDS of a longer one */
 #define TAGETESSASH_TREE_WORK_WORDS 24576  /* to lift by the tree */
-#define TAGETESSASH_OUT_WORDS 3072
+#define TAGETESSASH_OUT_WORDS 3072         /* to fetch; the quotients' and the remainder's to divide */
 #define TAGETESSASH_SHEET_BYTES 1400000    /* the sheet's out has bytes */
 #define TAGETESSASH_PAGE_BYTES 1508691     /* and so has the Betti page's, and that of the minimal numbers */
 #define TAGETESSASH_BIDEGREES_BYTES 32384  /* and that of the bidegrees */
 #define TAGETESSASH_HILBERT_BYTES 31773    /* and that of the Hilbert function */
+#define TAGETESSASH_MEMBER_BYTES 63492     /* and that of membership */
 
 /* The most that there can be. A longer file is refused with 1, more variables or components with 3, T lines for more terms of level 0 with 8, more terms of a
  * vector, of a working value (as many as of a vector) or of the tree's work area with 14, more vectors or terms of a level above 0 with 15. */
@@ -144,15 +149,19 @@ enum {
     /* no Groebner basis: the place is the number of a frame term whose division stops, and the work area holds the value where it stops, in rows */
     TAGETESSASH_NO_BASIS = 9,
 
+    /* the vector to be divided; the place is its row, from 1, in the X line of tagetessash_member the line */
+    TAGETESSASH_BAD_VECTOR = 23, /* coefficient 0 or p or more, component not 1 to s, an exponent past the last variable, a term not below the one before it,
+                                  * or the 513th; a line behind E that is no V line */
+
     /* the call; place 0 */
     TAGETESSASH_NO_LEVEL = 11,     /* no accepted basis, or the level that is needed is not complete: k - 1 to lift level k, k to fetch from it */
     TAGETESSASH_BAD_NUMBER = 12,   /* level not 1 to 9, vector not 1 to its level's count, way or pick code that there is not */
     TAGETESSASH_SHORT_BUFFER = 16, /* a buffer is shorter than its length above */
 
-    /* a limit; the place is the level, 0 while a basis is being accepted */
+    /* a limit; the place is the level, 0 while a basis is being accepted or a vector divided */
     TAGETESSASH_EXPONENT_LIMIT = 13, /* a product has an exponent above 255 */
-    TAGETESSASH_TERM_LIMIT = 14,     /* a 513th term of a working value or vector, or a 4,097th in the tree's work area; by hybrid one for which the lent work
-                                      * area has no row */
+    TAGETESSASH_TERM_LIMIT = 14,     /* a 513th term of a working value, a vector, quotients or a remainder, or a 4,097th in the tree's work area; by hybrid
+                                      * one for which the lent work area has no row */
     TAGETESSASH_LEVEL_LIMIT = 15,    /* a 129th frame term, or a 2,049th term of a level above 0 */
 
     /* No call returns these: they stand in the X line that is written instead of a page. The place is the first such element; that of 20 is the level. */
@@ -183,6 +192,17 @@ uint16_t tagetessash_lift(uint16_t *state, size_t state_words, uint16_t *work, s
 
 /* Writes a vector, 1 to the level's count, of a complete level, 1 to 9, into out: its rows, greatest term first, then zeros. */
 uint16_t tagetessash_fetch(const uint16_t *state, size_t state_words, uint16_t *out, size_t out_words, size_t level, size_t vector, size_t *place);
+
+/* Divides a vector by the elements of the state, level 0 (the levels above play no part), which it only reads: so many vectors may be asked of one basis. The
+ * vector has as many terms as vector_words has whole rows, 512 at the most, none for the zero vector; the greatest first, strictly descending by the file's
+ * order, as tagetessash_put_row writes them. By the lowest-index rule: the leading term's multiple of its reducer is taken away, or the term goes to the
+ * remainder where it has none. After 0 quotients has a row for each term of the quotients, its component the number of its element, descending in the induced
+ * order, and remainder the rows of the remainder, no term of which has a reducer; zeros behind both, of TAGETESSASH_OUT_WORDS words each at the least. The
+ * quotients applied to the elements plus the remainder give the vector back. Over an accepted basis the remainder is zero exactly where some combination of the
+ * elements equals the vector. Refused by 16, 11, 23 with the row, then 13 or 14 with place 0 where the division meets a limit; after 23, 13 and 14 both buffers
+ * are zero and the state is as it was. */
+uint16_t tagetessash_divide(const uint16_t *state, size_t state_words, const uint16_t *vector, size_t vector_words, uint16_t *quotients,
+    size_t quotients_words, uint16_t *remainder, size_t remainder_words, size_t *place);
 
 /* Writes the sheet of a problem file, the bytes that the program prints, into out, zeros after them, and how many there are into length. Returns 0 for every
  * file, a refused one too (its X line says so), or 16, which changes no buffer and has length 0. After 0 state and work are zero: they are lent for the work
@@ -220,6 +240,15 @@ uint16_t tagetessash_bidegrees(const uint8_t *file, size_t file_bytes, uint16_t 
  * Betti page. For a refused file it writes the X line (and after X,9 the W lines) and nothing else; an element may have terms of several degrees (neither 17
  * nor 25 is tested). Returns 0 for every file, or 16, as tagetessash_sheet does. */
 uint16_t tagetessash_hilbert(const uint8_t *file, size_t file_bytes, uint16_t *state, size_t state_words, uint16_t *work, size_t work_words, uint8_t *out,
+    size_t out_bytes, size_t *length);
+
+/* Divides a vector by the elements of a problem file and writes the lines that the program prints into out, likewise. The input is the file and, behind its E
+ * line, a line V,coefficient,component,e1,..,en for each term of the vector, strictly descending, TAGETESSASH_VECTOR_TERMS at the most; it may have any length.
+ * A line C,coefficient,element,e1,..,en for each term of the quotients, descending in the induced order, a line W,coefficient,component,e1,..,en for each of
+ * the remainder, no term of which has a reducer, then M,1 where there is none, which is where some combination of the elements equals the vector, else M,0. For
+ * a refused file it writes the X line (and after X,9 the W lines) and nothing else; X,23 with the first line behind E that is no V line, out of range, not
+ * below the one before it, or one too many; X,13,0 and X,14,0 where the division meets a limit. Returns 0 for every input, or 16, as tagetessash_sheet does. */
+uint16_t tagetessash_member(const uint8_t *input, size_t input_bytes, uint16_t *state, size_t state_words, uint16_t *work, size_t work_words, uint8_t *out,
     size_t out_bytes, size_t *length);
 
 /* The version of the library. */
@@ -272,6 +301,20 @@ static inline tagetessash_term tagetessash_row(const uint16_t *rows, size_t i)
     for (x = 0; x < TAGETESSASH_VARIABLES; x++)
         term.exponents[x] = tagetessash_exponent(row, x);
     return term;
+}
+
+/* Writes a term as row i. Exponents above 255 have no row: their lower 8 bits are written. */
+static inline void tagetessash_put_row(uint16_t *rows, size_t i, tagetessash_term term)
+{
+    uint16_t *row = rows + i * TAGETESSASH_ROW_WORDS;
+    uint64_t packed = 0;
+    size_t x;
+    for (x = 0; x < TAGETESSASH_VARIABLES; x++)
+        packed = packed << TAGETESSASH_EXPONENT_BITS | (uint8_t)term.exponents[x];
+    row[TAGETESSASH_COEFFICIENT_AT] = term.coefficient;
+    row[TAGETESSASH_COMPONENT_AT] = term.component;
+    for (x = 0; x < TAGETESSASH_PACKED_WORDS; x++)
+        row[TAGETESSASH_PACKED_AT + x] = (uint16_t)(packed >> TAGETESSASH_WORD_BITS * x);
 }
 
 /* What a state holds, for states as calls leave them (or all zero: nothing). */
@@ -362,6 +405,7 @@ static inline const char *tagetessash_meaning(uint16_t number)
     case TAGETESSASH_TWO_DEGREES: return "an element has terms of two degrees";
     case TAGETESSASH_BAD_DEGREE: return "a component's degree is above 255";
     case TAGETESSASH_NOT_ENDED: return "level 9 is not empty";
+    case TAGETESSASH_BAD_VECTOR: return "a term of the vector is out of range, not below the one before it, or the 513th";
     case TAGETESSASH_BAD_WEIGHT: return "a variable's weight is above 15";
     case TAGETESSASH_TWO_BIDEGREES: return "an element has terms of two bidegrees";
     default: return "no number of a call";
@@ -379,6 +423,8 @@ static inline const char *tagetessash_place_name(uint16_t number)
         return "level";
     if (number == TAGETESSASH_TWO_DEGREES || number == TAGETESSASH_TWO_BIDEGREES)
         return "element";
+    if (number == TAGETESSASH_BAD_VECTOR)
+        return "term";
     return NULL;
 }
 

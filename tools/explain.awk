@@ -15,7 +15,7 @@ END {
     d_line = line[2] ~ /^D/ ? 2 : 0
     g_line = line[d_line ? 3 : 2] ~ /^G/ ? (d_line ? 3 : 2) : 0
     first_t = 2 + (d_line > 0) + (g_line > 0)
-    if ((number <= 8 || number == 18 || number == 24) && place > 0) print name ":" place ": " shown(line[place]) hint()
+    if ((number <= 8 || number == 18 || number == 23 || number == 24) && place > 0) print name ":" place ": " shown(line[place]) hint()
     if (number == 9) not_a_basis()
     if (number == 17 || number == 25) two_degrees()
 }
@@ -27,7 +27,7 @@ function shown(text) {
 }
 
 function hint(    words) {
-    words = number == 1 ? shape(line[place]) : range(line[place])
+    words = number == 1 ? shape(line[place]) : number == 23 ? of_vector(line[place]) : range(line[place])
     return words == "" ? "" : "   <- " words
 }
 
@@ -61,6 +61,26 @@ function shape(text,    fields, count, want, i) {
         return "it has " count (count == 1 ? " number" : " numbers") ", and " want (want == 1 ? " is" : " are") " wanted" \
             (text ~ /^T/ ? " for " n " variables" : text ~ /^D/ ? ", a degree for each component" : text ~ /^G/ ? ", two weights for each variable" : "")
     return ""
+}
+
+# why a line behind E is no V line of a term that may follow
+function of_vector(text,    fields, count, want, i) {
+    if (text ~ /\r$/) return "it ends in byte 13, as lines of Windows do: tr -d '\\r' <FILE takes these away"
+    if (text ~ /^[ \t]*$/) return "it is blank"
+    if (place == lines && !ended) return "its end, byte 10, is missing"
+    if (text !~ /^V,/) return "it does not begin with V and a comma"
+    if (text ~ /[-+]/) return "it has a sign; for -c write p - c"
+    if (text !~ /^V(,[0-9]+)+$/) return "a field is no number"
+    if (text ~ /,0[0-9]/) return "a number has a leading zero"
+    count = split(text, fields, ",") - 1
+    want = n + 2
+    if (count != want) return "it has " count (count == 1 ? " number" : " numbers") ", and " want " are wanted for " n " variables"
+    if (fields[2] + 0 == 0) return "the coefficient is 0"
+    if (fields[2] + 0 >= p + 0) return "the coefficient " fields[2] " is not below p = " p
+    if (fields[3] + 0 < 1 || fields[3] + 0 > s + 0) return "component " fields[3] " is not 1 to " s
+    for (i = 4; i <= count + 1; i++) if (length(fields[i]) > 3 || fields[i] + 0 > 255) return "an exponent is above 255"
+    for (i = place; i > 1 && line[i] !~ /^E/; i--) continue
+    return place - i > 512 ? "512 V lines are the most" : "it is not below line " place - 1 ", " shown(line[place - 1])
 }
 
 # which number of a line is out of range or out of sequence

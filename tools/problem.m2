@@ -9,6 +9,8 @@
 --     Weights => {{1, 0}, {0, 1}}    the two weights of each variable, 0 to 15, else its degree in a bigraded ring; Weights => {} none
 -- Degrees are shifted so that the least is 0, and written (the D line) where they are not all the same then; standard error tells the shift. Weights are
 -- written (the G line) where there are any.
+-- vectorLines v is the V lines of a ring element, a vector or a matrix of one column of the same ring, to stand behind the problem file: tagetessash member
+-- divides it by the columns.
 -- What a problem file can not say is an error: a file without it would be another problem. docs/GUIDE.md has examples.
 
 -- The order's code; an error in every ring but polynomial rings over ZZ/p with one of the three orders.
@@ -123,3 +125,22 @@ problem = arguments -> (
         | (if #w != 0 then {line({"G"} | flatten w)} else {})
         | flatten apply(#elements, j -> apply(elements#j, t -> line({"T", j + 1} | t)))
         | {line {"E", count}}))
+
+-- A line for each term of a ring element, a vector or a matrix of one column, the greatest first.
+vectorLines = f -> (
+    if not (instance(f, RingElement) or instance(f, Vector) or instance(f, Matrix)) then
+        error("a ring element, a vector or a matrix of one column is wanted; this is of type " | toString class f);
+    v := if instance(f, Matrix) then f else if instance(f, Vector) then matrix f else matrix {{f}};
+    R := ring v;
+    problemCode R;
+    if numColumns v != 1 then error("the matrix has " | toString numColumns v | " columns; one is wanted");
+    if not isFreeModule target v then error "the vector lies in a module that is not free";
+    terms := while v != 0 list (
+        t := leadTerm v;
+        i := position(flatten entries t, c -> c != 0);
+        v = v - t;
+        {lift(leadCoefficient t_(i, 0), ZZ) % char R, i + 1} | first exponents t_(i, 0));
+    if #terms > 512 then error("there are " | toString (#terms) | " terms; 512 are the most");
+    highest := max ({0} | flatten apply(terms, t -> drop(t, 2)));
+    if highest > 255 then error("a term has exponent " | toString highest | "; 255 is the largest");
+    concatenate apply(terms, t -> concatenate(between(",", apply({"V"} | t, toString)), "\n")))

@@ -215,34 +215,6 @@ pub fn bidegrees_bytes(limits: &Limits) -> usize {
     23 * limits.elements.max(limits.vectors) as usize * columns
 }
 
-/// Prints the lines of bidegrees of a file; state and work "are lent for the work alone". Gives the
-/// number and "instead of a place the length of what is printed".
-pub fn bidegrees_call(
-    limits: &Limits,
-    file: &[u8],
-    state: &mut [u16],
-    work: &mut [u16],
-    out: &mut [u8],
-) -> (u64, u64) {
-    bidegrees_call_within(limits, file, state, work, out, None).expect("there is no budget")
-}
-
-/// As `bidegrees_call`, but gives up (`None`, no buffer changed) when the products are used up.
-pub fn bidegrees_call_within(
-    limits: &Limits,
-    file: &[u8],
-    state: &mut [u16],
-    work: &mut [u16],
-    out: &mut [u8],
-    budget: Option<u64>,
-) -> Option<(u64, u64)> {
-    let printing = Printing {
-        what: bidegrees,
-        bytes: bidegrees_bytes(limits),
-    };
-    printing.call(limits, file, state, work, out, budget)
-}
-
 /// The bytes that the lines of the Hilbert function need: "an X line and 512 W lines, which are
 /// longer than its own 33 lines".
 pub fn hilbert_bytes(limits: &Limits) -> usize {
@@ -256,33 +228,6 @@ fn refused_bytes(limits: &Limits) -> usize {
     29 + 62 * limits.working as usize
 }
 
-/// Prints the Hilbert function of a file, as `bidegrees_call` does the bidegrees.
-pub fn hilbert_call(
-    limits: &Limits,
-    file: &[u8],
-    state: &mut [u16],
-    work: &mut [u16],
-    out: &mut [u8],
-) -> (u64, u64) {
-    hilbert_call_within(limits, file, state, work, out, None).expect("there is no budget")
-}
-
-/// As `hilbert_call`, but gives up (`None`, no buffer changed) when the products are used up.
-pub fn hilbert_call_within(
-    limits: &Limits,
-    file: &[u8],
-    state: &mut [u16],
-    work: &mut [u16],
-    out: &mut [u8],
-    budget: Option<u64>,
-) -> Option<(u64, u64)> {
-    let printing = Printing {
-        what: hilbert,
-        bytes: hilbert_bytes(limits),
-    };
-    printing.call(limits, file, state, work, out, budget)
-}
-
 /// The bytes that the minimal numbers need, as many as the Betti page: "20,666 rows and the totals,
 /// 73 bytes each".
 pub fn minimal_bytes(limits: &Limits) -> usize {
@@ -294,42 +239,47 @@ pub fn minimal_bytes(limits: &Limits) -> usize {
     refused_bytes(limits).max(73 * (rows as usize + 1))
 }
 
-/// Prints the minimal numbers of a file, as `bidegrees_call` does the bidegrees.
-pub fn minimal_call(
-    limits: &Limits,
-    file: &[u8],
-    state: &mut [u16],
-    work: &mut [u16],
-    out: &mut [u8],
-) -> (u64, u64) {
-    minimal_call_within(limits, file, state, work, out, None).expect("there is no budget")
-}
-
-/// As `minimal_call`, but gives up (`None`, no buffer changed) when the products are used up.
-pub fn minimal_call_within(
-    limits: &Limits,
-    file: &[u8],
-    state: &mut [u16],
-    work: &mut [u16],
-    out: &mut [u8],
-    budget: Option<u64>,
-) -> Option<(u64, u64)> {
-    let printing = Printing {
-        what: minimal,
-        bytes: minimal_bytes(limits),
-    };
-    printing.call(limits, file, state, work, out, budget)
-}
-
-/// A call that prints.
-struct Printing {
-    what: Printed,
+/// A call that prints what a program makes of a file; state and work "are lent for the work alone".
+pub struct PrintingCall {
+    prints: Printed,
     /// the bytes that out needs
-    bytes: usize,
+    bytes: fn(&Limits) -> usize,
 }
 
-impl Printing {
-    fn call(
+/// Prints the lines of bidegrees.
+pub const BIDEGREES_CALL: PrintingCall = PrintingCall {
+    prints: bidegrees,
+    bytes: bidegrees_bytes,
+};
+
+/// Prints the Hilbert function.
+pub const HILBERT_CALL: PrintingCall = PrintingCall {
+    prints: hilbert,
+    bytes: hilbert_bytes,
+};
+
+/// Prints the minimal numbers.
+pub const MINIMAL_CALL: PrintingCall = PrintingCall {
+    prints: minimal,
+    bytes: minimal_bytes,
+};
+
+impl PrintingCall {
+    /// Gives the number and "instead of a place the length of what is printed".
+    pub fn make(
+        &self,
+        limits: &Limits,
+        file: &[u8],
+        state: &mut [u16],
+        work: &mut [u16],
+        out: &mut [u8],
+    ) -> (u64, u64) {
+        self.make_within(limits, file, state, work, out, None)
+            .expect("there is no budget")
+    }
+
+    /// As `make`, but gives up (`None`, no buffer changed) when the products are used up.
+    pub fn make_within(
         &self,
         limits: &Limits,
         file: &[u8],
@@ -341,11 +291,11 @@ impl Printing {
         // "After 16 .. no buffer is changed, and the length is 0."
         let short = state.len() < state_words(limits)
             || work.len() < work_words(limits, None)
-            || out.len() < self.bytes;
+            || out.len() < (self.bytes)(limits);
         if short {
             return Some((16, 0));
         }
-        let printed = (self.what)(limits, file, budget).0?;
+        let printed = (self.prints)(limits, file, budget).0?;
         // "out has the printed bytes, zeros after them to the end of the buffer, and state and work
         // are all zero"
         out.fill(0);

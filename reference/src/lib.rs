@@ -12,15 +12,21 @@
 //! - [`engine`]: the state and the three calls. [`buffers`]: the same on lent buffers.
 //! - [`sheet`], [`betti`], [`bidegrees`], [`hilbert`], [`minimal`], [`script`]: what the programs
 //!   print.
+//! - [`completing`]: a basis from generators.
+//! - [`membership`], [`replay`]: of a vector, of recorded picks behind the file. [`behind`]: input
+//!   with lines behind E.
+//! - [`steps`]: how many steps pick code 2 takes.
 //! - [`invariants`]: degrees of generators from the levels.
 //! - [`random`], [`completion`], [`generate`]: seeded problem files and lists of calls.
 
 #![forbid(unsafe_code)]
 #![warn(missing_docs)]
 
+pub mod behind;
 pub mod betti;
 pub mod bidegrees;
 pub mod buffers;
+pub mod completing;
 pub mod completion;
 pub mod engine;
 pub mod field;
@@ -30,6 +36,7 @@ pub mod hilbert;
 pub mod invariants;
 pub mod lifting;
 pub mod limits;
+pub mod membership;
 pub mod minimal;
 pub mod monomial;
 pub mod order;
@@ -37,8 +44,10 @@ mod program;
 pub mod random;
 pub mod reader;
 pub mod reckoning;
+pub mod replay;
 pub mod script;
 pub mod sheet;
+pub mod steps;
 
 pub use limits::Limits;
 pub use program::Printed;

@@ -239,6 +239,12 @@ impl WorkingValue {
         self.ages.values().nth(place).map(|key| self.terms[key].0)
     }
 
+    /// The term with this monomial.
+    pub fn find(&self, monomial: &Monomial) -> Option<Term> {
+        let mut terms = self.terms.values().map(|(term, _)| *term);
+        terms.find(|term| term.monomial == *monomial)
+    }
+
     /// The term that a pick code picks.
     pub fn pick(&self, pick: Pick) -> Option<Term> {
         match pick {
@@ -368,6 +374,42 @@ impl<'a> Lifter<'a> {
             }
         }
         Ok(descending(&vector.sum))
+    }
+
+    /// Division of any vector by the elements (request A12): "divides by the lowest-index rule, moving
+    /// a leading term that has no reducer to the remainder". The quotient terms and the remainder,
+    /// both descending. A step records before its products, as in all division.
+    pub fn divide_vector(&mut self, vector: &[Term]) -> Result<(Vector, Vector), Stop> {
+        let mut quotients = GrowingVector {
+            sum: Sum::new(),
+            room: Room::new(self.limits.vector),
+        };
+        let mut remainder = Vector::new();
+        let mut remainder_room = Room::new(self.limits.working);
+        let mut working = WorkingValue::new(self.limits.working);
+        for term in vector {
+            let key = self.modules.key(self.k - 1, &term.monomial);
+            working.add(&self.field, key, *term)?;
+        }
+        self.usage.working = self.usage.working.max(working.room.most);
+        while let Some(leading) = working.greatest() {
+            let Some(reducer) = self.reducers.reducer(&leading.monomial) else {
+                remainder_room.store()?;
+                remainder.push(leading);
+                working.drop_greatest();
+                continue;
+            };
+            let turned = self.turned_multiple(leading.coefficient, &reducer);
+            let recorded = Monomial {
+                component: reducer.number,
+                exponents: reducer.quotient,
+            };
+            // the multiple itself: what is subtracted adds up to the vector
+            self.record(&mut quotients, self.field.negate(turned), recorded)?;
+            let (factor, number) = (&reducer.quotient, reducer.number);
+            self.add_products(&mut working, turned, factor, number, Keep::All)?;
+        }
+        Ok((descending(&quotients.sum), remainder))
     }
 
     /// Hybrid: "lower order terms are dropped as they arise"; `pick` picks the term of each step.

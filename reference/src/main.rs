@@ -4,15 +4,21 @@
 
 use reference::betti::page;
 use reference::bidegrees::bidegrees;
+use reference::completing::complete;
 use reference::generate::cases::{
-    bidegree_case, calls_case, file_case, hilbert_case, minimal_case, page_case, BIDEGREE_KINDS,
-    FILE_KINDS, HILBERT_KINDS, MINIMAL_KINDS, PAGE_KINDS,
+    bidegree_case, calls_case, file_case, generator_case, hilbert_case, log_case, minimal_case,
+    page_case, slow_case, vector_case, BIDEGREE_KINDS, FILE_KINDS, GENERATOR_KINDS, HILBERT_KINDS,
+    LOG_KINDS, MINIMAL_KINDS, PAGE_KINDS, SLOW_KIND, VECTOR_KINDS,
 };
 use reference::generate::scripts::Reach;
 use reference::hilbert::hilbert;
+use reference::lifting::Usage;
+use reference::membership::{self, membership};
 use reference::minimal::minimal;
+use reference::replay::{self, replay};
 use reference::script::Script;
-use reference::sheet::sheet;
+use reference::sheet::{sheet, tree_sheet};
+use reference::steps::{count_steps, lifted_by_tree, no_pick_is_refused, Steps};
 use reference::{Limits, Printed};
 use std::io::{Read, Write};
 use std::path::Path;
@@ -38,6 +44,27 @@ reference hilbert [FILE] [--budget N]
 reference minimal [FILE] [--budget N]
     Prints the minimal Betti numbers as a page in the layout and the rows of the Betti page,
     likewise.
+
+reference complete [FILE] [--budget N]
+    Prints the problem file FILE (or standard input) with elements added, each the value that
+    refusal 9 shows, made monic, until it is accepted; likewise.
+
+reference membership [FILE] [--budget N]
+    Reads a problem file with lines V,coefficient,component,e1,..,en behind its E, a term of a
+    vector each, and prints the quotient terms (C), the remainder (W) and whether the vector is
+    in the module (M,1 or M,0), likewise.
+
+reference replay [FILE] [--budget N]
+    Reads a problem file with a line L,level,vector and lines P,e1,..,en,component behind its E,
+    the term picked at each step, and prints the vector in S lines, likewise.
+
+reference tree-sheet [FILE] [--budget N]
+    Prints the sheet as the tree with a large cache makes it, likewise: the same wherever neither
+    13 nor 14 comes while lifting, and quick where pick code 2 takes very many steps.
+
+reference steps [FILE] [--budget N]
+    Prints how many steps (picks) the sheet takes, all levels together, counted up to N; and
+    whether so few monomials are in reach that 13 and 14 cannot come, whatever is picked.
 
 reference calls [--budget N]
     Reads a list of calls from standard input, one in a line:
@@ -76,6 +103,14 @@ reference generate KIND SEED COUNT DIR
         files above
     redundant, minimal: problem files KIND-SEED-NUMBER.in with their minimal Betti numbers .page:
         homogeneous ones from whose resolutions much can be left out; these and all files above
+    incomplete, generators: problem files KIND-SEED-NUMBER.in and the completed ones .completed:
+        those to which something is added; these and all that can be wrong
+    divided, vectors: problem files with V lines behind them KIND-SEED-NUMBER.in and what is
+        printed of them .lines: those that are divided; these and all that can be wrong
+    recorded, logs: problem files with L and P lines behind them KIND-SEED-NUMBER.in and what is
+        printed of them .lines: logs that are taken; these and all that can be wrong
+    slow: problem files slow-SEED-NUMBER.in that are accepted and take at least 100,000 steps by
+        pick code 2, with the sheets .out as the tree makes them
     calls, weighted-calls: lists of calls KIND-SEED-NUMBER.calls with what they print, .answers;
         in those of weighted-calls half of the files have G lines
 
@@ -109,6 +144,11 @@ fn run(words: &[&str]) -> Result<ExitCode, String> {
         ["bidegrees", file @ ..] if file.len() < 2 => print_of(bidegrees, file, budget),
         ["hilbert", file @ ..] if file.len() < 2 => print_of(hilbert, file, budget),
         ["minimal", file @ ..] if file.len() < 2 => print_of(minimal, file, budget),
+        ["complete", file @ ..] if file.len() < 2 => print_of(complete, file, budget),
+        ["membership", file @ ..] if file.len() < 2 => print_of(cut_membership, file, budget),
+        ["replay", file @ ..] if file.len() < 2 => print_of(cut_replay, file, budget),
+        ["tree-sheet", file @ ..] if file.len() < 2 => print_of(tree_sheet, file, budget),
+        ["steps", file @ ..] if file.len() < 2 => print_steps(file, budget),
         ["calls"] => print_calls(&read_input()?, budget),
         ["generate", kind, seed, count, directory] => {
             let number = |word: &str| {
@@ -159,12 +199,44 @@ fn gave_up() -> Result<ExitCode, String> {
     Ok(ExitCode::from(GAVE_UP))
 }
 
+/// What is printed of the part of an input that can matter.
+fn cut_membership(limits: &Limits, input: &[u8], budget: Option<u64>) -> (Option<Vec<u8>>, Usage) {
+    membership(limits, membership::cut(limits, input), budget)
+}
+
+/// Likewise.
+fn cut_replay(limits: &Limits, input: &[u8], budget: Option<u64>) -> (Option<Vec<u8>>, Usage) {
+    replay(limits, replay::cut(limits, input), budget)
+}
+
+/// The bytes of the file named, or of standard input.
+fn file_or_input(file: &[&str]) -> Result<Vec<u8>, String> {
+    match file {
+        [name, ..] => std::fs::read(name).map_err(|error| format!("{name}: {error}")),
+        [] => read_input(),
+    }
+}
+
+/// How many steps the sheet takes, counted up to the budget.
+fn print_steps(file: &[&str], budget: Option<u64>) -> Result<ExitCode, String> {
+    let limits = Limits::document_01();
+    let file = file_or_input(file)?;
+    let basis = lifted_by_tree(&limits, &file, u64::MAX).ok_or("the file is refused")?;
+    let steps = match count_steps(&limits, &basis, budget.unwrap_or(u64::MAX)) {
+        Ok(Steps::Exactly(steps)) => format!("{steps} steps"),
+        Ok(Steps::MoreThan(cap)) => format!("more than {cap} steps, counting stopped"),
+        Err(number) => format!("refused with {number}"),
+    };
+    let refused = match no_pick_is_refused(&limits, &basis) {
+        true => "no pick can be refused",
+        false => "some picks might be refused",
+    };
+    print(format!("{steps}; {refused}\n").as_bytes())
+}
+
 /// Prints that of the file named, or of standard input.
 fn print_of(what: Printed, file: &[&str], budget: Option<u64>) -> Result<ExitCode, String> {
-    let file = match file {
-        [name, ..] => std::fs::read(name).map_err(|error| format!("{name}: {error}"))?,
-        [] => read_input()?,
-    };
+    let file = file_or_input(file)?;
     match what(&Limits::document_01(), &file, budget) {
         (Some(printed), _) => print(&printed),
         (None, _) => gave_up(),
@@ -187,6 +259,10 @@ fn generate(kind: &str, seed: u64, count: u64, directory: &Path) -> Result<ExitC
         &BIDEGREE_KINDS,
         &HILBERT_KINDS,
         &MINIMAL_KINDS,
+        &GENERATOR_KINDS,
+        &VECTOR_KINDS,
+        &LOG_KINDS,
+        &[SLOW_KIND],
     ];
     if !kinds.concat().contains(&kind) {
         return Err(format!(
@@ -221,14 +297,24 @@ fn case_parts(kind: &str, seed: u64, case: u64) -> Vec<(&'static str, Vec<u8>)> 
             ("answers", run.text().into_bytes()),
         ];
     }
+    if kind == SLOW_KIND {
+        let (file, sheet) = slow_case(seed, case);
+        return vec![("in", file), ("out", sheet)];
+    }
     let page = page_case(kind, seed, case).or_else(|| minimal_case(kind, seed, case));
     if let Some((file, page)) = page {
         return vec![("in", file), ("page", page)];
     }
+    if let Some((file, completed)) = generator_case(kind, seed, case) {
+        return vec![("in", file), ("completed", completed)];
+    }
     if let Some((file, lines)) = bidegree_case(kind, seed, case) {
         return vec![("in", file), ("lines", lines)];
     }
-    if let Some((file, lines)) = hilbert_case(kind, seed, case) {
+    let lines = hilbert_case(kind, seed, case)
+        .or_else(|| vector_case(kind, seed, case))
+        .or_else(|| log_case(kind, seed, case));
+    if let Some((file, lines)) = lines {
         return vec![("in", file), ("lines", lines)];
     }
     file_case(kind, seed, case)

@@ -203,7 +203,7 @@ fn read_end(t_lines: u64, line: &Line) -> Result<(), Refusal> {
     Ok(())
 }
 
-fn padded(numbers: &[u64]) -> [u64; 8] {
+pub(crate) fn padded(numbers: &[u64]) -> [u64; 8] {
     let mut exponents = UNIT;
     exponents[..numbers.len()].copy_from_slice(numbers);
     exponents
@@ -262,7 +262,7 @@ impl Lines<'_> {
 }
 
 /// "Fields are parted by commas, without quoting or blanks." The first is a letter.
-fn fields(limits: &Limits, line: &[u8]) -> Option<(u8, Vec<u64>)> {
+pub(crate) fn fields(limits: &Limits, line: &[u8]) -> Option<(u8, Vec<u64>)> {
     let mut fields = line.split(|byte| *byte == b',');
     let &[letter] = fields.next()? else {
         return None;

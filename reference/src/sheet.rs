@@ -5,19 +5,37 @@ use crate::lifting::{Usage, Way};
 use crate::limits::Limits;
 use crate::monomial::Term;
 use crate::reader::read_problem;
+use crate::steps::WHOLE_CACHE;
 
 /// The bytes of the sheet for a file, or `None` when the budget of products (for the file
 /// together) is used up; and what the runs took.
 pub fn sheet(limits: &Limits, file: &[u8], budget: Option<u64>) -> (Option<Vec<u8>>, Usage) {
+    // "Levels 1 on, hybrid, pick code 2"
+    sheet_by(limits, file, (Way::Hybrid(2), 0), budget)
+}
+
+/// The sheet with all levels lifted by the tree with a cache that holds every subtree. It is the
+/// sheet wherever neither has 13 or 14 while lifting, and quick where pick code 2 takes many steps.
+pub fn tree_sheet(limits: &Limits, file: &[u8], budget: Option<u64>) -> (Option<Vec<u8>>, Usage) {
+    sheet_by(limits, file, (Way::Tree, WHOLE_CACHE), budget)
+}
+
+fn sheet_by(
+    limits: &Limits,
+    file: &[u8],
+    way: (Way, u64),
+    budget: Option<u64>,
+) -> (Option<Vec<u8>>, Usage) {
     let mut printed = String::new();
     let mut usage = Usage::default();
-    let whole = print(limits, file, budget, &mut printed, &mut usage);
+    let whole = print(limits, file, way, budget, &mut printed, &mut usage);
     (whole.map(|()| printed.into_bytes()), usage)
 }
 
 fn print(
     limits: &Limits,
     file: &[u8],
+    (way, cache_terms): (Way, u64),
     budget: Option<u64>,
     printed: &mut String,
     usage: &mut Usage,
@@ -30,10 +48,10 @@ fn print(
         refused(&answer, n, printed);
         return Some(());
     }
-    // "Levels 1 on, hybrid, pick code 2, until a count is 0 or level 9 is printed."
+    // "Levels 1 on .. until a count is 0 or level 9 is printed."
     for k in 1..=limits.levels {
         let left = budget.map(|budget| budget - usage.products);
-        let outcome = state.lift(limits, k, Way::Hybrid(2), 0, left);
+        let outcome = state.lift(limits, k, way, cache_terms, left);
         let answer = answered(outcome, usage)?;
         if answer.number != 0 {
             refused(&answer, n, printed);
@@ -77,7 +95,7 @@ pub(crate) fn refused(answer: &Answer, n: usize, printed: &mut String) {
     }
 }
 
-fn line(start: &str, term: &Term, n: usize, printed: &mut String) {
+pub(crate) fn line(start: &str, term: &Term, n: usize, printed: &mut String) {
     printed.push_str(&format!(
         "{start},{},{}",
         term.coefficient, term.monomial.component

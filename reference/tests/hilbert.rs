@@ -631,7 +631,7 @@ fn the_call() {
             let mut state = vec![random.bits() as u16; state];
             let mut work = vec![random.bits() as u16; work];
             let mut out = vec![random.bits() as u8; out];
-            let found = hilbert_call(&limits, &file, &mut state, &mut work, &mut out);
+            let found = HILBERT_CALL.make(&limits, &file, &mut state, &mut work, &mut out);
             assert_eq!(found, (0, expected.len() as u64));
             assert!(out.starts_with(&expected));
             assert!(out[expected.len()..].iter().all(|byte| *byte == 0));
@@ -646,7 +646,7 @@ fn the_call() {
             least[short] -= 1;
             let [state, work, out] = least;
             let (mut state, mut work, mut out) = (vec![5; state], vec![5; work], vec![5; out]);
-            let found = hilbert_call(&limits, file, &mut state, &mut work, &mut out);
+            let found = HILBERT_CALL.make(&limits, file, &mut state, &mut work, &mut out);
             assert_eq!(found, (16, 0));
             assert!(state.iter().chain(&work).all(|word| *word == 5));
             assert!(out.iter().all(|byte| *byte == 5));
@@ -654,7 +654,7 @@ fn the_call() {
     }
     // giving up changes nothing either
     let (mut state, mut work, mut out) = (vec![5; 125_471], vec![5; 3_072], vec![5; 31_773]);
-    let found = hilbert_call_within(&limits, small, &mut state, &mut work, &mut out, Some(0));
+    let found = HILBERT_CALL.make_within(&limits, small, &mut state, &mut work, &mut out, Some(0));
     assert_eq!(found, None);
     assert!(state.iter().chain(&work).all(|word| *word == 5));
     assert!(out.iter().all(|byte| *byte == 5));

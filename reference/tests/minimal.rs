@@ -1102,7 +1102,7 @@ fn the_call() {
             let mut state = vec![random.bits() as u16; state];
             let mut work = vec![random.bits() as u16; work];
             let mut out = vec![random.bits() as u8; out];
-            let found = minimal_call(&limits, &file, &mut state, &mut work, &mut out);
+            let found = MINIMAL_CALL.make(&limits, &file, &mut state, &mut work, &mut out);
             assert_eq!(found, (0, expected.len() as u64));
             assert!(out.starts_with(&expected));
             assert!(out[expected.len()..].iter().all(|byte| *byte == 0));
@@ -1117,7 +1117,7 @@ fn the_call() {
             least[short] -= 1;
             let [state, work, out] = least;
             let (mut state, mut work, mut out) = (vec![5; state], vec![5; work], vec![5; out]);
-            let found = minimal_call(&limits, file, &mut state, &mut work, &mut out);
+            let found = MINIMAL_CALL.make(&limits, file, &mut state, &mut work, &mut out);
             assert_eq!(found, (16, 0));
             assert!(state.iter().chain(&work).all(|word| *word == 5));
             assert!(out.iter().all(|byte| *byte == 5));
@@ -1126,7 +1126,7 @@ fn the_call() {
     // giving up changes nothing either
     let [state, work, out] = lengths;
     let (mut state, mut work, mut out) = (vec![5; state], vec![5; work], vec![5; out]);
-    let found = minimal_call_within(&limits, small, &mut state, &mut work, &mut out, Some(0));
+    let found = MINIMAL_CALL.make_within(&limits, small, &mut state, &mut work, &mut out, Some(0));
     assert_eq!(found, None);
     assert!(state.iter().chain(&work).all(|word| *word == 5));
     assert!(out.iter().all(|byte| *byte == 5));

@@ -145,6 +145,76 @@ fn minimal_page() {
 }
 
 #[test]
+fn completed_files() {
+    let given = "R,7,2,1,1\nT,1,1,1,2,0\nT,2,1,1,1,1\nT,2,1,1,0,2\n";
+    let problem = format!("{given}E,3\n");
+    let completed = format!("{given}T,3,1,1,0,3\nE,4\n");
+    assert_eq!(printed(&["complete"], problem.as_bytes()), completed);
+    assert_eq!(printed(&["complete"], completed.as_bytes()), completed);
+    assert_eq!(printed(&["complete"], b""), "X,1,1\n");
+    let output = run(&["complete", "--budget", "3"], problem.as_bytes());
+    assert_eq!(output.status.code(), Some(3));
+    assert!(output.stdout.is_empty());
+    assert_eq!(run(&["complete", "a", "b"], b"").status.code(), Some(2));
+}
+
+#[test]
+fn membership() {
+    let input = [PROBLEM, b"V,1,1,1,0\nV,2,1,0,1\n"].concat();
+    let lines = "C,1,1,0,0\nW,1,1,0,1\nM,0\n";
+    assert_eq!(printed(&["membership"], &input), lines);
+    assert_eq!(printed(&["membership"], PROBLEM), "M,1\n");
+    let directory = directory("membership");
+    std::fs::create_dir_all(&directory).expect("a directory");
+    let file = directory.join("input");
+    std::fs::write(&file, &input).expect("a file");
+    let name = file.to_str().expect("a name");
+    assert_eq!(printed(&["membership", name], b""), lines);
+    assert_eq!(printed(&["membership"], b""), "X,1,1\n");
+    assert_eq!(
+        printed(&["membership"], &[PROBLEM, b"\n"].concat()),
+        "X,23,7\n"
+    );
+    let output = run(&["membership", "--budget", "0"], &input);
+    assert_eq!(output.status.code(), Some(3));
+    assert!(output.stdout.is_empty());
+    assert_eq!(run(&["membership", name, name], b"").status.code(), Some(2));
+}
+
+#[test]
+fn replayed_logs() {
+    let log = b"L,1,1\nP,1,0,1\nP,1,2,1\nP,0,3,1\n";
+    let input = [PROBLEM, log].concat();
+    let vector = SHEET.split_once("Z").map_or("", |(vector, _)| vector);
+    assert_eq!(printed(&["replay"], &input), vector);
+    let directory = directory("replay");
+    std::fs::create_dir_all(&directory).expect("a directory");
+    let file = directory.join("input");
+    std::fs::write(&file, &input).expect("a file");
+    let name = file.to_str().expect("a name");
+    assert_eq!(printed(&["replay", name], b""), vector);
+    assert_eq!(printed(&["replay"], b""), "X,1,1\n");
+    assert_eq!(printed(&["replay"], PROBLEM), "X,21,7\n");
+    assert_eq!(printed(&["replay"], &input[..input.len() - 8]), "X,22,10\n");
+    let output = run(&["replay", "--budget", "0"], &input);
+    assert_eq!(output.status.code(), Some(3));
+    assert!(output.stdout.is_empty());
+    assert_eq!(run(&["replay", name, name], b"").status.code(), Some(2));
+}
+
+#[test]
+fn steps() {
+    let counted = "3 steps; no pick can be refused\n";
+    assert_eq!(printed(&["steps"], PROBLEM), counted);
+    assert_eq!(printed(&["steps", "--budget", "3"], PROBLEM), counted);
+    let stopped = "more than 2 steps, counting stopped; no pick can be refused\n";
+    assert_eq!(printed(&["steps", "--budget", "2"], PROBLEM), stopped);
+    assert_eq!(printed(&["tree-sheet"], PROBLEM), SHEET);
+    assert_eq!(printed(&["tree-sheet"], b""), "X,1,1\n");
+    assert_eq!(run(&["steps"], b"").status.code(), Some(2));
+}
+
+#[test]
 fn calls() {
     let text = "limits levels=1\nread -\nlift 1 division\nfetch 10 1\n";
     let expected = "1 1 -\n11 0 -\n11 0 -\nlevels 0\nreckoned 0\ndegrees 0\n";
@@ -176,6 +246,13 @@ fn generated_cases_agree_with_the_program() {
         "hilbert",
         "redundant",
         "minimal",
+        "slow",
+        "divided",
+        "vectors",
+        "incomplete",
+        "generators",
+        "recorded",
+        "logs",
     ] {
         assert_eq!(printed(&["generate", kind, "5", "8", name], b""), "");
         let (command, input, output) = match kind {
@@ -184,6 +261,10 @@ fn generated_cases_agree_with_the_program() {
             "bigraded" | "bimixed" | "bistopped" | "bidegrees" => ("bidegrees", "in", "lines"),
             "low" | "hilbert" => ("hilbert", "in", "lines"),
             "redundant" | "minimal" => ("minimal", "in", "page"),
+            "incomplete" | "generators" => ("complete", "in", "completed"),
+            "recorded" | "logs" => ("replay", "in", "lines"),
+            "divided" | "vectors" => ("membership", "in", "lines"),
+            "slow" => ("tree-sheet", "in", "out"),
             _ => ("sheet", "in", "out"),
         };
         for case in 1..=8 {
@@ -211,6 +292,15 @@ fn help() {
         "hilbert",
         "minimal",
         "redundant",
+        "complete",
+        "generators",
+        "membership",
+        "vectors",
+        "replay",
+        "logs",
+        "tree-sheet",
+        "steps",
+        "slow",
         "calls",
         "generate",
         "pages",

@@ -286,6 +286,7 @@ static void null_with_length_0(void)
     CHECK(tagetessash_read(NULL, 0, NULL, 0, NULL, 0, &place) == TAGETESSASH_SHORT_BUFFER && place == 0);
     CHECK(tagetessash_lift(NULL, 0, NULL, 0, NULL, 0, 1, TAGETESSASH_TREE, 0, &place) == TAGETESSASH_SHORT_BUFFER && place == 0);
     CHECK(tagetessash_fetch(NULL, 0, NULL, 0, 1, 1, &place) == TAGETESSASH_SHORT_BUFFER && place == 0);
+    CHECK(tagetessash_divide(NULL, 0, NULL, 0, NULL, 0, NULL, 0, &place) == TAGETESSASH_SHORT_BUFFER && place == 0);
 }
 
 static void without_a_basis(void)
@@ -486,6 +487,63 @@ static void the_numbers_of(const char *text, const char *expected) { prints(tage
 static void the_bidegrees_of(const char *text, const char *expected) { prints(tagetessash_bidegrees, TAGETESSASH_BIDEGREES_BYTES, text, expected); }
 
 static void the_function_of(const char *text, const char *expected) { prints(tagetessash_hilbert, TAGETESSASH_HILBERT_BYTES, text, expected); }
+static void the_division_of(const char *text, const char *expected) { prints(tagetessash_member, TAGETESSASH_MEMBER_BYTES, text, expected); }
+
+/* x^2 + 1 over x + y, y^2 + 1, as lines and as rows that are lent; the zero vector, whose pointer may be null; 23 with the line and with the row; a word too
+ * short; a state that holds nothing; the state as it was each time; a row written and read */
+static void divisions(void)
+{
+    static const char file[] = "R,7,2,1,1\nT,1,1,1,1,0\nT,1,1,1,0,1\nT,2,1,1,0,2\nT,2,1,1,0,0\nE,4\n";
+    static const tagetessash_term terms[] = { { 1, 1, { 2, 0, 0, 0, 0, 0, 0, 0 } }, { 1, 1, { 0, 0, 0, 0, 0, 0, 0, 0 } } };
+    static const uint16_t quotients_of[][4] = { { 1, 1, 1, 0 }, { 6, 1, 0, 1 }, { 1, 2, 0, 0 } };
+    enum { WORDS = 2 * TAGETESSASH_ROW_WORDS, OUT = TAGETESSASH_OUT_WORDS, STATE = TAGETESSASH_STATE_WORDS };
+    uint16_t vector[WORDS], *remainder = malloc(OUT * sizeof *remainder);
+    char text[200];
+    size_t i, shorter;
+    if (remainder == NULL)
+        exit(2);
+    sprintf(text, "%sV,1,1,2,0\nV,1,1,0,0\n", file);
+    the_division_of(text, "C,1,1,1,0\nC,6,1,0,1\nC,1,2,0,0\nM,1\n");
+    sprintf(text, "%sV,2,1,0,1\n", file);
+    the_division_of(text, "W,2,1,0,1\nM,0\n");
+    the_division_of(file, "M,1\n");
+    sprintf(text, "%sV,1,1,0,1\nV,1,1,1,0\n", file);
+    the_division_of(text, "X,23,8\n");
+
+    for (i = 0; i < 2; i++) {
+        tagetessash_put_row(vector, i, terms[i]);
+        CHECK(tagetessash_row(vector, i).coefficient == 1 && tagetessash_row(vector, i).component == 1);
+        CHECK(tagetessash_row(vector, i).exponents[0] == terms[i].exponents[0]);
+    }
+    CHECK(read_text(file) == TAGETESSASH_DONE);
+    for (shorter = 0; shorter < 3; shorter++) {
+        fill(out, OUT, 5);
+        fill(remainder, OUT, 5);
+        REFUSED(tagetessash_divide(state, STATE - (shorter == 0), vector, WORDS, out, OUT - (shorter == 1), remainder, OUT - (shorter == 2), &place),
+            TAGETESSASH_SHORT_BUFFER);
+        CHECK(all(out, OUT, 5) && all(remainder, OUT, 5));
+    }
+    REFUSED(tagetessash_divide(state, STATE, vector, WORDS, out, OUT, remainder, OUT, &place), TAGETESSASH_DONE);
+    CHECK(tagetessash_row_count(out, OUT) == 3 && all(out + 3 * TAGETESSASH_ROW_WORDS, OUT - 3 * TAGETESSASH_ROW_WORDS, 0) && all(remainder, OUT, 0));
+    for (i = 0; i < 3; i++) {
+        tagetessash_term term = tagetessash_row(out, i);
+        CHECK(term.coefficient == quotients_of[i][0] && term.component == quotients_of[i][1]);
+        CHECK(term.exponents[0] == quotients_of[i][2] && term.exponents[1] == quotients_of[i][3]);
+    }
+    REFUSED(tagetessash_divide(state, STATE, NULL, 0, out, OUT, remainder, OUT, &place), TAGETESSASH_DONE);
+    CHECK(all(out, OUT, 0) && all(remainder, OUT, 0));
+    vector[TAGETESSASH_ROW_WORDS] = 7;
+    fill(out, OUT, 5);
+    fill(remainder, OUT, 5);
+    CHECK(tagetessash_divide(state, STATE, vector, WORDS, out, OUT, remainder, OUT, &place) == TAGETESSASH_BAD_VECTOR && place == 2);
+    CHECK(all(out, OUT, 0) && all(remainder, OUT, 0) && tagetessash_complete(state) == 1);
+    state[TAGETESSASH_PRIME_AT] = 6;
+    fill(out, OUT, 5);
+    REFUSED(tagetessash_divide(state, STATE, vector, WORDS, out, OUT, remainder, OUT, &place), TAGETESSASH_NO_LEVEL);
+    CHECK(all(out, OUT, 5));
+    CHECK(strcmp(tagetessash_place_name(TAGETESSASH_BAD_VECTOR), "term") == 0);
+    free(remainder);
+}
 
 /* request A1's example; a module whose page has rows by the D line; without it 17; 9 before 17; a file that is not read; 17 in words */
 static void the_pages(void)
@@ -645,6 +703,7 @@ int main(void)
     the_minimal_numbers();
     the_bidegrees();
     the_hilbert_functions();
+    divisions();
     free(state);
     free(before);
     free(work);

@@ -18,29 +18,32 @@
 static const char deep[] = "R,7,5,1,2\nT,1,1,2,1,0,0,0,0\nT,1,1,1,0,8,11,244,1\nT,2,1,2,1,0,0,0,0\nT,2,1,1,0,8,11,244,1\nT,3,1,1,0,0,0,0,1\n"
                            "T,3,6,1,0,0,0,0,0\nT,4,1,1,0,0,1,0,0\nT,4,6,1,0,0,0,1,1\nT,4,1,1,0,0,0,1,0\nT,5,1,1,0,1,0,254,0\nT,5,6,1,0,0,254,0,0\nE,11\n";
 
-enum { READ, DIVISION, HYBRID, NARROW, TREE, FETCH, SHEET, BETTI, MINIMAL, BIDEGREES, HILBERT, CALLS };
+enum { READ, DIVISION, HYBRID, NARROW, TREE, FETCH, DIVIDE, SHEET, BETTI, MINIMAL, BIDEGREES, HILBERT, MEMBER, CALLS };
 /* what is enough, and the KiB that the header says were measured */
 static const struct {
     const char *name;
     size_t enough, kib;
 } calls[CALLS] = {
-    { "read", TAGETESSASH_LIFT_STACK_BYTES, 23 },
-    { "lift by division", TAGETESSASH_LIFT_STACK_BYTES, 64 },
-    { "lift by hybrid", TAGETESSASH_LIFT_STACK_BYTES, 64 },
-    { "lift by hybrid in the least work area", TAGETESSASH_LIFT_STACK_BYTES, 64 },
+    { "read", TAGETESSASH_LIFT_STACK_BYTES, 127 },
+    { "lift by division", TAGETESSASH_LIFT_STACK_BYTES, 171 },
+    { "lift by hybrid", TAGETESSASH_LIFT_STACK_BYTES, 171 },
+    { "lift by hybrid in the least work area", TAGETESSASH_NARROW_STACK_BYTES, 92 },
     { "lift by the tree", TAGETESSASH_TREE_STACK_BYTES, 3050 },
-    { "fetch", TAGETESSASH_LIFT_STACK_BYTES, 6 },
-    { "sheet", TAGETESSASH_STACK_BYTES, 48 },
-    { "Betti page", TAGETESSASH_STACK_BYTES, 48 },
-    { "minimal numbers", TAGETESSASH_STACK_BYTES, 83 },
-    { "bidegrees", TAGETESSASH_STACK_BYTES, 50 },
-    { "Hilbert function", TAGETESSASH_STACK_BYTES, 55 },
+    { "fetch", TAGETESSASH_NARROW_STACK_BYTES, 6 },
+    { "divide", TAGETESSASH_NARROW_STACK_BYTES, 21 },
+    { "sheet", TAGETESSASH_STACK_BYTES, 155 },
+    { "Betti page", TAGETESSASH_STACK_BYTES, 152 },
+    { "minimal numbers", TAGETESSASH_STACK_BYTES, 186 },
+    { "bidegrees", TAGETESSASH_STACK_BYTES, 154 },
+    { "Hilbert function", TAGETESSASH_STACK_BYTES, 161 },
+    { "membership", TAGETESSASH_STACK_BYTES, 91 },
 };
 
 static uint8_t file[TAGETESSASH_FILE_BYTES], sheet[TAGETESSASH_SHEET_BYTES], page[TAGETESSASH_PAGE_BYTES], lines[TAGETESSASH_BIDEGREES_BYTES],
-    values[TAGETESSASH_HILBERT_BYTES];
-static size_t file_bytes, level, place;
+    values[TAGETESSASH_HILBERT_BYTES], input[TAGETESSASH_FILE_BYTES + 200], division[TAGETESSASH_MEMBER_BYTES];
+static size_t file_bytes, input_bytes, vector_words, level, place;
 static uint16_t state[TAGETESSASH_STATE_WORDS], work[TAGETESSASH_TREE_WORK_WORDS], cache[CACHE_WORDS], out[TAGETESSASH_OUT_WORDS];
+static uint16_t vector[TAGETESSASH_OUT_WORDS], remainder[TAGETESSASH_OUT_WORDS];
 static uint16_t number;
 static int call;
 static const uint8_t *frame;
@@ -48,6 +51,27 @@ static const uint8_t *frame;
 static uint16_t lift(size_t work_words, uint16_t way)
 {
     return tagetessash_lift(state, TAGETESSASH_STATE_WORDS, work, work_words, cache, CACHE_WORDS, level, way, TAGETESSASH_GREATEST, &place);
+}
+
+/* The first element as a vector to be divided: rows of the state, as far as there is room, and its first T line as a V line behind the file. */
+static void take_vector(void)
+{
+    const char *line = memchr(file, '\n', file_bytes);
+    while (line != NULL && line[1] != 'T')
+        line = memchr(line + 1, '\n', file_bytes - (size_t)(line + 1 - (const char *)file));
+    memcpy(input, file, file_bytes);
+    input_bytes = file_bytes;
+    if (line != NULL) {
+        const char *fields = strchr(line + 3, ','), *end = strchr(fields, '\n');
+        input[input_bytes++] = 'V';
+        memcpy(input + input_bytes, fields, (size_t)(end + 1 - fields));
+        input_bytes += (size_t)(end + 1 - fields);
+    }
+    vector_words = tagetessash_terms(state, 0, 1) * TAGETESSASH_ROW_WORDS;
+    if (vector_words > TAGETESSASH_OUT_WORDS)
+        vector_words = TAGETESSASH_OUT_WORDS;
+    if (vector_words != 0)
+        memcpy(vector, tagetessash_rows(state, 0, 1), vector_words * sizeof *vector);
 }
 
 static void *run(void *nothing)
@@ -60,6 +84,10 @@ static void *run(void *nothing)
     case NARROW: number = lift(TAGETESSASH_LEAST_WORK_WORDS, TAGETESSASH_HYBRID); break;
     case TREE: number = lift(TAGETESSASH_TREE_WORK_WORDS, TAGETESSASH_TREE); break;
     case FETCH: number = tagetessash_fetch(state, TAGETESSASH_STATE_WORDS, out, TAGETESSASH_OUT_WORDS, level, 1, &place); break;
+    case DIVIDE:
+        number = tagetessash_divide(
+            state, TAGETESSASH_STATE_WORDS, vector, vector_words, out, TAGETESSASH_OUT_WORDS, remainder, TAGETESSASH_OUT_WORDS, &place);
+        break;
     case SHEET:
         number = tagetessash_sheet(
             file, file_bytes, state, TAGETESSASH_STATE_WORDS, work, TAGETESSASH_WORK_WORDS, sheet, TAGETESSASH_SHEET_BYTES, &place);
@@ -79,6 +107,10 @@ static void *run(void *nothing)
     case HILBERT:
         number = tagetessash_hilbert(
             file, file_bytes, state, TAGETESSASH_STATE_WORDS, work, TAGETESSASH_WORK_WORDS, values, TAGETESSASH_HILBERT_BYTES, &place);
+        break;
+    case MEMBER:
+        number = tagetessash_member(
+            input, input_bytes, state, TAGETESSASH_STATE_WORDS, work, TAGETESSASH_WORK_WORDS, division, TAGETESSASH_MEMBER_BYTES, &place);
         break;
     }
     return nothing;
@@ -139,6 +171,8 @@ int main(int arguments, char **argument)
             enough = given != 0 ? given : calls[which].enough;
             level = 1;
             number = 0;
+            if (which == DIVIDE)
+                take_vector();
             do {
                 here = taken(which, enough);
                 if (here.call > most[which].call)
@@ -153,7 +187,7 @@ int main(int arguments, char **argument)
             } while (number == 0 && which >= DIVISION && which <= FETCH && level <= TAGETESSASH_HIGHEST_LEVEL);
             /* a limit empties the state */
             if (which < FETCH)
-                taken(READ, enough);
+                taken(READ, given != 0 ? given : calls[READ].enough);
             if (which == TREE)
                 for (level = 1; level < 3; level++)
                     taken(DIVISION, enough);

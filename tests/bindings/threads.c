@@ -1,4 +1,4 @@
-/* Many lifts side by side: each in a thread of its own, with a state, a work area for few terms and a stack of TAGETESSASH_LIFT_STACK_BYTES of its own.
+/* Many lifts side by side: each in a thread of its own, with a state, a work area for few terms and a stack of TAGETESSASH_NARROW_STACK_BYTES of its own.
  *
  *     threads [-t THREADS] [-r TERMS] [-s] FILE..
  *
@@ -166,10 +166,10 @@ static uint16_t *read_file(const char *name)
 /* A thread whose stack ends at a page that may not be touched. */
 static void begin(worker *own)
 {
-    uint8_t *whole = mmap(NULL, GUARD + TAGETESSASH_LIFT_STACK_BYTES, PROT_READ | PROT_WRITE, MAP_PRIVATE | MAP_ANONYMOUS, -1, 0);
+    uint8_t *whole = mmap(NULL, GUARD + TAGETESSASH_NARROW_STACK_BYTES, PROT_READ | PROT_WRITE, MAP_PRIVATE | MAP_ANONYMOUS, -1, 0);
     pthread_attr_t how;
     if (whole == MAP_FAILED || mprotect(whole, GUARD, PROT_NONE) != 0 || pthread_attr_init(&how) != 0
-        || pthread_attr_setstack(&how, whole + GUARD, TAGETESSASH_LIFT_STACK_BYTES) != 0
+        || pthread_attr_setstack(&how, whole + GUARD, TAGETESSASH_NARROW_STACK_BYTES) != 0
         || pthread_create(&own->thread, &how, work_through, own) != 0) {
         fprintf(stderr, "threads: no thread\n");
         exit(2);

@@ -1,10 +1,13 @@
-//! Links the static library that `tools/test-library` writes.
+//! Links the static library that `tools/test-library` writes, or that of the folder `TESTING_LIB_DIR`.
 
 use std::path::Path;
 
 fn main() {
-    let folder = std::env::var("CARGO_MANIFEST_DIR").expect("cargo sets it");
-    let folder = format!("{folder}/../../target/staticlib");
+    println!("cargo:rerun-if-env-changed=TESTING_LIB_DIR");
+    let folder = std::env::var("TESTING_LIB_DIR").unwrap_or_else(|_| {
+        let folder = std::env::var("CARGO_MANIFEST_DIR").expect("cargo sets it");
+        format!("{folder}/../../target/staticlib")
+    });
     let library = format!("{folder}/libtesting.a");
     assert!(
         Path::new(&library).exists(),

@@ -1,4 +1,4 @@
-//! Runs in turns, and their medians in microseconds: what else the machine does meets all of them alike.
+//! Runs in turns, and their medians or the shortest in microseconds: what else the machine does meets all of them alike.
 
 use std::time::{Duration, Instant};
 
@@ -21,8 +21,25 @@ pub fn medians<B, const N: usize>(turns: usize, buffers: &mut B, runs: [Run<B>; 
 pub fn medians_while<B, const N: usize>(
     more: impl Fn(usize) -> bool,
     buffers: &mut B,
-    mut runs: [Run<B>; N],
+    runs: [Run<B>; N],
 ) -> [f64; N] {
+    times_while(more, buffers, runs).map(median)
+}
+
+/// The shortest of each instead, for runs so long that other work falls into half of them.
+pub fn shortest_while<B, const N: usize>(
+    more: impl Fn(usize) -> bool,
+    buffers: &mut B,
+    runs: [Run<B>; N],
+) -> [f64; N] {
+    times_while(more, buffers, runs).map(|times| times.into_iter().min().map_or(0.0, microseconds))
+}
+
+fn times_while<B, const N: usize>(
+    more: impl Fn(usize) -> bool,
+    buffers: &mut B,
+    mut runs: [Run<B>; N],
+) -> [Vec<Duration>; N] {
     let mut times = [const { Vec::new() }; N];
     while more(times[0].len()) {
         for (run, times) in runs.iter_mut().zip(&mut times) {
@@ -31,10 +48,14 @@ pub fn medians_while<B, const N: usize>(
             times.push(start.elapsed());
         }
     }
-    times.map(median)
+    times
 }
 
 fn median(mut times: Vec<Duration>) -> f64 {
     times.sort();
-    times[times.len() / 2].as_secs_f64() * 1e6
+    microseconds(times[times.len() / 2])
+}
+
+fn microseconds(time: Duration) -> f64 {
+    time.as_secs_f64() * 1e6
 }

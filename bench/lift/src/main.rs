@@ -1,11 +1,11 @@
 //! Reading with acceptance and all levels, by each way, on the files of examples/: the public calls beside plain Rust that does the same, and beside other
-//! systems where they are installed. Both go in turns in one process; a time is the median. One argument: how long each cell may take, in milliseconds; a
+//! systems where they are installed. Both go in turns in one process; a time is the shortest. One argument: how long each cell may take, in milliseconds; a
 //! second one: the name of one file.
 
 mod others;
 mod plain;
 
-use bench_common::timing::{medians, medians_while};
+use bench_common::timing::{medians, shortest_while};
 use common::buffers::{count, work, OUT, ROW, STATE, TREE_WORK, WORK};
 use common::examples::examples;
 use reference::buffers::write_state;
@@ -184,7 +184,7 @@ fn agree(file: &[u8], way: &Way, held: &State, buffers: &mut Buffers) {
 /// Both in turns, at least 5 times and for this long.
 fn both(file: &[u8], way: &Way, buffers: &mut Buffers, cell: Duration) -> [f64; 2] {
     let start = Instant::now();
-    medians_while(
+    shortest_while(
         |done| done < 5 || start.elapsed() < cell,
         buffers,
         [
@@ -250,10 +250,10 @@ fn main() {
     };
     println!("Microseconds: public calls / plain Rust = ratio.");
     let names: Vec<&str> = WAYS.iter().map(|way| way.name).collect();
-    println!("| File | {} | fres | sres | M2 |", names.join(" | "));
-    println!("|---|{}---|---|---|", "---|".repeat(WAYS.len()));
+    println!("| File | {} | sres | M2 |", names.join(" | "));
+    println!("|---|{}---|---|", "---|".repeat(WAYS.len()));
     let mut sums = [[0.0; 2]; WAYS.len()];
-    let mut other_sums = [[0.0; 2]; 3];
+    let mut other_sums = [[0.0; 2]; 2];
     for (name, file) in examples() {
         if only.as_ref().is_some_and(|only| *only != name) {
             continue;
@@ -291,7 +291,7 @@ fn main() {
             ));
         }
         let times = others::times(&problem, homogeneous(&problem));
-        for (i, time) in [times.fres, times.sres, times.m2].into_iter().enumerate() {
+        for (i, time) in [times.sres, times.m2].into_iter().enumerate() {
             if let Some(time) = time {
                 other_sums[i][0] += by_hybrid;
                 other_sums[i][1] += time;
@@ -305,10 +305,10 @@ fn main() {
         .map(|[ours, theirs]| format!("{ours:.0} / {theirs:.0} = {:.2}", ours / theirs))
         .collect();
     println!(
-        "| sum of the files with every way | {} | | | |",
+        "| sum of the files with every way | {} | | |",
         cells.join(" | ")
     );
-    for (name, [ours, theirs]) in ["fres", "sres", "M2"].iter().zip(other_sums) {
+    for (name, [ours, theirs]) in ["sres", "M2"].iter().zip(other_sums) {
         if theirs > 0.0 {
             println!(
                 "hybrid 1 beside {name}, on the files that it does: {ours:.0} / {theirs:.0} = {:.2}",

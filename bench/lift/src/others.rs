@@ -1,5 +1,6 @@
-//! Other systems on the same elements: Singular's `fres` and `sres`, Macaulay2's `res` with strategy 5. Each repeats the call inside one process and tells
-//! how long the repetitions took; reading and, in Singular, the test for a Gröbner basis are not part of it.
+//! Other systems on the same elements: Singular's `sres` and Macaulay2's `res` with strategy 5 (`fres`: bench/run-fres, in the kernel). Each repeats the call
+//! inside one process, by its interpreter, and tells how long the repetitions took; reading and, in Singular, the test for a Gröbner basis are not part of
+//! it.
 
 use reference::monomial::{Parameters, Term};
 use reference::reader::Problem;
@@ -8,16 +9,13 @@ use std::process::Command;
 /// Microseconds of one call, if the system is there and makes it.
 #[derive(Default)]
 pub struct Times {
-    pub fres: Option<f64>,
     pub sres: Option<f64>,
     pub m2: Option<f64>,
 }
 
 pub fn times(problem: &Problem, homogeneous: bool) -> Times {
     let mut times = Times::default();
-    for (name, time) in [("fres", &mut times.fres), ("sres", &mut times.sres)] {
-        *time = run("Singular", &["-q"], &singular(problem, name));
-    }
+    times.sres = run("Singular", &["-q"], &singular(problem));
     // strategy 5 is for homogeneous modules
     if homogeneous {
         times.m2 = run("M2", &["--script"], &macaulay(problem));
@@ -66,7 +64,7 @@ fn power_product(term: &Term, n: u64, variable: impl Fn(usize) -> String) -> Str
     text
 }
 
-fn singular(problem: &Problem, call: &str) -> String {
+fn singular(problem: &Problem) -> String {
     let Parameters { p, n, order, s } = problem.parameters;
     let order = ["lp", "Dp", "dp"][order as usize - 1];
     let kind = if s == 1 { "ideal" } else { "module" };
@@ -83,7 +81,7 @@ ring r={p},(x(1..{n})),({order},C);
 {kind} I={elements};
 attrib(I,\"isSB\",1);
 int n=1; int t; int i;
-while(1){{ t=rtimer; for(i=1;i<=n;i++){{ def R={call}(I,0); kill R; }} t=rtimer-t; if(t>=300){{break;}} n=n*2; }}
+while(1){{ t=rtimer; for(i=1;i<=n;i++){{ def R=sres(I,0); kill R; }} t=rtimer-t; if(t>=300){{break;}} n=n*2; }}
 print(\"time \"+string(t)+\" \"+string(n));
 quit;
 "

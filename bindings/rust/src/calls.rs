@@ -32,6 +32,17 @@ extern "C" {
         vector: usize,
         place: *mut usize,
     ) -> u16;
+    fn tagetessash_divide(
+        state: *const u16,
+        state_words: usize,
+        vector: *const u16,
+        vector_words: usize,
+        quotients: *mut u16,
+        quotients_words: usize,
+        remainder: *mut u16,
+        remainder_words: usize,
+        place: *mut usize,
+    ) -> u16;
     fn tagetessash_sheet(
         file: *const u8,
         file_bytes: usize,
@@ -79,6 +90,17 @@ extern "C" {
     fn tagetessash_hilbert(
         file: *const u8,
         file_bytes: usize,
+        state: *mut u16,
+        state_words: usize,
+        work: *mut u16,
+        work_words: usize,
+        out: *mut u8,
+        out_bytes: usize,
+        length: *mut usize,
+    ) -> u16;
+    fn tagetessash_member(
+        input: *const u8,
+        input_bytes: usize,
         state: *mut u16,
         state_words: usize,
         work: *mut u16,
@@ -160,6 +182,31 @@ pub fn fetch(state: &[u16], out: &mut [u16], level: usize, vector: usize) -> (u1
     (number, place)
 }
 
+/// Number and place.
+pub fn divide(
+    state: &[u16],
+    vector: &[u16],
+    quotients: &mut [u16],
+    remainder: &mut [u16],
+) -> (u16, usize) {
+    let mut place = usize::MAX;
+    // SAFETY: as above
+    let number = unsafe {
+        tagetessash_divide(
+            state.as_ptr(),
+            state.len(),
+            vector.as_ptr(),
+            vector.len(),
+            quotients.as_mut_ptr(),
+            quotients.len(),
+            remainder.as_mut_ptr(),
+            remainder.len(),
+            &mut place,
+        )
+    };
+    (number, place)
+}
+
 /// A call that prints what it finds in a file.
 type Printing = unsafe extern "C" fn(
     *const u8,
@@ -222,4 +269,9 @@ pub fn bidegrees(file: &[u8], state: &mut [u16], work: &mut [u16], out: &mut [u8
 /// Number and how many bytes `out` has in front.
 pub fn hilbert(file: &[u8], state: &mut [u16], work: &mut [u16], out: &mut [u8]) -> (u16, usize) {
     printed(tagetessash_hilbert, file, state, work, out)
+}
+
+/// Number and how many bytes `out` has in front.
+pub fn member(input: &[u8], state: &mut [u16], work: &mut [u16], out: &mut [u8]) -> (u16, usize) {
+    printed(tagetessash_member, input, state, work, out)
 }

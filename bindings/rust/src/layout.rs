@@ -8,6 +8,7 @@ pub const SHEET_BYTES: usize = 1_400_000;
 pub const PAGE_BYTES: usize = 1_508_691;
 pub const BIDEGREES_BYTES: usize = 32_384;
 pub const HILBERT_BYTES: usize = 31_773;
+pub const MEMBER_BYTES: usize = 63_492;
 
 pub const VARIABLES: usize = 8;
 pub const LEVEL_VECTORS: usize = 128;
@@ -51,4 +52,16 @@ pub fn exponents(row: &[u16]) -> [u8; VARIABLES] {
     let words = row[PACKED_AT..ROW_WORDS].iter().rev();
     let packed = words.fold(0_u64, |packed, word| packed << u16::BITS | u64::from(*word));
     packed.to_be_bytes()
+}
+
+/// The words of a row.
+pub fn row(coefficient: u16, component: u16, exponents: [u8; VARIABLES]) -> [u16; ROW_WORDS] {
+    let mut words = [0; ROW_WORDS];
+    words[COEFFICIENT_AT] = coefficient;
+    words[COMPONENT_AT] = component;
+    let packed = u64::from_be_bytes(exponents);
+    for (i, word) in words[PACKED_AT..].iter_mut().enumerate() {
+        *word = (packed >> (u16::BITS as usize * i)) as u16;
+    }
+    words
 }

@@ -1,9 +1,10 @@
 //! Syzygies of a Gröbner basis over a small prime field, level upon level, by the proved engine.
 //!
 //! An [`Engine`] owns the buffers that the engine's calls are lent. [`Engine::read`] takes a problem file, which [`Problem`] writes from terms,
-//! [`Engine::lift`] makes a level complete, [`Engine::vectors`] goes over its vectors, [`Engine::fetch`] gives one of them. [`sheet`] prints all levels of a
-//! file at once, [`betti`] the table of how many vectors of which degree they have, [`minimal`] that of a minimal resolution, [`bidegrees`] how many of which
-//! bidegree, [`hilbert`] the Hilbert function.
+//! [`Engine::lift`] makes a level complete, [`Engine::vectors`] goes over its vectors, [`Engine::fetch`] gives one of them, [`Engine::divide`] divides a vector
+//! by the elements and so tells whether it is in their module. [`sheet`] prints all levels of a file at once, [`betti`] the table of how many vectors of which
+//! degree they have, [`minimal`] that of a minimal resolution, [`bidegrees`] how many of which bidegree, [`hilbert`] the Hilbert function; [`member`] says
+//! whether a vector is in the module of a file's elements.
 //!
 //! ```
 //! let file = b"R,7,2,1,1\nT,1,1,1,1,0\nT,1,1,1,0,1\nT,2,1,1,0,2\nT,2,1,1,0,0\nE,4\n";
@@ -136,6 +137,26 @@ impl Term {
             component: row[COMPONENT_AT],
             exponents: exponents(row),
         }
+    }
+
+    fn row(&self) -> [u16; ROW_WORDS] {
+        row(self.coefficient, self.component, self.exponents)
+    }
+}
+
+/// A vector divided by the elements of level 0 ([`Engine::divide`]).
+#[derive(Clone, Debug, PartialEq, Eq, Hash)]
+pub struct Division {
+    /// A term for each multiple of an element that was taken away, its component the element's number; descending in the induced order.
+    pub quotients: Vec<Term>,
+    /// What is left, the greatest term first; empty for a vector of the module.
+    pub remainder: Vec<Term>,
+}
+
+impl Division {
+    /// Whether the vector is in the module of the elements.
+    pub fn is_member(&self) -> bool {
+        self.remainder.is_empty()
     }
 }
 
@@ -292,6 +313,39 @@ impl Engine {
     pub fn fetch(&mut self, level: usize, vector: usize) -> Result<Vec<Term>, Refusal> {
         answer(calls::fetch(&self.state, &mut self.out, level, vector))?;
         Ok(terms(&self.out))
+    }
+
+    /// Divides a vector by the elements of level 0, its terms the greatest first; none is the zero vector. The levels above play no part, and nothing of the
+    /// engine's state changes: so many vectors may be asked of one basis. The quotients applied to the elements plus the remainder give the vector back, and no
+    /// term of the remainder is divisible by the leading monomial of an element. The vector is in the module exactly where the remainder is empty.
+    ///
+    /// ```
+    /// use tagetessash::{Engine, Refusal, Term};
+    /// let mut engine = Engine::new();
+    /// engine.read(b"R,7,2,1,1\nT,1,1,1,1,0\nT,1,1,1,0,1\nT,2,1,1,0,2\nT,2,1,1,0,0\nE,4\n")?; // x + y, y^2 + 1
+    /// let square = [Term::new(1, 1, &[2, 0]), Term::new(1, 1, &[0, 0])]; // x^2 + 1
+    /// let division = engine.divide(&square)?;
+    /// assert!(division.is_member());
+    /// assert_eq!(division.quotients[0], Term::new(1, 1, &[1, 0])); // x times element 1 ..
+    /// let x = engine.divide(&[Term::new(1, 1, &[1, 0])])?;
+    /// assert_eq!(x.remainder, [Term::new(6, 1, &[0, 1])]); // -y is x's normal form
+    /// assert_eq!(engine.divide(&[square[1], square[0]]), Err(Refusal::BadVector { term: 2 }));
+    /// # Ok::<(), Refusal>(())
+    /// ```
+    pub fn divide(&self, vector: &[Term]) -> Result<Division, Refusal> {
+        let rows: Vec<u16> = vector.iter().flat_map(Term::row).collect();
+        let mut quotients = vec![0; OUT_WORDS];
+        let mut remainder = vec![0; OUT_WORDS];
+        answer(calls::divide(
+            &self.state,
+            &rows,
+            &mut quotients,
+            &mut remainder,
+        ))?;
+        Ok(Division {
+            quotients: terms(&quotients),
+            remainder: terms(&remainder),
+        })
     }
 
     /// p of the file; 0 without a basis.
@@ -493,6 +547,25 @@ pub fn bidegrees(file: &[u8]) -> Vec<u8> {
 /// If the library is of another version than this crate.
 pub fn hilbert(file: &[u8]) -> Vec<u8> {
     printed(calls::hilbert, HILBERT_BYTES, file)
+}
+
+/// Whether a vector is in the module of a file's elements, the bytes that the program prints, for every input: a problem file and, behind its E line, a line
+/// `V,coefficient,component,e1,..,en` for each term of the vector, strictly descending. A line `C,coefficient,element,e1,..,en` for each term of the quotients
+/// of its division by the elements, a line `W,coefficient,component,e1,..,en` for each of the remainder, then `M,1` or `M,0`.
+///
+/// A refused input has an X line instead, and nothing else but the W lines after `X,9`; `X,23` is the first line behind E that is no V line, out of range, not
+/// descending, or the 513th.
+///
+/// ```
+/// let input = b"R,7,2,1,1\nT,1,1,1,1,0\nT,1,1,1,0,1\nT,2,1,1,0,2\nT,2,1,1,0,0\nE,4\nV,1,1,2,0\nV,1,1,0,0\n";
+/// assert_eq!(tagetessash::member(input), b"C,1,1,1,0\nC,6,1,0,1\nC,1,2,0,0\nM,1\n");
+/// ```
+///
+/// # Panics
+///
+/// If the library is of another version than this crate.
+pub fn member(input: &[u8]) -> Vec<u8> {
+    printed(calls::member, MEMBER_BYTES, input)
 }
 
 /// A call that prints what it finds in a file, over slices: number and how many bytes it wrote.

@@ -59,12 +59,12 @@ pub enum Refusal {
     BadNumber,
     /// 13: a product has an exponent above 255
     ExponentLimit {
-        /// the level that was being lifted; 0 while the basis was being accepted
+        /// the level that was being lifted; 0 while the basis was being accepted or a vector divided
         level: usize,
     },
-    /// 14: a working value, a vector or the tree's work area is full
+    /// 14: a working value, a vector, quotients, a remainder or the tree's work area is full
     TermLimit {
-        /// the level that was being lifted; 0 while the basis was being accepted
+        /// the level that was being lifted; 0 while the basis was being accepted or a vector divided
         level: usize,
     },
     /// 15: a level has too many frame terms or too many terms
@@ -89,6 +89,12 @@ pub enum Refusal {
         /// the level
         level: usize,
     },
+    /// 23: a term of the vector to be divided is out of range, not below the one before it, or the 513th; in the lines of [`crate::member`] a line behind E is
+    /// no such term
+    BadVector {
+        /// the term, from 1; in the lines of [`crate::member`] the input's line
+        term: usize,
+    },
     /// 24: a variable's weight is above 15
     BadWeight {
         /// the file's line, from 1
@@ -111,7 +117,8 @@ pub enum Refusal {
 use Refusal::*;
 
 impl Refusal {
-    /// That of the X line of a sheet, of a Betti page, of minimal numbers, of bidegrees or of a Hilbert function; none where there is no such line.
+    /// That of the X line of a sheet, of a Betti page, of minimal numbers, of bidegrees, of a Hilbert function or of a division; none where there is no such
+    /// line.
     pub fn printed(lines: &[u8]) -> Option<Refusal> {
         let line = lines
             .split(|byte| *byte == b'\n')
@@ -142,13 +149,14 @@ impl Refusal {
             17 => TwoDegrees { element: place },
             18 => BadDegree { line: place },
             20 => NotEnded { level: place },
+            23 => BadVector { term: place },
             24 => BadWeight { line: place },
             25 => TwoBidegrees { element: place },
             _ => Other { number, place },
         }
     }
 
-    /// Document 01's number: 1 to 9 or 11 to 16, or a request's: 17, 18, 20, 24 or 25.
+    /// Document 01's number: 1 to 9 or 11 to 16, or a request's: 17, 18, 20, 23, 24 or 25.
     pub fn number(&self) -> u16 {
         match self {
             FileTooLong | BadLine { .. } => 1,
@@ -169,6 +177,7 @@ impl Refusal {
             TwoDegrees { .. } => 17,
             BadDegree { .. } => 18,
             NotEnded { .. } => 20,
+            BadVector { .. } => 23,
             BadWeight { .. } => 24,
             TwoBidegrees { .. } => 25,
             Other { number, .. } => *number,
@@ -176,7 +185,7 @@ impl Refusal {
     }
 
     /// For 1 to 8, 18 and 24 the file's line, for 9 the number of a frame term, for 13 to 15 and 20 the level (0 while a basis is being accepted), for
-    /// 17 and 25 the element, else 0.
+    /// 17 and 25 the element, for 23 the term (or the line), else 0.
     pub fn place(&self) -> usize {
         match *self {
             BadLine { line } | BadPrime { line } | BadRing { line } | BadTerm { line } => line,
@@ -187,6 +196,7 @@ impl Refusal {
             | BadDegree { line }
             | BadWeight { line } => line,
             NoBasis { frame_term } => frame_term,
+            BadVector { term } => term,
             TwoDegrees { element } | TwoBidegrees { element } => element,
             ExponentLimit { level }
             | TermLimit { level }
@@ -218,6 +228,7 @@ impl Refusal {
             17 => "an element has terms of two degrees",
             18 => "a component's degree is above 255",
             20 => "level 9 is not empty",
+            23 => "a term of the vector is out of range, not below the one before it, or the 513th",
             24 => "a variable's weight is above 15",
             25 => "an element has terms of two bidegrees",
             _ => "no number of a call",
@@ -231,6 +242,7 @@ impl Refusal {
             9 => Some("frame term"),
             13..=15 | 20 => Some("level"),
             17 | 25 => Some("element"),
+            23 => Some("term"),
             _ => None,
         }
     }

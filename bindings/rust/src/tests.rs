@@ -1,6 +1,7 @@
 use crate::{
-    betti, bidegrees, calls, hilbert, layout, minimal, sheet, Engine, Order, Pick, Printing,
-    Problem, Refusal, Term, Way, HIGHEST_LEVEL, LEAST_TERMS, VERSION, WORKING_TERMS,
+    betti, bidegrees, calls, hilbert, layout, member, minimal, sheet, Division, Engine, Order,
+    Pick, Printing, Problem, Refusal, Term, Way, HIGHEST_LEVEL, LEAST_TERMS, VERSION,
+    WORKING_TERMS,
 };
 
 const PRINTED: &[u8] = b"R,7,2,1,1\nT,1,1,1,1,0\nT,1,1,1,0,1\nT,2,1,1,0,2\nT,2,1,1,0,0\nE,4\n";
@@ -482,6 +483,124 @@ fn the_hilbert_function_of_every_file() {
     }
 }
 
+/// request A12: lines of quotients, remainder and answer; nothing behind E; what is refused, in its order
+#[test]
+fn the_division_of_every_input() {
+    let printed = String::from_utf8_lossy(PRINTED);
+    for (lines, answer) in [
+        (
+            "V,1,1,2,0\nV,1,1,0,0\n",
+            "C,1,1,1,0\nC,6,1,0,1\nC,1,2,0,0\nM,1\n",
+        ),
+        ("V,2,1,0,1\n", "W,2,1,0,1\nM,0\n"),
+        ("", "M,1\n"),
+        ("V,1,1,1,255\n", "X,13,0\n"),
+        ("V,1,1,1,255\nx\n", "X,23,8\n"),
+        ("V,1,1,0,1\nV,1,1,0,1\n", "X,23,8\n"),
+        ("V,7,1,0,1\n", "X,23,7\n"),
+        ("V,1,1,0,1", "X,23,7\n"),
+    ] {
+        let input = format!("{printed}{lines}");
+        let found = member(input.as_bytes());
+        assert_eq!(String::from_utf8_lossy(&found), answer, "{lines}");
+    }
+    let none = b"R,7,2,1,1\nT,1,1,1,2,0\nT,2,1,1,1,1\nT,2,1,1,0,2\nE,3\nx\n";
+    assert_eq!(member(none), b"X,9,1\nW,6,1,0,3\n");
+    assert_eq!(member(b""), b"X,1,1\n");
+}
+
+/// the same over an engine, with levels above or without, many vectors of one basis; 23 with the term
+#[test]
+fn vectors_divided() {
+    let mut engine = Engine::new();
+    assert_eq!(engine.divide(&[]), Err(Refusal::NoLevel));
+    engine.read(PRINTED).expect("a Gröbner basis");
+    for level in 0..3 {
+        if level > 0 {
+            engine.lift(level, Way::Division).expect("no limit is met");
+        }
+        let before = engine.state.clone();
+        let square = engine.divide(&[term(1, 1, 2, 0), term(1, 1, 0, 0)]);
+        let quotients = vec![term(1, 1, 1, 0), term(6, 1, 0, 1), term(1, 2, 0, 0)];
+        let remainder = vec![];
+        assert_eq!(
+            square,
+            Ok(Division {
+                quotients,
+                remainder
+            })
+        );
+        let y = engine.divide(&[term(3, 1, 0, 1)]).expect("no limit is met");
+        assert_eq!(
+            (y.is_member(), y.remainder),
+            (false, vec![term(3, 1, 0, 1)])
+        );
+        let zero = engine.divide(&[]).expect("nothing to divide");
+        assert!(zero.is_member() && zero.quotients.is_empty());
+        let bad = |term| Err(Refusal::BadVector { term });
+        assert_eq!(engine.divide(&[term(0, 1, 0, 1)]), bad(1));
+        assert_eq!(engine.divide(&[term(7, 1, 0, 1)]), bad(1));
+        assert_eq!(engine.divide(&[term(1, 2, 0, 1)]), bad(1));
+        assert_eq!(engine.divide(&[Term::new(1, 1, &[0, 0, 1])]), bad(1));
+        assert_eq!(engine.divide(&[term(1, 1, 0, 1), term(1, 1, 1, 0)]), bad(2));
+        let many: Vec<Term> = (0..=512_u32)
+            .map(|i| term(1, 1, 3 - (i >> 8) as u8, 255 - (i & 255) as u8))
+            .collect();
+        assert_eq!(engine.divide(&many), bad(513));
+        let limit = Err(Refusal::ExponentLimit { level: 0 });
+        assert_eq!(engine.divide(&[term(1, 1, 1, 255)]), limit);
+        assert_eq!(engine.state, before);
+    }
+}
+
+/// a lent vector over slices: zeros behind, what stands behind the last whole row, 16 before 11 before 23, and the state as it was
+#[test]
+fn vectors_lent() {
+    let mut state = vec![0; layout::STATE_WORDS];
+    let mut work = vec![0; layout::WORK_WORDS];
+    assert_eq!(calls::read(PRINTED, &mut state, &mut work), (0, 0));
+    let square = [term(1, 1, 2, 0).row(), term(1, 1, 0, 0).row()].concat();
+    let lent = |state: &[u16], vector: &[u16], quotients: usize, remainder: usize| {
+        let before = state.to_vec();
+        let (mut q, mut r) = (vec![5; quotients], vec![5; remainder]);
+        let answer = calls::divide(state, vector, &mut q, &mut r);
+        assert_eq!(state, before);
+        (answer, q, r)
+    };
+    const OUT: usize = layout::OUT_WORDS;
+    let fives = |words: usize| vec![5_u16; words];
+    let quotients = [term(1, 1, 1, 0), term(6, 1, 0, 1), term(1, 2, 0, 0)];
+    let rows: Vec<u16> = quotients.iter().flat_map(Term::row).collect();
+    for more in 0..layout::ROW_WORDS {
+        let vector = [&square[..], &[9; 5][..more.min(5)]].concat();
+        let (answer, q, r) = lent(&state, &vector, OUT + more, OUT);
+        assert_eq!(answer, (0, 0));
+        assert_eq!(&q[..rows.len()], &rows[..]);
+        assert!(q[rows.len()..].iter().chain(&r).all(|word| *word == 0));
+    }
+    let bad = [&square[..], &[0; layout::ROW_WORDS]].concat();
+    assert_eq!(
+        lent(&state, &bad, OUT, OUT),
+        ((23, 3), vec![0; OUT], vec![0; OUT])
+    );
+    let none = vec![0; layout::STATE_WORDS];
+    assert_eq!(
+        lent(&none, &bad, OUT, OUT),
+        ((11, 0), fives(OUT), fives(OUT))
+    );
+    for (words, q, r) in [
+        (layout::STATE_WORDS - 1, OUT, OUT),
+        (layout::STATE_WORDS, OUT - 1, OUT),
+        (layout::STATE_WORDS, OUT, OUT - 1),
+        (0, 0, 0),
+    ] {
+        assert_eq!(
+            lent(&none[..words], &bad, q, r),
+            ((16, 0), fives(q), fives(r))
+        );
+    }
+}
+
 /// a G line changes no sheet, no page, no minimal numbers and no Hilbert function
 #[test]
 fn weights_change_nothing_else() {
@@ -508,12 +627,13 @@ fn weights_change_nothing_else() {
 #[test]
 fn short_buffers_of_pages() {
     let file = b"R,7,1,1,1\nT,1,1,1,1\nE,1\n";
-    let pages: [(Printing, usize, Vec<u8>); 5] = [
+    let pages: [(Printing, usize, Vec<u8>); 6] = [
         (calls::sheet, layout::SHEET_BYTES, sheet(file)),
         (calls::betti, layout::PAGE_BYTES, betti(file)),
         (calls::minimal, layout::PAGE_BYTES, minimal(file)),
         (calls::bidegrees, layout::BIDEGREES_BYTES, bidegrees(file)),
         (calls::hilbert, layout::HILBERT_BYTES, hilbert(file)),
+        (calls::member, layout::MEMBER_BYTES, member(file)),
     ];
     for (call, room, printed) in pages {
         let lengths = (layout::STATE_WORDS, layout::WORK_WORDS, room);
@@ -586,7 +706,7 @@ fn every_number_is_a_refusal() {
                 assert_eq!(refusal.place(), place);
             }
             let other = Refusal::Other { number, place };
-            let known = matches!(number, 1..=9 | 11..=18 | 20 | 24 | 25);
+            let known = matches!(number, 1..=9 | 11..=18 | 20 | 23..=25);
             assert_eq!(refusal == other, !known);
         }
     }
@@ -622,7 +742,7 @@ fn the_layout_is_the_headers() {
             numbers += 1;
         }
     }
-    assert_eq!(numbers, 25);
+    assert_eq!(numbers, 26);
     assert_eq!(layout::count_at(HIGHEST_LEVEL + 1), layout::rows_at(0));
     assert_eq!(layout::rows_at(HIGHEST_LEVEL + 1), layout::DEGREES_AT);
     let behind = layout::carried_at(0) - layout::DEGREES_AT;

@@ -24,7 +24,7 @@ use Rattle.betti.proofs.Columns.{Paged}
 use Rattle.bigraded.specs.Notions.{Entry, entry-line, entry-lines}
 use Rattle.bigraded.specs.Bidegrees.{Lines-bounded}
 use Rattle.bigraded.proofs.Weighted.{Small, Low-bidegree, component-most, bidegree-low}
-use Rattle.bigraded.proofs.Digits.{field-few}
+use Rattle.laws.proofs.Digits.{field-few}
 use Rattle.bigraded.proofs.Occurring.{occurring-all}
 use Rattle.bigraded.proofs.Columns.{length-map, length-from, length-columns, column-bidegrees, component-bidegree}
 use Rattle.bigraded.proofs.Entries.{all-mapped, entry-of, all-entries}

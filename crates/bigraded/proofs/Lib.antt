@@ -3,7 +3,6 @@ pub mod Occurring
 pub mod Columns
 pub mod Entries
 pub mod Lines
-pub mod Digits
 pub mod Bounds
 pub mod Ones
 pub mod Mixed

@@ -28,7 +28,7 @@ use Rattle.files.specs.Answers.{Refused-right, too-long, at-line, Line-number}
 use Rattle.demands.specs.Demands.{Not-accepted, no-basis, limit-met}
 use Rattle.demands.proofs.Reader.{files}
 use Rattle.bigraded.specs.Bidegrees.{Lines-form, listed-lines, mixed-element, cut-off, not-read, not-taken, Always-short}
-use Rattle.bigraded.proofs.Digits.{ten-to, field-few}
+use Rattle.laws.proofs.Digits.{ten-to, field-few}
 use Rattle.bigraded.proofs.Bidegrees.{document-bidegrees-right}
 
 -- ## Lines with few digits

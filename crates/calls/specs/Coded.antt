@@ -4,7 +4,7 @@ use mathlib.Core.Option.{some}
 use Prim.Native.Nat.{ℕ}
 use Rattle.definitions.specs.Limits.{document-01}
 use Rattle.definitions.specs.Problem.{Bytes}
-use Rattle.definitions.specs.Layout.{Words, Way, Read, Lift, Fetch, read-call, lift-call, fetch-call}
+use Rattle.definitions.specs.Layout.{Words, Way, Read, Lift, Fetch, Divide, read-call, lift-call, fetch-call, divide-call}
 
 abbrev pub read-told : ℕ → ℕ → Words → Words → Read
 read-told number place state work = (number, place, state, work)
@@ -14,6 +14,9 @@ lift-told number place state work cache = (number, place, state, work, cache)
 
 abbrev pub fetch-told : ℕ → ℕ → Words → Fetch
 fetch-told number place out = (number, place, out)
+
+abbrev pub divide-told : ℕ → ℕ → Words → Words → Divide
+divide-told number place quotients remainder = (number, place, quotients, remainder)
 
 -- ## What the contracts say, in one place: the functions' `ensures` and `Made` both cite these
 
@@ -26,3 +29,7 @@ Lift-says number place state′ work′ cache′ k way state work cache =
 
 abbrev pub Fetch-says : ℕ → ℕ → Words → ℕ → ℕ → Words → Words → Type 0
 Fetch-says number place out′ k v state out = fetch-told number place out′ ≡ fetch-call document-01 k v state out
+
+abbrev pub Divide-says : ℕ → ℕ → Words → Words → Words → Words → Words → Words → Type 0
+Divide-says number place quotients′ remainder′ state vector quotients remainder =
+    (n : ℕ) × (some (divide-told number place quotients′ remainder′) ≡ divide-call document-01 n state vector quotients remainder)

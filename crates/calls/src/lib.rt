@@ -1,9 +1,8 @@
-// The three calls, and the sheet, the Betti page, the minimal numbers, the bidegrees and the Hilbert function as one each, for programs in other languages:
-// include/tagetessash.h declares them.
-// Exists for: `tagetessash_read`, `tagetessash_lift`, `tagetessash_fetch`, `tagetessash_sheet`, `tagetessash_betti`, `tagetessash_minimal`,
-// `tagetessash_bidegrees`, `tagetessash_hilbert`;
-// `Making.all-calls`.
-// Knows: crates read_call, fetch_call, lift_call, sheet and page_calls.
+// The three calls, the one that divides a lent vector, and the sheet, the Betti page, the minimal numbers, the bidegrees, the Hilbert function and membership
+// as one each, for programs in other languages: include/tagetessash.h declares them.
+// Exists for: `tagetessash_read`, `tagetessash_lift`, `tagetessash_fetch`, `tagetessash_divide`, `tagetessash_sheet`, `tagetessash_betti`,
+// `tagetessash_minimal`, `tagetessash_bidegrees`, `tagetessash_hilbert`, `tagetessash_member`; `Making.all-calls`.
+// Knows: crates read_call, fetch_call, lift_call, divide_call, sheet and page_calls.
 // A slice is a pointer and a length.
 ghost use mathlib.Core.Path.{_≡_};
 ghost use Prim.Native.Nat.{ℕ};
@@ -13,11 +12,12 @@ ghost use Rattle.definitions.specs.Betti.{betti as betti-definition};
 ghost use Rattle.definitions.specs.Minimal.{minimal as minimal-definition};
 ghost use Rattle.definitions.specs.Bidegrees.{bidegrees as bidegrees-definition};
 ghost use Rattle.definitions.specs.Hilbert.{hilbert as hilbert-definition};
-ghost use Rattle.definitions.specs.Places.{sheet-length, page-length, bidegrees-length, hilbert-length};
+ghost use Rattle.definitions.specs.Membership.{membership as membership-definition};
+ghost use Rattle.definitions.specs.Places.{sheet-length, page-length, bidegrees-length, hilbert-length, member-length};
 ghost use Rattle.lift_call.specs.Codes.{coded-way};
 ghost use Rattle.lending.specs.Called.{told-of, called};
 ghost use Rattle.calls.specs.Version.{version};
-ghost use Rattle.calls.specs.Coded.{Read-says, Lift-says, Fetch-says};
+ghost use Rattle.calls.specs.Coded.{Read-says, Lift-says, Fetch-says, Divide-says};
 
 // "read a file and accept or refuse its basis"
 #[no_mangle]
@@ -67,6 +67,23 @@ pub extern "C" fn tagetessash_fetch(
     ensures { λ x. ⌜ Fetch-says x (now (place .exit)) (now (out .exit)) level vector (now (state .entry)) (now (out .entry)) ⌝ }
 {
     let r = fetch_call::fetch(state, out, level, vector);
+    *place = r.place;
+    r.number
+}
+
+// "quotients applied to the elements plus the remainder give the vector back": of a lent vector, by the elements of the state.
+#[no_mangle]
+pub extern "C" fn tagetessash_divide(
+    state: &[u16],
+    vector: &[u16],
+    quotients: &mut [u16],
+    remainder: &mut [u16],
+    place: &mut usize,
+) -> u16
+    ensures { λ x. ⌜ Divide-says x (now (place .exit)) (now (quotients .exit)) (now (remainder .exit)) (now (state .entry)) (now (vector .entry))
+        (now (quotients .entry)) (now (remainder .entry)) ⌝ }
+{
+    let r = divide_call::divide(state, vector, quotients, remainder);
     *place = r.place;
     r.number
 }
@@ -154,6 +171,23 @@ pub extern "C" fn tagetessash_hilbert(
     let values = page_calls::hilbert(file, state, work, out);
     *length = values.length;
     values.number
+}
+
+// "Is this vector in the module?": 0, and the lines of a file and the V lines after it are the first `length` bytes of out; or 16.
+#[no_mangle]
+pub extern "C" fn tagetessash_member(
+    input: &[u8],
+    state: &mut [u16],
+    work: &mut [u16],
+    out: &mut [u8],
+    length: &mut usize,
+) -> u16
+    ensures { λ x. ⌜ ((n : ℕ) × (told-of x (now (length .exit)) (now (state .exit)) (now (work .exit)) (now (out .exit)) ≡ called member-length
+        (membership-definition document-01) n (now (input .entry)) (now (state .entry)) (now (work .entry)) (now (out .entry)))) ⌝ }
+{
+    let found = page_calls::member(input, state, work, out);
+    *length = found.length;
+    found.number
 }
 
 // Which version of the calls, of the state's layout and of the sheet this library has.

@@ -1,19 +1,21 @@
 -- The words of each lent buffer (docs/BUFFERS.md), and the three calls from the buffers' contents before to their contents after.
-use mathlib.Core.Bool.{Bool, true, false}
+use mathlib.Core.Bool.{Bool, true, false, not}
 use mathlib.Core.Option.{Option, none, some}
 use mathlib.Core.List.{List, [], _∷_, _++_, reverse}
 use Prim.Native.Nat.{ℕ, zero, suc, _+_, _-_, _*_, _/_, _%_, max, min}
 use lib.Dec.{leb, ltb}
 use lib.ListN.{length, getD, take, drop, replicate}
 use Rattle.definitions.specs.Limits.{Limits}
-use Rattle.definitions.specs.Lists.{_and_, _then_}
+use Rattle.definitions.specs.Lists.{_and_, _then_, choose}
 use Rattle.definitions.specs.Monomial.{Term, Vector, Level, same-exponents?}
 use Rattle.definitions.specs.Packed.{four, unpack, pack}
+use Rattle.definitions.specs.Result.{Result, done, refused, unfinished}
 use Rattle.definitions.specs.Lifting.{Lifting, by-division, by-hybrid, by-tree}
 use Rattle.definitions.specs.Problem.{Bytes}
 use Rattle.definitions.specs.State.{State, empty, sound?}
 use Rattle.definitions.specs.Degrees.{carried}
 use Rattle.definitions.specs.Calls.{Reply, read-reply, lift-reply, fetch-reply}
+use Rattle.definitions.specs.Membership.{Parts, lent-divided}
 use Rattle.definitions.specs.Places.{row-length, component-offset, exponents-offset, header-length, least-terms}
 
 -- the contents of a lent buffer: numbers of 16 bits
@@ -268,6 +270,29 @@ fetch-left out a = (a .number, a .place, rows-after out (a .fetched))
 abbrev pub fetch-call : Limits → ℕ → ℕ → Words → Words → Fetch
 fetch-call lim k v state out =
     fetch-left out (fetch-reply lim (meant lim state) (leb (state-words lim) (length state) and leb (out-words lim) (length out)) k v)
+
+-- number, place; the words of the quotients' buffer, of the remainder's
+abbrev pub Divide : Type 0
+Divide = ℕ × ℕ × Words × Words
+
+-- each is "followed by zeros to its buffer's end"; "each buffer lent for writing is zeroed" where it is refused
+abbrev pub divide-left : Words → Words → Result Parts → Option Divide
+divide-left quotients remainder (done d) = some (0, 0, padded (length quotients) (rows-of (d .0)), padded (length remainder) (rows-of (d .1)))
+divide-left quotients remainder (refused number place value) = some (number, place, zeros quotients, zeros remainder)
+divide-left quotients remainder unfinished = none
+
+-- 16
+abbrev pub divide-long? : Limits → Words → Words → Words → Bool
+divide-long? lim state quotients remainder =
+    leb (state-words lim) (length state) and leb (out-words lim) (length quotients) and leb (work-words lim division) (length remainder)
+
+-- dividing a lent vector, as many terms as its buffer has whole rows, by the elements of a state (A12): it writes nothing but quotients and remainder.
+-- "Order 16 .., 11", then 23 with the row as its place, then 13 and 14
+abbrev pub divide-call : Limits → ℕ → Words → Words → Words → Words → Option Divide
+divide-call lim n state vector quotients remainder =
+    choose (not (divide-long? lim state quotients remainder)) (some (16, 0, quotients, remainder))
+    (choose (not (sound? lim (meant lim state))) (some (11, 0, quotients, remainder))
+    (divide-left quotients remainder (lent-divided lim n (meant lim state) (rows vector 0 (length vector / row-length)))))
 
 -- ## Lists of calls
 

@@ -29,4 +29,6 @@ pub mod Hilbert
 pub mod Standard
 pub mod Rank
 pub mod Minimal
+pub mod After
+pub mod Membership
 pub mod Layout

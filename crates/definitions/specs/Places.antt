@@ -301,3 +301,65 @@ matrix-length = 16_384
 -- a mark for each generator of eleven columns
 abbrev pub marks-length : ℕ
 marks-length = 1_408
+
+-- ## Table and sweeps
+
+-- the nodes of the large table at the most, one fewer than a vector may have terms; those of the small one
+abbrev pub most-nodes : ℕ
+most-nodes = 511
+
+abbrev pub few-nodes : ℕ
+few-nodes = 128
+
+-- edges for each node that there is room for
+abbrev pub node-edges : ℕ
+node-edges = 32
+
+-- the words of a table: two rows for each node; two words for each edge, so many for each node; a word for each place
+abbrev pub nodes-length : ℕ
+nodes-length = 6_132
+
+abbrev pub few-nodes-length : ℕ
+few-nodes-length = 1_536
+
+abbrev pub edges-length : ℕ
+edges-length = 32_704
+
+abbrev pub few-edges-length : ℕ
+few-edges-length = 8_192
+
+-- two words for each node's span of edges, and behind them, from here on, two for each frame term's
+abbrev pub roots-start : ℕ
+roots-start = 1_024
+
+abbrev pub table-spans-length : ℕ
+table-spans-length = 1_280
+
+-- where nodes are looked for first
+abbrev pub slots-length : ℕ
+slots-length = 2_048
+
+-- three numbers for each node by which they are sorted; then their first words are the sums of a sweep
+abbrev pub keys-length : ℕ
+keys-length = 1_533
+
+abbrev pub few-keys-length : ℕ
+few-keys-length = 384
+
+-- ## Membership (A12)
+
+-- a V line at the most, where it has the shape: ten numbers of five digits
+abbrev pub v-line-length : ℕ
+v-line-length = 62
+
+-- what the program reads of its input: a file, 512 V lines and a byte more. No byte behind them changes what is printed
+abbrev pub brought-length : ℕ
+brought-length = 97_281
+
+-- the M line
+abbrev pub m-line-length : ℕ
+m-line-length = 4
+
+-- all lines: one for each term of the quotients and of the remainder, and the M line. A refusal's lines are no longer
+abbrev pub member-length : ℕ
+member-length = 63_492

@@ -147,17 +147,12 @@ module _ (Z : Setting) (lim : Limits) where
       go (inl l) = l
       go (inr e) = absurd (n .0 (sym e))
 
-  -- the picked term leads the value
-  pub greatest-leads : (g : TVec (Z .n)) → Sum Z lim (InValue Z lim) g → (i : ℕ) → greatest order (vec (Z .n) g) ≡ some i
-      → (c : ℕ) (x : Mono (Z .n)) → getD (vec (Z .n) g) i no-term ≡ term (Z .n) (c, x) → Lead (S Z) (L Z) g x
-  greatest-leads [] s i e c x is = absurd (Option·none-ne-some i e)
-  greatest-leads (t ∷ g) s i e c x is = subst (Lead (S Z) (L Z) (t ∷ g)) (sym (same-x (k .c) (k .x) (k .is))) (record {
-    coef = k .c;
-    rest = k .kept;
-    nonzero = k .good .0;
-    smaller = strictly (k .x) (k .kept) (subst (λ y. All (S Z) (AtMost y) (k .kept)) top-is (k .sub (AtMost (r .x)) (r .over, r .top) .1)) (k .alone);
-    split = k .split;
-  })
+  -- the picked term stands over all others of the value
+  pub greatest-over : (g : TVec (Z .n)) → Sum Z lim (InValue Z lim) g → (i : ℕ) → greatest order (vec (Z .n) g) ≡ some i → (k : Taken Z lim g i)
+      → All (S Z) (λ (y : Mono (Z .n)). L Z .Lt y (k .x)) (k .kept)
+  greatest-over [] s i e k = absurd (Option·none-ne-some i e)
+  greatest-over (t ∷ g) s i e k =
+      strictly (k .x) (k .kept) (subst (λ y. All (S Z) (AtMost y) (k .kept)) top-is (k .sub (AtMost (r .x)) (r .over, r .top) .1)) (k .alone)
     where
       w : Vector
       w = vec (Z .n) (t ∷ g)
@@ -172,17 +167,31 @@ module _ (Z : Setting) (lim : Limits) where
       r = top-from w 1 0 (t .0) (t .1) refl (s .ok .0 .0) g (Vec.all-map (S Z) (InValue Z lim) (Has (Z .n) (Z .b)) (λ y h. h .0) g (s .ok .1))
           (λ m l. let q : 1 + m ≡ suc m = omega arith in ap (λ z. getD w z no-term) q ∙ vec-at g m l (0, t .1))
 
+      top-is : r .x ≡ k .x
+      top-is = mono-injective (Z .n) (r .x) (k .x) (ap (λ (z : Term). z .1) (sym (ap (λ z. getD w z no-term) (sym number) ∙ r .is) ∙ k .is))
+
+  -- .. and leads it
+  pub greatest-leads : (g : TVec (Z .n)) → Sum Z lim (InValue Z lim) g → (i : ℕ) → greatest order (vec (Z .n) g) ≡ some i
+      → (c : ℕ) (x : Mono (Z .n)) → getD (vec (Z .n) g) i no-term ≡ term (Z .n) (c, x) → Lead (S Z) (L Z) g x
+  greatest-leads [] s i e c x is = absurd (Option·none-ne-some i e)
+  greatest-leads (t ∷ g) s i e c x is = subst (Lead (S Z) (L Z) (t ∷ g)) (sym same-x) (record {
+    coef = k .c;
+    rest = k .kept;
+    nonzero = k .good .0;
+    smaller = greatest-over (t ∷ g) s i e k;
+    split = k .split;
+  })
+    where
       inside : i < length (t ∷ g)
       inside =
-          let h : j < 1 + length (vec (Z .n) g) = greatest-inside order 1 (0, mono (Z .n) (t .1)) (vec (Z .n) g) (omega arith) in omega
-          (arith, number, vec-length (Z .n) g)
+          let j : greatest-from order 1 (0, mono (Z .n) (t .1)) (vec (Z .n) g) ≡ i = some-is e in
+          let h : greatest-from order 1 (0, mono (Z .n) (t .1)) (vec (Z .n) g) < 1 + length (vec (Z .n) g) = greatest-inside order 1 (0, mono (Z .n) (t .1))
+          (vec (Z .n) g) (omega arith) in
+          omega (arith, j, vec-length (Z .n) g)
 
       k : Taken Z lim (t ∷ g) i
       k = taken Z lim (t ∷ g) i inside s
 
       -- whatever stands at place i stands there
-      same-x : (d : ℕ) (y : Mono (Z .n)) → getD w i no-term ≡ term (Z .n) (d, y) → x ≡ y
-      same-x d y h = mono-injective (Z .n) x y (ap (λ (z : Term). z .1) (sym is ∙ h))
-
-      top-is : r .x ≡ k .x
-      top-is = sym (same-x (r .c) (r .x) (ap (λ z. getD w z no-term) (sym number) ∙ r .is)) ∙ same-x (k .c) (k .x) (k .is)
+      same-x : x ≡ k .x
+      same-x = mono-injective (Z .n) x (k .x) (ap (λ (z : Term). z .1) (sym is ∙ k .is))

@@ -57,7 +57,7 @@ combined-length p t (u ∷ v) = go (same-monomial? (t .1) (u .1)) (combined-leng
     go true h = holds (unless-zero-length (plus p (u .0) (t .0), u .1) v)
     go false h = later h
 
-store-short : {R : ℕ → Vector → Type 0} → R 14 [] → (limit p : ℕ) (t : Term) (v : Vector) → length v ≤ limit
+pub store-short : {R : ℕ → Vector → Type 0} → R 14 [] → (limit p : ℕ) (t : Term) (v : Vector) → length v ≤ limit
     → Ends (λ w. length w ≤ limit) R (store limit p t v)
 store-short {R} r limit p t v l = go (combined-length p t v)
   where
@@ -90,7 +90,7 @@ module _ (order : Monomial → Monomial → Comparison) (p : ℕ) where
   inserted-length w [] = omega arith
   inserted-length w (t ∷ v) = omega (arith, insert-length t w, inserted-length (insert order p t w) v)
 
-  descending-length : (v : Vector) → length (descending order p v) ≤ length v
+  pub descending-length : (v : Vector) → length (descending order p v) ≤ length v
   descending-length v = omega (arith, inserted-length [] v)
 
 -- ## Runs

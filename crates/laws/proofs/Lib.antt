@@ -9,6 +9,7 @@ pub mod RoundTrip
 pub mod Degrees
 pub mod Heights
 pub mod Numbers
+pub mod Digits
 pub mod Refusals
 pub mod Comparisons
 pub mod Products

@@ -19,7 +19,7 @@ ghost use Rattle.level.specs.all_levels.Level.{
   Lifted-next,
   Reached,
 };
-ghost use Rattle.definitions.specs.Places.{row-length, value-length};
+ghost use Rattle.definitions.specs.Places.{row-length, value-length, lifted-length};
 use crate::by_runs;
 use crate::by_runs::Leveled;
 use crate::storing;
@@ -48,15 +48,21 @@ pub fn store(state: &mut [u16], k: usize, x: Leveled, out: &[u16]) -> u16
     }
 }
 
-// Level k by division or hybrid, with room for so many terms in a working value.
-pub fn lift_level(state: &mut [u16], work: &mut [u16], k: usize, w: Strategy, working: usize) -> u16
-    requires { ⌜ Liftable (now state) k × (working * row-length ≤ length (now work)) × Chosen w working ⌝ }
+// Level k by division or hybrid, with room for so many terms in a working value; out is for the level while it is made.
+pub fn lift_level(
+    state: &mut [u16],
+    work: &mut [u16],
+    out: &mut [u16],
+    k: usize,
+    w: Strategy,
+    working: usize,
+) -> u16
+    requires { ⌜ Liftable (now state) k × (working * row-length ≤ length (now work)) × Chosen w working × (lifted-length ≤ length (now out)) ⌝ }
     ensures { λ r. ⌜ Lifted-by (now (state .entry)) k (way-by w working) r (now (state .exit)) ⌝ }
 {
-    let mut out = [0u16; words::LIFTED_LENGTH];
     let b = by_runs::with_working(working);
-    let x = by_runs::lift_level(&mut out, work, state, k - 1, w, b);
-    store(state, k, x, &out)
+    let x = by_runs::lift_level(out, work, state, k - 1, w, b);
+    store(state, k, x, out)
 }
 
 // The same without zeroing: unused places stay as they are.

@@ -2,8 +2,9 @@
 // Knows: crate definitions' Lifting over a state's words, within limits that may be smaller than document 01's.
 // Tables and frame are arrays of these functions' own frames, made once a call.
 ghost use mathlib.Core.Path.{_≡_};
-ghost use Prim.Native.Nat.{ℕ, _*_, _≤_};
-ghost use lib.ListN.{length};
+ghost use mathlib.Core.Bool.{false};
+ghost use Prim.Native.Nat.{ℕ, _+_, _*_, _≤_};
+ghost use lib.ListN.{length, drop};
 ghost use Rattle.definitions.specs.Monomial.{Vector};
 ghost use Rattle.definitions.specs.Lifting.{accept-from};
 ghost use Rattle.definitions.specs.Layout.{Words, rows, rows-of, padded};
@@ -25,13 +26,13 @@ ghost use Rattle.level.specs.by_runs.Stages.{
   lift-over,
   leveled-of,
   Stored-as,
+  accepted-behind,
   accepted-over,
   accepted-with,
   Shown,
   Left-in,
   value-in,
 };
-use runs::frame_terms;
 use runs::frame_terms::Accepted;
 use runs::frame_terms::Lifted;
 use runs::reduction;
@@ -40,6 +41,7 @@ use runs::run::Strategy;
 use state::preparing;
 use state::soundness;
 use state::writing;
+use sweeping::lifting;
 use vectors::sums::Stored;
 use vectors::terms;
 
@@ -148,13 +150,13 @@ fn lift_frame(
     b: Bounds,
 ) -> Lifted
     requires { ⌜ Base (now state) j × Tables-at (now state) j (now tables) × Framed-by (now state) j count (now frame)
-        × (lifted-length ≤ length (now out)) × (b .working * row-length ≤ length (now work)) × Within b ⌝ }
+        × (lifted-length ≤ length (now out)) × (b .working * row-length ≤ length (now work)) × Within b × (w .stops ≡ false) ⌝ }
     ensures { λ x. ⌜ lifted-over b (now (state .entry)) j w count (now (frame .entry)) x (now (out .exit)) ⌝ }
 {
     let mut vector = [0u16; words::VECTOR_LENGTH];
     let g = ground_of(state, j, b);
     let start = words::ROWS_START + j * words::LEVEL_LENGTH;
-    frame_terms::lift_all(
+    lifting::lift_all(
         out,
         work,
         &mut vector,
@@ -178,7 +180,7 @@ fn lift_with(
     b: Bounds,
 ) -> Leveled
     requires { ⌜ Base (now state) j × Tables-at (now state) j (now tables) × (lifted-length ≤ length (now out)) × (b .working * row-length ≤ length (now work))
-        × Within b ⌝ }
+        × Within b × (w .stops ≡ false) ⌝ }
     ensures { λ x. ⌜ ((n : ℕ) × (v : Words) × (leveled-of x (now (out .exit)) v ≡ lift-over b (now (state .entry)) j w n))
         × Stored-as x (now (out .exit)) ⌝ }
 {
@@ -196,7 +198,7 @@ fn lift_with(
     }
 }
 
-// The level over level j by division or hybrid.
+// The level over level j by division or hybrid, which do not stop at a value without a reducer.
 pub fn lift_level(
     out: &mut [u16],
     work: &mut [u16],
@@ -205,7 +207,8 @@ pub fn lift_level(
     w: Strategy,
     b: Bounds,
 ) -> Leveled
-    requires { ⌜ Base (now state) j × (lifted-length ≤ length (now out)) × (b .working * row-length ≤ length (now work)) × Within b ⌝ }
+    requires { ⌜ Base (now state) j × (lifted-length ≤ length (now out)) × (b .working * row-length ≤ length (now work)) × Within b
+        × (w .stops ≡ false) ⌝ }
     ensures { λ x. ⌜ ((n : ℕ) × (v : Words) × (leveled-of x (now (out .exit)) v ≡ lift-over b (now (state .entry)) j w n))
         × Stored-as x (now (out .exit)) ⌝ }
 {
@@ -215,7 +218,7 @@ pub fn lift_level(
 }
 
 // Rows of another slice in front, zeros after them.
-fn show(work: &mut [u16], vector: &[u16], n: usize)
+pub fn show(work: &mut [u16], vector: &[u16], n: usize)
     requires { ⌜ (n * row-length ≤ length (now vector)) × (n * row-length ≤ length (now work)) ⌝ }
     ensures { λ _. ⌜ now (work .exit) ≡ padded (length (now (work .entry))) (rows-of (rows (now (vector .entry)) 0 n)) ⌝ }
 {
@@ -238,25 +241,27 @@ fn settle(work: &mut [u16], vector: &[u16], x: Accepted) -> Accepted
     }
 }
 
-// Division of all frame terms over level 0.
+// Division of the frame terms over level 0 behind the first `from`.
 fn accept_frame(
     work: &mut [u16],
     state: &[u16],
     frame: &[u16],
+    from: usize,
     count: usize,
     tables: &[u16],
 ) -> Accepted
     requires { ⌜ Base (now state) 0 × Tables-at (now state) 0 (now tables) × Framed-by (now state) 0 count (now frame)
         × (value-length ≤ length (now work)) ⌝ }
-    ensures { λ x. ⌜ ((n : ℕ) × (v : Vector) × (accepted-with x v ≡ accept-from (stage-at usual (now (state .entry)) 0) n 1
-        (frame-terms (now (frame .entry)) count)) × Shown x v (now (work .exit))) ⌝ }
+    ensures { λ x. ⌜ ((n : ℕ) × (v : Vector) × (accepted-with x v ≡ accept-from (stage-at usual (now (state .entry)) 0) n (from + 1)
+        (drop from (frame-terms (now (frame .entry)) count))) × Shown x v (now (work .exit))) ⌝ }
 {
     let mut vector = [0u16; words::VECTOR_LENGTH];
     let g = ground_of(state, 0, usual());
-    let x = frame_terms::accept_all(
+    let x = lifting::accept_all(
         work,
         &mut vector,
         frame,
+        from,
         count,
         &state[words::ROWS_START..],
         tables,
@@ -266,9 +271,9 @@ fn accept_frame(
 }
 
 // The frame over level 0, then the division of its terms.
-fn accept_with(work: &mut [u16], state: &[u16], tables: &[u16]) -> Accepted
+fn accept_with(work: &mut [u16], state: &[u16], from: usize, tables: &[u16]) -> Accepted
     requires { ⌜ Base (now state) 0 × Tables-at (now state) 0 (now tables) × (value-length ≤ length (now work)) ⌝ }
-    ensures { λ x. ⌜ ((n : ℕ) × (v : Vector) × (accepted-with x v ≡ accepted-over (now (state .entry)) n) × Shown x v (now (work .exit))) ⌝ }
+    ensures { λ x. ⌜ ((n : ℕ) × (v : Vector) × (accepted-with x v ≡ accepted-behind (now (state .entry)) from n) × Shown x v (now (work .exit))) ⌝ }
 {
     let mut framed = [0u16; words::HEADS_LENGTH];
     let mut gens = [0u16; words::HEADS_LENGTH];
@@ -276,8 +281,18 @@ fn accept_with(work: &mut [u16], state: &[u16], tables: &[u16]) -> Accepted
     // numbered by code 1, the lexicographic order, whatever the file's (A10)
     match frame::form(&mut framed, words::MOST_VECTORS, &mut gens, tables, r, 1) {
         Stored::Full => Accepted::Refused(15, 0),
-        Stored::Rows(n) => accept_frame(work, state, &framed, n, tables),
+        Stored::Rows(n) => accept_frame(work, state, &framed, from, n, tables),
     }
+}
+
+// Acceptance of level 0 by division, where the first `from` frame terms are known to divide to zero.
+pub fn accept_behind(work: &mut [u16], state: &[u16], from: usize) -> Accepted
+    requires { ⌜ Base (now state) 0 × (value-length ≤ length (now work)) ⌝ }
+    ensures { λ x. ⌜ ((n : ℕ) × (v : Vector) × (accepted-with x v ≡ accepted-behind (now (state .entry)) from n) × Shown x v (now (work .exit))) ⌝ }
+{
+    let mut tables = [0u16; words::TABLES_LENGTH];
+    make_tables(&mut tables, state, 0);
+    accept_with(work, state, from, &tables)
 }
 
 // Acceptance of level 0 by division.
@@ -285,7 +300,5 @@ pub fn accept_level(work: &mut [u16], state: &[u16]) -> Accepted
     requires { ⌜ Base (now state) 0 × (value-length ≤ length (now work)) ⌝ }
     ensures { λ x. ⌜ ((n : ℕ) × (v : Vector) × (accepted-with x v ≡ accepted-over (now (state .entry)) n) × Shown x v (now (work .exit))) ⌝ }
 {
-    let mut tables = [0u16; words::TABLES_LENGTH];
-    make_tables(&mut tables, state, 0);
-    accept_with(work, state, &tables)
+    accept_behind(work, state, 0)
 }

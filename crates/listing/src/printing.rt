@@ -5,7 +5,7 @@ ghost use mathlib.Core.List.{[], _∷_};
 ghost use Prim.Native.Nat.{_+_, _-_, _*_, _≤_, _<_};
 ghost use lib.ListN.{length, take};
 ghost use Rattle.definitions.specs.Problem.{comma};
-ghost use Rattle.definitions.specs.Sheet.{decimal, printed, term-fields, letter-S, letter-W, s-lines, vector-lines, level-lines, w-lines};
+ghost use Rattle.definitions.specs.Sheet.{decimal, printed, term-fields, letter-S, s-lines, vector-lines, level-lines, w-lines};
 ghost use Rattle.definitions.specs.Layout.{rows};
 ghost use Rattle.definitions.specs.Places.{
   most-vectors,
@@ -19,7 +19,7 @@ ghost use Rattle.definitions.specs.Places.{
 ghost use Rattle.vectors.specs.terms.Rows.{term-of};
 ghost use Rattle.reducers.specs.tables.Cuts.{Cut, cut-level};
 ghost use Rattle.pages.specs.bytes.Printing.{Printed};
-ghost use Rattle.listing.specs.printing.Lines.{listed, Short};
+ghost use Rattle.listing.specs.printing.Lines.{listed, term-lines, Short};
 use pages::bytes;
 use vectors::terms;
 use vectors::terms::Term;
@@ -81,12 +81,12 @@ fn s_line(out: &mut [u8], at: usize, t: Term, n: usize, k: u16, v: u16) -> usize
     bytes::byte(out, d, 10)
 }
 
-// `W,coefficient,component,e1,..,en`
-fn w_line(out: &mut [u8], at: usize, t: Term, n: usize) -> usize
+// A letter and a term: `W,coefficient,component,e1,..,en`
+fn term_line(out: &mut [u8], at: usize, letter: u8, t: Term, n: usize) -> usize
     requires { ⌜ (n ≤ 8) × (at + w-line-length ≤ length (now out)) ⌝ }
-    ensures { λ r. ⌜ Printed (now (out .entry)) (now (out .exit)) at r (printed letter-W (term-fields n (term-of t))) × (r ≤ at + w-line-length) ⌝ }
+    ensures { λ r. ⌜ Printed (now (out .entry)) (now (out .exit)) at r (printed letter (term-fields n (term-of t))) × (r ≤ at + w-line-length) ⌝ }
 {
-    let a = bytes::byte(out, at, 87);
+    let a = bytes::byte(out, at, letter);
     let b = term(out, a, t, n);
     bytes::byte(out, b, 10)
 }
@@ -175,17 +175,26 @@ pub fn level_lines(
     pair_line(out, a, 90, k, count)
 }
 
-// "After X,9 the value follows": the lines of the first m rows.
-pub fn w_lines(out: &mut [u8], at: usize, s: &[u16], m: usize, n: usize) -> usize
+// The lines of the first m rows, with this letter.
+pub fn term_lines(out: &mut [u8], at: usize, letter: u8, s: &[u16], m: usize, n: usize) -> usize
     requires { ⌜ (n ≤ 8) × (m * row-length ≤ length (now s)) × (at + m * w-line-length ≤ length (now out)) ⌝ }
-    ensures { λ r. ⌜ Printed (now (out .entry)) (now (out .exit)) at r (w-lines n (rows (now (s .entry)) 0 m)) × (r ≤ at + m * w-line-length) ⌝ }
+    ensures { λ r. ⌜ Printed (now (out .entry)) (now (out .exit)) at r (term-lines letter n (rows (now (s .entry)) 0 m))
+        × (r ≤ at + m * w-line-length) ⌝ }
 {
     let mut a = at;
     let mut i = 0;
     while i < m {
         let t = terms::row(s, i);
-        a = w_line(out, a, t, n);
+        a = term_line(out, a, letter, t, n);
         i += 1;
     }
     a
+}
+
+// "After X,9 the value follows": the lines of the first m rows.
+pub fn w_lines(out: &mut [u8], at: usize, s: &[u16], m: usize, n: usize) -> usize
+    requires { ⌜ (n ≤ 8) × (m * row-length ≤ length (now s)) × (at + m * w-line-length ≤ length (now out)) ⌝ }
+    ensures { λ r. ⌜ Printed (now (out .entry)) (now (out .exit)) at r (w-lines n (rows (now (s .entry)) 0 m)) × (r ≤ at + m * w-line-length) ⌝ }
+{
+    term_lines(out, at, 87, s, m, n)
 }

@@ -1,6 +1,7 @@
 // The calls that print the requests' pages of a file, for every file.
-// Exists for: `betti`, `minimal`, `bidegrees`, `hilbert`.
-// Knows: crate definitions' Betti, Minimal, Bidegrees and Hilbert; module whole of betti_page, minimal_page, bidegree_page and hilbert_page prints them.
+// Exists for: `betti`, `minimal`, `bidegrees`, `hilbert`, `member`.
+// Knows: crate definitions' Betti, Minimal, Bidegrees, Hilbert and Membership; module whole of betti_page, minimal_page, bidegree_page, hilbert_page and
+// member_page prints them.
 // What they test first and leave at their end is crate lending's.
 ghost use mathlib.Core.Path.{_≡_};
 ghost use Prim.Native.Nat.{ℕ};
@@ -9,7 +10,8 @@ ghost use Rattle.definitions.specs.Betti.{betti as betti-definition};
 ghost use Rattle.definitions.specs.Minimal.{minimal as minimal-definition};
 ghost use Rattle.definitions.specs.Bidegrees.{bidegrees as bidegrees-definition};
 ghost use Rattle.definitions.specs.Hilbert.{hilbert as hilbert-definition};
-ghost use Rattle.definitions.specs.Places.{page-length, bidegrees-length, hilbert-length};
+ghost use Rattle.definitions.specs.Membership.{membership};
+ghost use Rattle.definitions.specs.Places.{page-length, bidegrees-length, hilbert-length, member-length};
 ghost use Rattle.lending.specs.Called.{told, called};
 use lending::Answer;
 
@@ -58,6 +60,19 @@ pub fn hilbert(file: &[u8], state: &mut [u16], work: &mut [u16], out: &mut [u8])
     if lending::long_enough(state.len(), work.len(), out.len(), words::HILBERT_LENGTH) {
         let many = hilbert_page::whole::print(file, state, work, out);
         return lending::finish(state, work, out, many);
+    }
+    lending::too_short()
+}
+
+// A12: "It prints `C,coefficient,element,e1,..,en` for each quotient term .. then the remainder as W lines, then `M,1` or `M,0`.": likewise, of a file and the
+// V lines after it.
+pub fn member(input: &[u8], state: &mut [u16], work: &mut [u16], out: &mut [u8]) -> Answer
+    ensures { λ r. ⌜ ((n : ℕ) × (told r (now (state .exit)) (now (work .exit)) (now (out .exit)) ≡ called member-length (membership document-01) n
+        (now (input .entry)) (now (state .entry)) (now (work .entry)) (now (out .entry)))) ⌝ }
+{
+    if lending::long_enough(state.len(), work.len(), out.len(), words::MEMBER_LENGTH) {
+        let long = member_page::whole::print(input, state, work, out);
+        return lending::finish(state, work, out, long);
     }
     lending::too_short()
 }

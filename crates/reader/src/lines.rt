@@ -342,7 +342,7 @@ fn fits(e: [u16; words::EXPONENTS_LENGTH]) -> bool
     mark == 0
 }
 
-fn term_in_range(q: Parameters, w: [u16; 16]) -> bool
+pub fn term_in_range(q: Parameters, w: [u16; 16]) -> bool
     ensures { λ r. ⌜ r ≡ term-in-range? document-01 (parameters-of q) (term-in w) ⌝ }
 {
     let c = w[1];
@@ -361,7 +361,7 @@ fn term_in_range(q: Parameters, w: [u16; 16]) -> bool
 }
 
 // The term before is the greater one.
-fn above(code: u16, before: [u16; 16], w: [u16; 16]) -> bool
+pub fn above(code: u16, before: [u16; 16], w: [u16; 16]) -> bool
     ensures { λ r. ⌜ r ≡ above? code before w ⌝ }
 {
     let d = orders::by_code(code, exponents(before), exponents(w));

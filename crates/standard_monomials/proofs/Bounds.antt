@@ -29,7 +29,7 @@ use Rattle.lengths.proofs.Rising.{some-variable}
 use Rattle.standard_monomials.specs.Table.{most-monomials}
 use Rattle.standard_monomials.specs.Hilbert.{sum-bound}
 use Rattle.standard_monomials.proofs.Triangle.{table-right}
-use Rattle.standard_monomials.proofs.Digits.{field-few}
+use Rattle.laws.proofs.Digits.{field-few}
 
 -- ## Sums
 

@@ -10,7 +10,6 @@ pub mod Alternating
 pub mod Levels
 pub mod Standard
 pub mod Sums
-pub mod Digits
 pub mod Bounds
 pub mod Values
 pub mod Ends

@@ -104,7 +104,7 @@ fn less_one(p: u16) -> u16
     p - 1
 }
 
-fn row_bounds(p: u16, n: u16, components: u16) -> Bounds
+pub fn row_bounds(p: u16, n: u16, components: u16) -> Bounds
     ensures { λ b. ⌜ b ≡ bounds-of p n components ⌝ }
 {
     let top = less_one(p);
@@ -116,7 +116,7 @@ fn row_bounds(p: u16, n: u16, components: u16) -> Bounds
     }
 }
 
-fn row_holds(level: &[u16], i: usize, b: Bounds) -> bool
+pub fn row_holds(level: &[u16], i: usize, b: Bounds) -> bool
     requires { ⌜ i * row-length + row-length ≤ length (now level) ⌝ }
     ensures { λ r. ⌜ r ≡ row-holds? b (now (level .entry)) i ⌝ }
 {

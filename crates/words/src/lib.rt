@@ -78,6 +78,22 @@ ghost use Rattle.definitions.specs.Places.{
   matrix-length,
   marks-length,
   least-terms,
+  most-nodes,
+  few-nodes,
+  node-edges,
+  nodes-length,
+  few-nodes-length,
+  edges-length,
+  few-edges-length,
+  roots-start,
+  table-spans-length,
+  slots-length,
+  keys-length,
+  few-keys-length,
+  v-line-length,
+  brought-length,
+  m-line-length,
+  member-length,
 };
 ghost use Rattle.words.specs.Slices.{Sixteen-bits};
 
@@ -241,9 +257,45 @@ pub const MATRIX_LENGTH: usize = MOST_VECTORS * MOST_VECTORS;
 
 pub const MARKS_LENGTH: usize = PAGE_COLUMNS * MOST_VECTORS;
 
+// ## Table and sweeps
+
+pub const MOST_NODES: usize = MOST_TERMS - 1;
+
+pub const FEW_NODES: usize = 128;
+
+pub const NODE_EDGES: usize = 32;
+
+pub const NODES_LENGTH: usize = MOST_NODES * 2 * ROW_LENGTH;
+
+pub const FEW_NODES_LENGTH: usize = FEW_NODES * 2 * ROW_LENGTH;
+
+pub const EDGES_LENGTH: usize = MOST_NODES * NODE_EDGES * 2;
+
+pub const FEW_EDGES_LENGTH: usize = FEW_NODES * NODE_EDGES * 2;
+
+pub const ROOTS_START: usize = (MOST_NODES + 1) * 2;
+
+pub const TABLE_SPANS_LENGTH: usize = ROOTS_START + MOST_VECTORS * 2;
+
+pub const SLOTS_LENGTH: usize = 2048;
+
+pub const KEYS_LENGTH: usize = MOST_NODES * 3;
+
+pub const FEW_KEYS_LENGTH: usize = FEW_NODES * 3;
+
+// ## Membership
+
+pub const V_LINE_LENGTH: usize = 62;
+
+pub const BROUGHT_LENGTH: usize = READ_LENGTH + MOST_TERMS * V_LINE_LENGTH;
+
+pub const M_LINE_LENGTH: usize = 4;
+
+pub const MEMBER_LENGTH: usize = 2 * MOST_TERMS * W_LINE_LENGTH + M_LINE_LENGTH;
+
 // ## Held to the definitions
 
-pub fn numbers() -> [usize; 62]
+pub fn numbers() -> [usize; 78]
     ensures { λ r. ⌜ r ≡ exponents-length ∷ most-vectors ∷ most-rows ∷ most-terms ∷ most-tree-terms ∷ most-levels ∷ all-levels ∷ component-offset
         ∷ exponents-offset ∷ rank-offset ∷ packed-length ∷ row-length ∷ image-length ∷ header-length ∷ counts-length ∷ ends-start ∷ rows-start ∷ level-length ∷
         degrees-start ∷ most-components ∷ carried-start ∷ state-length
@@ -251,7 +303,9 @@ pub fn numbers() -> [usize; 62]
         ∷ tables-above ∷ tables-length ∷ lifted-length ∷ grown-length ∷ file-length ∷ read-length ∷ s-line-length ∷ w-line-length ∷ pair-line-length
         ∷ s-lines-length ∷ level-lines-length ∷ all-lines-length ∷ sheet-length ∷ cell-length ∷ page-columns ∷ row-shift ∷ page-line-length ∷ page-rows
         ∷ page-length ∷ weights-length ∷ b-line-length ∷ bidegrees-length ∷ hilbert-degrees ∷ triangle-rows ∷ triangle-length ∷ h-line-length
-        ∷ hilbert-length ∷ matrix-length ∷ marks-length ∷ least-terms ∷ [] ⌝ }
+        ∷ hilbert-length ∷ matrix-length ∷ marks-length ∷ least-terms ∷ most-nodes ∷ few-nodes ∷ node-edges ∷ nodes-length ∷ few-nodes-length ∷ edges-length
+        ∷ few-edges-length ∷ roots-start ∷ table-spans-length ∷ slots-length ∷ keys-length ∷ few-keys-length
+        ∷ v-line-length ∷ brought-length ∷ m-line-length ∷ member-length ∷ [] ⌝ }
 {
     [
         EXPONENTS_LENGTH,
@@ -316,6 +370,22 @@ pub fn numbers() -> [usize; 62]
         MATRIX_LENGTH,
         MARKS_LENGTH,
         LEAST_TERMS,
+        MOST_NODES,
+        FEW_NODES,
+        NODE_EDGES,
+        NODES_LENGTH,
+        FEW_NODES_LENGTH,
+        EDGES_LENGTH,
+        FEW_EDGES_LENGTH,
+        ROOTS_START,
+        TABLE_SPANS_LENGTH,
+        SLOTS_LENGTH,
+        KEYS_LENGTH,
+        FEW_KEYS_LENGTH,
+        V_LINE_LENGTH,
+        BROUGHT_LENGTH,
+        M_LINE_LENGTH,
+        MEMBER_LENGTH,
     ]
 }
 

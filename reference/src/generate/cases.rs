@@ -2,20 +2,27 @@
 
 use crate::betti::page;
 use crate::bidegrees::bidegrees;
+use crate::completing::complete;
 use crate::generate::bigraded::{bidegree_file, bigraded_file, bimixed_file, bistopped_file};
 use crate::generate::files::{damaged_file, limit_file, plain_file};
+use crate::generate::generators::{generator_file, incomplete_file};
+use crate::generate::logs::{log_input, recorded_input};
 use crate::generate::low::{hilbert_file, low_file};
 use crate::generate::pages::{graded_file, mixed_file, page_file, stopped_file};
 use crate::generate::problems::{problem_file, random_basis, Size};
 use crate::generate::redundant::{minimal_file, redundant_file};
 use crate::generate::scripts::{random_script, with_small_limits, Reach};
+use crate::generate::slow::slow_file;
+use crate::generate::vectors::{divided_input, vector_input};
 use crate::generate::weight_lines::weighted_file;
 use crate::hilbert::hilbert;
 use crate::limits::Limits;
+use crate::membership::membership;
 use crate::minimal::minimal;
 use crate::random::Random;
+use crate::replay::replay;
 use crate::script::{Run, Script};
-use crate::sheet::sheet;
+use crate::sheet::{sheet, tree_sheet};
 
 /// The kinds of problem files.
 pub const FILE_KINDS: [&str; 5] = ["small", "bases", "damaged", "limits", "weighted"];
@@ -31,6 +38,18 @@ pub const HILBERT_KINDS: [&str; 2] = ["low", "hilbert"];
 
 /// The kinds of problem files for minimal Betti numbers.
 pub const MINIMAL_KINDS: [&str; 2] = ["redundant", "minimal"];
+
+/// The kinds of problem files for completing.
+pub const GENERATOR_KINDS: [&str; 2] = ["incomplete", "generators"];
+
+/// The kinds of problem files with V lines behind them.
+pub const VECTOR_KINDS: [&str; 2] = ["divided", "vectors"];
+
+/// The kinds of problem files with recorded picks behind them.
+pub const LOG_KINDS: [&str; 2] = ["recorded", "logs"];
+
+/// The kind of problem files that take very many steps by pick code 2.
+pub const SLOW_KIND: &str = "slow";
 
 /// Products that the sheet of a generated file may take.
 pub const SHEET_PRODUCTS: u64 = 300_000;
@@ -145,6 +164,74 @@ pub fn minimal_case(kind: &str, seed: u64, case: u64) -> Option<(Vec<u8>, Vec<u8
         };
         return Some((file, page));
     }
+}
+
+/// The problem file of a kind for completing for a case of a seed, and what is printed; `None` if
+/// there is no such kind.
+pub fn generator_case(kind: &str, seed: u64, case: u64) -> Option<(Vec<u8>, Vec<u8>)> {
+    let mut random = Random::for_case(seed, case);
+    loop {
+        let file = match kind {
+            "incomplete" => incomplete_file(&mut random),
+            "generators" => generator_file(&mut random),
+            _ => return None,
+        };
+        let (printed, _) = complete(&Limits::document_01(), &file, Some(SHEET_PRODUCTS));
+        let Some(printed) = printed else {
+            continue;
+        };
+        if kind != "incomplete" || (!printed.starts_with(b"X") && printed != file) {
+            return Some((file, printed));
+        }
+    }
+}
+
+/// The input of a kind with V lines for a case of a seed, and its lines; `None` if there is no such
+/// kind.
+pub fn vector_case(kind: &str, seed: u64, case: u64) -> Option<(Vec<u8>, Vec<u8>)> {
+    let mut random = Random::for_case(seed, case);
+    loop {
+        let input = match kind {
+            "divided" => divided_input(&mut random),
+            "vectors" => vector_input(&mut random),
+            _ => return None,
+        };
+        let (printed, _) = membership(&Limits::document_01(), &input, Some(SHEET_PRODUCTS));
+        let Some(lines) = printed else {
+            continue;
+        };
+        if kind != "divided" || !lines.starts_with(b"X") {
+            return Some((input, lines));
+        }
+    }
+}
+
+/// The input of a kind with recorded picks for a case of a seed, and what is printed; `None` if there
+/// is no such kind.
+pub fn log_case(kind: &str, seed: u64, case: u64) -> Option<(Vec<u8>, Vec<u8>)> {
+    let mut random = Random::for_case(seed, case);
+    loop {
+        let input = match kind {
+            "recorded" => recorded_input(&mut random),
+            "logs" => log_input(&mut random),
+            _ => return None,
+        };
+        let (printed, _) = replay(&Limits::document_01(), &input, Some(SHEET_PRODUCTS));
+        let Some(lines) = printed else {
+            continue;
+        };
+        if kind != "recorded" || !lines.starts_with(b"X") {
+            return Some((input, lines));
+        }
+    }
+}
+
+/// A slow file for a case of a seed, and its sheet, made by the tree.
+pub fn slow_case(seed: u64, case: u64) -> (Vec<u8>, Vec<u8>) {
+    let mut random = Random::for_case(seed, case);
+    let file = slow_file(&mut random);
+    let (sheet, _) = tree_sheet(&Limits::document_01(), &file, None);
+    (file, sheet.expect("there is no budget"))
 }
 
 fn lines(text: &[u8]) -> usize {

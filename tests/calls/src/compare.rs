@@ -1,11 +1,11 @@
 //! One call on two sets of buffers: number, place (or length) and every word of every buffer.
 
+use crate::divided::divide_call_within;
 use crate::proved;
 use common::buffers::{BIDEGREES, LEAST_WORK, MINIMAL, OUT, ROW, STATE, TREE_WORK, WORK};
 use common::report::{shown, NUMBERS};
 use reference::buffers::{
-    bidegrees_call_within, fetch_call, hilbert_call_within, lift_call_within, minimal_call_within,
-    read_call_within,
+    fetch_call, lift_call_within, read_call_within, BIDEGREES_CALL, HILBERT_CALL, MINIMAL_CALL,
 };
 use reference::lifting::Way;
 use reference::random::Random;
@@ -23,6 +23,9 @@ pub struct Buffers {
     pub work: Vec<u16>,
     pub cache: Vec<u16>,
     pub out: Vec<u16>,
+    /// what a division leaves
+    pub quotients: Vec<u16>,
+    pub remainder: Vec<u16>,
     /// out of a call that prints lines
     pub printed: Vec<u8>,
     /// out of a call that prints a page, which is long: no other call is lent it
@@ -36,6 +39,8 @@ impl Buffers {
             work: vec![0; TREE_WORK + MORE],
             cache: vec![0; CACHE + MORE],
             out: vec![0; OUT + MORE],
+            quotients: vec![0; OUT + MORE],
+            remainder: vec![0; OUT + MORE],
             printed: vec![0; BIDEGREES + MORE],
             page: vec![0; MINIMAL + MORE],
         }
@@ -151,22 +156,26 @@ pub enum Spoiled {
     Work,
     Cache,
     Out,
+    Quotients,
+    Remainder,
     Printed,
     Page,
 }
 
-pub const SPOILS: [(&str, Spoiled); 8] = [
+pub const SPOILS: [(&str, Spoiled); 10] = [
     ("number", Spoiled::Number),
     ("place", Spoiled::Place),
     ("state", Spoiled::State),
     ("work", Spoiled::Work),
     ("cache", Spoiled::Cache),
     ("out", Spoiled::Out),
+    ("quotients", Spoiled::Quotients),
+    ("remainder", Spoiled::Remainder),
     ("printed", Spoiled::Printed),
     ("page", Spoiled::Page),
 ];
 
-pub const KINDS: [&str; 9] = [
+pub const KINDS: [&str; 10] = [
     "read",
     "lift by division",
     "lift by hybrid",
@@ -176,6 +185,7 @@ pub const KINDS: [&str; 9] = [
     "bidegrees",
     "Hilbert function",
     "minimal numbers",
+    "divide",
 ];
 
 pub struct Compare {
@@ -189,6 +199,8 @@ pub struct Compare {
     pub left_out: u64,
     /// by kind and number
     pub met: [[u64; NUMBERS]; KINDS.len()],
+    /// divisions that finished: without a remainder, with one
+    pub divided: [u64; 2],
     /// calls that printed lines, no refusal: of bidegrees, of the Hilbert function, of minimal numbers
     pub lines: [u64; 3],
     pub spoil: Option<(u64, Spoiled)>,
@@ -207,6 +219,7 @@ impl Compare {
             calls: 0,
             left_out: 0,
             met: [[0; NUMBERS]; KINDS.len()],
+            divided: [0; 2],
             lines: [0; 3],
             spoil: None,
             rooms: Rooms::default(),
@@ -251,13 +264,13 @@ impl Compare {
                 Some(fetch_call(limits, state, level as u64, vector as u64, out))
             }
             Call::Bidegrees(file) => {
-                bidegrees_call_within(limits, file, state, work, printed, Some(budget))
+                BIDEGREES_CALL.make_within(limits, file, state, work, printed, Some(budget))
             }
             Call::Hilbert(file) => {
-                hilbert_call_within(limits, file, state, work, printed, Some(budget))
+                HILBERT_CALL.make_within(limits, file, state, work, printed, Some(budget))
             }
             Call::Minimal(file) => {
-                minimal_call_within(limits, file, state, work, page, Some(budget))
+                MINIMAL_CALL.make_within(limits, file, state, work, page, Some(budget))
             }
         };
         let Some(expected) = expected else {
@@ -296,6 +309,8 @@ impl Compare {
                     Spoiled::Work => self.ours.work[WORK - 1] ^= 1,
                     Spoiled::Cache => self.ours.cache[0] ^= 1,
                     Spoiled::Out => self.ours.out[OUT] ^= 1,
+                    // `divide` spoils them
+                    Spoiled::Quotients | Spoiled::Remainder => {}
                     Spoiled::Printed => self.ours.printed[BIDEGREES] ^= 1,
                     Spoiled::Page => self.ours.page[MINIMAL] ^= 1,
                 }
@@ -357,6 +372,59 @@ impl Compare {
                 narrow: finished.then(|| self.theirs.state.clone()),
             }));
         }
+        Some(expected.0)
+    }
+
+    /// Divides a vector over the state both ways, so many words of state, quotients and remainder being lent. It changes nothing of the state, and no list is
+    /// recorded with it.
+    pub fn divide(&mut self, vector: &[u16], lent: [usize; 3], budget: u64) -> Option<u64> {
+        let word = self.random.bits() as u16;
+        let at: [usize; 2] = std::array::from_fn(|_| self.random.below(OUT as u64) as usize);
+        self.both(|buffers| {
+            buffers.quotients[at[0]] = word;
+            buffers.remainder[at[1]] = word;
+        });
+        let theirs = &mut self.theirs;
+        let expected = divide_call_within(
+            &self.limits,
+            &theirs.state[..lent[0]],
+            vector,
+            &mut theirs.quotients[..lent[1]],
+            &mut theirs.remainder[..lent[2]],
+            budget,
+        );
+        let Some(expected) = expected else {
+            self.left_out += 1;
+            return None;
+        };
+        let ours = &mut self.ours;
+        let answer = proved::divide(
+            &ours.state[..lent[0]],
+            vector,
+            &mut ours.quotients[..lent[1]],
+            &mut ours.remainder[..lent[2]],
+        );
+        match self.spoil.filter(|(at, _)| self.calls >= *at) {
+            Some((_, Spoiled::Quotients)) => ours.quotients[OUT] ^= 1,
+            Some((_, Spoiled::Remainder)) => ours.remainder[0] ^= 1,
+            _ => {}
+        }
+        self.calls += 1;
+        let (ours, theirs) = (&self.ours, &self.theirs);
+        let same = ours.quotients == theirs.quotients && ours.remainder == theirs.remainder;
+        if answer != expected || !same || ours.state != theirs.state {
+            println!(
+                "call {}: a division, lent {lent:?} words: answered {answer:?}, expected {expected:?}",
+                self.calls
+            );
+            println!("vector {:?}", &vector[..vector.len().min(60)]);
+            println!("state from {:?}", &theirs.state[..6]);
+            std::process::exit(1);
+        }
+        if expected.0 == 0 {
+            self.divided[usize::from(theirs.remainder[0] != 0)] += 1;
+        }
+        self.met[KINDS.len() - 1][expected.0 as usize] += 1;
         Some(expected.0)
     }
 

@@ -2,14 +2,15 @@
 //!
 //!     test-calls [CALLS [SEED]]                                  at least so many calls (1,000,000 without it)
 //!     test-calls primes [FILES [SEED]]                           so many files over 65,521, 65,519 and 32,771 (50,000), every level and vector of each
-//!     test-calls spoil number|place|state|work|cache|out|printed|page    spoils one answer: the run must find it and exit with 1
+//!     test-calls spoil number|place|state|work|cache|out|quotients|remainder|printed|page    spoils one answer: the run must find it and exit with 1
 
 mod compare;
+mod divided;
 mod proved;
 
 use common::arguments::{asked, words};
 use common::buffers::{
-    self, BIDEGREES, DEGREES, HILBERT, LEAST_WORK, MINIMAL, OUT, ROW, STATE, WORK,
+    self, row, BIDEGREES, DEGREES, HILBERT, LEAST_WORK, MINIMAL, OUT, ROW, STATE, WORK,
 };
 use common::deep::{deep, on_small_stack, DEEPEST};
 use common::examples::examples;
@@ -22,6 +23,7 @@ use common::states::{
     write_basis, Size,
 };
 use compare::{Call, Compare, Lent, Spoiled, Step, CACHE, KINDS, MORE, SPOILS, WHOLE};
+use divided::{rows_of, sound_basis};
 use reference::buffers::read_state;
 use reference::engine::{Basis, State};
 use reference::generate::bigraded::{bidegree_file, bigraded_file};
@@ -34,12 +36,13 @@ use reference::generate::problems::{problem_file, random_basis, random_degrees, 
 use reference::generate::redundant::{minimal_file, redundant_file};
 use reference::generate::rooms::{roomy_problem, twins};
 use reference::generate::states::{carry, with_other_degrees};
+use reference::generate::vectors::{member, non_member, random_vector};
 use reference::generate::weight_lines::{
     random_weights, spoiled_weight_lines, variables_of, with_weights, without_weight_lines,
 };
 use reference::lifting::Way;
 use reference::random::Random;
-use reference::reader::read_problem;
+use reference::reader::{read_problem, Problem};
 use reference::Limits;
 
 const CALLS: u64 = 1_000_000;
@@ -137,6 +140,9 @@ impl Lists {
                 let state = &self.compare.theirs.state;
                 let words = undo.iter().map(|(at, _)| (*at, state[*at])).collect();
                 self.note(words);
+            }
+            if self.random.chance(15) {
+                self.divide();
             }
             let number = self.call();
             // most alterations make the state unsound; back to what it was
@@ -293,6 +299,72 @@ impl Lists {
                 }
             }
         }
+    }
+
+    /// A vector over what the state holds: mostly one that is divided, in the module or not, at times with a bad row, too many rows or half of one.
+    fn divide(&mut self) {
+        let held = sound_basis(&self.limits, &self.compare.ours.state);
+        let random = &mut self.random;
+        let mut vector = match held {
+            Some(basis) => {
+                let elements = basis.levels[0].clone();
+                let problem = Problem::new(basis.parameters, elements);
+                let terms = match random.below(10) {
+                    0..=3 => member(random, &problem),
+                    4 | 5 => {
+                        let own = member(random, &problem);
+                        non_member(random, &problem, &own).unwrap_or(own)
+                    }
+                    6 => Vec::new(),
+                    _ => random_vector(random, &problem),
+                };
+                rows_of(&terms)
+            }
+            None => (0..random.below(40))
+                .map(|_| random.bits() as u16)
+                .collect(),
+        };
+        match random.below(20) {
+            // any word another one
+            0 | 1 if !vector.is_empty() => {
+                let at = random.below(vector.len() as u64) as usize;
+                vector[at] = match random.below(4) {
+                    0 => 0,
+                    1 => vector[at].wrapping_add(1),
+                    2 => vector[at] ^ 256,
+                    _ => random.bits() as u16,
+                };
+            }
+            // a row twice, two exchanged, a row of zeros
+            2 if vector.len() >= ROW => {
+                let at = ROW * random.below((vector.len() / ROW) as u64) as usize;
+                let row = vector[at..at + ROW].to_vec();
+                vector.splice(at..at, row);
+            }
+            3 if vector.len() >= 2 * ROW => vector.rotate_left(ROW),
+            4 => vector.extend([0; ROW]),
+            // words behind the last whole row
+            5 | 6 => {
+                let more = random.between(1, ROW as u64 - 1);
+                vector.extend((0..more).map(|_| random.bits() as u16));
+            }
+            // as many rows as there may be, and one more: x1^1 x2^255 and so on downwards, where the ring has two variables
+            7 if random.chance(20) => {
+                let rows = random.between(510, 515) as usize;
+                vector = (0..rows)
+                    .flat_map(|i| {
+                        row(
+                            1,
+                            1,
+                            [2 - (i / 256) as u8, 255 - (i % 256) as u8, 0, 0, 0, 0, 0, 0],
+                        )
+                    })
+                    .collect();
+            }
+            _ => {}
+        }
+        let lent = [self.length(STATE), self.length(OUT), self.length(OUT)];
+        self.compare.divide(&vector, lent, BUDGET);
     }
 
     /// A length: mostly the one that is needed, at times longer or too short.
@@ -912,6 +984,8 @@ fn calls(wanted: u64, seed: u64, spoil: Option<Spoiled>) {
     println!(
         "  {bidegrees} calls printed lines of bidegrees, {hilbert} of the Hilbert function, {minimal} a page of minimal numbers"
     );
+    let [members, others] = compare.divided;
+    println!("  divisions that finished: {members} without a remainder, {others} with one");
     let rooms = &compare.rooms;
     println!(
         "  by hybrid with room for fewer than 512: 16: {}, 14 by the room: {}, 14 with 512 too: {}, finished: {}, 13 or 15: {}; in a buffer for more: \
@@ -935,6 +1009,7 @@ fn calls(wanted: u64, seed: u64, spoil: Option<Spoiled>) {
         &[0, 16],
         &[0, 16],
         &[0, 16],
+        &[0, 11, 13, 14, 16, 23],
     ];
     for ((kind, met), numbers) in KINDS.iter().zip(&compare.met).zip(expected) {
         for number in numbers {
@@ -942,6 +1017,7 @@ fn calls(wanted: u64, seed: u64, spoil: Option<Spoiled>) {
         }
     }
     assert!(bidegrees >= 1_000 && hilbert >= 1_000 && minimal >= 200);
+    assert!(members >= 10_000 && others >= 10_000);
     assert!(rooms.short >= 2_000 && rooms.by_room >= 800 && rooms.anyway >= 50);
     assert!(rooms.finished >= 10_000 && rooms.stopped >= 20 && lists.again >= 1_000);
     assert!(rooms.longer >= 5_000 && rooms.full >= 50);

@@ -45,3 +45,12 @@ pub fn minimal(file: &[u8], state: &mut [u16], work: &mut [u16], printed: &mut [
 pub fn fetch(state: &[u16], out: &mut [u16], level: usize, vector: usize) -> (u64, u64) {
     wide(calls::fetch(state, out, level, vector))
 }
+
+pub fn divide(
+    state: &[u16],
+    vector: &[u16],
+    quotients: &mut [u16],
+    remainder: &mut [u16],
+) -> (u64, u64) {
+    wide(calls::divide(state, vector, quotients, remainder))
+}

@@ -104,6 +104,26 @@ impl Compare {
         limits: &Limits,
         budget: u64,
     ) -> (Lifted, Usage) {
+        self.level_in(basis, k, way, cache_terms, limits, None, budget)
+    }
+
+    /// The same; by hybrid in a work area with room for so many terms (A11).
+    #[allow(clippy::too_many_arguments)]
+    pub fn level_in(
+        &mut self,
+        basis: &Basis,
+        k: usize,
+        way: Way,
+        cache_terms: u64,
+        limits: &Limits,
+        room: Option<usize>,
+        budget: u64,
+    ) -> (Lifted, Usage) {
+        let working = limits.working;
+        let limits = &Limits {
+            working: room.map_or(working, |room| working.min(room as u64)),
+            ..*limits
+        };
         let (expected, usage) = lift_level(
             limits,
             &basis.parameters,
@@ -126,7 +146,10 @@ impl Compare {
             Way::Tree => 2,
         };
         let (out, state) = (self.longer(OUT), self.longer(STATE));
-        let work = self.longer(buffers::work(code));
+        let work = match room {
+            Some(room) => ROW * room + self.random.below(ROW as u64) as usize,
+            None => self.longer(buffers::work(code)),
+        };
         let pick = match way {
             Way::Hybrid(pick) => pick as u16,
             // the pick code counts for the hybrid way alone
@@ -136,7 +159,7 @@ impl Compare {
             level: k,
             way: code,
             pick,
-            working: limits.working as usize,
+            working: working as usize,
             vector: limits.vector as usize,
             tree: limits.tree as usize,
             room: limits.level_terms as usize,

@@ -1,11 +1,14 @@
 //! Proved lifting of a level against the unrelated implementation: number, count and every word, by all three ways, with document 01's limits and with
 //! smaller ones.
 //!
-//!     test-lifts [BASES [SEED]]                     at least so many bases (20,000 without it)
+//!     test-lifts [BASES [SEED]]                     at least so many bases (16,000 without it)
 //!     test-lifts spoil number|count|used|end|row    spoils one answer: the run must find it and exit with 1
 
+mod boundaries;
 mod compare;
+mod tables;
 
+use boundaries::Boundaries;
 use common::arguments::{asked, words};
 use common::buffers::{work, COMPLETE, LEAST_WORK, PRIME, STATE};
 use common::deep::{deep, on_small_stack, DEEPEST};
@@ -23,8 +26,10 @@ use reference::reader::{read_problem, Problem};
 use reference::Limits;
 use testing::lifts::Asked;
 
-const BASES: u64 = 20_000;
+const BASES: u64 = 16_000;
 const SEED: u64 = 20_250_301;
+/// Levels that are lifted at the boundaries between table and run, at least.
+const LEVELS: u64 = 100_000;
 /// Products that a lifting of a made basis may take; one that takes more is left out.
 const BUDGET: u64 = 4_000;
 /// The same for the example files: by pick code 2, and by any other way.
@@ -426,6 +431,10 @@ fn main() {
             );
         }
     }
+    let before = bases.compare.calls;
+    let mut boundaries = Boundaries::new(&mut bases.compare, seed);
+    boundaries.drive(LEVELS * wanted / BASES);
+    let met = boundaries.met;
     let compare = &bases.compare;
     println!(
         "lifts: {} bases and {} other sound states, {} levels lifted by both agree \
@@ -440,6 +449,11 @@ fn main() {
             .collect();
         println!("  {way}: {}", counts.join(", "));
     }
+    println!(
+        "  {} of them at the boundaries between table and run",
+        compare.calls - before
+    );
+    met.tell();
     let [working, vector, tree] = compare.full;
     let [frame, terms] = compare.over;
     println!(
@@ -451,6 +465,7 @@ fn main() {
     if wanted < BASES / 10 {
         return;
     }
+    met.enough(20);
     // a run in which a number hardly comes tests too little
     for (way, met) in WAYS.iter().zip(&compare.met) {
         for (number, count) in NUMBERS.iter().zip(met) {

@@ -56,6 +56,11 @@ pub chosen-few : (w : Strategy) (working : ℕ) → Chosen w working → working
 chosen-few w working (by-picks d e h) = h
 chosen-few w working (by-leading d p e f) = omega (arith, f)
 
+-- no way of lifting stops at a value without a reducer
+pub chosen-on : (w : Strategy) (working : ℕ) → Chosen w working → w .stops ≡ false
+chosen-on w working (by-picks d e h) = e
+chosen-on w working (by-leading d p e f) = e
+
 -- whatever room the working value has, the level has its own
 pub all-narrowed : (S : Stage) (working : ℕ) (lift-term : Cache → Monomial → Result Sum) (l : Lifted) (cache : Cache) (ms : List Monomial)
     → lift-all (narrowed working S) lift-term l cache ms ≡ lift-all S lift-term l cache ms

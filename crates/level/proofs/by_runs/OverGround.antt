@@ -2,10 +2,11 @@
 use mathlib.Core.Path.{_≡_, refl, sym, ap, _∙_, subst, subst₂}
 use mathlib.Core.Bool.{Bool, true, false}
 use mathlib.Core.List.{List, [], _∷_}
-use Prim.Native.Nat.{ℕ, suc, _-_, _≤_}
+use mathlib.Core.Logic.{inl, inr}
+use Prim.Native.Nat.{ℕ, zero, suc, _+_, _-_, _<_, _≤_}
 use native.Mathlib.Omega.{arith}
-use lib.Dec.{leb}
-use lib.ListN.{length, getD, take, replicate}
+use lib.Dec.{T, leb}
+use lib.ListN.{length, getD, take, drop, replicate}
 use lib.Seq.{length-take-le}
 use Rattle.definitions.specs.Limits.{document-01}
 use Rattle.definitions.specs.Monomial.{Monomial, Level, leading, leading-monomials}
@@ -14,14 +15,16 @@ use Rattle.definitions.specs.Reducer.{heads}
 use Rattle.definitions.specs.Run.{by-code}
 use Rattle.definitions.specs.Frame.{frame}
 use Rattle.definitions.specs.Lifting.{limited-frame, if-few, lift-all, accept-from}
-use Rattle.definitions.specs.Layout.{Words, rows, rows-of, padded, level-at}
+use Rattle.definitions.specs.Layout.{Words, row-at, rows, rows-of, padded, level-at, levels-at}
 use Rattle.laws.proofs.Rows.{length-rows, rows-spelled}
 use Rattle.definitions.specs.Places.{most-vectors, most-terms, value-length}
 use Rattle.ending.specs.Well.{Well}
 use Rattle.orders.specs.Images.{table-of, table-order}
-use Rattle.state.specs.soundness.Places.{count-at, rows-from, ends-from}
+use Rattle.laws.proofs.Modular.{prime-says}
+use Rattle.state.specs.soundness.Places.{parameters-at, count-at, rows-from, ends-from}
 use Rattle.state.proofs.soundness.VectorTests.{length-vectors}
-use Rattle.state.specs.preparing.Prepared.{Led}
+use Rattle.state.specs.preparing.Prepared.{components-at, Led}
+use Rattle.state.proofs.preparing.Complete.{complete-count}
 use Rattle.state.proofs.writing.Copying.{eights-rows}
 use Rattle.frame.specs.Generators.{monomials-of}
 use Rattle.frame.proofs.Components.{frame-components}
@@ -29,13 +32,19 @@ use Rattle.runs.specs.reduction.Grounds.{ends-in, below-in, above-in, Tables, F
 use Rattle.runs.specs.declared.reduction.Ground.{Ground}
 use Rattle.runs.specs.run.Stages.{Images, order-of, stage-of, strategy-of}
 use Rattle.runs.specs.declared.run.Strategy.{Strategy}
-use Rattle.runs.specs.frame_terms.Vectors.{Framed, lifts, accepted-of, Left}
+use Rattle.runs.specs.frame_terms.Vectors.{Framed, frame-terms, lifts, accepted-of, Left}
+use Rattle.runs.proofs.frame_terms.LoopsOverFrame.{left-at}
+use Rattle.demands.specs.Notions.{Member}
+use Rattle.sweeps.specs.Sizes.{resized, eight-variables}
+use Rattle.sweeps.specs.Sweep.{components}
+use Rattle.sweeps.proofs.Footing.{footing, footing-resized}
+use Rattle.sweeping.specs.Serving.{Grounded}
 use Rattle.runs.specs.declared.frame_terms.Accepted.{Accepted}
 use Rattle.runs.specs.declared.frame_terms.Accepted.the-variants.{Yes, Refused as Accepted-refused, Stopped as Accepted-stopped}
 use Rattle.level.specs.by_runs.Stages.{Base, with-working, usual, Within, ground-at, stage-at, strategy-at, Tables-at, Framed-by, accepted-with}
 use Rattle.level.specs.by_runs.Stages.{value-in, Left-in}
 use Rattle.level.specs.declared.by_runs.Bounds.{Bounds}
-use Rattle.level.proofs.by_runs.GroundOfLevel.{tables-at, family-at, family-in, images-below, images-above, below-is, stage-is, well-at}
+use Rattle.level.proofs.by_runs.GroundOfLevel.{sound-levels, prime-at, tables-at, family-at, family-in, images-below, images-above, below-is, stage-is, well-at}
 
 -- ## Leading monomials
 
@@ -108,10 +117,10 @@ module _ (s : Words) (j : ℕ) (b : Base s j) where
         → x ≡ lift-all (stage-at lim s j) (lifts (stage-at lim s j) (strategy-at lim s j w) n) ([], 0) [] ms
     lifted-same w n ms x e = e ∙ (λ i. lift-all (stage-same i) (lifts (stage-same i) (strategy-same w i) n) ([], 0) [] ms)
 
-    pub accepted-same : (n : ℕ) (ms : List Monomial) (x : Result (Unit {0}))
-        → x ≡ accept-from (stage-of g level tables (table-order (g .code) (table-of (g .r) (above-in tables)))) n 1 ms → x
-        ≡ accept-from (stage-at lim s j) n 1 ms
-    accepted-same n ms x e = e ∙ (λ i. accept-from (stage-same i) n 1 ms)
+    pub accepted-same : (n k : ℕ) (ms : List Monomial) (x : Result (Unit {0}))
+        → x ≡ accept-from (stage-of g level tables (table-order (g .code) (table-of (g .r) (above-in tables)))) n k ms → x
+        ≡ accept-from (stage-at lim s j) n k ms
+    accepted-same n k ms x e = e ∙ (λ i. accept-from (stage-same i) n k ms)
 
 -- ## The frame first
 
@@ -165,3 +174,38 @@ working-within working h = record { working = h; vector = omega arith; filled = 
 
 pub usual-within : Within usual
 usual-within = working-within most-terms (omega arith)
+
+-- ## What tables of nodes ask for
+
+member-drop : (v : ℕ) (l : List Monomial) (x : Monomial) (r : List Monomial) → drop v l ≡ x ∷ r → Member x l
+member-drop zero l x r e = subst (Member x) (sym e) (inl refl)
+member-drop (suc v) [] x r e = absurd (some-none (sym e))
+  where
+    some-none : {y : Monomial} {k : List Monomial} → y ∷ k ≡ [] → ⊥
+    some-none e = subst T (ap empty-not e) tt
+      where
+        empty-not : List Monomial → Bool
+        empty-not [] = false
+        empty-not (y ∷ k) = true
+member-drop (suc v) (y ∷ l) x r e = inr (member-drop v l x r e)
+
+module _ (s : Words) (j : ℕ) (b : Base s j) (tables : Words) (t : Tables-at s j tables) (lim : Bounds) (g : Ground) (level : Words) (eg : g ≡ ground-at lim s j)
+    (el : level ≡ rows-from s j) where
+  components-same : (j : ℕ) → j < getD s 4 0 → components-at s j + 1 - 1 ≡ components (eight-variables (parameters-at s)) (levels-at document-01 s j)
+  components-same zero l = omega arith
+  components-same (suc k) l = omega (arith, complete-count s (b .long) (b .holds) k (omega (arith, l)))
+
+  pub grounded : (count : ℕ) (words : Words) → Framed-by s j count words → Grounded g level tables words count
+  grounded count words f = record {
+    lim = resized (lim .working) (lim .vector) (lim .tree) (lim .room) document-01;
+    q = parameters-at s;
+    f = level-at document-01 s j;
+    below = levels-at document-01 s j;
+    footing = footing-resized document-01 (eight-variables (parameters-at s)) (levels-at document-01 s (suc j))
+        (footing document-01 (parameters-at s) (omega arith) (prime-says (getD s 0 0) (prime-at s j b)) (levels-at document-01 s (suc j)) (sound-levels s j b))
+        (lim .working) (lim .vector) (lim .tree) (lim .room);
+    stage = stage-same s j b tables t lim g level eg el;
+    ranged = ap (λ (h : Ground). h .components - 1) eg ∙ components-same j (b .has);
+    members = λ v h.
+        subst (Member (row-at words v .1)) (f .terms) (member-drop v (frame-terms words count) (row-at words v .1) (drop (v + 1) (frame-terms words count)) (left-at words count v h));
+  }

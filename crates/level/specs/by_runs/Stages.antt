@@ -3,7 +3,7 @@ use mathlib.Core.Path.{_≡_}
 use mathlib.Core.List.{[]}
 use Prim.Native.Nat.{ℕ, suc, _+_, _*_, _<_, _≤_}
 use lib.Dec.{T}
-use lib.ListN.{length, getD, take}
+use lib.ListN.{length, getD, take, drop}
 use lib.Seq.{paste}
 use Rattle.definitions.specs.Limits.{Limits, document-01}
 use Rattle.definitions.specs.Monomial.{Vector, Level, leading-monomials}
@@ -12,7 +12,7 @@ use Rattle.definitions.specs.Stage.{Stage, stage-over}
 use Rattle.definitions.specs.Run as definition
 use Rattle.definitions.specs.Run.{by-code}
 use Rattle.definitions.specs.Frame.{frame}
-use Rattle.definitions.specs.Lifting.{limited-frame, lift-all, accept}
+use Rattle.definitions.specs.Lifting.{limited-frame, lift-all, accept-from, accept}
 use Rattle.definitions.specs.Layout.{Words, rows, rows-of, padded, level-at, levels-at, holds-state?}
 use Rattle.definitions.specs.Places.{most-exponent, most-vectors, most-rows, most-terms, most-tree-terms, all-levels, row-length, state-length}
 use Rattle.definitions.specs.Places.{images-length, spans-length, ends-length}
@@ -135,6 +135,11 @@ abbrev pub Stored-as : Leveled → Words → Type 0
 Stored-as (Vectors n used) out = (used ≤ most-rows) × Kept n used out
 Stored-as (Refused number) out = Unit {0}
 Stored-as (Stopped n) out = Unit {0}
+
+-- acceptance that passes over so many frame terms; 15 is tested for all of them
+abbrev pub accepted-behind : Words → ℕ → ℕ → Result (Unit {0})
+accepted-behind s from n =
+    limited-frame document-01 (getD s 2 0) (level-at document-01 s 0) >>= λ ms. accept-from (stage-at usual s 0) n (from + 1) (drop from ms)
 
 abbrev pub accepted-over : Words → ℕ → Result (Unit {0})
 accepted-over s n = accept document-01 (getD s 0 0) (getD s 2 0) (level-at document-01 s 0) n

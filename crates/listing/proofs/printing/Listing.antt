@@ -8,6 +8,7 @@ use lib.Seq.{length-take-le}
 use Rattle.definitions.specs.Monomial.{Term, Vector, Level}
 use Rattle.definitions.specs.Layout.{Words, rows, vectors-at}
 use Rattle.definitions.specs.Sheet.{printed, term-fields, letter-S, letter-W, s-lines, vector-lines, w-lines}
+use Rattle.listing.specs.printing.Lines.{term-lines}
 use Rattle.reducers.specs.tables.Cuts.{start-of, cut-level}
 use Rattle.reducers.proofs.tables.Cutting.{cut-more}
 
@@ -21,11 +22,16 @@ s-lines-last n k v (u ∷ w) t =
     ap (λ z. printed letter-S (k ∷ v ∷ term-fields n u) ++ z) (s-lines-last n k v w t)
     ∙ sym (append-assoc (printed letter-S (k ∷ v ∷ term-fields n u)) (s-lines n k v w) (printed letter-S (k ∷ v ∷ term-fields n t)))
 
-pub w-lines-last : (n : ℕ) (w : Vector) (t : Term) → w-lines n (w ++ t ∷ []) ≡ w-lines n w ++ printed letter-W (term-fields n t)
-w-lines-last n [] t = append-nil (printed letter-W (term-fields n t))
-w-lines-last n (u ∷ w) t =
-    ap (λ z. printed letter-W (term-fields n u) ++ z) (w-lines-last n w t)
-    ∙ sym (append-assoc (printed letter-W (term-fields n u)) (w-lines n w) (printed letter-W (term-fields n t)))
+pub term-lines-last : (letter n : ℕ) (w : Vector) (t : Term)
+    → term-lines letter n (w ++ t ∷ []) ≡ term-lines letter n w ++ printed letter (term-fields n t)
+term-lines-last letter n [] t = append-nil (printed letter (term-fields n t))
+term-lines-last letter n (u ∷ w) t =
+    ap (λ z. printed letter (term-fields n u) ++ z) (term-lines-last letter n w t)
+    ∙ sym (append-assoc (printed letter (term-fields n u)) (term-lines letter n w) (printed letter (term-fields n t)))
+
+pub w-lines-are : (n : ℕ) (v : Vector) → term-lines letter-W n v ≡ w-lines n v
+w-lines-are n [] = refl
+w-lines-are n (t ∷ v) = ap (λ z. printed letter-W (term-fields n t) ++ z) (w-lines-are n v)
 
 vector-lines-last : (n k v : ℕ) (fs : Level) (f : Vector) → vector-lines n k v (fs ++ f ∷ []) ≡ vector-lines n k v fs ++ s-lines n k (v + length fs) f
 vector-lines-last n k v [] f = let e : v ≡ v + 0 = omega arith in append-nil (s-lines n k v f) ∙ ap (λ i. s-lines n k i f) e

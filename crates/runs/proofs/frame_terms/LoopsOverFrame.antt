@@ -99,15 +99,15 @@ module _ (S : Stage) (W : Strategy) (frame : Words) (count : ℕ) where
 
 -- ## Accepting
 
-module _ (S : Stage) (frame : Words) (count : ℕ) where
+module _ (S : Stage) (frame : Words) (count from : ℕ) where
   abbrev W : Strategy
   W = accepting-strategy S
 
   pub record Accepting (i : ℕ) : Type 0 where
     pub bound : ℕ
-    pub same : (n : ℕ) → bound ≤ n → accept-from S n 1 (frame-terms frame count) ≡ accept-from S n (i + 1) (drop i (frame-terms frame count))
+    pub same : (n : ℕ) → bound ≤ n → accept-from S n (from + 1) (drop from (frame-terms frame count)) ≡ accept-from S n (i + 1) (drop i (frame-terms frame count))
 
-  pub accepting-start : Accepting 0
+  pub accepting-start : Accepting from
   accepting-start = record { bound = 0; same = λ n h. refl }
 
   divided : (m : Monomial) (x : Result Vector) (k n : ℕ) → k ≤ n → T (finished? x) → x ≡ run S W k m → run S W n m ≡ x
@@ -116,7 +116,7 @@ module _ (S : Stage) (frame : Words) (count : ℕ) where
       ap (λ j. run S W j m) d ∙ steady-from finished? (λ n. run S W n m) (run-steady S W m) k (n - k) (subst (λ y. T (finished? y)) e t) ∙ sym e
 
   next : (i : ℕ) (x : Result Vector) (k : ℕ) → Accepting i → i < count → T (finished? x) → x ≡ run S W k (row-at frame i .1)
-      → (b : ℕ) × ((n : ℕ) → b ≤ n → accept-from S n 1 (frame-terms frame count)
+      → (b : ℕ) × ((n : ℕ) → b ≤ n → accept-from S n (from + 1) (drop from (frame-terms frame count))
       ≡ (at-frame-term (i + 1) x >>= λ v. accept-from S n (i + 1 + 1) (drop (i + 1) (frame-terms frame count))))
   next i x k a h t e = (
     a .bound + k,
@@ -132,8 +132,8 @@ module _ (S : Stage) (frame : Words) (count : ℕ) where
   accepting-on i k v a h e = let z = next i (done v) k a h tt e in record { bound = z .0; same = z .1 }
 
   pub accepting-refused : (i k number place : ℕ) (value : Vector) → Accepting i → i < count → refused number place value ≡ run S W k (row-at frame i .1)
-      → (n : ℕ) × (refused number (accepting-place (i + 1) number) value ≡ accept-from S n 1 (frame-terms frame count))
+      → (n : ℕ) × (refused number (accepting-place (i + 1) number) value ≡ accept-from S n (from + 1) (drop from (frame-terms frame count)))
   accepting-refused i k number place value a h e = let z = next i (refused number place value) k a h tt e in (z .0, sym (z .1 (z .0) (omega arith)))
 
-  pub accepting-end : (i : ℕ) → Accepting i → count ≤ i → (n : ℕ) × (done tt ≡ accept-from S n 1 (frame-terms frame count))
+  pub accepting-end : (i : ℕ) → Accepting i → count ≤ i → (n : ℕ) × (done tt ≡ accept-from S n (from + 1) (drop from (frame-terms frame count)))
   accepting-end i a h = (a .bound, sym (a .same (a .bound) (omega arith) ∙ ap (accept-from S (a .bound) (i + 1)) (left-none frame count i h)))

@@ -33,6 +33,7 @@ lift-level-requires c κs =
       omega arith,
       omega (arith, ap (λ (x : Bounds). x .working) (b .ensures), P .1),
       subst Within (sym (b .ensures)) usual-within,
+      refl,
     )
 
 slice-aggregate-keep : tie.Need-slice-aggregate-keep

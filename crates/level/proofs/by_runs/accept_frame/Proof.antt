@@ -1,9 +1,9 @@
 use borrow.Author.Needs.{needs}
 use native.Mathlib.Omega.{arith}
 use mathlib.Core.Path.{ap, _∙_}
-use Prim.Native.Nat.{_-_}
+use Prim.Native.Nat.{_+_, _-_}
 use lib.ListN.{length, take, drop}
-use Rattle.level.proofs.by_runs.OverGround.{asked, accepted-same, left-room, answer-same}
+use Rattle.level.proofs.by_runs.OverGround.{asked, grounded, accepted-same, left-room, answer-same}
 use Rattle.level.specs.by_runs.Stages.{accepted-with, value-in}
 use Rattle.runs.specs.frame_terms.Vectors.{frame-terms, accepted-of}
 use Rattle.state.proofs.soundness.VectorByVector.{whole-part}
@@ -53,6 +53,9 @@ accept-all-requires c κs =
       omega (arith, v),
       ask .4,
       ask .5,
+      grounded s 0 (P .0) (a .tables .now) (P .1) usual (c .before .before .before .ground-of .result) (take (length s - rows-start) (drop rows-start s))
+          (c .before .before .before .ground-of .ensures ∙ ap (λ b. ground-at b s 0) (c .before .before .before .before .usual .ensures)) (whole-part rows-start s)
+          (a .count) (a .frame .now) (P .2),
     )
 
 slice-aggregate-settle : tie.Need-slice-aggregate-settle
@@ -105,7 +108,7 @@ returns c =
     ∙ ap (λ b. ground-at b s 0)
     (usual-there .ensures))
     (whole-part rows-start s)
-    (x .ensures .0 .0) (frame-terms (a .frame .now) (a .count)) (accepted-of (x .result) (x .last .1 .0)) (x .ensures .0 .1) in (
+    (x .ensures .0 .0) (a .from + 1) (drop (a .from) (frame-terms (a .frame .now) (a .count))) (accepted-of (x .result) (x .last .1 .0)) (x .ensures .0 .1) in (
       x .ensures .0 .0,
       value-in (x .result) (x .last .1 .0),
       ap (λ z. accepted-with z (value-in (x .result) (x .last .1 .0))) (y .ensures .0)

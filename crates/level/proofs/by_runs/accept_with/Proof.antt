@@ -2,8 +2,8 @@ use borrow.Author.Needs.{needs}
 use native.Mathlib.Omega.{arith}
 use mathlib.Core.Path.{_≡_, sym, ap, _∙_, subst}
 use mathlib.Core.List.{[]}
-use Prim.Native.Nat.{_≤_}
-use lib.ListN.{length, getD}
+use Prim.Native.Nat.{_+_, _≤_}
+use lib.ListN.{length, getD, drop}
 use Rattle.level.proofs.by_runs.OverGround.{leading-at, too-many, few-enough, whole-frame}
 use Rattle.level.proofs.by_runs.GroundOfLevel.{few-vectors}
 use Rattle.level.specs.by_runs.Stages.{usual, stage-at}
@@ -120,7 +120,7 @@ returns c =
       0,
       [],
       too-many (getD s 2 0) (level-at document-01 s 0) (monomials-of (rows (a .tables .now) 0
-          (c .before .before .before .before .before .before .before .count-of .result))) (λ ms. accept-from (stage-at usual s 0) 0 1 ms) lead
+          (c .before .before .before .before .before .before .before .count-of .result))) (λ ms. accept-from (stage-at usual s 0) 0 (a .from + 1) (drop (a .from) ms)) lead
           (sym (ap (λ y. framed-of y (c .before .before .before .before .form .last .0)) (c .enum-told .given .1))
           ∙ c .before .before .before .before .form .ensures .0),
       tt,
@@ -168,7 +168,7 @@ returns-2 c =
       L .ensures .2 ∙ few-enough (getD s 2 0) (level-at document-01 s 0)
           (monomials-of (rows (a .tables .now) 0
           (count-of-there .result)))
-          (frame-terms (F .last .0) n) (λ ms. accept-from (stage-at usual s 0) (L .ensures .0) 1 ms) lead told,
+          (frame-terms (F .last .0) n) (λ ms. accept-from (stage-at usual s 0) (L .ensures .0) (a .from + 1) (drop (a .from) ms)) lead told,
       L .ensures .3,
     )
 

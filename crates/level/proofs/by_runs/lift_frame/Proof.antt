@@ -1,14 +1,20 @@
 use borrow.Author.Needs.{needs}
 use native.Mathlib.Omega.{arith}
-use mathlib.Core.Path.{subst}
-use Prim.Native.Nat.{_+_, _-_, _*_}
-use lib.ListN.{length, take, drop}
-use Rattle.level.proofs.by_runs.OverGround.{asked, lifted-same}
-use Rattle.runs.specs.frame_terms.Vectors.{frame-terms, lifted-of, Whole}
+use mathlib.Core.Path.{_≡_, refl, sym, ap, _∙_, subst}
+use mathlib.Core.List.{List, [], _∷_, _++_}
+use Prim.Native.Nat.{ℕ, suc, _+_, _-_, _*_, _<_, _≤_}
+use lib.ListN.{length, take, drop, getD, set, length-set}
+use Rattle.definitions.specs.Places.{rows-offset}
 use Rattle.state.proofs.soundness.VectorByVector.{whole-part}
+use Rattle.runs.specs.frame_terms.Vectors.{frame-terms, lifted-of, Whole}
+use Rattle.level.proofs.by_runs.OverGround.{asked, grounded, lifted-same}
+use mathlib.Core.Logic.{inl}
 use Rattle.level.proofs.by_runs.lift_frame.Statement.{statement}
 use Rattle.level.proofs.by_runs.lift_frame.Tie as tie
-use Rattle.definitions.specs.Places.{rows-offset}
+use Rattle.level.proofs.by_runs.lift_frame.Reads as reads
+use Rattle.level.proofs.by_runs.lift_frame.Lts as lts
+use Rattle.level.proofs.by_runs.ground_of.Reads as ground-of-reads
+use Rattle.sweeping.proofs.lifting.lift_all.Reads as lift-all-reads
 
 ground-of-requires : tie.Need-ground-of-requires
 ground-of-requires c κs = search needs
@@ -36,13 +42,13 @@ part-lift-all-end c = search needs
 
 lift-all-requires : tie.Need-lift-all-requires
 lift-all-requires c κs =
-    let at-8 = c .before .before .before .before .before .before .before .before in
-    let a = at-8 .before .before .args in
+    let a = c .before .before .before .before .before .before .before .before .before .before .args in
     let s = a .state .now in
-    let P = at-8 .before .before .pre in
-    let ask = asked s (a .j) (P .0) (a .tables .now) (P .1) (a .b) (c .before .before .before .before .ground-of .result)
-    (take (length s - (rows-offset (a .j))) (drop (rows-offset (a .j)) s))
-    (c .before .before .before .before .ground-of .ensures) (whole-part (rows-offset (a .j)) s) (a .count) (a .frame .now) (P .2) in
+    let P = c .before .before .before .before .before .before .before .before .before .before .pre in
+    let G = c .before .before .before .before .ground-of in
+    let level = take (length s - (rows-offset (a .j))) (drop (rows-offset (a .j)) s) in
+    let same = whole-part (rows-offset (a .j)) s in
+    let ask = asked s (a .j) (P .0) (a .tables .now) (P .1) (a .b) (G .result) level (G .ensures) same (a .count) (a .frame .now) (P .2) in
     let w = ask .6 in
     let v = ask .7 in
     let r = ask .8 in
@@ -56,11 +62,13 @@ lift-all-requires c κs =
         vector-fits = omega (arith, v, i .vector);
         left-fits = omega (arith, w, i .working);
       },
-      omega (arith, v, i .vector),
+      omega (arith, v, i .filled),
       ask .4,
       ask .5,
       omega (arith, r, i .room, P .3),
       omega (arith, r, i .room),
+      grounded s (a .j) (P .0) (a .tables .now) (P .1) (a .b) (G .result) level (G .ensures) same (a .count) (a .frame .now) (P .2),
+      inl (P .6),
     )
 
 same-length : tie.Need-same-length
@@ -71,29 +79,19 @@ same-length-2 c = search needs
 
 returns : tie.Need-returns
 returns c =
-    let a =
-    let at-8 = c .before .before .before .before .before .before .before .before in
-    (at-8 .before .before .before .before .before .before .before .before) .args in
-    let P =
-    let at-8 = c .before .before .before .before .before .before .before .before in
-    (at-8 .before .before .before .before .before .before .before .before) .pre in
-    let ground-of-there =
-    let at-8 = c .before .before .before .before .before .before .before .before in
-    (at-8 .before .before) .ground-of in
+    let a = c .before .before .before .before .before .before .before .before .before .before .before .before .before .before .before .before .args in
+    let P = c .before .before .before .before .before .before .before .before .before .before .before .before .before .before .before .before .pre in
+    let G = c .before .before .before .before .before .before .before .before .before .before .ground-of in
     let s = a .state .now in
     let L = c .before .before .before .before .before .lift-all in (
       (
         L .ensures .0 .0,
         L .last .1 .1 .0,
-        lifted-same s (a .j) (P .0) (a .tables .now) (P .1) (a .b)
-            (ground-of-there .result)
-            (take (length s - (rows-offset (a .j))) (drop (rows-offset (a .j)) s))
-            (ground-of-there .ensures) (whole-part (rows-offset (a .j)) s)
-            (a .w) (L .ensures .0 .0) (frame-terms (a .frame .now) (a .count)) (lifted-of (L .result) (a .count) (L .last .0) (L .last .1 .1 .0))
-            (L .ensures .0 .1),
+        lifted-same s (a .j) (P .0) (a .tables .now) (P .1) (a .b) (G .result) (take (length s - (rows-offset (a .j))) (drop (rows-offset (a .j)) s))
+            (G .ensures) (whole-part (rows-offset (a .j)) s) (a .w) (L .ensures .0 .0) (frame-terms (a .frame .now) (a .count))
+            (lifted-of (L .result) (a .count) (L .last .0) (L .last .1 .1 .0)) (L .ensures .0 .1),
       ),
-      subst (λ g. Whole g (a .count) (L .result) (L .last .0))
-          (ground-of-there .ensures) (L .ensures .1),
+      subst (λ g. Whole g (a .count) (L .result) (L .last .0)) (G .ensures) (L .ensures .1),
     )
 
 pub lift-frame-spec : {M : Type 1} → statement M

@@ -109,6 +109,7 @@ lift-frame-requires c κs =
       P .2,
       P .3,
       P .4,
+      P .5,
     )
 
 enum-known-used : tie.Need-enum-known-used

@@ -1,88 +1,21 @@
-use native.Mathlib.Omega.{arith}
-use mathlib.Core.Path.{_≡_, refl, sym, ap, _∙_}
-use mathlib.Core.List.{_++_}
-use Prim.Native.Nat.{_+_, _-_, _*_, _≤_}
-use lib.ListN.{length}
-use Rattle.laws.proofs.Rows.{rows-last}
-use Rattle.definitions.specs.Layout.{row-at, rows}
-use Rattle.definitions.specs.Sheet.{printed, term-fields, letter-W, w-lines}
-use Rattle.definitions.specs.Places.{w-line-length}
-use Rattle.pages.specs.bytes.Printing.{Printed}
-use Rattle.listing.proofs.printing.Listing.{w-lines-last}
-use Rattle.pages.proofs.bytes.Spelling.{nothing, after, spelled}
-use Rattle.listing.proofs.printing.Listing.{no-rows}
+use borrow.Author.Needs.{needs}
+use Rattle.definitions.specs.Layout.{rows}
+use Rattle.pages.proofs.bytes.Spelling.{spelled}
+use Rattle.listing.proofs.printing.Listing.{w-lines-are}
 use Rattle.listing.proofs.printing.w_lines.Statement.{statement}
 use Rattle.listing.proofs.printing.w_lines.Tie as tie
 
-abbrev Inv-loop : tie.InvT-loop
-Inv-loop out₀ at s m n a₀ i₀ out a i = (i ≤ m) × (length out ≡ length out₀) × Printed out₀ out at a (w-lines n (rows s 0 i))
-    × (a ≤ at + i * w-line-length)
+term-lines-requires : tie.Need-term-lines-requires
+term-lines-requires c κs = search needs
 
-abbrev μ-loop : tie.MeasureT-loop
-μ-loop out₀ at s m n a₀ i₀ out a i = m - i
+same-length : tie.Need-same-length
+same-length c = search needs
 
-loop-holds : tie.Need-loop-holds Inv-loop μ-loop
-loop-holds c =
-    let a = c .before .before .args in
-    (omega arith, refl, spelled (ap (w-lines (a .n)) (no-rows (a .s .now) 0)) (nothing (a .out .now) (a .at)), omega arith)
-
-row-requires : tie.Need-row-requires Inv-loop μ-loop
-row-requires c κs = omega (arith, c .before .before .before .before .pre .1, c .before .loop .inv .0)
-
-w-line-requires : tie.Need-w-line-requires Inv-loop μ-loop
-w-line-requires c κs = (
-  c .before .before .before .before .before .before .pre .0,
-  omega (
-    arith,
-    c .before .before .before .before .before .before .pre .2,
-    c .before .before .before .loop .inv .3,
-    c .before .before .before .loop .inv .1,
-  ),
-)
-
-add-i : tie.Need-add-i Inv-loop μ-loop
-add-i c = omega arith
-
-loop-less : tie.Need-loop-less Inv-loop μ-loop
-loop-less c = omega arith
-
-loop-again : tie.Need-loop-again Inv-loop μ-loop
-loop-again c =
-    let at-8 = c .before .before .before .before .before .before .before .before in
-    let L = c .before .before .before .before .before .before .loop in
-    let a = at-8 .before .args in
-    let v = rows (a .s .now) 0 (L .i) in
-    let d : L .i ≡ 0 + L .i = omega arith in
-    let s = ap (λ u. w-lines (a .n) v ++ printed letter-W (term-fields (a .n) u))
-    (c .before .before .before .before .row .ensures ∙ ap (row-at (a .s .now)) d) ∙ sym (w-lines-last (a .n) v (row-at (a .s .now) (0 + L .i)))
-    ∙ ap (w-lines (a .n)) (sym (rows-last (a .s .now) 0 (L .i))) in (
-      omega arith,
-      omega arith,
-      spelled s (after (L .inv .2) (c .before .before .w-line .ensures .0)),
-      omega (arith, L .inv .3, c .before .before .w-line .ensures .1),
-    )
-
-same-length : tie.Need-same-length Inv-loop μ-loop
-same-length c = omega arith
-
-returns : tie.Need-returns Inv-loop μ-loop
+returns : tie.Need-returns
 returns c =
-    let L = c .before .loop in
-    let a = c .before .before .before .before .args in
-    let e : L .i ≡ a .m = omega arith in
-    (spelled (ap (λ i. w-lines (a .n) (rows (a .s .now) 0 i)) e) (L .inv .2), omega (arith, L .inv .3, e))
+    let a = c .before .before .before .before .before .before .args in
+    let t = c .before .before .term-lines in
+    (spelled (w-lines-are (a .n) (rows (a .s .now) 0 (a .m))) (t .ensures .0), t .ensures .1)
 
 pub w-lines-spec : {M : Type 1} → statement M
-w-lines-spec =
-    tie.close
-    (tie.spec
-    Inv-loop
-    μ-loop
-    loop-holds
-    row-requires
-    w-line-requires
-    add-i
-    loop-less
-    loop-again
-    same-length
-    returns)
+w-lines-spec = tie.close (tie.spec term-lines-requires same-length returns)

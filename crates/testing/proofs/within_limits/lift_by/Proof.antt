@@ -1,7 +1,7 @@
 use borrow.Author.Needs.{needs}
 use native.Mathlib.Omega.{arith}
 use mathlib.Core.Bool.{true, false}
-use mathlib.Core.Path.{_≡_, sym, ap, _∙_, subst}
+use mathlib.Core.Path.{_≡_, refl, sym, ap, _∙_, subst}
 use mathlib.Core.List.{[]}
 use Prim.Native.Nat.{ℕ, suc, _-_, _≤_}
 use lib.ListN.{length, getD}
@@ -30,7 +30,7 @@ lift-level-requires c κs =
     let P = c .before .before .before .before .before .before .before .before .pre in
     let h : value-length ≤ length (a .work .now) = subst (λ x. work-words document-01 (way-of x) ≤ length (a .work .now))
     (c .before .before .enum-told .given .1) (P .4) in
-    (P .0, omega (arith, P .3), omega (arith, h, P .5 .working), P .5)
+    (P .0, omega (arith, P .3), omega (arith, h, P .5 .working), P .5, refl)
 
 enum-known-way : tie.Need-enum-known-way
 enum-known-way c = search needs
@@ -60,6 +60,7 @@ lift-level-requires-2 c κs =
         tree = P .5 .tree;
         room = P .5 .room;
       }),
+      refl,
     )
 
 enum-told-2 : tie.Need-enum-told-2

@@ -1,0 +1,3 @@
+pub mod brought
+pub mod page
+pub mod whole

@@ -1,0 +1,11 @@
+pub mod Divisions
+pub mod Ending
+pub mod Dividing
+pub mod Counts
+pub mod Brought
+pub mod Right
+pub mod Lent
+pub mod Exactly
+pub mod Membership
+pub mod Cut
+pub mod Enough

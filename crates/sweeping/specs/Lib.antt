@@ -1,0 +1,13 @@
+pub mod Nodes
+pub mod Orders
+pub mod Passes
+pub mod Served
+pub mod Serving
+pub mod Sweeps
+pub mod Sums
+pub mod Visits
+pub mod Tests
+pub mod Made
+pub mod Growth
+pub mod Reaches
+pub mod Gone
