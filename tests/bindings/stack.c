@@ -36,7 +36,7 @@ static const struct {
     { "minimal numbers", TAGETESSASH_STACK_BYTES, 186 },
     { "bidegrees", TAGETESSASH_STACK_BYTES, 154 },
     { "Hilbert function", TAGETESSASH_STACK_BYTES, 161 },
-    { "membership", TAGETESSASH_STACK_BYTES, 91 },
+    { "membership", TAGETESSASH_STACK_BYTES, 139 },
 };
 
 static uint8_t file[TAGETESSASH_FILE_BYTES], sheet[TAGETESSASH_SHEET_BYTES], page[TAGETESSASH_PAGE_BYTES], lines[TAGETESSASH_BIDEGREES_BYTES],
