@@ -1,9 +1,7 @@
 //! Random bases: the ways agree, the vectors are syzygies with their frame terms in front, and
 //! the levels resolve.
 
-mod common;
-
-use common::*;
+use crate::common::*;
 use reference::completion::{Caps, Completion};
 use reference::engine::{Basis, State};
 use reference::field::Field;

@@ -1,8 +1,6 @@
 //! The Betti page (request A1).
 
-mod common;
-
-use common::*;
+use crate::common::*;
 use reference::betti::{counts, lines, of_two_degrees, page, Counts};
 use reference::engine::State;
 use reference::generate::cases::page_case;

@@ -1,8 +1,6 @@
 //! Bidegrees (request A14): the G line, what stays as it is without it, the lines, and 25.
 
-mod common;
-
-use common::*;
+use crate::common::*;
 use reference::betti::page;
 use reference::bidegrees::{
     bidegree, bidegrees, counts, lines, of_two_bidegrees, Bidegree, Counts,

@@ -1,8 +1,6 @@
 //! The calls on lent buffers: every word of every buffer afterwards, for any contents before.
 
-mod common;
-
-use common::*;
+use crate::common::*;
 use reference::buffers::*;
 use reference::engine::{sound, Basis, State};
 use reference::field::is_prime;

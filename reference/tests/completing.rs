@@ -1,8 +1,6 @@
 //! Completing a basis (request A6): what is added, what stays, and what is refused.
 
-mod common;
-
-use common::*;
+use crate::common::*;
 use reference::completing::complete;
 use reference::completion::{Caps, Completion};
 use reference::frame::Reducers;

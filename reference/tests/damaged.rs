@@ -1,8 +1,6 @@
 //! Damaged files and files at the limits: a listing or an X line with a number and a place.
 
-mod common;
-
-use common::*;
+use crate::common::*;
 use reference::generate::cases::{file_case, FILE_KINDS};
 use reference::generate::files::{exact_length_file, exact_t_lines_file};
 use reference::random::Random;

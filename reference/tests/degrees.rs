@@ -1,8 +1,6 @@
 //! Degrees of components (request A5): the D line, the degrees that a state's words hold, and what they are for soundness.
 
-mod common;
-
-use common::*;
+use crate::common::*;
 use reference::buffers::*;
 use reference::completion::{Caps, Completion};
 use reference::engine::{own_degrees, sound, Basis, State};

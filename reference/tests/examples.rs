@@ -1,8 +1,6 @@
 //! The files of `examples/` against what Singular and Macaulay2 say of them.
 
-mod common;
-
-use common::*;
+use crate::common::*;
 use reference::engine::{Basis, State};
 use reference::hilbert::value;
 use reference::invariants::generator_degrees;

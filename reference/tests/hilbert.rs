@@ -1,8 +1,6 @@
 //! The Hilbert function (request A13): the lines, what they count, and what is refused.
 
-mod common;
-
-use common::*;
+use crate::common::*;
 use reference::betti::page;
 use reference::bidegrees::bidegrees;
 use reference::buffers::*;

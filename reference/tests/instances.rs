@@ -1,8 +1,6 @@
 //! The instances of document 01 and its printed example.
 
-mod common;
-
-use common::*;
+use crate::common::*;
 use reference::frame::frame;
 use reference::order::{Modules, Order};
 use reference::reader::read_problem;

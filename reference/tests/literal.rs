@@ -1,9 +1,7 @@
 //! The three ways once more, as literally as possible: terms in plain lists, recursion, counts
 //! taken anew each time. They have to agree with the library call for call, refusals included.
 
-mod common;
-
-use common::*;
+use crate::common::*;
 use reference::engine::{Basis, State};
 use reference::field::Field;
 use reference::generate::problems::{problem_file, random_basis, Size};

@@ -1,8 +1,6 @@
 //! Whether a vector is in the module (request A12): quotients, remainder, and what is refused.
 
-mod common;
-
-use common::*;
+use crate::common::*;
 use reference::behind::split;
 use reference::frame::Reducers;
 use reference::generate::cases::vector_case;

@@ -1,9 +1,7 @@
 //! Minimal Betti numbers (request A7): the page, ranks, what the numbers do not depend on, and what
 //! is refused.
 
-mod common;
-
-use common::*;
+use crate::common::*;
 use reference::betti::{lines, page};
 use reference::buffers::*;
 use reference::engine::{Basis, State};

@@ -1,8 +1,6 @@
 //! Every refusal at least once with its place, and the order of refusals in a line.
 
-mod common;
-
-use common::*;
+use crate::common::*;
 use reference::engine::State;
 use reference::lifting::Way;
 use reference::Limits;

@@ -1,8 +1,6 @@
 //! Picks recorded elsewhere (request A9): which logs are taken, the vector, and what is refused.
 
-mod common;
-
-use common::*;
+use crate::common::*;
 use reference::behind::split;
 use reference::frame::{frame, NUMBERING};
 use reference::generate::cases::log_case;

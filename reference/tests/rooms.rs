@@ -1,9 +1,7 @@
 //! Lifting by hybrid in less work space (request A11): every length of work, by the words of all
 //! buffers afterwards.
 
-mod common;
-
-use common::*;
+use crate::common::*;
 use reference::buffers::*;
 use reference::engine::{Basis, State};
 use reference::generate::files::large_frame_file;

@@ -1,8 +1,6 @@
 //! How many steps pick code 2 takes, and slow files.
 
-mod common;
-
-use common::*;
+use crate::common::*;
 use reference::generate::cases::slow_case;
 use reference::generate::problems::{problem_file, random_basis, Size};
 use reference::generate::slow::is_slow;
@@ -137,7 +135,7 @@ fn the_slow_files() {
         // the vectors by two other ways
         let basis = lifted_by_tree(&limits, &file, PRODUCTS).expect("it is accepted");
         for way in [Way::Division, Way::Hybrid(1)] {
-            let (mut state, _) = common::read(&file);
+            let (mut state, _) = crate::common::read(&file);
             for k in 1..basis.levels.len() as u64 {
                 assert_eq!(lift(&mut state, &limits, k, way, 0).number, 0);
             }
