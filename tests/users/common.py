@@ -19,6 +19,7 @@ EXAMPLES = sorted(name[:-4] for name in os.listdir(f"{ROOT}/examples") if name.e
 NAMES = [f"x{k}" for k in range(1, 9)]
 STATUS = {**{number: 1 for number in (*range(1, 9), 18, 23, 24)}, 9: 3, 13: 4, 14: 4, 15: 4, 17: 5, 20: 4, 25: 5}
 COLUMNS = 11
+HANGS = 1200  # seconds: what takes so long, however busy the machine is, does not end
 SINGULAR, MACAULAY2 = ["Singular", "-q", "--no-rc"], ["M2", "--script"]
 
 
@@ -35,7 +36,7 @@ def small_stack():
 def command(*words, data=None):
     """Status, standard output, standard error."""
     ran = subprocess.run([f"{ROOT}/tagetessash", *words], input=data, stdin=subprocess.DEVNULL if data is None else None, capture_output=True, cwd=ROOT,
-                         preexec_fn=small_stack, timeout=600, check=False)
+                         preexec_fn=small_stack, timeout=HANGS, check=False)
     return ran.returncode, ran.stdout.decode(), ran.stderr.decode()
 
 
@@ -109,7 +110,7 @@ def said_by(words, script):
     with tempfile.NamedTemporaryFile("w", suffix=".txt", encoding="ascii") as file:
         file.write(script + "\n")
         file.flush()
-        ran = subprocess.run([*words, file.name], stdin=subprocess.DEVNULL, stdout=subprocess.PIPE, stderr=subprocess.STDOUT, text=True, timeout=300,
+        ran = subprocess.run([*words, file.name], stdin=subprocess.DEVNULL, stdout=subprocess.PIPE, stderr=subprocess.STDOUT, text=True, timeout=HANGS,
                              check=False)
     return dict(part.split("\n", 1) for part in re.split(r"^== ", ran.stdout, flags=re.M)[1:])
 
