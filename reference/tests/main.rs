@@ -1,4 +1,4 @@
-//! All tests of the unrelated implementation, as one program: compiled and linked one by one they take four times as long.
+//! All tests of the unrelated implementation, as one program: compiled and linked once.
 
 mod bases;
 mod betti;
