@@ -64,6 +64,7 @@ extern "C" {
 #define TAGETESSASH_BIDEGREES_BYTES 32384  /* and that of the bidegrees */
 #define TAGETESSASH_HILBERT_BYTES 31773    /* and that of the Hilbert function */
 #define TAGETESSASH_MEMBER_BYTES 63492     /* and that of membership */
+#define TAGETESSASH_COMPLETED_BYTES 100360 /* and that of the completed file, which has TAGETESSASH_FILE_BYTES at the most */
 
 /* The most that there can be. A longer file is refused with 1, more variables or components with 3, T lines for more terms of level 0 with 8, more terms of a
  * vector, of a working value (as many as of a vector) or of the tree's work area with 14, more vectors or terms of a level above 0 with 15. */
@@ -249,6 +250,13 @@ uint16_t tagetessash_hilbert(const uint8_t *file, size_t file_bytes, uint16_t *s
  * a refused file it writes the X line (and after X,9 the W lines) and nothing else; X,23 with the first line behind E that is no V line, out of range, not
  * below the one before it, or one too many; X,13,0 and X,14,0 where the division meets a limit. Returns 0 for every input, or 16, as tagetessash_sheet does. */
 uint16_t tagetessash_member(const uint8_t *input, size_t input_bytes, uint16_t *state, size_t state_words, uint16_t *work, size_t work_words, uint8_t *out,
+    size_t out_bytes, size_t *length);
+
+/* Writes the problem file completed to a Gröbner basis: as long as division stops at a value whose leading term no element's leading monomial divides (9),
+ * that value, divided by its leading coefficient, is added as the last element. What stands before the E line is as it was given. A file that is accepted at
+ * once is written as it is. For a file that is not read, one that meets 13 to 15, and where a 65th element (19), more than 65,536 bytes (1 at line 0) or a
+ * 2,049th T line (8) would be needed, it writes the X line and nothing else. Returns 0 for every file, or 16, as tagetessash_sheet does. */
+uint16_t tagetessash_completed(const uint8_t *file, size_t file_bytes, uint16_t *state, size_t state_words, uint16_t *work, size_t work_words, uint8_t *out,
     size_t out_bytes, size_t *length);
 
 /* The version of the library. */

@@ -18,7 +18,8 @@ use Rattle.definitions.specs.Sheet.{printed, term-fields, variables-of, sheet-o
 use Rattle.definitions.specs.Layout.{Words, meant, division, long-enough?, Read, read-left, read-call, Lent, Left, lent-call, lent-calls}
 use Rattle.definitions.specs.Program.{printed-or-refused}
 use Rattle.definitions.specs.Betti.{betti-of, betti}
-use Rattle.files.specs.Files.{Given, element-lines, elements-lines, end-line, first-line-of, degrees-line, weights-line, given-lines, file-of, Well-formed}
+use Rattle.definitions.specs.Written.{element-lines, end-line}
+use Rattle.files.specs.Files.{Given, elements-lines, first-line-of, degrees-line, weights-line, given-lines, file-of, Well-formed}
 use Rattle.files.specs.Files.{Well-formed-file}
 use Rattle.files.proofs.Lines.{listed, lines-printed, text-of, lines-text}
 use Rattle.files.proofs.Heads.{r-numbers}

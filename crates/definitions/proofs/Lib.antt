@@ -10,3 +10,4 @@ pub mod Pages
 pub mod Bidegrees
 pub mod Hilbert
 pub mod Minimal
+pub mod Completing

@@ -15,6 +15,7 @@ use Rattle.definitions.specs.Places.{most-image, tables-length, most-deg
 use Rattle.definitions.specs.Places.{ends-length, lifted-length, grown-length, file-length, read-length, s-line-length, pair-line-length, s-lines-length}
 use Rattle.definitions.specs.Places.{level-lines-length, all-lines-length, sheet-length, cell-length, page-columns, row-shift, page-line-length}
 use Rattle.definitions.specs.Places.{page-rows, page-length, most-weight, most-weighted, weights-length, second-base, b-line-length, bidegrees-length}
+use Rattle.definitions.specs.Places.{t-line-length, end-line-length, completed-length}
 
 -- ## The numbers
 
@@ -81,6 +82,10 @@ bidegrees-are = (refl, refl, refl, refl)
 
 second-fits : (most-weighted < second-base) × (most-weighted + most-degree < second-base)
 second-fits = (omega arith, omega arith)
+
+-- of completed files
+completed-is : completed-length ≡ file-length + most-terms * t-line-length + end-line-length
+completed-is = refl
 
 -- ## The laws
 

@@ -31,4 +31,6 @@ pub mod Rank
 pub mod Minimal
 pub mod After
 pub mod Membership
+pub mod Written
+pub mod Completing
 pub mod Layout

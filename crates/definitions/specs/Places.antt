@@ -363,3 +363,16 @@ m-line-length = 4
 -- all lines: one for each term of the quotients and of the remainder, and the M line. A refusal's lines are no longer
 abbrev pub member-length : ℕ
 member-length = 63_492
+
+-- ## Completing (A6)
+
+-- a T line and an E line at the most
+abbrev pub t-line-length : ℕ
+t-line-length = 68
+
+abbrev pub end-line-length : ℕ
+end-line-length = 8
+
+-- a file, the T lines of a working value behind it and an E line: room to add an element before the result's length is tested
+abbrev pub completed-length : ℕ
+completed-length = 100_360

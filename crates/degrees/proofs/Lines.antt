@@ -12,7 +12,8 @@ use Rattle.definitions.specs.Monomial.{Term, Vector, Level}
 use Rattle.definitions.specs.Problem.{Bytes, Line, Parameters, letter-R, letter-D, letter-G, letter-T, lines}
 use Rattle.definitions.specs.Sheet.{printed, term-fields}
 use Rattle.laws.proofs.Members.{all-map}
-use Rattle.files.specs.Files.{Given, element-lines, elements-lines, end-line, first-line-of, degrees-line, weights-line, file-of, Degrees-said, Weights-said}
+use Rattle.definitions.specs.Written.{element-lines, end-line}
+use Rattle.files.specs.Files.{Given, elements-lines, first-line-of, degrees-line, weights-line, file-of, Degrees-said, Weights-said}
 use Rattle.files.specs.Files.{Well-formed-term, Well-formed-element, Well-formed, Well-formed-file}
 use Rattle.files.proofs.Lines.{listed, lines-printed, text-of, lines-text}
 use Rattle.files.proofs.Heads.{plain, r-numbers, with-line-well}

@@ -22,7 +22,8 @@ use Rattle.definitions.specs.State.{terms-of}
 use Rattle.definitions.specs.Sheet.{printed, term-fields}
 use Rattle.laws.proofs.Tests.{and-left, and-right, and-both}
 use Rattle.laws.proofs.Results.{If-some}
-use Rattle.files.specs.Files.{Given, elements-lines, end-line, first-line-of, given-lines, behind-degrees, first-term-line, Well-formed-parameters, Wide}
+use Rattle.definitions.specs.Written.{end-line}
+use Rattle.files.specs.Files.{Given, elements-lines, first-line-of, given-lines, behind-degrees, first-term-line, Well-formed-parameters, Wide}
 use Rattle.files.specs.Reasons.{So-far, Says, In-sequence, In-range, Below, Bad-term, too-many, out-of-sequence, out-of-range, not-below, Bad-later}
 use Rattle.files.specs.Reasons.{absent, no-shape, bad-term, bad-count, Head-so-far, Second}
 use Rattle.files.specs.Reasons.{Reason, no-first, first-shape, first-prime, first-range, second-degree, head-weight, later-line, after-end}

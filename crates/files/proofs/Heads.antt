@@ -17,7 +17,8 @@ use Rattle.definitions.specs.Places.{most-degree, most-weight}
 use Rattle.definitions.specs.Sheet.{printed, term-fields}
 use Rattle.laws.proofs.Members.{All, every-all, all-every, all-map}
 use Rattle.laws.proofs.Results.{If-done, if-done-bind, guard-done, If-some}
-use Rattle.files.specs.Files.{Given, element-lines, elements-lines, first-line-of, degrees-line, weights-line, given-lines, behind-degrees}
+use Rattle.definitions.specs.Written.{element-lines}
+use Rattle.files.specs.Files.{Given, elements-lines, first-line-of, degrees-line, weights-line, given-lines, behind-degrees}
 use Rattle.files.specs.Files.{first-term-line, Well-formed-parameters, Degrees-said, Weights-said, weights-of, Well-formed-element, Wide}
 use Rattle.files.proofs.Lines.{text-of, Clean, listed, lines-printed, text-printed, shaped-listed, other-letter, Shape, shaped-only}
 use Rattle.files.proofs.Forms.{prime-tested, ranges-tested, parameters-well, parameter-numbers}

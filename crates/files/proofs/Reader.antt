@@ -11,7 +11,8 @@ use Rattle.definitions.specs.Limits.{Limits, document-01}
 use Rattle.definitions.specs.Monomial.{Vector, Level}
 use Rattle.definitions.specs.Result.{Result, done, refused, unfinished, unless-refused, _>>=_}
 use Rattle.definitions.specs.Problem.{Bytes, Parameters, Head, lines, first-line, head, problem}
-use Rattle.files.specs.Files.{Given, elements-lines, end-line, file-of, weights-of, Well-formed, Well-formed-file, Wide, Roomy, First-bad-line}
+use Rattle.definitions.specs.Written.{end-line}
+use Rattle.files.specs.Files.{Given, elements-lines, file-of, weights-of, Well-formed, Well-formed-file, Wide, Roomy, First-bad-line}
 use Rattle.files.specs.Answers
 use Rattle.files.specs.Answers.{Refused-right, too-long, at-line, Answered, Head-read, Reader-right}
 use Rattle.files.proofs.Heads.{lines-read, problem-sized, head-read}

@@ -8,28 +8,20 @@ use lib.ListN.{length, take, drop, replicate}
 use Rattle.definitions.specs.Limits.{Limits}
 use Rattle.definitions.specs.Monomial.{Term, Vector, Level}
 use Rattle.definitions.specs.Order.{greater, compare-over}
-use Rattle.definitions.specs.Problem.{Bytes, Parameters, letter-R, letter-D, letter-G, letter-T, letter-E, pairs, lines}
+use Rattle.definitions.specs.Problem.{Bytes, Parameters, letter-R, letter-D, letter-G, pairs, lines}
 use Rattle.definitions.specs.Places.{most-degree, most-weight}
 use Rattle.definitions.specs.State.{terms-of}
-use Rattle.definitions.specs.Sheet.{printed, term-fields}
+use Rattle.definitions.specs.Sheet.{printed}
+use Rattle.definitions.specs.Written.{element-lines, end-line}
 use Rattle.laws.proofs.Modular.{Prime}
 use Rattle.laws.proofs.Members.{All}
 
 -- ## The file
 
--- `T,element,coefficient,component,e1,..,en` for each term of element i
-abbrev pub element-lines : ℕ → ℕ → Vector → Bytes
-element-lines n i [] = []
-element-lines n i (t ∷ ts) = printed letter-T (i ∷ term-fields n t) ++ element-lines n i ts
-
 -- the elements from element i on
 abbrev pub elements-lines : ℕ → ℕ → Level → Bytes
 elements-lines n i [] = []
 elements-lines n i (f ∷ fs) = element-lines n i f ++ elements-lines n (suc i) fs
-
--- `E,count of T lines`
-abbrev pub end-line : Level → Bytes
-end-line f = printed letter-E (terms-of f ∷ [])
 
 -- `R,p,n,order,s`
 abbrev pub first-line-of : Parameters → Bytes

@@ -17,7 +17,8 @@ use Rattle.definitions.specs.State.{terms-of}
 use Rattle.definitions.specs.Sheet.{printed, term-fields}
 use Rattle.laws.proofs.Modular.{Prime}
 use Rattle.laws.proofs.Members.{All}
-use Rattle.files.specs.Files.{elements-lines, end-line, first-line-of, Given, degrees-line, given-lines, behind-degrees, first-term-line}
+use Rattle.definitions.specs.Written.{end-line}
+use Rattle.files.specs.Files.{elements-lines, first-line-of, Given, degrees-line, given-lines, behind-degrees, first-term-line}
 use Rattle.files.specs.Files.{Well-formed-parameters, Degrees-said, Weights-said, Well-formed-element}
 
 -- the elements of the lines so far are in order

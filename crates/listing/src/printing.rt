@@ -34,7 +34,7 @@ pub fn field(out: &mut [u8], at: usize, v: usize) -> usize
 }
 
 // .. that is a word.
-fn word(out: &mut [u8], at: usize, v: u16) -> usize
+pub fn word(out: &mut [u8], at: usize, v: u16) -> usize
     requires { ⌜ at + 6 ≤ length (now out) ⌝ }
     ensures { λ r. ⌜ Printed (now (out .entry)) (now (out .exit)) at r (comma ∷ decimal v) × (r ≤ at + 6) ⌝ }
 {
@@ -57,7 +57,7 @@ fn exponents(out: &mut [u8], at: usize, e: [u16; words::EXPONENTS_LENGTH], n: us
 }
 
 // Coefficient, component and the first n exponents.
-fn term(out: &mut [u8], at: usize, t: Term, n: usize) -> usize
+pub fn term(out: &mut [u8], at: usize, t: Term, n: usize) -> usize
     requires { ⌜ (n ≤ 8) × (at + 60 ≤ length (now out)) ⌝ }
     ensures { λ r. ⌜ Printed (now (out .entry)) (now (out .exit)) at r (listed (term-fields n (term-of t))) × (r ≤ at + 60) ⌝ }
 {

@@ -1,7 +1,7 @@
 // The calls that print the requests' pages of a file, for every file.
-// Exists for: `betti`, `minimal`, `bidegrees`, `hilbert`, `member`.
-// Knows: crate definitions' Betti, Minimal, Bidegrees, Hilbert and Membership; module whole of betti_page, minimal_page, bidegree_page, hilbert_page and
-// member_page prints them.
+// Exists for: `betti`, `minimal`, `bidegrees`, `hilbert`, `member`, `complete`.
+// Knows: crate definitions' Betti, Minimal, Bidegrees, Hilbert, Membership and Completing; module whole of betti_page, minimal_page, bidegree_page, hilbert_page,
+// member_page and completing prints them.
 // What they test first and leave at their end is crate lending's.
 ghost use mathlib.Core.Path.{_≡_};
 ghost use Prim.Native.Nat.{ℕ};
@@ -11,7 +11,8 @@ ghost use Rattle.definitions.specs.Minimal.{minimal as minimal-definition};
 ghost use Rattle.definitions.specs.Bidegrees.{bidegrees as bidegrees-definition};
 ghost use Rattle.definitions.specs.Hilbert.{hilbert as hilbert-definition};
 ghost use Rattle.definitions.specs.Membership.{membership};
-ghost use Rattle.definitions.specs.Places.{page-length, bidegrees-length, hilbert-length, member-length};
+ghost use Rattle.definitions.specs.Completing.{completing as completing-definition};
+ghost use Rattle.definitions.specs.Places.{page-length, bidegrees-length, hilbert-length, member-length, completed-length};
 ghost use Rattle.lending.specs.Called.{told, called};
 use lending::Answer;
 
@@ -73,6 +74,18 @@ pub fn member(input: &[u8], state: &mut [u16], work: &mut [u16], out: &mut [u8])
     if lending::long_enough(state.len(), work.len(), out.len(), words::MEMBER_LENGTH) {
         let long = member_page::whole::print(input, state, work, out);
         return lending::finish(state, work, out, long);
+    }
+    lending::too_short()
+}
+
+// A6: "It prints the file so obtained, in the problem format": likewise.
+pub fn complete(file: &[u8], state: &mut [u16], work: &mut [u16], out: &mut [u8]) -> Answer
+    ensures { λ r. ⌜ ((n : ℕ) × (told r (now (state .exit)) (now (work .exit)) (now (out .exit)) ≡ called completed-length
+        (completing-definition document-01) n (now (file .entry)) (now (state .entry)) (now (work .entry)) (now (out .entry)))) ⌝ }
+{
+    if lending::long_enough(state.len(), work.len(), out.len(), words::COMPLETED_LENGTH) {
+        let size = completing::whole::print(file, state, work, out);
+        return lending::finish(state, work, out, size);
     }
     lending::too_short()
 }

@@ -60,7 +60,7 @@ pub fn append(state: &mut [u16], k: usize, count: usize, used: usize, value: &[u
 // ## Unused places
 
 // The end of the last of level k's first r vectors.
-fn end_of(state: &[u16], k: usize, r: usize) -> usize
+pub fn end_of(state: &[u16], k: usize, r: usize) -> usize
     requires { ⌜ (state-length ≤ length (now state)) × (k < all-levels) × (r ≤ most-vectors) ⌝ }
     ensures { λ x. ⌜ x ≡ start-of (ends-from (now (state .entry)) k) r ⌝ }
 {

@@ -94,6 +94,9 @@ ghost use Rattle.definitions.specs.Places.{
   brought-length,
   m-line-length,
   member-length,
+  t-line-length,
+  end-line-length,
+  completed-length,
 };
 ghost use Rattle.words.specs.Slices.{Sixteen-bits};
 
@@ -293,9 +296,17 @@ pub const M_LINE_LENGTH: usize = 4;
 
 pub const MEMBER_LENGTH: usize = 2 * MOST_TERMS * W_LINE_LENGTH + M_LINE_LENGTH;
 
+// ## Completing
+
+pub const T_LINE_LENGTH: usize = 68;
+
+pub const END_LINE_LENGTH: usize = 8;
+
+pub const COMPLETED_LENGTH: usize = FILE_LENGTH + MOST_TERMS * T_LINE_LENGTH + END_LINE_LENGTH;
+
 // ## Held to the definitions
 
-pub fn numbers() -> [usize; 78]
+pub fn numbers() -> [usize; 81]
     ensures { λ r. ⌜ r ≡ exponents-length ∷ most-vectors ∷ most-rows ∷ most-terms ∷ most-tree-terms ∷ most-levels ∷ all-levels ∷ component-offset
         ∷ exponents-offset ∷ rank-offset ∷ packed-length ∷ row-length ∷ image-length ∷ header-length ∷ counts-length ∷ ends-start ∷ rows-start ∷ level-length ∷
         degrees-start ∷ most-components ∷ carried-start ∷ state-length
@@ -305,7 +316,7 @@ pub fn numbers() -> [usize; 78]
         ∷ page-length ∷ weights-length ∷ b-line-length ∷ bidegrees-length ∷ hilbert-degrees ∷ triangle-rows ∷ triangle-length ∷ h-line-length
         ∷ hilbert-length ∷ matrix-length ∷ marks-length ∷ least-terms ∷ most-nodes ∷ few-nodes ∷ node-edges ∷ nodes-length ∷ few-nodes-length ∷ edges-length
         ∷ few-edges-length ∷ roots-start ∷ table-spans-length ∷ slots-length ∷ keys-length ∷ few-keys-length
-        ∷ v-line-length ∷ brought-length ∷ m-line-length ∷ member-length ∷ [] ⌝ }
+        ∷ v-line-length ∷ brought-length ∷ m-line-length ∷ member-length ∷ t-line-length ∷ end-line-length ∷ completed-length ∷ [] ⌝ }
 {
     [
         EXPONENTS_LENGTH,
@@ -386,6 +397,9 @@ pub fn numbers() -> [usize; 78]
         BROUGHT_LENGTH,
         M_LINE_LENGTH,
         MEMBER_LENGTH,
+        T_LINE_LENGTH,
+        END_LINE_LENGTH,
+        COMPLETED_LENGTH,
     ]
 }
 

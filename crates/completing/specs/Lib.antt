@@ -1,0 +1,2 @@
+pub mod adding
+pub mod whole

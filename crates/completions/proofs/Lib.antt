@@ -1,0 +1,5 @@
+pub mod Growing
+pub mod Texts
+pub mod Completions
+pub mod Resuming
+pub mod Trying

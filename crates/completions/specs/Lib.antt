@@ -1,0 +1,2 @@
+pub mod Completes
+pub mod Resuming
