@@ -1,5 +1,6 @@
 /* The three calls of Tagetessash: read a problem file, lift a level, fetch a vector; a fourth that divides a vector by the elements of a state; and the sheet,
- * the Betti page, the minimal Betti numbers, the bidegrees and the Hilbert function of a file, and whether a vector is in its module, each in one call.
+ * the Betti page, the minimal Betti numbers, the bidegrees and the Hilbert function of a file, whether a vector is in its module, and the file completed to a
+ * Gröbner basis, each in one call.
  *
  * A header of one version does not fit a library of another: if (tagetessash_version() != TAGETESSASH_VERSION) do not go on.
  *
@@ -30,12 +31,13 @@ extern "C" {
  *     1    an exponent has a word of its own, a row ten words
  *     2    the exponents are packed, a row has six words; what the accessors below give and what the sheet prints is as it was
  *     3    the state has degrees behind its rows, a D line is read, 18 is answered; all that a state of version 2 holds stands where it stood
- * tagetessash_betti, tagetessash_bidegrees, tagetessash_hilbert, tagetessash_minimal, tagetessash_member and tagetessash_divide came later: a program of
- * version 3 that does not call them fits every library of version 3, and one that does is not linked with a library that has no such function. With the second
- * came a file's G line, which was refused with 1, and 24: no state holds its weights, and every file that was read before is read as before. Later still hybrid
- * took work areas of fewer than TAGETESSASH_WORK_WORDS words: with as many or more every answer and every word is as before, and a library of version 3 from
- * before refuses fewer with 16. Version 1's buffers are long enough for version 3: a program that was compiled with that header is refused nothing and reads
- * other words. Only the version tells it. One of version 2 lends a state that is too short: where it does not ask for the version, every call answers 16. */
+ * tagetessash_betti, tagetessash_bidegrees, tagetessash_hilbert, tagetessash_minimal, tagetessash_member, tagetessash_divide and tagetessash_completed came
+ * later: a program of version 3 that does not call them fits every library of version 3, and one that does is not linked with a library that has no such
+ * function. With the second came a file's G line, which was refused with 1, and 24: no state holds its weights, and every file that was read before is read as
+ * before. Later still hybrid took work areas of fewer than TAGETESSASH_WORK_WORDS words: with as many or more every answer and every word is as before, and a
+ * library of version 3 from before refuses fewer with 16. Version 1's buffers are long enough for version 3: a program that was compiled with that header is
+ * refused nothing and reads other words. Only the version tells it. One of version 2 lends a state that is too short: where it does not ask for the version,
+ * every call answers 16. */
 #define TAGETESSASH_VERSION 3
 
 /* How many bytes of stack a call finds enough, from where it is called, so that a thread of this size and what its own functions need is safe. Of the stack

@@ -1,8 +1,8 @@
 # What stands behind an X line, for people: the line of the file with the usual causes, found by looking; after 9 which frame term it is, and the value; after
-# 17 two terms of the element that have different degrees, after 25 two that have different bidegrees.
+# 17 two terms of the element that have different degrees, after 25 two that have different bidegrees; where completing met a limit, what was given.
 # Unproved, and nothing rests on it: it reads the problem file, then the sheet or the page, and prints lines for standard error.
 #
-#     NAME=file ENDED=1 NUMBER=6 PLACE=3 awk -f explain.awk FILE PRINTED     ENDED: whether FILE's last byte is 10
+#     NAME=file ENDED=1 WORD=sheet NUMBER=6 PLACE=3 awk -f explain.awk FILE PRINTED     ENDED: whether FILE's last byte is 10; WORD: the command's
 
 BEGIN {
     name = ENVIRON["NAME"]; ended = ENVIRON["ENDED"]; number = ENVIRON["NUMBER"] + 0; place = ENVIRON["PLACE"] + 0
@@ -18,6 +18,14 @@ END {
     if ((number <= 8 || number == 18 || number == 23 || number == 24) && place > 0) print name ":" place ": " shown(line[place]) hint()
     if (number == 9) not_a_basis()
     if (number == 17 || number == 25) two_degrees()
+    if (ENVIRON["WORD"] == "complete" && (number >= 13 || ENVIRON["PLACE"] == "completed") && number != 18 && number != 24) not_completed()
+}
+
+# what was given, and what may help
+function not_completed(    fields) {
+    split(line[lines - 1], fields, ",")
+    print name ": " fields[2] (fields[2] == 1 ? " element" : " elements") " with " lines - first_t " T lines; nothing is reduced while completing:" \
+        " the reduced basis that std of Singular or gb of Macaulay2 gives has mostly fewer elements"
 }
 
 # control characters and bytes above 126 as ?, cut
