@@ -168,9 +168,10 @@ enum {
     TAGETESSASH_LEVEL_LIMIT = 15,    /* a 129th frame term, or a 2,049th term of a level above 0 */
 
     /* No call returns these: they stand in the X line that is written instead of a page. The place is the first such element; that of 20 is the level. */
-    TAGETESSASH_TWO_DEGREES = 17,   /* an element has terms of two degrees: by tagetessash_betti and tagetessash_minimal */
-    TAGETESSASH_TWO_BIDEGREES = 25, /* an element has terms of two bidegrees: by tagetessash_bidegrees */
-    TAGETESSASH_NOT_ENDED = 20      /* level 9 is not empty: by tagetessash_minimal, and for no file, since level n + 1 is empty */
+    TAGETESSASH_TWO_DEGREES = 17,       /* an element has terms of two degrees: by tagetessash_betti and tagetessash_minimal */
+    TAGETESSASH_TWO_BIDEGREES = 25,     /* an element has terms of two bidegrees: by tagetessash_bidegrees */
+    TAGETESSASH_TOO_MANY_ELEMENTS = 19, /* a 65th element, the place, would be added: by tagetessash_completed */
+    TAGETESSASH_NOT_ENDED = 20          /* level 9 is not empty: by tagetessash_minimal, and for no file, since level n + 1 is empty */
 };
 
 /* Reads a problem file and accepts or refuses its basis. After 0 the state has level 0, the file's elements, and no other level. A file is lines of numbers:
@@ -414,6 +415,7 @@ static inline const char *tagetessash_meaning(uint16_t number)
     case TAGETESSASH_SHORT_BUFFER: return "a buffer is too short";
     case TAGETESSASH_TWO_DEGREES: return "an element has terms of two degrees";
     case TAGETESSASH_BAD_DEGREE: return "a component's degree is above 255";
+    case TAGETESSASH_TOO_MANY_ELEMENTS: return "a completed file would have more than 64 elements";
     case TAGETESSASH_NOT_ENDED: return "level 9 is not empty";
     case TAGETESSASH_BAD_VECTOR: return "a term of the vector is out of range, not below the one before it, or the 513th";
     case TAGETESSASH_BAD_WEIGHT: return "a variable's weight is above 15";
@@ -431,7 +433,7 @@ static inline const char *tagetessash_place_name(uint16_t number)
         return "frame term";
     if ((number >= TAGETESSASH_EXPONENT_LIMIT && number <= TAGETESSASH_LEVEL_LIMIT) || number == TAGETESSASH_NOT_ENDED)
         return "level";
-    if (number == TAGETESSASH_TWO_DEGREES || number == TAGETESSASH_TWO_BIDEGREES)
+    if (number == TAGETESSASH_TWO_DEGREES || number == TAGETESSASH_TWO_BIDEGREES || number == TAGETESSASH_TOO_MANY_ELEMENTS)
         return "element";
     if (number == TAGETESSASH_BAD_VECTOR)
         return "term";

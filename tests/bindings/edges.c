@@ -488,6 +488,7 @@ static void the_bidegrees_of(const char *text, const char *expected) { prints(ta
 
 static void the_function_of(const char *text, const char *expected) { prints(tagetessash_hilbert, TAGETESSASH_HILBERT_BYTES, text, expected); }
 static void the_division_of(const char *text, const char *expected) { prints(tagetessash_member, TAGETESSASH_MEMBER_BYTES, text, expected); }
+static void the_basis_of(const char *text, const char *expected) { prints(tagetessash_completed, TAGETESSASH_COMPLETED_BYTES, text, expected); }
 
 /* x^2 + 1 over x + y, y^2 + 1, as lines and as rows that are lent; the zero vector, whose pointer may be null; 23 with the line and with the row; a word too
  * short; a state that holds nothing; the state as it was each time; a row written and read */
@@ -678,6 +679,40 @@ static void the_hilbert_functions(void)
     the_function_of("", "X,1,1\n");
 }
 
+/* so many elements in a second component, then x and x + y in the first, to which y is added */
+static char *stuffed(char *text, unsigned others, int completed)
+{
+    char *at = text;
+    unsigned i;
+    at += sprintf(at, "R,7,2,1,2\n");
+    for (i = 1; i <= others; i++)
+        at += sprintf(at, "T,%u,1,2,0,2\n", i);
+    at += sprintf(at, "T,%u,1,1,1,0\nT,%u,1,1,1,0\nT,%u,1,1,0,1\n", others + 1, others + 2, others + 2);
+    if (completed)
+        at += sprintf(at, "T,%u,1,1,0,1\n", others + 3);
+    sprintf(at, "E,%u\n", others + 3 + (completed != 0));
+    return text;
+}
+
+/* x^2 and x y + y^2, to which y^3 is added, with D and G lines as they are; a basis as it is; what is added read again; the 64th element and the 65th, 19 in
+ * words; a limit; files that are not read */
+static void the_completed_files(void)
+{
+#define SQUARES "T,1,1,1,2,0\nT,2,1,1,1,1\nT,2,1,1,0,2\n"
+    char file[2000], expected[2000];
+    the_basis_of("R,7,2,1,1\n" SQUARES "E,3\n", "R,7,2,1,1\n" SQUARES "T,3,1,1,0,3\nE,4\n");
+    the_basis_of("R,7,2,1,1\nD,5\nG,1,2,3,4\n" SQUARES "E,3\n", "R,7,2,1,1\nD,5\nG,1,2,3,4\n" SQUARES "T,3,1,1,0,3\nE,4\n");
+    the_basis_of("R,7,2,1,1\n" SQUARES "T,3,1,1,0,3\nE,4\n", "R,7,2,1,1\n" SQUARES "T,3,1,1,0,3\nE,4\n");
+    CHECK(read_text("R,7,2,1,1\n" SQUARES "T,3,1,1,0,3\nE,4\n") == TAGETESSASH_DONE);
+    the_basis_of(stuffed(file, 61, 0), stuffed(expected, 61, 1));
+    the_basis_of(stuffed(file, 62, 0), "X,19,65\n");
+    the_basis_of("R,7,2,1,1\nT,1,1,1,1,0\nT,1,1,1,0,255\nT,2,1,1,0,2\nE,3\n", "X,13,0\n");
+    the_basis_of("R,7,1,1,2\nD,0,256\n", "X,18,2\n");
+    the_basis_of("", "X,1,1\n");
+    CHECK(strcmp(tagetessash_meaning(TAGETESSASH_TOO_MANY_ELEMENTS), "a completed file would have more than 64 elements") == 0);
+    CHECK(strcmp(tagetessash_place_name(TAGETESSASH_TOO_MANY_ELEMENTS), "element") == 0);
+}
+
 int main(void)
 {
     state = words(TAGETESSASH_STATE_WORDS);
@@ -703,6 +738,7 @@ int main(void)
     the_minimal_numbers();
     the_bidegrees();
     the_hilbert_functions();
+    the_completed_files();
     divisions();
     free(state);
     free(before);

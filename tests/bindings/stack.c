@@ -18,7 +18,7 @@
 static const char deep[] = "R,7,5,1,2\nT,1,1,2,1,0,0,0,0\nT,1,1,1,0,8,11,244,1\nT,2,1,2,1,0,0,0,0\nT,2,1,1,0,8,11,244,1\nT,3,1,1,0,0,0,0,1\n"
                            "T,3,6,1,0,0,0,0,0\nT,4,1,1,0,0,1,0,0\nT,4,6,1,0,0,0,1,1\nT,4,1,1,0,0,0,1,0\nT,5,1,1,0,1,0,254,0\nT,5,6,1,0,0,254,0,0\nE,11\n";
 
-enum { READ, DIVISION, HYBRID, NARROW, TREE, FETCH, DIVIDE, SHEET, BETTI, MINIMAL, BIDEGREES, HILBERT, MEMBER, CALLS };
+enum { READ, DIVISION, HYBRID, NARROW, TREE, FETCH, DIVIDE, SHEET, BETTI, MINIMAL, BIDEGREES, HILBERT, MEMBER, COMPLETED, CALLS };
 /* what is enough, and the KiB that the header says were measured */
 static const struct {
     const char *name;
@@ -37,10 +37,12 @@ static const struct {
     { "bidegrees", TAGETESSASH_STACK_BYTES, 154 },
     { "Hilbert function", TAGETESSASH_STACK_BYTES, 161 },
     { "membership", TAGETESSASH_STACK_BYTES, 139 },
+    { "completed file", TAGETESSASH_STACK_BYTES, 999 },
 };
 
 static uint8_t file[TAGETESSASH_FILE_BYTES], sheet[TAGETESSASH_SHEET_BYTES], page[TAGETESSASH_PAGE_BYTES], lines[TAGETESSASH_BIDEGREES_BYTES],
-    values[TAGETESSASH_HILBERT_BYTES], input[TAGETESSASH_FILE_BYTES + 200], division[TAGETESSASH_MEMBER_BYTES];
+    values[TAGETESSASH_HILBERT_BYTES], input[TAGETESSASH_FILE_BYTES + 200], division[TAGETESSASH_MEMBER_BYTES],
+    completed[TAGETESSASH_COMPLETED_BYTES];
 static size_t file_bytes, input_bytes, vector_words, level, place;
 static uint16_t state[TAGETESSASH_STATE_WORDS], work[TAGETESSASH_TREE_WORK_WORDS], cache[CACHE_WORDS], out[TAGETESSASH_OUT_WORDS];
 static uint16_t vector[TAGETESSASH_OUT_WORDS], remainder[TAGETESSASH_OUT_WORDS];
@@ -111,6 +113,10 @@ static void *run(void *nothing)
     case MEMBER:
         number = tagetessash_member(
             input, input_bytes, state, TAGETESSASH_STATE_WORDS, work, TAGETESSASH_WORK_WORDS, division, TAGETESSASH_MEMBER_BYTES, &place);
+        break;
+    case COMPLETED:
+        number = tagetessash_completed(
+            file, file_bytes, state, TAGETESSASH_STATE_WORDS, work, TAGETESSASH_WORK_WORDS, completed, TAGETESSASH_COMPLETED_BYTES, &place);
         break;
     }
     return nothing;

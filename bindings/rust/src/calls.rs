@@ -109,6 +109,17 @@ extern "C" {
         out_bytes: usize,
         length: *mut usize,
     ) -> u16;
+    fn tagetessash_completed(
+        file: *const u8,
+        file_bytes: usize,
+        state: *mut u16,
+        state_words: usize,
+        work: *mut u16,
+        work_words: usize,
+        out: *mut u8,
+        out_bytes: usize,
+        length: *mut usize,
+    ) -> u16;
     fn tagetessash_version() -> u16;
 }
 
@@ -274,4 +285,9 @@ pub fn hilbert(file: &[u8], state: &mut [u16], work: &mut [u16], out: &mut [u8])
 /// Number and how many bytes `out` has in front.
 pub fn member(input: &[u8], state: &mut [u16], work: &mut [u16], out: &mut [u8]) -> (u16, usize) {
     printed(tagetessash_member, input, state, work, out)
+}
+
+/// Number and how many bytes `out` has in front.
+pub fn completed(file: &[u8], state: &mut [u16], work: &mut [u16], out: &mut [u8]) -> (u16, usize) {
+    printed(tagetessash_completed, file, state, work, out)
 }

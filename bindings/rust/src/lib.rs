@@ -4,7 +4,7 @@
 //! [`Engine::lift`] makes a level complete, [`Engine::vectors`] goes over its vectors, [`Engine::fetch`] gives one of them, [`Engine::divide`] divides a vector
 //! by the elements and so tells whether it is in their module. [`sheet`] prints all levels of a file at once, [`betti`] the table of how many vectors of which
 //! degree they have, [`minimal`] that of a minimal resolution, [`bidegrees`] how many of which bidegree, [`hilbert`] the Hilbert function; [`member`] says
-//! whether a vector is in the module of a file's elements.
+//! whether a vector is in the module of a file's elements. [`completed`] makes a Gröbner basis of generators, as a file for all of these.
 //!
 //! ```
 //! let file = b"R,7,2,1,1\nT,1,1,1,1,0\nT,1,1,1,0,1\nT,2,1,1,0,2\nT,2,1,1,0,0\nE,4\n";
@@ -566,6 +566,30 @@ pub fn hilbert(file: &[u8]) -> Vec<u8> {
 /// If the library is of another version than this crate.
 pub fn member(input: &[u8]) -> Vec<u8> {
     printed(calls::member, MEMBER_BYTES, input)
+}
+
+/// A problem file completed to a Gröbner basis, the bytes that the program prints, for every file: as long as acceptance ends in 9, the value where division
+/// stops, divided by its leading coefficient, is added as the last element. The lines before E stay as they are, and a file that is accepted at once comes back
+/// unchanged. What comes back is a problem file of the same module, which [`Engine::read`] accepts.
+///
+/// A refused file has an X line instead, and nothing else: one that is not read, one that meets 13 to 15, and one to which a 65th element
+/// ([`Refusal::TooManyElements`]), more than 65,536 bytes ([`Refusal::FileTooLong`]) or a 2,049th T line ([`Refusal::TooManyTerms`]) would have to be added.
+///
+/// ```
+/// // x², x y + y²: y³ is added
+/// let file = b"R,7,2,1,1\nT,1,1,1,2,0\nT,2,1,1,1,1\nT,2,1,1,0,2\nE,3\n";
+/// let basis = tagetessash::completed(file);
+/// assert_eq!(tagetessash::Refusal::printed(&basis), None);
+/// assert_eq!(basis, b"R,7,2,1,1\nT,1,1,1,2,0\nT,2,1,1,1,1\nT,2,1,1,0,2\nT,3,1,1,0,3\nE,4\n");
+/// tagetessash::Engine::new().read(&basis)?;
+/// # Ok::<(), tagetessash::Refusal>(())
+/// ```
+///
+/// # Panics
+///
+/// If the library is of another version than this crate.
+pub fn completed(file: &[u8]) -> Vec<u8> {
+    printed(calls::completed, COMPLETED_BYTES, file)
 }
 
 /// A call that prints what it finds in a file, over slices: number and how many bytes it wrote.

@@ -84,6 +84,11 @@ pub enum Refusal {
         /// the file's line, from 1
         line: usize,
     },
+    /// 19: a completed file would have more than 64 elements. No call gives it; it is printed by [`crate::completed`] instead of a file.
+    TooManyElements {
+        /// the element that would be added, 65
+        element: usize,
+    },
     /// 20: level 9 is not empty. No call gives it; [`crate::minimal`] would print it instead of a page, and does for no file, since level n + 1 is empty.
     NotEnded {
         /// the level
@@ -117,8 +122,8 @@ pub enum Refusal {
 use Refusal::*;
 
 impl Refusal {
-    /// That of the X line of a sheet, of a Betti page, of minimal numbers, of bidegrees, of a Hilbert function or of a division; none where there is no such
-    /// line.
+    /// That of the X line of a sheet, of a Betti page, of minimal numbers, of bidegrees, of a Hilbert function, of a division or instead of a completed file;
+    /// none where there is no such line.
     pub fn printed(lines: &[u8]) -> Option<Refusal> {
         let line = lines
             .split(|byte| *byte == b'\n')
@@ -148,6 +153,7 @@ impl Refusal {
             16 => ShortBuffer,
             17 => TwoDegrees { element: place },
             18 => BadDegree { line: place },
+            19 => TooManyElements { element: place },
             20 => NotEnded { level: place },
             23 => BadVector { term: place },
             24 => BadWeight { line: place },
@@ -156,7 +162,7 @@ impl Refusal {
         }
     }
 
-    /// Document 01's number: 1 to 9 or 11 to 16, or a request's: 17, 18, 20, 23, 24 or 25.
+    /// Document 01's number: 1 to 9 or 11 to 16, or a request's: 17 to 20, 23, 24 or 25.
     pub fn number(&self) -> u16 {
         match self {
             FileTooLong | BadLine { .. } => 1,
@@ -176,6 +182,7 @@ impl Refusal {
             ShortBuffer => 16,
             TwoDegrees { .. } => 17,
             BadDegree { .. } => 18,
+            TooManyElements { .. } => 19,
             NotEnded { .. } => 20,
             BadVector { .. } => 23,
             BadWeight { .. } => 24,
@@ -185,7 +192,7 @@ impl Refusal {
     }
 
     /// For 1 to 8, 18 and 24 the file's line, for 9 the number of a frame term, for 13 to 15 and 20 the level (0 while a basis is being accepted), for
-    /// 17 and 25 the element, for 23 the term (or the line), else 0.
+    /// 17, 19 and 25 the element, for 23 the term (or the line), else 0.
     pub fn place(&self) -> usize {
         match *self {
             BadLine { line } | BadPrime { line } | BadRing { line } | BadTerm { line } => line,
@@ -197,7 +204,9 @@ impl Refusal {
             | BadWeight { line } => line,
             NoBasis { frame_term } => frame_term,
             BadVector { term } => term,
-            TwoDegrees { element } | TwoBidegrees { element } => element,
+            TwoDegrees { element } | TwoBidegrees { element } | TooManyElements { element } => {
+                element
+            }
             ExponentLimit { level }
             | TermLimit { level }
             | LevelLimit { level }
@@ -227,6 +236,7 @@ impl Refusal {
             16 => "a buffer is too short",
             17 => "an element has terms of two degrees",
             18 => "a component's degree is above 255",
+            19 => "a completed file would have more than 64 elements",
             20 => "level 9 is not empty",
             23 => "a term of the vector is out of range, not below the one before it, or the 513th",
             24 => "a variable's weight is above 15",
@@ -241,7 +251,7 @@ impl Refusal {
             1..=8 | 18 | 24 => Some("line"),
             9 => Some("frame term"),
             13..=15 | 20 => Some("level"),
-            17 | 25 => Some("element"),
+            17 | 19 | 25 => Some("element"),
             23 => Some("term"),
             _ => None,
         }

@@ -1,6 +1,6 @@
 use crate::{
-    betti, bidegrees, calls, hilbert, layout, member, minimal, sheet, Division, Engine, Order,
-    Pick, Printing, Problem, Refusal, Term, Way, HIGHEST_LEVEL, LEAST_TERMS, VERSION,
+    betti, bidegrees, calls, completed, hilbert, layout, member, minimal, sheet, Division, Engine,
+    Order, Pick, Printing, Problem, Refusal, Term, Way, HIGHEST_LEVEL, LEAST_TERMS, VERSION,
     WORKING_TERMS,
 };
 
@@ -509,6 +509,45 @@ fn the_division_of_every_input() {
     assert_eq!(member(b""), b"X,1,1\n");
 }
 
+/// request A6: an element more, with D and G lines as they are; several; a file that is accepted at once; the 64th element and the 65th; what is not read
+#[test]
+fn the_completed_file() {
+    let squares = "T,1,1,1,2,0\nT,2,1,1,1,1\nT,2,1,1,0,2\n";
+    let three = "T,1,1,1,1,0\nT,2,1,1,1,0\nT,2,1,1,0,1\nT,3,1,1,1,0\nT,3,1,1,0,1\nT,3,1,1,0,0\n";
+    for (head, elements, count, added, more) in [
+        ("", squares, 3, "T,3,1,1,0,3\n", 1),
+        ("D,5\nG,1,2,3,4\n", squares, 3, "T,3,1,1,0,3\n", 1),
+        ("", three, 6, "T,4,1,1,0,1\nT,5,1,1,0,0\n", 2),
+        ("D,5\n", "T,1,1,1,2,0\nT,2,3,1,0,3\n", 2, "", 0),
+    ] {
+        let file = format!("R,7,2,1,1\n{head}{elements}E,{count}\n");
+        let basis = completed(file.as_bytes());
+        let expected = format!("R,7,2,1,1\n{head}{elements}{added}E,{}\n", count + more);
+        assert_eq!(String::from_utf8_lossy(&basis), expected);
+        Engine::new().read(&basis).expect("a Gröbner basis");
+    }
+    // y² in a second component so many times, then x and x + y
+    let stuffed = |others: usize| {
+        let mut file = "R,7,2,1,2\n".to_string();
+        for number in 1..=others {
+            file.push_str(&format!("T,{number},1,2,0,2\n"));
+        }
+        let (first, second) = (others + 1, others + 2);
+        file + &format!(
+            "T,{first},1,1,1,0\nT,{second},1,1,1,0\nT,{second},1,1,0,1\nE,{}\n",
+            others + 3
+        )
+    };
+    assert!(completed(stuffed(61).as_bytes()).ends_with(b"T,64,1,1,0,1\nE,65\n"));
+    let refused = Refusal::printed(&completed(stuffed(62).as_bytes()));
+    assert_eq!(refused, Some(Refusal::TooManyElements { element: 65 }));
+    assert_eq!(
+        refused.expect("it is refused").to_string(),
+        "refused 19 at element 65: a completed file would have more than 64 elements"
+    );
+    assert_eq!(completed(b""), b"X,1,1\n");
+}
+
 /// the same over an engine, with levels above or without, many vectors of one basis; 23 with the term
 #[test]
 fn vectors_divided() {
@@ -627,13 +666,14 @@ fn weights_change_nothing_else() {
 #[test]
 fn short_buffers_of_pages() {
     let file = b"R,7,1,1,1\nT,1,1,1,1\nE,1\n";
-    let pages: [(Printing, usize, Vec<u8>); 6] = [
+    let pages: [(Printing, usize, Vec<u8>); 7] = [
         (calls::sheet, layout::SHEET_BYTES, sheet(file)),
         (calls::betti, layout::PAGE_BYTES, betti(file)),
         (calls::minimal, layout::PAGE_BYTES, minimal(file)),
         (calls::bidegrees, layout::BIDEGREES_BYTES, bidegrees(file)),
         (calls::hilbert, layout::HILBERT_BYTES, hilbert(file)),
         (calls::member, layout::MEMBER_BYTES, member(file)),
+        (calls::completed, layout::COMPLETED_BYTES, completed(file)),
     ];
     for (call, room, printed) in pages {
         let lengths = (layout::STATE_WORDS, layout::WORK_WORDS, room);
@@ -680,6 +720,7 @@ fn printed_refusals() {
         (b"Z,1,1\nX,15,2\n", Refusal::LevelLimit { level: 2 }),
         (b"X,9,1\nW,6,1,0,3\n", Refusal::NoBasis { frame_term: 1 }),
         (b"X,20,9\n", Refusal::NotEnded { level: 9 }),
+        (b"X,19,65\n", Refusal::TooManyElements { element: 65 }),
     ] {
         assert_eq!(Refusal::printed(lines), Some(refusal));
     }
@@ -706,7 +747,7 @@ fn every_number_is_a_refusal() {
                 assert_eq!(refusal.place(), place);
             }
             let other = Refusal::Other { number, place };
-            let known = matches!(number, 1..=9 | 11..=18 | 20 | 23..=25);
+            let known = matches!(number, 1..=9 | 11..=20 | 23..=25);
             assert_eq!(refusal == other, !known);
         }
     }
@@ -742,7 +783,7 @@ fn the_layout_is_the_headers() {
             numbers += 1;
         }
     }
-    assert_eq!(numbers, 26);
+    assert_eq!(numbers, 27);
     assert_eq!(layout::count_at(HIGHEST_LEVEL + 1), layout::rows_at(0));
     assert_eq!(layout::rows_at(HIGHEST_LEVEL + 1), layout::DEGREES_AT);
     let behind = layout::carried_at(0) - layout::DEGREES_AT;
