@@ -172,6 +172,19 @@ fn long(terms: usize, head: &str, wide: bool) -> String {
     file
 }
 
+/// Such a file of so many bytes: coefficients of fewer digits take a byte less each.
+fn of_length(bytes: usize) -> Vec<u8> {
+    let longer = (1_200..).map(|terms| long(terms, "", true));
+    let file = longer
+        .skip_while(|file| file.len() < bytes)
+        .next()
+        .expect("it grows");
+    let more = file.len() - bytes;
+    let file = file.replacen(",65520,2,", ",6552,2,", more);
+    assert_eq!(file.len(), bytes);
+    file.into_bytes()
+}
+
 /// The 65th element, the 2,049th T line and the 65,537th byte, about where they come.
 fn one_more_and_one_less(compare: &mut Compare) {
     for others in 58..=62 {
@@ -191,20 +204,11 @@ fn one_more_and_one_less(compare: &mut Compare) {
             By::File,
         );
     }
-    // by a byte each, by means of the exponents of the longest element: from one that fits to one that does not
-    let mut file = long(1_600, "", true);
-    let mut terms = 1_600;
-    while file.len() + 40 < 65_536 {
-        terms += 1;
-        file = long(terms, "", true);
+    for length in 65_500..=65_540 {
+        compare.file(&of_length(length), LONG_BUDGET);
     }
-    for fewer in 0..6 {
-        let file = long(terms - fewer, "", true);
-        compare.file(file.as_bytes(), LONG_BUDGET);
-        for cut in 1..40 {
-            // coefficients of fewer digits: a byte less each
-            let shorter = file.replacen(",65520,2,", ",6552,2,", cut);
-            compare.file(shorter.as_bytes(), LONG_BUDGET);
-        }
+    // the line that is added has 24 bytes
+    for length in [65_513, 65_536, 65_537] {
+        compare.expect(&of_length(length), b"X,1,0\n", By::File);
     }
 }
