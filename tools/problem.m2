@@ -5,6 +5,8 @@
 -- and standard error says which was taken. Options, as in problem(G, Rank => 3):
 --     Rank => s            the rank of the free module, else that of the matrix's target
 --     Sort => true         elements with leading terms in one component ascend lexicographically by these; components ascend
+--     Generators => true   gens of an ideal, the presentation of a module, the columns of a matrix, as they stand, those that are zero left out: no Groebner
+--                          basis is computed, and tagetessash complete makes one of the file
 --     Degrees => {0, 1}    the degrees of the components, else those of the matrix's target, in a bigraded ring their first integers
 --     Weights => {{1, 0}, {0, 1}}    the two weights of each variable, 0 to 15, else its degree in a bigraded ring; Weights => {} none
 -- Degrees are shifted so that the least is 0, and written (the D line) where they are not all the same then; standard error tells the shift. Weights are
@@ -76,11 +78,15 @@ problem = arguments -> (
     R := ring G;
     code := problemCode R;
     p := char R;
-    (g, took) := if instance(G, Ideal) then (gens gb G, "gens gb of the ideal")
+    generators := any(drop(arguments, 1), a -> instance(a, Option) and toString a#0 == "Generators" and a#1 === true);
+    (g, took) := if instance(G, Ideal) and generators then (gens G, "the generators of the ideal as they stand")
+        else if instance(G, Module) and generators then (presentation G, "the module's presentation as it stands: relations among its generators")
+        else if instance(G, Ideal) then (gens gb G, "gens gb of the ideal")
         else if instance(G, Module) then (gens gb presentation G, "gens gb of the module's presentation: the relations among its generators")
         else (G, "the columns of the matrix as they stand");
     if not isFreeModule target g then error "the columns lie in a module that is not free; take problem of the module itself, or a matrix into a free module";
     if schreyerOrder target g != 0 then error "the columns lie in a module with a Schreyer order, which is not the ring's; take map(R^s, , entries g)";
+    if generators then g = compress g;
     rows := numRows g;
     s := rows;
     sorted := false;
@@ -90,9 +96,11 @@ problem = arguments -> (
     for a in drop(arguments, 1) do
         if instance(a, Option) and toString a#0 == "Rank" and instance(a#1, ZZ) then s = a#1
         else if instance(a, Option) and toString a#0 == "Sort" and instance(a#1, Boolean) then sorted = a#1
+        else if instance(a, Option) and toString a#0 == "Generators" and instance(a#1, Boolean) then generators = a#1
         else if instance(a, Option) and toString a#0 == "Degrees" and instance(a#1, List) and all(a#1, x -> instance(x, ZZ)) then asked = a#1
         else if instance(a, Option) and toString a#0 == "Weights" and isWeights a#1 then weights = a#1
-        else error "the options are Rank => a number, Sort => true or false, Degrees => a list of integers, and Weights => a list of pairs of integers";
+        else error("the options are Rank => a number, Sort => true or false, Generators => true or false, Degrees => a list of integers, "
+            | "and Weights => a list of pairs of integers");
     used := 1 + max({-1} | apply(select(rows, i -> g^{i} != 0), i -> i));
     if s < used then error("component " | toString used | " occurs; the rank can not be " | toString s);
     if s > 16 then error("the free module has rank " | toString s | "; 16 is the most");

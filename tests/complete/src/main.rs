@@ -174,10 +174,9 @@ fn long(terms: usize, head: &str, wide: bool) -> String {
 
 /// Such a file of so many bytes: coefficients of fewer digits take a byte less each.
 fn of_length(bytes: usize) -> Vec<u8> {
-    let longer = (1_200..).map(|terms| long(terms, "", true));
-    let file = longer
-        .skip_while(|file| file.len() < bytes)
-        .next()
+    let file = (bytes / 44..)
+        .map(|terms| long(terms, "", true))
+        .find(|file| file.len() >= bytes)
         .expect("it grows");
     let more = file.len() - bytes;
     let file = file.replacen(",65520,2,", ",6552,2,", more);
