@@ -38,7 +38,7 @@ use Rattle.demands.proofs.Results.{some-is, Holds, holds, nothing, holds-at}
 use Rattle.demands.proofs.Over.{small-exponents, vector-room, sound-prime, sound-eight, accepted-right}
 use Rattle.demands.proofs.Reader.{files}
 use Rattle.demands.proofs.Demand2.{well-formed}
-use Rattle.completions.specs.Completes.{stays, grows, Kept, Completes, Stops, limited, too-many, too-long, too-many-lines}
+use Rattle.completions.specs.Completes.{Shown, stays, grows, Kept, Completes, Stops, limited, too-many, too-long, too-many-lines}
 use Rattle.completions.specs.Completes.{Printed, printed-file, printed-refusal, not-read, Completing-right}
 use Rattle.completions.proofs.Growing.{scaled-length, scaled-descends, Monic, monic-is, shown-filled, grown}
 use Rattle.completions.proofs.Texts.{terms-more, length-more, front-is, file-is, before-is, heads-are, longer-file, longer-given}
@@ -137,13 +137,13 @@ module _ (lim : Limits) (o : T (sensible? lim)) where
           longer-given lim q f levels new (M .filled) (M .sound) descends (omega (arith, a, room)) (omega (arith, b, short)) bytes w l
 
       -- a completed file of the longer one is one of this one
-      next-ran : (n : ℕ) → {x : Result Bytes} → Ran lim n (w .given) q g longer x → Ran lim n (w .given) q f bytes x
-      next-ran n (ran {longer = out} c) = ran (record {
+      next-ran : (n : ℕ) → Shown lim n q f value → {x : Result Bytes} → Ran lim n (w .given) q g longer x → Ran lim n (w .given) q f bytes x
+      next-ran n a (ran {longer = out} c) = ran (record {
         new = c .new;
         well-formed = c .well-formed;
         kept = kept;
-        steps = grows levels value s (c .steps);
-        grown = grown lim q prime eight f (c .new) (grows levels value s (c .steps));
+        steps = grows levels value a (c .steps);
+        grown = grown lim q prime eight n f (c .new) (grows levels value a (c .steps));
         accepted = c .accepted;
         basis = c .basis;
       })
@@ -166,11 +166,11 @@ module _ (lim : Limits) (o : T (sensible? lim)) where
                 ∙ append-assoc (before-end bytes f) (element-lines (q .n) (suc (length f)) new) (k .added ++ end-line (c .new))
                 ∙ ap (λ z. before-end bytes f ++ z) (sym (append-assoc (element-lines (q .n) (suc (length f)) new) (k .added) (end-line (c .new))));
           }
-      next-ran n (ran-out (limited number h e t)) = ran-out (limited number (grows levels value s h) e t)
-      next-ran n (ran-out (too-many v h u e)) = ran-out (too-many v (grows levels value s h) u e)
-      next-ran n (ran-out (too-long v b h u r k l)) = ran-out (too-long v b (grows levels value s h) u r k l)
-      next-ran n (ran-out (too-many-lines v b h u r k m l)) = ran-out (too-many-lines v b (grows levels value s h) u r k m l)
-      next-ran n runs-on = runs-on
+      next-ran n a (ran-out (limited number h e t)) = ran-out (limited number (grows levels value a h) e t)
+      next-ran n a (ran-out (too-many v h u e)) = ran-out (too-many v (grows levels value a h) u e)
+      next-ran n a (ran-out (too-long v b h u r k l)) = ran-out (too-long v b (grows levels value a h) u r k l)
+      next-ran n a (ran-out (too-many-lines v b h u r k m l)) = ran-out (too-many-lines v b (grows levels value a h) u r k m l)
+      next-ran n a runs-on = runs-on
 
       -- the three tests of an addition
       pub tests : {A : Type 0} (X : Result A → Type 0) (k : Bytes → Result A) → (lim .elements < length g → X (refused 19 (length g) []))
@@ -221,7 +221,7 @@ module _ (lim : Limits) (o : T (sensible? lim)) where
         well-formed = w;
         kept = record { before = before-end bytes f; added = []; given = split bytes q f w; longer-is = split bytes q f w };
         steps = stays;
-        grown = grown lim q (prime bytes q f w) (eight bytes q f w) f f stays;
+        grown = grown lim q (prime bytes q f w) (eight bytes q f w) n f f stays;
         accepted = ap (λ x. x >>= accepted lim n) (read-as bytes q f w) ∙ e;
         basis = gb;
       })
@@ -237,8 +237,8 @@ module _ (lim : Limits) (o : T (sensible? lim)) where
           let m = length-more f (monic (q .p) value) in
           let z : length f ≡ lim .elements = omega (arith, k, l, m) in
           let y : suc (lim .elements) ≡ length (f ++ monic (q .p) value ∷ []) = omega (arith, z, m) in
-          subst (λ k. Ran lim n (w .given) q f bytes (refused 19 k [])) y (ran-out (too-many value stays s z)))
-          (λ r l. let m = length-more f (monic (q .p) value) in ran-out (too-long value bytes stays s (omega (arith, r, m)) w l))
+          subst (λ k. Ran lim n (w .given) q f bytes (refused 19 k [])) y (ran-out (too-many value stays nine z)))
+          (λ r l. let m = length-more f (monic (q .p) value) in ran-out (too-long value bytes stays nine (omega (arith, r, m)) w l))
           (λ r m l.
           let a = length-more f (monic (q .p) value) in
           let b = terms-more f (monic (q .p) value) in
@@ -246,9 +246,12 @@ module _ (lim : Limits) (o : T (sensible? lim)) where
           let h = heads-are (w .given) q f bytes (w .text) in
           let y : first-term-line (w .given) + lim .t-lines ≡ suc (head-lines bytes f + lim .t-lines) = omega (arith, h) in
           subst (λ k. Ran lim n (w .given) q f bytes (refused 8 k [])) y
-          (ran-out (too-many-lines value bytes stays s (omega (arith, r, a)) w m (omega (arith, l, b, c)))))
-          (λ r m l. next-ran bytes q f w value s n (ih (longer bytes q f w value s) q (f ++ monic (q .p) value ∷ []) (w .given)
+          (ran-out (too-many-lines value bytes stays nine (omega (arith, r, a)) w m (omega (arith, l, b, c)))))
+          (λ r m l. next-ran bytes q f w value s n nine (ih (longer bytes q f w value s) q (f ++ monic (q .p) value ∷ []) (w .given)
           (next-file bytes q f w value s r m l) (same-given bytes q f w value s r m l)))
+        where
+          nine : Shown lim n q f value
+          nine = record { frame-term = place; by-nine = e; why = s }
       go unfinished e open-yet ih = runs-on
 
   -- ## The bound does not matter

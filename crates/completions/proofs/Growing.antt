@@ -397,11 +397,11 @@ module _ (lim : Limits) (q : Parameters) (P : Prime (q .p)) (eight : q .n ≤ 8)
         monics = at-first (λ i. leading-term (vector-of g i) .0 ≡ 1) (ap (λ z. leading-term z .0) first-is ∙ M .one) (G .monics);
       }
 
-  pub grown : (f g : Monomial.Level) → Grows lim q f g → Grown q f g
-  grown f g stays = record {
+  pub grown : (n : ℕ) (f g : Monomial.Level) → Grows lim n q f g → Grown q f g
+  grown n f g stays = record {
     extends = ([], sym (append-nil f));
     same-module = λ v. ((λ c. c), (λ c. c));
     undivided = λ i l k. absurd (omega arith);
     monics = λ i l k. absurd (omega arith);
   }
-  grown f g (grows s value w h) = one-more f s value w g (grown (f ++ monic (q .p) value ∷ []) g h)
+  grown n f g (grows s value w h) = one-more f s value (w .why) g (grown n (f ++ monic (q .p) value ∷ []) g h)

@@ -23,11 +23,17 @@ use Rattle.demands.specs.Demands.{limit?}
 
 -- ## The elements
 
+-- "the value shown": the file would end in 9 with it, and it shows why
+pub record Shown (lim : Limits) (n : ℕ) (q : Parameters) (f : Level) (value : Vector) : Type 0 where
+  pub frame-term : ℕ
+  pub by-nine : accepted lim n (q, f) ≡ refused 9 frame-term value
+  pub why : Shows-why lim q f value
+
 -- "adds the value shown, made monic, as the last element, and tries again"
-pub data Grows (lim : Limits) (q : Parameters) : Level → Level → Type 0 where
-  stays : {f : Level} → Grows lim q f f
-  grows : {f g : Level} → T (levels-sound? lim q (f ∷ [])) → (value : Vector) → Shows-why lim q f value
-      → Grows lim q (f ++ monic (q .p) value ∷ []) g → Grows lim q f g
+pub data Grows (lim : Limits) (n : ℕ) (q : Parameters) : Level → Level → Type 0 where
+  stays : {f : Level} → Grows lim n q f f
+  grows : {f g : Level} → T (levels-sound? lim q (f ∷ [])) → (value : Vector) → Shown lim n q f value
+      → Grows lim n q (f ++ monic (q .p) value ∷ []) g → Grows lim n q f g
 
 -- the elements f of the file and those of the completed one
 pub record Grown (q : Parameters) (f g : Level) : Type 0 where
@@ -55,7 +61,7 @@ pub record Completes (lim : Limits) (n : ℕ) (q : Parameters) (f : Level) (byte
   pub well-formed : Well-formed-file lim longer q new
   pub kept : Kept f new bytes longer
   -- each value that was added, and what follows from it
-  pub steps : Grows lim q f new
+  pub steps : Grows lim n q f new
   pub grown : Grown q f new
   -- "and the result is accepted"
   pub accepted : read lim n longer ≡ done (record { parameters = q; levels = new ∷ [] })
@@ -64,17 +70,17 @@ pub record Completes (lim : Limits) (n : ℕ) (q : Parameters) (f : Level) (byte
 -- how the work ends otherwise, after some additions; the file given has these lines before its first T line
 pub data Stops (lim : Limits) (n : ℕ) (given : Given) (q : Parameters) (f : Level) : ℕ → ℕ → Type 0 where
   -- "Limits 13 to 15 end the work as in acceptance."
-  limited : {g : Level} (number : ℕ) → Grows lim q f g → accepted lim n (q, g) ≡ refused number 0 [] → T (limit? number)
+  limited : {g : Level} (number : ℕ) → Grows lim n q f g → accepted lim n (q, g) ≡ refused number 0 [] → T (limit? number)
       → Stops lim n given q f number 0
   -- "19 when a 65th element would be added (place 65)"
-  too-many : {g : Level} (value : Vector) → Grows lim q f g → Shows-why lim q g value → length g ≡ lim .elements
+  too-many : {g : Level} (value : Vector) → Grows lim n q f g → Shown lim n q g value → length g ≡ lim .elements
       → Stops lim n given q f 19 (suc (lim .elements))
   -- "1 at line 0 for a result too long for a problem file": the file so far, and the longer one
-  too-long : {g : Level} (value : Vector) (so-far : Bytes) → Grows lim q f g → Shows-why lim q g value → length g < lim .elements
+  too-long : {g : Level} (value : Vector) (so-far : Bytes) → Grows lim n q f g → Shown lim n q g value → length g < lim .elements
       → Well-formed-file lim so-far q g → lim .file < length (with-element (q .n) so-far g (monic (q .p) value))
       → Stops lim n given q f 1 0
   -- "8 for a 2,049th T line": the number that this line would have
-  too-many-lines : {g : Level} (value : Vector) (so-far : Bytes) → Grows lim q f g → Shows-why lim q g value → length g < lim .elements
+  too-many-lines : {g : Level} (value : Vector) (so-far : Bytes) → Grows lim n q f g → Shown lim n q g value → length g < lim .elements
       → Well-formed-file lim so-far q g → length (with-element (q .n) so-far g (monic (q .p) value)) ≤ lim .file → lim .t-lines < terms-of g + length value
       → Stops lim n given q f 8 (first-term-line given + lim .t-lines)
 
