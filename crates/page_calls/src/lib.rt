@@ -1,7 +1,7 @@
 // The calls that print the requests' pages of a file, for every file.
 // Exists for: `betti`, `minimal`, `bidegrees`, `hilbert`, `member`, `complete`.
-// Knows: crate definitions' Betti, Minimal, Bidegrees, Hilbert, Membership and Completing; module whole of betti_page, minimal_page, bidegree_page, hilbert_page,
-// member_page and completing prints them.
+// Knows: crate definitions' Betti, Minimal, Bidegrees, Hilbert, Membership and Completing; module whole of betti_page, minimal_page, bidegree_page,
+// hilbert_page, member_page and completing prints them.
 // What they test first and leave at their end is crate lending's.
 ghost use mathlib.Core.Path.{_≡_};
 ghost use Prim.Native.Nat.{ℕ};

@@ -10,7 +10,8 @@ returns : tie.Need-returns
 returns c =
     let S = let at-8 = c .before .before .before .before .before .before .before .before in (at-8 .before .before .before .before .before .before) in
     let a = S .args in
-    printed-in-front (a .state .now) (a .work .now) (a .out .now) _ _ _ _ _ completed-length (completing document-01) (a .file .now) (S .pre .0) (S .pre .1) (S .pre .2)
+    printed-in-front (a .state .now) (a .work .now) (a .out .now) _ _ _ _ _ completed-length (completing document-01) (a .file .now) (S .pre .0)
+    (S .pre .1) (S .pre .2)
     (c .before .before .before .before .before .before .complete .ensures)
 
 pub answer-spec : {M : Type 1} → statement M
