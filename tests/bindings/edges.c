@@ -271,7 +271,7 @@ static void d_and_g_lines(void)
             CHECK(all(state, TAGETESSASH_STATE_WORDS, 0));
     }
     CHECK(strcmp(tagetessash_meaning(TAGETESSASH_BAD_DEGREE), "a component's degree is above 255") == 0);
-    CHECK(strcmp(tagetessash_place_name(TAGETESSASH_BAD_DEGREE), "line") == 0 && tagetessash_place_name(19) == NULL);
+    CHECK(strcmp(tagetessash_place_name(TAGETESSASH_BAD_DEGREE), "line") == 0 && tagetessash_place_name(10) == NULL);
     CHECK(strcmp(tagetessash_meaning(TAGETESSASH_BAD_WEIGHT), "a variable's weight is above 15") == 0);
     CHECK(strcmp(tagetessash_place_name(TAGETESSASH_BAD_WEIGHT), "line") == 0);
 }

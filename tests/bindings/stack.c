@@ -37,7 +37,7 @@ static const struct {
     { "bidegrees", TAGETESSASH_STACK_BYTES, 154 },
     { "Hilbert function", TAGETESSASH_STACK_BYTES, 161 },
     { "membership", TAGETESSASH_STACK_BYTES, 139 },
-    { "completed file", TAGETESSASH_STACK_BYTES, 999 },
+    { "completed file", TAGETESSASH_STACK_BYTES, 127 },
 };
 
 static uint8_t file[TAGETESSASH_FILE_BYTES], sheet[TAGETESSASH_SHEET_BYTES], page[TAGETESSASH_PAGE_BYTES], lines[TAGETESSASH_BIDEGREES_BYTES],
