@@ -2,9 +2,10 @@
 use mathlib.Core.Path.{_≡_, refl, sym, ap, _∙_, subst}
 use mathlib.Core.Bool.{Bool, true, false, not, _||_}
 use mathlib.Core.List.{List, [], _∷_, _++_, append-assoc}
-use mathlib.Core.Logic.{_≢_}
+use mathlib.Core.Logic.{_≢_, ⊎-elim}
 use Prim.Native.Nat.{ℕ, zero, suc, _+_, _-_, _*_, _%_, _<_, _≤_}
 use native.Mathlib.Omega.{arith}
+use native.Mathlib.Nat.{zero-mod}
 use lib.Dec.{eqb, eqb·suc-zero}
 use lib.ListN.{length, getD}
 use Rattle.definitions.specs.Lists.{choose, _and_}
@@ -20,8 +21,9 @@ use Rattle.sweeping.specs.Nodes.{row-of-node}
 use Rattle.sweeping.specs.Orders.{rows-by}
 use Rattle.sweeping.proofs.Views.{by-first, by-none}
 use Rattle.sweeping.specs.Sums.{Holds, Spends}
-use Rattle.sweeping.specs.Visits.{most-degree, Noted, Visited}
+use Rattle.sweeping.specs.Visits.{most-degree, Noted, Visited, Skips}
 use Rattle.sweeping.proofs.Sums.{holds-less}
+use Rattle.sweeping.proofs.Tables.{below-or}
 
 pub choose-zero : {A : Type 0} (n : ℕ) (a b : A) → n ≡ 0 → choose (eqb n 0) a b ≡ a
 choose-zero zero a b e = refl
@@ -100,6 +102,35 @@ pub and-shifts : (a b d : Bool) → (a and (b and d)) ≡ ((a and b) and d)
 and-shifts true b d = refl
 and-shifts false b d = refl
 
+rows-zero : (s : Words) → rows s 0 0 ≡ []
+unfolding rows
+rows-zero s = refl
+
+skips-less : (x y : ℕ) (sums : Words) → x + 1 ≤ y → Skips x y sums → Skips (x + 1) y sums
+skips-less x y sums h s = record { onward = h; zeros = λ i a b. s .zeros i (omega (arith, a)) b }
+
+pub skips-none : (x : ℕ) (sums : Words) → Skips x x sums
+skips-none x sums = record { onward = omega arith; zeros = λ i a b. absurd (omega (arith, a, b)) }
+
+pub skips-both : (x y z : ℕ) (sums : Words) → Skips x y sums → Skips y z sums → Skips x z sums
+skips-both x y z sums s r = record {
+  onward = omega (arith, s .onward, r .onward);
+  zeros = λ i a b. ⊎-elim (λ h. s .zeros i a h) (λ h. r .zeros i h b) (below-or i y);
+}
+
+-- one place more has the sum zero
+pub skips-more : (x y z : ℕ) (sums : Words) → z ≡ y + 1 → getD sums y 0 ≡ 0 → Skips x y sums → Skips x z sums
+skips-more x y z sums k e s = record {
+  onward = omega (arith, s .onward, k);
+  zeros = λ i a b. ⊎-elim (λ h. s .zeros i a h) (λ h. let j : i ≡ y = omega (arith, b, h, k) in ap (λ j. getD sums j 0) j ∙ e) (below-or i y);
+}
+
+pub skips-four : (x : ℕ) (sums : Words) → getD sums x 0 ≡ 0 → getD sums (x + 1) 0 ≡ 0 → getD sums (x + 2) 0 ≡ 0 → getD sums (x + 3) 0 ≡ 0
+    → Skips x (x + 4) sums
+skips-four x sums a b c d =
+    skips-more x (x + 3) (x + 4) sums (omega arith) d (skips-more x (x + 2) (x + 3) sums (omega arith) c
+    (skips-more x (x + 1) (x + 2) sums (omega arith) b (skips-more x x (x + 1) sums (omega arith) a (skips-none x sums))))
+
 module _ (p n : ℕ) (nodes spans words order : Words) where
   rows-next : (x : ℕ) → x < n → rows-by nodes spans words order x (n - x)
       ≡ row-of-node nodes spans words (getD order x 0) ∷ rows-by nodes spans words order (suc x) (n - suc x)
@@ -142,15 +173,53 @@ module _ (p n : ℕ) (nodes spans words order : Words) where
       let e : n - x ≡ 0 = omega arith in
       ap (λ m. settled? p x (rows-by nodes spans words order x m) sums) e ∙ ap (λ rs. settled? p x rs sums) (by-none nodes spans words order x)
 
+  -- a place with the sum zero is passed over
+  zero-at : (x : ℕ) (sums : Words) → getD sums x 0 ≡ 0
+      → Visited p (row-of-node nodes spans words (getD order x 0)) (getD sums x 0 % p) 0 0 true [] [] sums sums
+  zero-at x sums e =
+      visited-zero p (row-of-node nodes spans words (getD order x 0)) (getD sums x 0 % p) 0 [] sums (ap (λ s. s % p) e ∙ zero-mod p)
+
+  places-over : (x : ℕ) (sums : Words) → x < n → getD sums x 0 ≡ 0
+      → places p x (rows-by nodes spans words order x (n - x)) sums ≡ places p (x + 1) (rows-by nodes spans words order (x + 1) (n - (x + 1))) sums
+  places-over x sums h e =
+      subst (λ v. (v ++ places p x (rows-by nodes spans words order x (n - x)) sums)
+      ≡ (v ++ places p (x + 1) (rows-by nodes spans words order (x + 1) (n - (x + 1))) sums)) (rows-zero [])
+      (places-next x 0 0 true [] [] sums sums h (zero-at x sums e))
+
+  settled-over : (x : ℕ) (sums : Words) → x < n → getD sums x 0 ≡ 0
+      → settled? p x (rows-by nodes spans words order x (n - x)) sums ≡ settled? p (x + 1) (rows-by nodes spans words order (x + 1) (n - (x + 1))) sums
+  settled-over x sums h e = settled-next x 0 0 true true [] [] sums sums h (zero-at x sums e)
+
+  -- .. and so are all from x up to y
+  places-skip : (d x y : ℕ) (sums : Words) → x + d ≡ y → y ≤ n → Skips x y sums
+      → places p x (rows-by nodes spans words order x (n - x)) sums ≡ places p y (rows-by nodes spans words order y (n - y)) sums
+  places-skip zero x y sums e l s =
+      let k : x ≡ y = omega (arith, e) in ap (λ z. places p z (rows-by nodes spans words order z (n - z)) sums) k
+  places-skip (suc d) x y sums e l s =
+      places-over x sums (omega (arith, e, l)) (s .zeros x (omega arith) (omega (arith, e)))
+      ∙ places-skip d (x + 1) y sums (omega (arith, e)) l (skips-less x y sums (omega (arith, e)) s)
+
+  settled-skip : (d x y : ℕ) (sums : Words) → x + d ≡ y → y ≤ n → Skips x y sums
+      → settled? p x (rows-by nodes spans words order x (n - x)) sums ≡ settled? p y (rows-by nodes spans words order y (n - y)) sums
+  settled-skip zero x y sums e l s =
+      let k : x ≡ y = omega (arith, e) in ap (λ z. settled? p z (rows-by nodes spans words order z (n - z)) sums) k
+  settled-skip (suc d) x y sums e l s =
+      settled-over x sums (omega (arith, e, l)) (s .zeros x (omega arith) (omega (arith, e)))
+      ∙ settled-skip d (x + 1) y sums (omega (arith, e)) l (skips-less x y sums (omega (arith, e)) s)
+
+  pub places-skipped : (x y : ℕ) (sums : Words) → y ≤ n → Skips x y sums
+      → places p x (rows-by nodes spans words order x (n - x)) sums ≡ places p y (rows-by nodes spans words order y (n - y)) sums
+  places-skipped x y sums l s = let e : x + (y - x) ≡ y = omega (arith, s .onward) in places-skip (y - x) x y sums e l s
+
+  pub settled-skipped : (x y : ℕ) (sums : Words) → y ≤ n → Skips x y sums
+      → settled? p x (rows-by nodes spans words order x (n - x)) sums ≡ settled? p y (rows-by nodes spans words order y (n - y)) sums
+  settled-skipped x y sums l s = let e : x + (y - x) ≡ y = omega (arith, s .onward) in settled-skip (y - x) x y sums e l s
+
 pub and-true : (a : Bool) → (a and true) ≡ a
 and-true true = refl
 and-true false = refl
 
 -- ## The frame term in front
-
-rows-zero : (s : Words) → rows s 0 0 ≡ []
-unfolding rows
-rows-zero s = refl
 
 pub row-in-front : (s : Words) (t : Term) → row-length ≤ length s → Eight (t .1 .0) → rows (written s 0 t) 0 1 ≡ t ∷ []
 row-in-front s t h e = rows-appended s 0 t (omega (arith, h)) e ∙ ap (λ v. v ++ t ∷ []) (rows-zero s)

@@ -2,9 +2,9 @@
 use mathlib.Core.Path.{_≡_}
 use mathlib.Core.Bool.{Bool, not, _||_}
 use mathlib.Core.List.{[], _∷_, _++_}
-use Prim.Native.Nat.{ℕ, _+_, _*_, _≤_}
+use Prim.Native.Nat.{ℕ, _+_, _*_, _<_, _≤_}
 use lib.Dec.{eqb}
-use lib.ListN.{length}
+use lib.ListN.{length, getD}
 use Rattle.definitions.specs.Monomial.{Term, Vector}
 use Rattle.definitions.specs.Lists.{choose}
 use Rattle.definitions.specs.Layout.{Words, rows}
@@ -38,6 +38,11 @@ pub record Visited (p : ℕ) (r : Row) (c k k′ : ℕ) (settled : Bool) (vector
   pub settled-is : settled ≡ (r .reduced || eqb c 0)
   pub few : k′ ≤ k + 1
   pub spends : Spends most-degree sums sums′
+
+-- the places from a up to b have the sum zero
+pub record Skips (a b : ℕ) (sums : Words) : Type 0 where
+  pub onward : a ≤ b
+  pub zeros : (i : ℕ) → a ≤ i → i < b → getD sums i 0 ≡ 0
 
 -- the sums that the frame term's own edges give: from zeros
 pub record Started (spans words : Words) (v : ℕ) (sums sums′ : Words) : Type 0 where

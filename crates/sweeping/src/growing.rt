@@ -253,6 +253,7 @@ fn expand_node(
     )
 }
 
+// The span whose first word is word `at`: edges from a up to b.
 fn put_span(spans: &mut [u16], at: usize, a: usize, b: usize)
     requires { ⌜ (at + 2 ≤ length (now spans)) × (a < 65536) × (b < 65536) ⌝ }
     ensures { λ _. ⌜ Span-put at a b (now (spans .entry)) (now (spans .exit)) ⌝ }
@@ -301,7 +302,7 @@ fn expand_all(
     Grown::Sizes(n, e)
 }
 
-// The products of the frame term m itself.
+// The frame term's own edges: to the products of m and its element's terms.
 fn begin(
     nodes: &mut [u16],
     n: usize,
@@ -345,7 +346,7 @@ fn begin(
     )
 }
 
-// Frame term v, m, and all that it reaches.
+// Frame term v, m, and all that it reaches, into the table; what was there stays.
 pub fn reach(
     nodes: &mut [u16],
     n: usize,

@@ -331,7 +331,7 @@ fn lift_few(
     )
 }
 
-// With large ones.
+// With large slices, for levels that reach many nodes.
 fn lift_many(
     out: &mut [u16],
     value: &mut [u16],
@@ -624,7 +624,7 @@ fn accept_on(
     Accepted::Yes
 }
 
-// With small slices.
+// Acceptance with small slices, as lift_few.
 fn accept_few(
     value: &mut [u16],
     vector: &mut [u16],
@@ -667,7 +667,7 @@ fn accept_few(
     )
 }
 
-// With large ones.
+// Acceptance with large slices, as lift_many.
 fn accept_many(
     value: &mut [u16],
     vector: &mut [u16],

@@ -37,6 +37,7 @@ pub fn no_batch() -> Batch
     }
 }
 
+// The lesser of two numbers.
 fn least(a: usize, b: usize) -> usize
     ensures { λ r. ⌜ (r ≤ a) × (r ≤ b) ⌝ }
 {

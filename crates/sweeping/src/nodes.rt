@@ -27,13 +27,14 @@ pub enum Spot {
     Free(usize),
 }
 
+// A component in 64 bits, for hashing.
 fn wide(x: u16) -> u64
     ensures { λ r. ⌜ r ≤ 65535 ⌝ }
 {
     x as u64
 }
 
-// By a prime below the number of slots.
+// Where the search for a monomial starts: by a prime below the number of slots.
 fn slot_of(m: Monomial) -> usize
     ensures { λ r. ⌜ r < slots-length ⌝ }
 {
@@ -41,6 +42,7 @@ fn slot_of(m: Monomial) -> usize
     (x % 2039) as usize
 }
 
+// The slot behind slot h; behind the last one the first.
 fn next_slot(h: usize) -> usize
     requires { ⌜ h < slots-length ⌝ }
     ensures { λ r. ⌜ r < slots-length ⌝ }

@@ -2,6 +2,7 @@
 // Knows: crate sweeps' Places.
 // Sums are not reduced until their node is visited.
 ghost use mathlib.Core.Path.{_≡_};
+ghost use mathlib.Core.Bool.{true};
 ghost use mathlib.Core.List.{_++_};
 ghost use Prim.Native.Nat.{ℕ, _+_, _-_, _*_, _%_, _≤_, _<_};
 ghost use lib.ListN.{length, getD};
@@ -17,7 +18,7 @@ ghost use Rattle.sweeping.specs.Orders.{rows-by};
 ghost use Rattle.sweeping.specs.Passes.{Zeros, Onward, Passable, Passes};
 ghost use Rattle.sweeping.specs.Sums.{Holds, Spends};
 ghost use Rattle.sweeping.specs.Sweeps.{Swept-as};
-ghost use Rattle.sweeping.specs.Visits.{most-degree, Ready, Noted, Visited, Started};
+ghost use Rattle.sweeping.specs.Visits.{most-degree, Ready, Noted, Visited, Skips, Started};
 use monomial::Monomial;
 use vectors::terms;
 use vectors::terms::Term;
@@ -34,13 +35,14 @@ pub struct Pass {
     pub settled: bool,
 }
 
+// A coefficient in 64 bits, since sums are not reduced.
 fn wide(x: u16) -> u64
     ensures { λ r. ⌜ (r ≡ x) × (r ≤ 65535) ⌝ }
 {
     x as u64
 }
 
-// Every sum is zero.
+// Makes every sum zero.
 fn clear(sums: &mut [u64])
     ensures { λ _. ⌜ Zeros (length (now (sums .entry))) (now (sums .exit)) ⌝ }
 {
@@ -65,14 +67,11 @@ fn spread(sums: &mut [u64], words: &[u16], a: usize, b: usize, c: u64)
     }
 }
 
-// Most sums are zero.
+// A sum modulo p.
 fn remainder(s: u64, p: u16) -> u16
     requires { ⌜ 0 < p ⌝ }
     ensures { λ r. ⌜ r ≡ s % p ⌝ }
 {
-    if s == 0 {
-        return 0;
-    }
     (s % wide(p)) as u16
 }
 
@@ -121,7 +120,7 @@ fn spread_node(sums: &mut [u64], spans: &[u16], words: &[u16], y: usize, c: u16)
     spread(sums, words, a, b, wide(c));
 }
 
-// The node at place x: nothing where its sum is zero.
+// The node at place x: nothing where its sum is zero modulo p.
 fn visit(
     vector: &mut [u16],
     k: usize,
@@ -152,6 +151,58 @@ fn visit(
     note(vector, k, t)
 }
 
+// Whether four sums from place x on are zero.
+fn four_zeros(sums: &[u64], x: usize) -> bool
+    requires { ⌜ x + 4 ≤ length (now sums) ⌝ }
+    ensures { λ r. ⌜ (r ≡ true → Skips x (x + 4) (now (sums .entry))) ⌝ }
+{
+    if sums[x] != 0 {
+        return false;
+    }
+    if sums[x + 1] != 0 {
+        return false;
+    }
+    if sums[x + 2] != 0 {
+        return false;
+    }
+    if sums[x + 3] != 0 {
+        return false;
+    }
+    true
+}
+
+// A place from place `from` on before which all are passed over, four at each step.
+fn past_zeros(sums: &[u64], from: usize, n: usize) -> usize
+    requires { ⌜ (from ≤ n) × (n ≤ length (now sums)) ⌝ }
+    ensures { λ r. ⌜ Skips from r (now (sums .entry)) × (r ≤ n) ⌝ }
+{
+    let mut x = from;
+    while 4 <= n - x {
+        if four_zeros(sums, x) {
+            x += 4;
+        } else {
+            return x;
+        }
+    }
+    x
+}
+
+// The next place from place `from` on whose sum is not zero, or n: of a large table a frame term reaches few nodes, so most places are passed over.
+fn next(sums: &[u64], from: usize, n: usize) -> usize
+    requires { ⌜ (from ≤ n) × (n ≤ length (now sums)) ⌝ }
+    ensures { λ r. ⌜ Skips from r (now (sums .entry)) × (r ≤ n) ⌝ }
+{
+    let mut x = past_zeros(sums, from, n);
+    while x < n {
+        if sums[x] != 0 {
+            return x;
+        }
+        x += 1;
+    }
+    x
+}
+
+// Both; a function, so that the loop which asks has no branch.
 fn both(a: bool, b: bool) -> bool
     ensures { λ r. ⌜ r ≡ (a and b) ⌝ }
 {
@@ -161,7 +212,7 @@ fn both(a: bool, b: bool) -> bool
     false
 }
 
-// All n places, greatest first, behind the vector's first row.
+// All places, greatest first, whose sums are not zero; the vector has its first row already.
 fn pass_all(
     vector: &mut [u16],
     sums: &mut [u64],
@@ -181,17 +232,17 @@ fn pass_all(
 {
     let mut k: usize = 1;
     let mut settled = true;
-    let mut x: usize = 0;
+    let mut x = next(sums, 0, n);
     while x < n {
         let v = visit(vector, k, sums, x, n, nodes, spans, words, order, p);
         k = v.rows;
         settled = both(settled, v.settled);
-        x += 1;
+        x = next(sums, x + 1, n);
     }
     Pass { rows: k, settled }
 }
 
-// The sums of frame term v's own edges.
+// The sums that frame term v's own edges give.
 fn start(sums: &mut [u64], spans: &[u16], words: &[u16], v: usize)
     requires { ⌜ (roots-start + v * 2 + 2 ≤ length (now spans))
         × Onward 0 (length (now sums)) (first-root (now spans) v) (roots-end (now spans) v) (now words) ⌝ }
@@ -203,7 +254,7 @@ fn start(sums: &mut [u64], spans: &[u16], words: &[u16], v: usize)
     spread(sums, words, a, b, 1);
 }
 
-// The vector of frame term v, m.
+// The vector of frame term v, m, and whether every sum of lower order is zero.
 fn vector_of(
     vector: &mut [u16],
     sums: &mut [u64],

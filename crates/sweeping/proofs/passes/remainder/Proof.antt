@@ -1,4 +1,4 @@
-use native.Mathlib.Nat.{mod-lt, zero-mod}
+use native.Mathlib.Nat.{mod-lt}
 use borrow.Author.Needs.{needs}
 use native.Mathlib.Omega.{arith}
 use mathlib.Core.Path.{_≡_, refl, sym, ap, _∙_, subst}
@@ -11,9 +11,6 @@ use Rattle.sweeping.proofs.passes.remainder.Reads as reads
 use Rattle.sweeping.proofs.passes.remainder.Lts as lts
 use Rattle.sweeping.proofs.passes.wide.Reads as wide-reads
 
-returns : tie.Need-returns
-returns c = rw (c .if1 .taken) (sym (zero-mod (c .before .args .p)))
-
 wide-requires : tie.Need-wide-requires
 wide-requires c κs = search needs
 
@@ -22,10 +19,10 @@ rem-result c = search needs
 
 cast-result : tie.Need-cast-result
 cast-result c = let w = c .wide .ensures in
-    let h : 0 < c .wide .result = omega (arith, w .0, (c .before .before) .pre) in omega (arith, mod-lt ((c .before .before) .args .s) h, w .1)
+    let h : 0 < c .wide .result = omega (arith, w .0, (c .before) .pre) in omega (arith, mod-lt ((c .before) .args .s) h, w .1)
 
-returns-2 : tie.Need-returns-2
-returns-2 c = rw (c .wide .ensures .0)
+returns : tie.Need-returns
+returns c = rw (c .wide .ensures .0)
 
 pub remainder-spec : {M : Type 1} → statement M
-remainder-spec = tie.close (tie.spec returns wide-requires rem-result cast-result returns-2)
+remainder-spec = tie.close (tie.spec wide-requires rem-result cast-result returns)
