@@ -15,14 +15,14 @@
 enum { MOST = 16, SIGNALLED = 255 };
 
 int resolve_main(int, char **), member_main(int, char **), betti_main(int, char **), minimal_main(int, char **), bidegrees_main(int, char **),
-    hilbert_main(int, char **);
+    hilbert_main(int, char **), complete_main(int, char **);
 
 static const struct {
     const char *word;
     int (*run)(int, char **);
 } examples[] = {
     {"resolve", resolve_main}, {"member", member_main}, {"betti", betti_main}, {"minimal", minimal_main}, {"bidegrees", bidegrees_main},
-    {"hilbert", hilbert_main},
+    {"hilbert", hilbert_main}, {"complete", complete_main},
 };
 
 static void wrong(const char *what)
