@@ -5,7 +5,7 @@ use mathlib.Core.List.{[], _∷_}
 use Prim.Native.Nat.{ℕ, suc, _+_, _<_, _≤_}
 use native.Mathlib.Omega.{arith}
 use lib.Dec.{eqb}
-use lib.ListN.{length, getD, drop, drop-of-length-le}
+use lib.ListN.{length, getD, drop, drop-of-length-le, length-drop}
 use lib.Seq.{drop-cons, drop-drop}
 use Rattle.definitions.specs.Lists.{_and_}
 use Rattle.definitions.specs.Problem.{Bytes, Line, newline, letter-E, lines}
@@ -68,6 +68,14 @@ line-some b s = go (eqb b newline) refl
     go : (t : Bool) → eqb b newline ≡ t → 0 < line-length (b ∷ s)
     go true e = let k : line-length (b ∷ s) ≡ 1 = rw (e, line-length) in omega arith
     go false e = let k : line-length (b ∷ s) ≡ suc (line-length s) = rw (e, line-length) in omega arith
+
+-- less is left behind a line
+pub behind-less : (s : Bytes) (i : ℕ) → i < length s → length (behind (drop i s)) < length (drop i s)
+behind-less s i h =
+    let e = ap length (behind-is (drop i s)) ∙ length-drop (line-length (drop i s)) (drop i s) in
+    let l = ap line-length (here true s i h) in
+    let m = line-some (getD s i 0) (drop (i + 1) s) in
+    omega (arith, e, l, m, length-drop i s)
 
 module _ (s : Bytes) (i : ℕ) (h : i < length s) where
   pub line-passes : i < i + line-length (drop i s)

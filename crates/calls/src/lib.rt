@@ -1,7 +1,8 @@
-// The three calls, the one that divides a lent vector, and the sheet, the Betti page, the minimal numbers, the bidegrees, the Hilbert function, membership
-// and the completed file as one each, for programs in other languages: include/tagetessash.h declares them.
+// The three calls, the one that divides a lent vector, and the sheet, the Betti page, the minimal numbers, the bidegrees, the Hilbert function, membership,
+// the completed file and a replayed log as one each, for programs in other languages: include/tagetessash.h declares them.
 // Exists for: `tagetessash_read`, `tagetessash_lift`, `tagetessash_fetch`, `tagetessash_divide`, `tagetessash_sheet`, `tagetessash_betti`,
-// `tagetessash_minimal`, `tagetessash_bidegrees`, `tagetessash_hilbert`, `tagetessash_member`, `tagetessash_completed`; `Making.all-calls`.
+// `tagetessash_minimal`, `tagetessash_bidegrees`, `tagetessash_hilbert`, `tagetessash_member`, `tagetessash_completed`, `tagetessash_replay`;
+// `Making.all-calls`.
 // Knows: crates read_call, fetch_call, lift_call, divide_call, sheet and page_calls.
 // A slice is a pointer and a length.
 ghost use mathlib.Core.Path.{_≡_};
@@ -14,7 +15,8 @@ ghost use Rattle.definitions.specs.Bidegrees.{bidegrees as bidegrees-definition
 ghost use Rattle.definitions.specs.Hilbert.{hilbert as hilbert-definition};
 ghost use Rattle.definitions.specs.Membership.{membership as membership-definition};
 ghost use Rattle.definitions.specs.Completing.{completing as completing-definition};
-ghost use Rattle.definitions.specs.Places.{sheet-length, page-length, bidegrees-length, hilbert-length, member-length, completed-length};
+ghost use Rattle.definitions.specs.Replay.{replay as replay-definition};
+ghost use Rattle.definitions.specs.Places.{sheet-length, page-length, bidegrees-length, hilbert-length, member-length, completed-length, replay-length};
 ghost use Rattle.lift_call.specs.Codes.{coded-way};
 ghost use Rattle.lending.specs.Called.{told-of, called};
 ghost use Rattle.calls.specs.Version.{version};
@@ -206,6 +208,24 @@ pub extern "C" fn tagetessash_completed(
     let completed = page_calls::complete(file, state, work, out);
     *length = completed.length;
     completed.number
+}
+
+// "replays them in place of a pick code": 0, and the S lines of the vector that an L line and P lines after a file give are the first `length` bytes of out,
+// or a refusal's X line; or 16.
+#[no_mangle]
+pub extern "C" fn tagetessash_replay(
+    input: &[u8],
+    state: &mut [u16],
+    work: &mut [u16],
+    out: &mut [u8],
+    length: &mut usize,
+) -> u16
+    ensures { λ x. ⌜ ((n : ℕ) × (told-of x (now (length .exit)) (now (state .exit)) (now (work .exit)) (now (out .exit)) ≡ called replay-length
+        (replay-definition document-01) n (now (input .entry)) (now (state .entry)) (now (work .entry)) (now (out .entry)))) ⌝ }
+{
+    let replayed = page_calls::replay(input, state, work, out);
+    *length = replayed.length;
+    replayed.number
 }
 
 // Which version of the calls, of the state's layout and of the sheet this library has.

@@ -33,4 +33,5 @@ pub mod After
 pub mod Membership
 pub mod Written
 pub mod Completing
+pub mod Replay
 pub mod Layout

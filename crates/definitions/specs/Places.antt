@@ -376,3 +376,24 @@ end-line-length = 8
 -- a file, the T lines of a working value behind it and an E line: room to add an element before the result's length is tested
 abbrev pub completed-length : ℕ
 completed-length = 100_360
+
+-- ## Picks recorded in another session (A9)
+
+-- the P lines of a log at the most
+abbrev pub most-picks : ℕ
+most-picks = 4_096
+
+-- an L line and a P line at the most, where they have the shape: two numbers, nine numbers of five digits
+abbrev pub l-line-length : ℕ
+l-line-length = 14
+
+abbrev pub p-line-length : ℕ
+p-line-length = 56
+
+-- what the program reads of its input: a file, an L line, 4,096 P lines and a byte more. No byte behind them changes what is printed
+abbrev pub log-length : ℕ
+log-length = 294_927
+
+-- the S lines of a vector. A refusal's lines are no longer
+abbrev pub replay-length : ℕ
+replay-length = 37_888

@@ -97,7 +97,7 @@ add-products-number R drops c q (t ∷ f) v =
     let u = multiple (R .p) c q t in
     numbered-then (if-fits-number (fits? (R .limits .exponent) (u .1 .0)) R drops u v) (λ w. add-products-number R drops c q f w)
 
-start-number : (S : Stage) (W : Strategy) (m : Monomial) → Numbered limit-number? (start S W m)
+pub start-number : (S : Stage) (W : Strategy) (m : Monomial) → Numbered limit-number? (start S W m)
 start-number S W m = numbered-then (add-products-number (S .reduction) (W .drops) 1 (m .0) (vector-of (S .family) (m .1)) []) (λ v. gives)
 
 -- the numbers of a run that stops, or not
@@ -130,7 +130,7 @@ by-answer-number : (S : Stage) (W : Strategy) (r : Run.Run) (i : ℕ) (a : Answe
 by-answer-number S W r i (reducer j c q) = numbered-more (limit-stop (W .stops)) (reduced-number S W r j (minus (S .reduction .p) c) q)
 by-answer-number S W r i lower-order = without-reducer-number (W .stops) S r i
 
-by-pick-number : (S : Stage) (W : Strategy) (r : Run.Run) (o : Option ℕ) → Numbered (stop-number? (W .stops)) (by-pick S W r o)
+pub by-pick-number : (S : Stage) (W : Strategy) (r : Run.Run) (o : Option ℕ) → Numbered (stop-number? (W .stops)) (by-pick S W r o)
 by-pick-number S W r none = gives
 by-pick-number S W r (some i) = by-answer-number S W r i (answer (S .reduction .p) (S .reduction .heads) (getD (r .value) i no-term))
 

@@ -103,7 +103,7 @@ pub fn pair_line(out: &mut [u8], at: usize, letter: u8, x: u16, y: usize) -> usi
 }
 
 // The lines of the rows from row `from` up to row `to`: vector v of level k.
-fn s_lines(
+pub fn s_lines(
     out: &mut [u8],
     at: usize,
     level: &[u16],

@@ -1,7 +1,7 @@
 // The calls that print the requests' pages of a file, for every file.
-// Exists for: `betti`, `minimal`, `bidegrees`, `hilbert`, `member`, `complete`.
-// Knows: crate definitions' Betti, Minimal, Bidegrees, Hilbert, Membership and Completing; module whole of betti_page, minimal_page, bidegree_page,
-// hilbert_page, member_page and completing prints them.
+// Exists for: `betti`, `minimal`, `bidegrees`, `hilbert`, `member`, `complete`, `replay`.
+// Knows: crate definitions' Betti, Minimal, Bidegrees, Hilbert, Membership, Completing and Replay; module whole of betti_page, minimal_page, bidegree_page,
+// hilbert_page, member_page, completing and replay_page prints them.
 // What they test first and leave at their end is crate lending's.
 ghost use mathlib.Core.Path.{_≡_};
 ghost use Prim.Native.Nat.{ℕ};
@@ -12,7 +12,8 @@ ghost use Rattle.definitions.specs.Bidegrees.{bidegrees as bidegrees-definition
 ghost use Rattle.definitions.specs.Hilbert.{hilbert as hilbert-definition};
 ghost use Rattle.definitions.specs.Membership.{membership};
 ghost use Rattle.definitions.specs.Completing.{completing as completing-definition};
-ghost use Rattle.definitions.specs.Places.{page-length, bidegrees-length, hilbert-length, member-length, completed-length};
+ghost use Rattle.definitions.specs.Replay.{replay as replay-definition};
+ghost use Rattle.definitions.specs.Places.{page-length, bidegrees-length, hilbert-length, member-length, completed-length, replay-length};
 ghost use Rattle.lending.specs.Called.{told, called};
 use lending::Answer;
 
@@ -86,6 +87,18 @@ pub fn complete(file: &[u8], state: &mut [u16], work: &mut [u16], out: &mut [u8]
     if lending::long_enough(state.len(), work.len(), out.len(), words::COMPLETED_LENGTH) {
         let size = completing::whole::print(file, state, work, out);
         return lending::finish(state, work, out, size);
+    }
+    lending::too_short()
+}
+
+// A9: "The vector it prints in S lines": likewise, of a file and the L line and P lines after it.
+pub fn replay(input: &[u8], state: &mut [u16], work: &mut [u16], out: &mut [u8]) -> Answer
+    ensures { λ r. ⌜ ((n : ℕ) × (told r (now (state .exit)) (now (work .exit)) (now (out .exit)) ≡ called replay-length (replay-definition document-01) n
+        (now (input .entry)) (now (state .entry)) (now (work .entry)) (now (out .entry)))) ⌝ }
+{
+    if lending::long_enough(state.len(), work.len(), out.len(), words::REPLAY_LENGTH) {
+        let written = replay_page::whole::print(input, state, work, out);
+        return lending::finish(state, work, out, written);
     }
     lending::too_short()
 }

@@ -314,7 +314,7 @@ fn follows(elements: u16, element: u16) -> bool
     element != 0
 }
 
-fn exponents(w: [u16; 16]) -> [u16; words::EXPONENTS_LENGTH]
+pub fn exponents(w: [u16; 16]) -> [u16; words::EXPONENTS_LENGTH]
     ensures { λ r. ⌜ r ≡ take 8 (drop 3 w) ⌝ }
 {
     [w[3], w[4], w[5], w[6], w[7], w[8], w[9], w[10]]
@@ -330,7 +330,7 @@ fn mark_above(mark: u16, x: u16, y: u16) -> u16
     mark
 }
 
-fn fits(e: [u16; words::EXPONENTS_LENGTH]) -> bool
+pub fn fits(e: [u16; words::EXPONENTS_LENGTH]) -> bool
     ensures { λ r. ⌜ r ≡ fits? most-exponent e ⌝ }
 {
     let mut mark: u16 = 0;

@@ -2,13 +2,14 @@
 // Knows: crate definitions' Run.
 // Value and vector are rows from row 0 of two lent slices.
 ghost use mathlib.Core.Path.{_≡_};
+ghost use mathlib.Core.Option.{some};
 ghost use mathlib.Core.List.{[]};
 ghost use Prim.Native.Nat.{ℕ, _*_, _≤_, _<_};
 ghost use lib.Dec.{T};
 ghost use lib.ListN.{length};
 ghost use Rattle.definitions.specs.Monomial as definition;
 ghost use Rattle.definitions.specs.Order.{Comparison};
-ghost use Rattle.definitions.specs.Run.{step as step-definition, runs, run as run-definition, add-products};
+ghost use Rattle.definitions.specs.Run.{by-pick, step as step-definition, runs, run as run-definition, add-products};
 ghost use Rattle.definitions.specs.Packed.{unpack};
 ghost use Rattle.definitions.specs.Layout.{rows};
 ghost use Rattle.definitions.specs.Places.{row-length};
@@ -122,6 +123,36 @@ fn without_reducer(value: &mut [u16], n: usize, v: usize, i: usize, stops: bool)
     Step::On(n - 1, v)
 }
 
+// One step at the term at place i.
+pub fn step_at(
+    value: &mut [u16],
+    n: usize,
+    vector: &mut [u16],
+    v: usize,
+    level: &[u16],
+    tables: &[u16],
+    g: Ground,
+    w: Strategy,
+    i: usize,
+) -> Step
+    requires { ⌜ Tables g (now tables) × Family g (now level) (ends-in (now tables)) × Rooms g (now value) (now vector) × (i < n) × (n ≤ g .working)
+        × (v ≤ g .vector) ⌝ }
+    ensures { λ x. ⌜ ((above : definition.Monomial → definition.Monomial → Comparison)
+        → step-of (order-of g (now (tables .entry))) (g .p) x (now (value .exit)) (now (vector .exit))
+        ≡ by-pick (stage-of g (now (level .entry)) (now (tables .entry)) above) (strategy-of g (now (tables .entry)) w)
+        (run-of (now (value .entry)) n (now (vector .entry)) v) (some i)) × Room g x ⌝ }
+{
+    let t = terms::row(value, i);
+    let found = reduction::reducer_of(tables, g, t);
+    let answer = found.answer;
+    let Answer::Reducer(j, c) = answer else {
+        return without_reducer(value, n, v, i, w.stops);
+    };
+    let q = found.quotient;
+    let d = field::negative(c, g.p);
+    reduced(value, n, vector, v, level, tables, g, w.drops, j, d, q)
+}
+
 // One step; the value is not empty.
 fn one_step(
     value: &mut [u16],
@@ -141,15 +172,7 @@ fn one_step(
         (run-of (now (value .entry)) n (now (vector .entry)) v)) × Room g x ⌝ }
 {
     let i = reduction::pick(value, n, w.pick, tables, g);
-    let t = terms::row(value, i);
-    let found = reduction::reducer_of(tables, g, t);
-    let answer = found.answer;
-    let Answer::Reducer(j, c) = answer else {
-        return without_reducer(value, n, v, i, w.stops);
-    };
-    let q = found.quotient;
-    let d = field::negative(c, g.p);
-    reduced(value, n, vector, v, level, tables, g, w.drops, j, d, q)
+    step_at(value, n, vector, v, level, tables, g, w, i)
 }
 
 // Steps to the end.
@@ -223,7 +246,7 @@ fn sorted(value: &mut [u16], vector: &mut [u16], x: Outcome, tables: &[u16], g: 
 }
 
 // The first products: those of m·f_i.
-fn started(
+pub fn started(
     value: &mut [u16],
     level: &[u16],
     tables: &[u16],

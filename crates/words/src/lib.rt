@@ -97,6 +97,11 @@ ghost use Rattle.definitions.specs.Places.{
   t-line-length,
   end-line-length,
   completed-length,
+  most-picks,
+  l-line-length,
+  p-line-length,
+  log-length,
+  replay-length,
 };
 ghost use Rattle.words.specs.Slices.{Sixteen-bits};
 
@@ -304,9 +309,21 @@ pub const END_LINE_LENGTH: usize = 8;
 
 pub const COMPLETED_LENGTH: usize = FILE_LENGTH + MOST_TERMS * T_LINE_LENGTH + END_LINE_LENGTH;
 
+// ## Picks recorded in another session
+
+pub const MOST_PICKS: usize = 4_096;
+
+pub const L_LINE_LENGTH: usize = 14;
+
+pub const P_LINE_LENGTH: usize = 56;
+
+pub const LOG_LENGTH: usize = READ_LENGTH + L_LINE_LENGTH + MOST_PICKS * P_LINE_LENGTH;
+
+pub const REPLAY_LENGTH: usize = MOST_TERMS * S_LINE_LENGTH;
+
 // ## Held to the definitions
 
-pub fn numbers() -> [usize; 81]
+pub fn numbers() -> [usize; 86]
     ensures { λ r. ⌜ r ≡ exponents-length ∷ most-vectors ∷ most-rows ∷ most-terms ∷ most-tree-terms ∷ most-levels ∷ all-levels ∷ component-offset
         ∷ exponents-offset ∷ rank-offset ∷ packed-length ∷ row-length ∷ image-length ∷ header-length ∷ counts-length ∷ ends-start ∷ rows-start ∷ level-length ∷
         degrees-start ∷ most-components ∷ carried-start ∷ state-length
@@ -316,7 +333,8 @@ pub fn numbers() -> [usize; 81]
         ∷ page-length ∷ weights-length ∷ b-line-length ∷ bidegrees-length ∷ hilbert-degrees ∷ triangle-rows ∷ triangle-length ∷ h-line-length
         ∷ hilbert-length ∷ matrix-length ∷ marks-length ∷ least-terms ∷ most-nodes ∷ few-nodes ∷ node-edges ∷ nodes-length ∷ few-nodes-length ∷ edges-length
         ∷ few-edges-length ∷ roots-start ∷ table-spans-length ∷ slots-length ∷ keys-length ∷ few-keys-length
-        ∷ v-line-length ∷ brought-length ∷ m-line-length ∷ member-length ∷ t-line-length ∷ end-line-length ∷ completed-length ∷ [] ⌝ }
+        ∷ v-line-length ∷ brought-length ∷ m-line-length ∷ member-length ∷ t-line-length ∷ end-line-length ∷ completed-length ∷ most-picks
+        ∷ l-line-length ∷ p-line-length ∷ log-length ∷ replay-length ∷ [] ⌝ }
 {
     [
         EXPONENTS_LENGTH,
@@ -400,6 +418,11 @@ pub fn numbers() -> [usize; 81]
         T_LINE_LENGTH,
         END_LINE_LENGTH,
         COMPLETED_LENGTH,
+        MOST_PICKS,
+        L_LINE_LENGTH,
+        P_LINE_LENGTH,
+        LOG_LENGTH,
+        REPLAY_LENGTH,
     ]
 }
 

@@ -5,7 +5,7 @@ use mathlib.Core.Option.{Option, none, some}
 use mathlib.Core.List.{List, [], _∷_, _++_}
 use Prim.Native.Nat.{ℕ, zero, suc, _+_, _-_, _<_, _≤_}
 use native.Mathlib.Omega.{arith}
-use lib.Dec.{T, ltb}
+use lib.Dec.{ltb}
 use lib.ListN.{length, getD, take, drop, replicate, length-append, length-drop}
 use lib.Seq.{drop-cons, getD-take, drop-append-le, take-append-add}
 use borrow.Author.Tests.{lt-ltb, le-ltb, ltb-true}
@@ -15,7 +15,6 @@ use Rattle.definitions.specs.Monomial as definition
 use Rattle.definitions.specs.Monomial.{Term, Vector}
 use Rattle.definitions.specs.Result.{Result, done, refused, unless-refused, _>>=_}
 use Rattle.definitions.specs.Problem.{Bytes, Line, Parameters, lines, shaped, term-of, term-in-range?, below?}
-use Rattle.definitions.specs.After.{line-length}
 use Rattle.definitions.specs.Membership.{letter-V, v-line, v-lines}
 use Rattle.definitions.specs.Layout.{Words, padded}
 use Rattle.definitions.specs.Places.{most-exponent, most-terms}
@@ -25,8 +24,8 @@ use Rattle.laws.proofs.Reading.{Counts, shaped-length}
 use Rattle.reader.specs.fields.Scanning.{behind, kept, shaped-of, in-sixteen}
 use Rattle.reader.specs.lines.Tests.{term-in, above?}
 use Rattle.reader.proofs.fields.Lines.{first-of}
-use Rattle.reader.proofs.problem.LineByLine.{getD-padded}
-use Rattle.after.proofs.Cutting.{here, behind-is, line-some}
+use Rattle.reader.proofs.problem.LineByLine.{getD-padded, take-zeros}
+use Rattle.after.proofs.Cutting.{here}
 use Rattle.member_page.specs.brought.Lines.{follows?, fits?, tested, v-first}
 
 -- ## Numbers
@@ -48,11 +47,6 @@ first-fifteen v l = sym (ap (take 15) (drop-cons v 0 0 (omega arith)
     ∙ ap (λ z. getD v 10 0 ∷ z) (drop-cons v 11 0 (omega arith)
     ∙ ap (λ z. getD v 11 0 ∷ z) (drop-cons v 12 0 (omega arith)
     ∙ ap (λ z. getD v 12 0 ∷ z) (drop-cons v 13 0 (omega arith) ∙ ap (λ z. getD v 13 0 ∷ z) (drop-cons v 14 0 (omega arith)))))))))))))))))
-
-take-zeros : (k m : ℕ) → k ≤ m → take k (replicate {A = ℕ} m 0) ≡ replicate k 0
-take-zeros zero m h = refl
-take-zeros (suc k) zero h = absurd (omega arith)
-take-zeros (suc k) (suc m) h = ap (λ l. 0 ∷ l) (take-zeros k m (omega arith))
 
 -- "exponents past n are zero"
 term-padded : (n : ℕ) (w : Words) → n ≤ 8 → length w ≡ 2 + n → term-of n (0 ∷ w) ≡ term-in (0 ∷ take 15 (padded 16 w))
@@ -138,14 +132,6 @@ module _ (q : Parameters) (count : ℕ) (before : Words) (bytes : Bytes) where
       go : (o : Option Words) → If-some (Passed count bytes) (tested q count before (in-sixteen (paired o)))
       go none = tt
       go (some v) = kept-passed (0 ∷ take 15 (padded 16 v))
-
--- less is left behind a line
-pub behind-less : (s : Bytes) (i : ℕ) → i < length s → length (behind (drop i s)) < length (drop i s)
-behind-less s i h =
-    let e = ap length (behind-is (drop i s)) ∙ length-drop (line-length (drop i s)) (drop i s) in
-    let l = ap line-length (here true s i h) in
-    let m = line-some (getD s i 0) (drop (i + 1) s) in
-    omega (arith, e, l, m, length-drop i s)
 
 -- ## The lines one by one
 

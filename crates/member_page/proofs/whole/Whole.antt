@@ -1,17 +1,15 @@
 -- What is printed of an input, from its parts.
 use mathlib.Core.Path.{_≡_, refl, sym, ap, _∙_, subst}
-use mathlib.Core.Bool.{Bool, true, false}
 use mathlib.Core.Option.{Option, none, some}
 use mathlib.Core.List.{List, [], _∷_}
 use Prim.Native.Nat.{ℕ, suc, _+_, _≤_}
 use native.Mathlib.Omega.{arith}
-use lib.Dec.{T, leb}
+use lib.Dec.{T}
 use lib.ListN.{length, getD, take, drop}
-use borrow.Author.Tests.{leb-true}
 use Rattle.definitions.specs.Limits.{document-01}
 use Rattle.definitions.specs.Monomial.{Vector, Level}
-use Rattle.definitions.specs.Result.{Result, done, refused, unfinished, refusal, unless-refused, _>>=_}
-use Rattle.definitions.specs.Problem.{Bytes, Line, Parameters, lines, shaped, first-line, body, problem}
+use Rattle.definitions.specs.Result.{Result, done, refused, unfinished, refusal, _>>=_}
+use Rattle.definitions.specs.Problem.{Bytes, Line, Parameters, lines, shaped}
 use Rattle.definitions.specs.State.{State, sound?}
 use Rattle.definitions.specs.Stage.{stage-over}
 use Rattle.definitions.specs.Sheet.{printed, letter-X, x-lines}
@@ -20,7 +18,6 @@ use Rattle.definitions.specs.After.{file-end, lines-after, first-after}
 use Rattle.definitions.specs.Membership.{letter-V, v-line, v-lines, Division, Parts, undivided, divide, division-lines, membership-by}
 use Rattle.definitions.specs.Membership.{membership-of, membership}
 use Rattle.definitions.specs.Layout.{Words, decode, levels-at, level-at}
-use Rattle.definitions.specs.Places.{file-length}
 use Rattle.laws.proofs.Results.{if-done-says}
 use Rattle.ending.specs.Good.{good?}
 use Rattle.state.proofs.preparing.Complete.{holds-sound}
@@ -36,22 +33,6 @@ use Rattle.demands.proofs.Over.{sound-eight}
 use Rattle.dividing.specs.over.Parts.{sorted-parts, divided-over}
 use Rattle.member_page.specs.page.Lines.{lines-of}
 use Rattle.member_page.specs.whole.Printing.{Vector-prints}
-
--- ## A file that was read is short
-
-pub problem-short : (bytes : Bytes) (f : Parameters × Level) → problem document-01 bytes ≡ done f → length bytes ≤ file-length
-problem-short bytes f e = go (leb (length bytes) file-length) refl
-  where
-    go : (b : Bool) → leb (length bytes) file-length ≡ b → length bytes ≤ file-length
-    go true k = leb-true (length bytes) file-length k
-    go false k = absurd (never (sym (ap then-read k) ∙ e))
-      where
-        then-read : Bool → Result (Parameters × Level)
-        then-read b = (unless-refused b 1 0 >>= λ u. first-line document-01 (lines bytes)) >>= λ h.
-            body document-01 (h .parameters) (h .place) 0 [] (h .later) >>= λ g. done (h .parameters, g)
-
-        never : _≡_ {A = Result (Parameters × Level)} (refused 1 0 []) (done f) → ⊥
-        never z = let y : _≡_ {A = ℕ} 0 1 = cc in omega arith
 
 -- ## The V lines do not look at the degrees
 

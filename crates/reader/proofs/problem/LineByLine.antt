@@ -41,7 +41,7 @@ getD-behind (x ∷ v) k (suc i) = getD-behind v k i
 pub getD-padded : (v : Words) (i : ℕ) → getD (padded 16 v) i 0 ≡ getD v i 0
 getD-padded v i = getD-behind v (16 - length v) i
 
-take-zeros : (k m : ℕ) → k ≤ m → take k (replicate {A = ℕ} m 0) ≡ replicate k 0
+pub take-zeros : (k m : ℕ) → k ≤ m → take k (replicate {A = ℕ} m 0) ≡ replicate k 0
 take-zeros zero m h = refl
 take-zeros (suc k) zero h = absurd (omega arith)
 take-zeros (suc k) (suc m) h = ap (λ l. 0 ∷ l) (take-zeros k m (omega arith))

@@ -5,16 +5,15 @@ use mathlib.Core.Option.{some}
 use mathlib.Core.List.{[], _∷_}
 use Prim.Native.Nat.{ℕ, suc, _+_, _*_, _<_, _≤_}
 use native.Mathlib.Omega.{arith}
-use lib.ListN.{length, getD}
+use lib.ListN.{length}
 use Rattle.definitions.specs.Lists.{without}
-use Rattle.definitions.specs.Field.{minus}
-use Rattle.definitions.specs.Monomial.{Exponents, Monomial, Term, Vector, Level, no-term, vector-of, divides-monomial?}
+use Rattle.definitions.specs.Monomial.{Exponents, Monomial, Term, Vector, Level, vector-of, divides-monomial?}
 use Rattle.definitions.specs.Order.{Comparison}
 use Rattle.definitions.specs.Reducer.{Answer, reducer, lower-order, answer-from}
 use Rattle.definitions.specs.Result.{Result, done, refusal, _>>=_}
 use Rattle.definitions.specs.Vectors.{store}
 use Rattle.definitions.specs.Stage.{Reduction, Stage}
-use Rattle.definitions.specs.Run.{Run, Strategy, Step, on, add-products, reduced, without-reducer, by-answer, by-code, by-pick, step}
+use Rattle.definitions.specs.Run.{Run, Step, on, add-products, without-reducer, by-code}
 use Rattle.definitions.specs.Layout.{Words, rows}
 use Rattle.vectors.proofs.terms.Stored.{rows-closed}
 use Rattle.ending.proofs.Picking.{picks-by-code}
@@ -57,23 +56,11 @@ pub without-room : (g : Ground) (n v : ℕ) (stops : Bool) → n ≤ g .working 
 without-room g n v true k l = k
 without-room g n v false k l = (omega arith, l)
 
--- ## The whole step
+-- ## The pick
 
--- a pick is inside the value
+-- it is inside the value
 pub inside : (value : Words) (n : ℕ) (order : Monomial → Monomial → Comparison) (code i : ℕ) → some i ≡ by-code order code (rows value 0 n) → i < n
 inside value n order code i e = omega (arith, picks-by-code order code (rows value 0 n) i (sym e), length-rows value 0 n)
-
-module _ (S : Stage) (W : Strategy) (r : Run) (i : ℕ) (picked : some i ≡ W .pick (r .value)) where
-  step-at : (a : Answer) → a ≡ answer-from (S .reduction .p) 1 (S .reduction .heads) (getD (r .value) i no-term) → by-answer S W r i a ≡ step S W r
-  step-at a e = ap (by-answer S W r i) e ∙ ap (by-pick S W r) picked
-
-  pub step-reduced : (j c : ℕ) (q : Exponents) → reducer j c q ≡ answer-from (S .reduction .p) 1 (S .reduction .heads) (getD (r .value) i no-term)
-      → reduced S W r j (minus (S .reduction .p) c) q ≡ step S W r
-  step-reduced j c q e = step-at (reducer j c q) e
-
-  pub step-without : lower-order ≡ answer-from (S .reduction .p) 1 (S .reduction .heads) (getD (r .value) i no-term) → without-reducer (W .stops) S r i
-      ≡ step S W r
-  step-without e = step-at lower-order e
 
 -- ## The reducer's number
 

@@ -17,7 +17,8 @@ use Rattle.runs.proofs.reduction.Adding.{rows-none}
 use Rattle.reader.specs.fields.Scanning.{end-as}
 use Rattle.reader.specs.lines.Tests.{term-in}
 use Rattle.member_page.specs.brought.Lines.{v-first}
-use Rattle.member_page.proofs.brought.VLines.{Passed, v-passed, behind-less, Held, held-more, goes-on, v-step-at}
+use Rattle.after.proofs.Cutting.{behind-less}
+use Rattle.member_page.proofs.brought.VLines.{Passed, v-passed, Held, held-more, goes-on, v-step-at}
 use lib.ListN.{drop-of-length-le}
 use Rattle.member_page.proofs.brought.v_lines.Statement.{statement}
 use Rattle.member_page.proofs.brought.v_lines.Tie as tie

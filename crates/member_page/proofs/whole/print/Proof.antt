@@ -8,7 +8,8 @@ use Rattle.definitions.specs.Limits.{document-01}
 use Rattle.definitions.specs.Membership.{membership-of}
 use Rattle.members.proofs.Membership.{of-steady}
 use Rattle.listing.proofs.whole.Whole.{begun-basis, begun-stops, accepted-page, refused-page}
-use Rattle.member_page.proofs.whole.Whole.{problem-short, file-prints}
+use Rattle.inputs.proofs.Ends.{problem-short}
+use Rattle.member_page.proofs.whole.Whole.{file-prints}
 use Rattle.member_page.proofs.whole.print.Statement.{statement}
 use Rattle.member_page.proofs.whole.print.Tie as tie
 

@@ -1,200 +1,53 @@
 use borrow.Author.Needs.{needs}
 use native.Mathlib.Omega.{arith}
-use mathlib.Core.Path.{_≡_, sym, ap, _∙_, subst}
-use lib.ListN.{getD}
-use Rattle.vectors.specs.terms.Rows.{term-of}
-use Rattle.vectors.proofs.sums.Rowwise.{at-row}
-use Rattle.reducers.specs.search.Search.{answered}
-use Rattle.laws.proofs.Rows.{length-rows}
-use Rattle.definitions.specs.Packed.{unpack}
-use Rattle.definitions.specs.Reducer.{answer, reducer, lower-order}
-use Rattle.definitions.specs.Monomial.{no-term}
-use Rattle.definitions.specs.Layout.{rows}
-use Rattle.runs.specs.reduction.Grounds.{reduction-of, family-of, ends-in}
-use Rattle.runs.specs.run.Stages.{order-of, stage-of, strategy-of, run-of, reduced-by, step-of, Room}
-use Rattle.runs.proofs.run.Stepping.{reducer-number, left-out, step-reduced, step-without, inside, without-room}
+use mathlib.Core.Path.{ap, _∙_}
+use Rattle.definitions.specs.Run.{by-pick}
+use Rattle.runs.specs.run.Stages.{order-of, stage-of, strategy-of, run-of}
+use Rattle.runs.proofs.run.Stepping.{inside}
 use Rattle.runs.proofs.run.one_step.Statement.{statement}
 use Rattle.runs.proofs.run.one_step.Tie as tie
 
 pick-requires : tie.Need-pick-requires
-pick-requires c κs = (
-  omega arith,
-  omega (
-    arith,
-    c .before .before .before .before .before .pre .3 .value-fits,
-    c .before .before .before .before .before .pre .5,
-  ),
-  omega (arith, c .before .before .before .before .before .pre .0 .long),
-  c .before .before .before .before .before .pre .2 .fits,
-  c .before .before .before .before .before .pre .2 .tabled,
-)
+pick-requires c κs =
+    let asked = c .before .before .before .before .before .pre in (
+      asked .4,
+      omega (arith, asked .3 .value-fits, asked .5),
+      omega (arith, asked .0 .long),
+      asked .2 .fits,
+      asked .2 .tabled,
+    )
 
-row-requires : tie.Need-row-requires
-row-requires c κs = omega (
-  arith,
-  c .before .before .before .before .before .before .before .pre .3 .value-fits,
-  c .before .before .before .before .before .before .before .pre .5,
-  inside (c .before .before .before .before .before .before .before .args .value .now)
-      (c .before .before .before .before .before .before .before .args .n)
-      (order-of (c .before .before .before .before .before .before .before .args .g)
-      (c .before .before .before .before .before .before .before .args .tables .now))
-      (c .before .before .before .before .before .before .before .args .w .pick) (c .before .pick .result) (c .before .pick .ensures),
-)
-
-reducer-of-requires : tie.Need-reducer-of-requires
-reducer-of-requires c κs = c .before .before .before .before .before .before .before .before .pre .0
-
-enum-known-answer : tie.Need-enum-known-answer
-enum-known-answer c = search needs
-
-enum-told : tie.Need-enum-told
-enum-told c = search needs
-
-without-reducer-requires : tie.Need-without-reducer-requires
-without-reducer-requires c κs =
-    let at-8 = c .before .before .before .before .before .before .before .before in (
-      inside (at-8 .before .before .before .before .args .value .now)
-          (at-8 .before .before .before .before .args .n)
-          (order-of (at-8 .before .before .before .before .args .g)
-          (at-8 .before .before .before .before .args .tables .now))
-          (at-8 .before .before .before .before .args .w .pick)
-          (c .before .before .before .before .before .before .pick .result) (c .before .before .before .before .before .before .pick .ensures),
-      omega (
-        arith,
-        at-8 .before .before .before .before .pre .3 .value-fits,
-        at-8 .before .before .before .before .pre .5,
-      ),
+step-at-requires : tie.Need-step-at-requires
+step-at-requires c κs =
+    let a = c .before .before .before .before .before .before .before .before .args in
+    let asked = c .before .before .before .before .before .before .before .before .pre in
+    let pick-there = c .before .before .pick in (
+      asked .0,
+      asked .1,
+      asked .3,
+      inside (a .value .now) (a .n) (order-of (a .g) (a .tables .now)) (a .w .pick) (pick-there .result) (pick-there .ensures),
+      asked .5,
+      asked .6,
     )
 
 same-length : tie.Need-same-length
 same-length c = search needs
 
+same-length-2 : tie.Need-same-length-2
+same-length-2 c = search needs
+
 returns : tie.Need-returns
 returns c =
     let a =
     let at-8 = c .before .before .before .before .before .before .before .before in
-    (at-8 .before .before .before .before .before .before .before) .args in
-    let pick-there =
-    let at-8 = c .before .before .before .before .before .before .before .before in
-    (at-8 .before) .pick in
-    let asked =
-    let at-8 = c .before .before .before .before .before .before .before .before in
-    (at-8 .before .before .before .before .before .before .before) .pre in
-    let g = a .g in
-    let n = a .n in
-    let W = strategy-of g (a .tables .now) (a .w) in
-    let r = run-of (a .value .now) n (a .vector .now) (a .v) in
-    let i = pick-there .result in
-    let w = c .before .before .without-reducer in
-    let l = inside (a .value .now) n (order-of g (a .tables .now)) (a .w .pick) i
-    (pick-there .ensures) in
-    let told : lower-order ≡ answer (g .p) (rows (a .tables .now) 0 (g .r)) (getD (rows (a .value .now) 0 n) i no-term) =
-    sym (ap (λ y. answered y (unpack (c .before .before .before .before .before .before .reducer-of .result .quotient)))
-    (c .before .before .before .before .enum-told .given .1)) ∙ c .before .before .before .before .before .before .reducer-of .ensures
-    ∙ ap (answer (g .p) (rows (a .tables .now) 0 (g .r))) (c .before .before .before .before .before .before .before .row .ensures
-    ∙ sym (at-row (a .value .now) n i l)) in (
-      λ above. (λ k. step-of (order-of g (a .tables .now)) (g .p) (w .ensures .0 k) (w .ensures .1 k) (a .vector .now))
-          ∙ left-out (stage-of g (a .level .now) (a .tables .now) above) (a .value .now) n (a .vector .now) (a .v) i l
-          (omega (arith, asked .3 .value-fits, asked .5)) (a .w .stops)
-          ∙ step-without (stage-of g (a .level .now) (a .tables .now) above) W r i
-          (pick-there .ensures) told,
-      subst (Room g) (sym (w .ensures .0)) (without-room g n (a .v) (a .w .stops)
-          (asked .5)
-          (asked .6)),
-    )
-
-negative-requires : tie.Need-negative-requires
-negative-requires c κs = search needs
-
-reduced-requires : tie.Need-reduced-requires
-reduced-requires c κs =
-    let a =
-    let at-7 = c .before .before .before .before .before .before .before in
-    (at-7 .before .before .before .before .before .before .before .before) .args in
-    let asked =
-    let at-7 = c .before .before .before .before .before .before .before in
-    (at-7 .before .before .before .before .before .before .before .before) .pre in
-    let hs = rows (a .tables .now) 0 (a .g .r) in
-    let b = reducer-number (a .g .p) hs (term-of (c .before .before .before .before .before .before .before .row .result))
-    (c .before .before .before .before .answer .given .0 .0) (c .before .before .before .before .answer .given .0 .1 .0)
-    (unpack (c .before .before .before .before .before .before .reducer-of .result .quotient))
-    (sym (ap (λ y. answered y (unpack (c .before .before .before .before .before .before .reducer-of .result .quotient)))
-    (c .before .before .before .before .answer .given .1))
-    ∙ c .before .before .before .before .before .before .reducer-of .ensures) in (
-      asked .0,
-      asked .1,
-      asked .3,
-      asked .5,
-      asked .6,
-      b .0,
-      omega (arith, b .1, length-rows (a .tables .now) 0 (a .g .r)),
-    )
-
-same-length-2 : tie.Need-same-length-2
-same-length-2 c = search needs
-
-same-length-3 : tie.Need-same-length-3
-same-length-3 c = search needs
-
-returns-2 : tie.Need-returns-2
-returns-2 c =
-    let a =
-    let at-7 = c .before .before .before .before .before .before .before in
-    let at-15 = at-7 .before .before .before .before .before .before .before .before in
-    (at-15 .before .before .before .before .before) .args in
-    let pick-there =
-    let at-7 = c .before .before .before .before .before .before .before in
-    (at-7 .before .before .before .before .before .before .before) .pick in
-    let answer-there =
-    let at-7 = c .before .before .before .before .before .before .before in
-    (at-7 .before .before) .answer in
-    let reducer-of-there =
-    let at-7 = c .before .before .before .before .before .before .before in
-    (at-7 .before .before .before .before) .reducer-of in
-    let row-there =
-    let at-7 = c .before .before .before .before .before .before .before in
-    (at-7 .before .before .before .before .before) .row in
-    let g = a .g in
-    let n = a .n in
-    let W = strategy-of g (a .tables .now) (a .w) in
-    let r = run-of (a .value .now) n (a .vector .now) (a .v) in
-    let i = pick-there .result in
-    let d = c .before .before .before .before .reduced in
-    let j = answer-there .given .0 .0 in
-    let x = answer-there .given .0 .1 .0 in
-    let q = unpack (reducer-of-there .result .quotient) in
-    let f = family-of g (a .level .now) (ends-in (a .tables .now)) in
-    let R = reduction-of g (a .tables .now) in
-    let l = inside (a .value .now) n (order-of g (a .tables .now)) (a .w .pick) i
-    (pick-there .ensures) in
-    let told : reducer j x q ≡ answer (g .p) (rows (a .tables .now) 0 (g .r)) (getD (rows (a .value .now) 0 n) i no-term) =
-    sym (ap (λ y. answered y q) (answer-there .given .1))
-    ∙ reducer-of-there .ensures
-    ∙ ap (answer (g .p) (rows (a .tables .now) 0 (g .r)))
-    (row-there .ensures
-    ∙ sym (at-row (a .value .now) n i l)) in (
-      λ above. d .ensures .0 (order-of g (a .tables .now))
-          ∙ ap (λ y. reduced-by R f (a .w .drops) r j y q) (c .before .before .before .before .before .before .before .negative .ensures)
-          ∙ step-reduced (stage-of g (a .level .now) (a .tables .now) above) W r i
-          (pick-there .ensures)
-          j x q told,
-      d .ensures .1,
+    (at-8 .before .before .before .before .before) .args in
+    let s = c .before .before .before .before .step-at in
+    let pick-there = c .before .before .before .before .before .before .before .pick in (
+      λ above. s .ensures .0 above
+          ∙ ap (by-pick (stage-of (a .g) (a .level .now) (a .tables .now) above) (strategy-of (a .g) (a .tables .now) (a .w))
+          (run-of (a .value .now) (a .n) (a .vector .now) (a .v))) (pick-there .ensures),
+      s .ensures .1,
     )
 
 pub one-step-spec : {M : Type 1} → statement M
-one-step-spec =
-    tie.close
-    (tie.spec
-    pick-requires
-    row-requires
-    reducer-of-requires
-    enum-known-answer
-    enum-told
-    without-reducer-requires
-    same-length
-    returns
-    negative-requires
-    reduced-requires
-    same-length-2
-    same-length-3
-    returns-2)
+one-step-spec = tie.close (tie.spec pick-requires step-at-requires same-length same-length-2 returns)

@@ -1,0 +1,3 @@
+pub mod picks
+pub mod log
+pub mod over

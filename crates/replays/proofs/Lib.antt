@@ -1,0 +1,5 @@
+pub mod Logs
+pub mod Codes
+pub mod Replays
+pub mod Cut
+pub mod Enough
