@@ -31,13 +31,13 @@ extern "C" {
  *     1    an exponent has a word of its own, a row ten words
  *     2    the exponents are packed, a row has six words; what the accessors below give and what the sheet prints is as it was
  *     3    the state has degrees behind its rows, a D line is read, 18 is answered; all that a state of version 2 holds stands where it stood
- * tagetessash_betti, tagetessash_bidegrees, tagetessash_hilbert, tagetessash_minimal, tagetessash_member, tagetessash_divide and tagetessash_completed came
- * later: a program of version 3 that does not call them fits every library of version 3, and one that does is not linked with a library that has no such
- * function. With the second came a file's G line, which was refused with 1, and 24: no state holds its weights, and every file that was read before is read as
- * before. Later still hybrid took work areas of fewer than TAGETESSASH_WORK_WORDS words: with as many or more every answer and every word is as before, and a
- * library of version 3 from before refuses fewer with 16. Version 1's buffers are long enough for version 3: a program that was compiled with that header is
- * refused nothing and reads other words. Only the version tells it. One of version 2 lends a state that is too short: where it does not ask for the version,
- * every call answers 16. */
+ * tagetessash_betti, tagetessash_bidegrees, tagetessash_hilbert, tagetessash_minimal, tagetessash_member, tagetessash_divide, tagetessash_completed and
+ * tagetessash_replay came later: a program of version 3 that does not call them fits every library of version 3, and one that does is not linked with a
+ * library that has no such function. With the second came a file's G line, which was refused with 1, and 24: no state holds its weights, and every file that
+ * was read before is read as before. Later still hybrid took work areas of fewer than TAGETESSASH_WORK_WORDS words: with as many or more every answer and
+ * every word is as before, and a library of version 3 from before refuses fewer with 16. Version 1's buffers are long enough for version 3: a program that
+ * was compiled with that header is refused nothing and reads other words. Only the version tells it. One of version 2 lends a state that is too short: where
+ * it does not ask for the version, every call answers 16. */
 #define TAGETESSASH_VERSION 3
 
 /* How many bytes of stack a call finds enough, from where it is called, so that a thread of this size and what its own functions need is safe. Of the stack
@@ -68,6 +68,7 @@ extern "C" {
 #define TAGETESSASH_HILBERT_BYTES 31773    /* and that of the Hilbert function */
 #define TAGETESSASH_MEMBER_BYTES 63492     /* and that of membership */
 #define TAGETESSASH_COMPLETED_BYTES 100360 /* and that of the completed file, which has TAGETESSASH_FILE_BYTES at the most */
+#define TAGETESSASH_REPLAY_BYTES 37888     /* and that of a replayed log */
 
 /* The most that there can be. A longer file is refused with 1, more variables or components with 3, T lines for more terms of level 0 with 8, more terms of a
  * vector, of a working value (as many as of a vector) or of the tree's work area with 14, more vectors or terms of a level above 0 with 15. */
@@ -157,7 +158,11 @@ enum {
     TAGETESSASH_BAD_VECTOR = 23, /* coefficient 0 or p or more, component not 1 to s, an exponent past the last variable, a term not below the one before it,
                                   * or the 513th; a line behind E that is no V line */
 
-    /* the call; place 0 */
+    /* a log; in the X line of tagetessash_replay alone: the place is the line */
+    TAGETESSASH_BAD_LOG = 21,   /* no L line behind E, behind it a line that is no P line, or a 4,097th P line */
+    TAGETESSASH_NOT_TAKEN = 22, /* a pick is no term of the working value, or the lines end before it is zero, or go on after that */
+
+    /* the call; place 0, in the X line of tagetessash_replay the L line */
     TAGETESSASH_NO_LEVEL = 11,     /* no accepted basis, or the level that is needed is not complete: k - 1 to lift level k, k to fetch from it */
     TAGETESSASH_BAD_NUMBER = 12,   /* level not 1 to 9, vector not 1 to its level's count, way or pick code that there is not */
     TAGETESSASH_SHORT_BUFFER = 16, /* a buffer is shorter than its length above */
@@ -261,6 +266,16 @@ uint16_t tagetessash_member(const uint8_t *input, size_t input_bytes, uint16_t *
  * once is written as it is. For a file that is not read, one that meets 13 to 15, and where a 65th element (19), more than 65,536 bytes (1 at line 0) or a
  * 2,049th T line (8) would be needed, it writes the X line and nothing else. Returns 0 for every file, or 16, as tagetessash_sheet does. */
 uint16_t tagetessash_completed(const uint8_t *file, size_t file_bytes, uint16_t *state, size_t state_words, uint16_t *work, size_t work_words, uint8_t *out,
+    size_t out_bytes, size_t *length);
+
+/* Replays the picks of a run that was recorded elsewhere, and writes its vector, the bytes that the program prints, into out, likewise. The input is a problem
+ * file and, behind its E line, a line L,level,vector, which names a frame term by its level, 1 to 9, and its number, and a line P,e1,..,en,component for each
+ * pick, 4,096 at the most; it may have any length. The levels below are lifted as for the sheet, then the frame term is lifted by the hybrid way, where each
+ * step takes the term that the next line picks. Where every pick is a term of the working value and that is zero after the last one, a line
+ * S,level,vector,coefficient,component,e1,..,en for each term: the vector is the one that every way gives, whoever wrote the log. Otherwise the X line (and
+ * after X,9 the W lines) and nothing else; X,12 with the L line's number where there is no such level or vector, X,21 and X,22 as above, X,13 to X,15 with the
+ * level where a limit is met. Returns 0 for every input, or 16, as tagetessash_sheet does. */
+uint16_t tagetessash_replay(const uint8_t *input, size_t input_bytes, uint16_t *state, size_t state_words, uint16_t *work, size_t work_words, uint8_t *out,
     size_t out_bytes, size_t *length);
 
 /* The version of the library. */

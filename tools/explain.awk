@@ -1,4 +1,4 @@
-# What stands behind an X line, for people: the line of the file with the usual causes, found by looking; after 9 which frame term it is, and the value; after
+# What stands behind an X line, for people: the line of the input with the usual causes, found by looking; after 9 which frame term it is, and the value; after
 # 17 two terms of the element that have different degrees, after 25 two that have different bidegrees; where completing met a limit, what was given.
 # Unproved, and nothing rests on it: it reads the problem file, then the sheet or the page, and prints lines for standard error.
 #
@@ -15,7 +15,7 @@ END {
     d_line = line[2] ~ /^D/ ? 2 : 0
     g_line = line[d_line ? 3 : 2] ~ /^G/ ? (d_line ? 3 : 2) : 0
     first_t = 2 + (d_line > 0) + (g_line > 0)
-    if ((number <= 8 || number == 18 || number == 23 || number == 24) && place > 0) print name ":" place ": " shown(line[place]) hint()
+    if ((number <= 8 || number == 12 || number == 18 || number >= 21 && number <= 24) && place > 0) print name ":" place ": " shown(line[place]) hint()
     if (number == 9) not_a_basis()
     if (number == 17 || number == 25) two_degrees()
     if (ENVIRON["WORD"] == "complete" && (number >= 13 || ENVIRON["PLACE"] == "completed") && number != 18 && number != 24) not_completed()
@@ -35,7 +35,8 @@ function shown(text) {
 }
 
 function hint(    words) {
-    words = number == 1 ? shape(line[place]) : number == 23 ? of_vector(line[place]) : range(line[place])
+    words = number == 1 ? shape(line[place]) : number == 23 ? of_vector(line[place]) : number == 21 || number == 22 || number == 12 ? of_log(line[place]) : \
+        range(line[place])
     return words == "" ? "" : "   <- " words
 }
 
@@ -89,6 +90,27 @@ function of_vector(text,    fields, count, want, i) {
     for (i = 4; i <= count + 1; i++) if (length(fields[i]) > 3 || fields[i] + 0 > 255) return "an exponent is above 255"
     for (i = place; i > 1 && line[i] !~ /^E/; i--) continue
     return place - i > 512 ? "512 V lines are the most" : "it is not below line " place - 1 ", " shown(line[place - 1])
+}
+
+# why a line behind E is no L line, names no vector, is no P line, or picks no term
+function of_log(text,    fields, count, want, i, e, letter) {
+    for (e = 1; e < place && line[e] !~ /^E/; e++) continue
+    letter = place == e + 1 ? "L" : "P"
+    if (place > lines) return letter == "L" ? "an L line is wanted behind E" : "the lines end, and the working value is not zero"
+    if (text ~ /\r$/) return "it ends in byte 13, as lines of Windows do: tr -d '\\r' <FILE takes these away"
+    if (text ~ /^[ \t]*$/) return "it is blank"
+    if (place == lines && !ended) return "its end, byte 10, is missing"
+    if (text !~ "^" letter ",") return "it does not begin with " letter " and a comma"
+    if (text !~ /^[LP](,[0-9]+)+$/) return "a field is no number"
+    if (text ~ /,0[0-9]/) return "a number has a leading zero"
+    count = split(text, fields, ",") - 1
+    want = letter == "L" ? 2 : n + 1
+    if (count != want) return "it has " count (count == 1 ? " number" : " numbers") ", and " want " are wanted" (letter == "P" ? " for " n " variables" : "")
+    for (i = 2; i <= count + 1; i++) if (length(fields[i]) > 5 || fields[i] + 0 > 65535) return "a number is above 65,535"
+    if (number == 12) return fields[2] + 0 < 1 || fields[2] + 0 > 9 ? "level " fields[2] " is not 1 to 9" : "level " fields[2] " has no vector " fields[3]
+    if (number == 21) return "4,096 P lines are the most"
+    for (i = 2; i <= n + 1; i++) if (fields[i] + 0 > 255) return "no term has an exponent above 255"
+    return "no term of the working value has this monomial and component"
 }
 
 # which number of a line is out of range or out of sequence

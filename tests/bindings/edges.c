@@ -487,8 +487,34 @@ static void the_numbers_of(const char *text, const char *expected) { prints(tage
 static void the_bidegrees_of(const char *text, const char *expected) { prints(tagetessash_bidegrees, TAGETESSASH_BIDEGREES_BYTES, text, expected); }
 
 static void the_function_of(const char *text, const char *expected) { prints(tagetessash_hilbert, TAGETESSASH_HILBERT_BYTES, text, expected); }
+static void the_log_of(const char *text, const char *expected) { prints(tagetessash_replay, TAGETESSASH_REPLAY_BYTES, text, expected); }
 static void the_division_of(const char *text, const char *expected) { prints(tagetessash_member, TAGETESSASH_MEMBER_BYTES, text, expected); }
 static void the_basis_of(const char *text, const char *expected) { prints(tagetessash_completed, TAGETESSASH_COMPLETED_BYTES, text, expected); }
+
+/* x + y, y^2 + 1: logs that are taken, and 12, 21 and 22 with their lines */
+static void logs(void)
+{
+    static const char file[] = "R,7,2,1,1\nT,1,1,1,1,0\nT,1,1,1,0,1\nT,2,1,1,0,2\nT,2,1,1,0,0\nE,4\n";
+    static const char vector[] = "S,1,1,1,2,1,0\nS,1,1,6,1,0,2\nS,1,1,6,1,0,0\nS,1,1,1,2,0,1\n";
+    static const struct {
+        const char *lines, *printed;
+    } tried[] = {
+        { "L,1,1\nP,1,2,1\nP,1,0,1\nP,0,3,1\n", vector },
+        { "L,1,1\nP,1,0,1\nP,1,2,1\nP,0,3,1\n", vector },
+        { "", "X,21,7\n" },
+        { "L,10,1\n", "X,12,7\n" },
+        { "L,1,2\n", "X,12,7\n" },
+        { "L,1,1\nP,1,2,2\n", "X,22,8\n" },
+        { "L,1,1\nP,1,2\n", "X,21,8\n" },
+        { "L,1,1\nP,1,2,1\nP,1,0,1\n", "X,22,10\n" },
+    };
+    char text[200];
+    size_t i;
+    for (i = 0; i < sizeof tried / sizeof *tried; i++) {
+        sprintf(text, "%s%s", file, tried[i].lines);
+        the_log_of(text, tried[i].printed);
+    }
+}
 
 /* x^2 + 1 over x + y, y^2 + 1, as lines and as rows that are lent; the zero vector, whose pointer may be null; 23 with the line and with the row; a word too
  * short; a state that holds nothing; the state as it was each time; a row written and read */
@@ -740,6 +766,7 @@ int main(void)
     the_hilbert_functions();
     the_completed_files();
     divisions();
+    logs();
     free(state);
     free(before);
     free(work);

@@ -22,5 +22,7 @@ uint16_t tagetessash_completed(const uint8_t *file, size_t file_bytes, uint16_t 
     size_t out_bytes, size_t *length) { abort(); }
 uint16_t tagetessash_member(const uint8_t *input, size_t input_bytes, uint16_t *state, size_t state_words, uint16_t *work, size_t work_words, uint8_t *out,
     size_t out_bytes, size_t *length) { abort(); }
+uint16_t tagetessash_replay(const uint8_t *input, size_t input_bytes, uint16_t *state, size_t state_words, uint16_t *work, size_t work_words, uint8_t *out,
+    size_t out_bytes, size_t *length) { abort(); }
 uint16_t tagetessash_divide(const uint16_t *state, size_t state_words, const uint16_t *vector, size_t vector_words, uint16_t *quotients,
     size_t quotients_words, uint16_t *remainder, size_t remainder_words, size_t *place) { abort(); }

@@ -18,7 +18,7 @@
 static const char deep[] = "R,7,5,1,2\nT,1,1,2,1,0,0,0,0\nT,1,1,1,0,8,11,244,1\nT,2,1,2,1,0,0,0,0\nT,2,1,1,0,8,11,244,1\nT,3,1,1,0,0,0,0,1\n"
                            "T,3,6,1,0,0,0,0,0\nT,4,1,1,0,0,1,0,0\nT,4,6,1,0,0,0,1,1\nT,4,1,1,0,0,0,1,0\nT,5,1,1,0,1,0,254,0\nT,5,6,1,0,0,254,0,0\nE,11\n";
 
-enum { READ, DIVISION, HYBRID, NARROW, TREE, FETCH, DIVIDE, SHEET, BETTI, MINIMAL, BIDEGREES, HILBERT, MEMBER, COMPLETED, CALLS };
+enum { READ, DIVISION, HYBRID, NARROW, TREE, FETCH, DIVIDE, SHEET, BETTI, MINIMAL, BIDEGREES, HILBERT, MEMBER, COMPLETED, REPLAY, CALLS };
 /* what is enough, and the KiB that the header says were measured */
 static const struct {
     const char *name;
@@ -38,12 +38,13 @@ static const struct {
     { "Hilbert function", TAGETESSASH_STACK_BYTES, 161 },
     { "membership", TAGETESSASH_STACK_BYTES, 139 },
     { "completed file", TAGETESSASH_STACK_BYTES, 127 },
+    { "replay", TAGETESSASH_STACK_BYTES, 165 },
 };
 
 static uint8_t file[TAGETESSASH_FILE_BYTES], sheet[TAGETESSASH_SHEET_BYTES], page[TAGETESSASH_PAGE_BYTES], lines[TAGETESSASH_BIDEGREES_BYTES],
     values[TAGETESSASH_HILBERT_BYTES], input[TAGETESSASH_FILE_BYTES + 200], division[TAGETESSASH_MEMBER_BYTES],
-    completed[TAGETESSASH_COMPLETED_BYTES];
-static size_t file_bytes, input_bytes, vector_words, level, place;
+    completed[TAGETESSASH_COMPLETED_BYTES], log_of[TAGETESSASH_FILE_BYTES + 200], replayed[TAGETESSASH_REPLAY_BYTES];
+static size_t file_bytes, input_bytes, log_bytes, vector_words, level, place;
 static uint16_t state[TAGETESSASH_STATE_WORDS], work[TAGETESSASH_TREE_WORK_WORDS], cache[CACHE_WORDS], out[TAGETESSASH_OUT_WORDS];
 static uint16_t vector[TAGETESSASH_OUT_WORDS], remainder[TAGETESSASH_OUT_WORDS];
 static uint16_t number;
@@ -69,6 +70,10 @@ static void take_vector(void)
         memcpy(input + input_bytes, fields, (size_t)(end + 1 - fields));
         input_bytes += (size_t)(end + 1 - fields);
     }
+    /* a log of the second level: the first one is lifted, and this one's frame is formed */
+    memcpy(log_of, file, file_bytes);
+    memcpy(log_of + file_bytes, "L,2,1\n", 6);
+    log_bytes = file_bytes + 6;
     vector_words = tagetessash_terms(state, 0, 1) * TAGETESSASH_ROW_WORDS;
     if (vector_words > TAGETESSASH_OUT_WORDS)
         vector_words = TAGETESSASH_OUT_WORDS;
@@ -117,6 +122,10 @@ static void *run(void *nothing)
     case COMPLETED:
         number = tagetessash_completed(
             file, file_bytes, state, TAGETESSASH_STATE_WORDS, work, TAGETESSASH_WORK_WORDS, completed, TAGETESSASH_COMPLETED_BYTES, &place);
+        break;
+    case REPLAY:
+        number = tagetessash_replay(
+            log_of, log_bytes, state, TAGETESSASH_STATE_WORDS, work, TAGETESSASH_WORK_WORDS, replayed, TAGETESSASH_REPLAY_BYTES, &place);
         break;
     }
     return nothing;

@@ -17,7 +17,7 @@ checker = importlib.util.module_from_spec(spec)
 spec.loader.exec_module(checker)
 EXAMPLES = sorted(name[:-4] for name in os.listdir(f"{ROOT}/examples") if name.endswith(".txt"))
 NAMES = [f"x{k}" for k in range(1, 9)]
-STATUS = {**{number: 1 for number in (*range(1, 9), 18, 23, 24)}, 9: 3, 13: 4, 14: 4, 15: 4, 17: 5, 19: 4, 20: 4, 25: 5}
+STATUS = {**{number: 1 for number in (*range(1, 9), 12, 18, 21, 23, 24)}, 9: 3, 13: 4, 14: 4, 15: 4, 17: 5, 19: 4, 20: 4, 22: 7, 25: 5}
 COLUMNS = 11
 HANGS = 1200  # seconds: what takes so long, however busy the machine is, does not end
 SINGULAR, MACAULAY2 = ["Singular", "-q", "--no-rc"], ["M2", "--script"]

@@ -120,6 +120,17 @@ extern "C" {
         out_bytes: usize,
         length: *mut usize,
     ) -> u16;
+    fn tagetessash_replay(
+        input: *const u8,
+        input_bytes: usize,
+        state: *mut u16,
+        state_words: usize,
+        work: *mut u16,
+        work_words: usize,
+        out: *mut u8,
+        out_bytes: usize,
+        length: *mut usize,
+    ) -> u16;
     fn tagetessash_version() -> u16;
 }
 
@@ -290,4 +301,9 @@ pub fn member(input: &[u8], state: &mut [u16], work: &mut [u16], out: &mut [u8])
 /// Number and how many bytes `out` has in front.
 pub fn completed(file: &[u8], state: &mut [u16], work: &mut [u16], out: &mut [u8]) -> (u16, usize) {
     printed(tagetessash_completed, file, state, work, out)
+}
+
+/// Number and how many bytes `out` has in front.
+pub fn replay(input: &[u8], state: &mut [u16], work: &mut [u16], out: &mut [u8]) -> (u16, usize) {
+    printed(tagetessash_replay, input, state, work, out)
 }

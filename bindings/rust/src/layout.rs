@@ -10,6 +10,7 @@ pub const BIDEGREES_BYTES: usize = 32_384;
 pub const HILBERT_BYTES: usize = 31_773;
 pub const MEMBER_BYTES: usize = 63_492;
 pub const COMPLETED_BYTES: usize = 100_360;
+pub const REPLAY_BYTES: usize = 37_888;
 
 pub const VARIABLES: usize = 8;
 pub const LEVEL_VECTORS: usize = 128;

@@ -4,7 +4,8 @@
 //! [`Engine::lift`] makes a level complete, [`Engine::vectors`] goes over its vectors, [`Engine::fetch`] gives one of them, [`Engine::divide`] divides a vector
 //! by the elements and so tells whether it is in their module. [`sheet`] prints all levels of a file at once, [`betti`] the table of how many vectors of which
 //! degree they have, [`minimal`] that of a minimal resolution, [`bidegrees`] how many of which bidegree, [`hilbert`] the Hilbert function; [`member`] says
-//! whether a vector is in the module of a file's elements. [`completed`] makes a Gröbner basis of generators, as a file for all of these.
+//! whether a vector is in the module of a file's elements. [`completed`] makes a Gröbner basis of generators, as a file for all of these; [`replay`] gives the
+//! vector of a run whose picks were recorded elsewhere.
 //!
 //! ```
 //! let file = b"R,7,2,1,1\nT,1,1,1,1,0\nT,1,1,1,0,1\nT,2,1,1,0,2\nT,2,1,1,0,0\nE,4\n";
@@ -590,6 +591,25 @@ pub fn member(input: &[u8]) -> Vec<u8> {
 /// If the library is of another version than this crate.
 pub fn completed(file: &[u8]) -> Vec<u8> {
     printed(calls::completed, COMPLETED_BYTES, file)
+}
+
+/// The vector of a frame term by a run whose picks were recorded elsewhere, the bytes that the program prints, for every input: a problem file and, behind its
+/// E line, a line `L,level,vector` and for each pick a line `P,e1,..,en,component`, up to 4,096. A line `S,level,vector,coefficient,component,e1,..,en` for
+/// each term of the vector, which is the engine's own, whoever wrote the log.
+///
+/// A refused input has an X line instead, and nothing else but the W lines after `X,9`: `X,12` where the L line names no vector, `X,21` at the first line
+/// behind E that is no L line, or no P line, or the 4,097th of these, `X,22` where a pick is no term of the working value or the lines end before that is zero.
+///
+/// ```
+/// let input = b"R,7,2,1,1\nT,1,1,1,1,0\nT,1,1,1,0,1\nT,2,1,1,0,2\nT,2,1,1,0,0\nE,4\nL,1,1\nP,1,2,1\nP,1,0,1\nP,0,3,1\n";
+/// assert_eq!(tagetessash::replay(input), b"S,1,1,1,2,1,0\nS,1,1,6,1,0,2\nS,1,1,6,1,0,0\nS,1,1,1,2,0,1\n");
+/// ```
+///
+/// # Panics
+///
+/// If the library is of another version than this crate.
+pub fn replay(input: &[u8]) -> Vec<u8> {
+    printed(calls::replay, REPLAY_BYTES, input)
 }
 
 /// A call that prints what it finds in a file, over slices: number and how many bytes it wrote.

@@ -94,6 +94,16 @@ pub enum Refusal {
         /// the level
         level: usize,
     },
+    /// 21: a line of a log has the wrong shape, is missing or is the 4,097th of its picks. No call gives it; it is printed by [`crate::replay`].
+    BadLog {
+        /// the input's line, from 1
+        line: usize,
+    },
+    /// 22: a pick of a log is no term of the working value, or the log ends before that is zero. No call gives it; it is printed by [`crate::replay`].
+    NotTaken {
+        /// the input's line, from 1
+        line: usize,
+    },
     /// 23: a term of the vector to be divided is out of range, not below the one before it, or the 513th; in the lines of [`crate::member`] a line behind E is
     /// no such term
     BadVector {
@@ -122,8 +132,8 @@ pub enum Refusal {
 use Refusal::*;
 
 impl Refusal {
-    /// That of the X line of a sheet, of a Betti page, of minimal numbers, of bidegrees, of a Hilbert function, of a division or instead of a completed file;
-    /// none where there is no such line.
+    /// That of the X line of a sheet, of a Betti page, of minimal numbers, of bidegrees, of a Hilbert function, of a division, of a replayed log or instead of
+    /// a completed file; none where there is no such line. The place of 12, which is a line of a log there, is not kept.
     pub fn printed(lines: &[u8]) -> Option<Refusal> {
         let line = lines
             .split(|byte| *byte == b'\n')
@@ -155,6 +165,8 @@ impl Refusal {
             18 => BadDegree { line: place },
             19 => TooManyElements { element: place },
             20 => NotEnded { level: place },
+            21 => BadLog { line: place },
+            22 => NotTaken { line: place },
             23 => BadVector { term: place },
             24 => BadWeight { line: place },
             25 => TwoBidegrees { element: place },
@@ -184,6 +196,8 @@ impl Refusal {
             BadDegree { .. } => 18,
             TooManyElements { .. } => 19,
             NotEnded { .. } => 20,
+            BadLog { .. } => 21,
+            NotTaken { .. } => 22,
             BadVector { .. } => 23,
             BadWeight { .. } => 24,
             TwoBidegrees { .. } => 25,
@@ -201,7 +215,9 @@ impl Refusal {
             | BadCount { line }
             | TooManyTerms { line }
             | BadDegree { line }
-            | BadWeight { line } => line,
+            | BadWeight { line }
+            | BadLog { line }
+            | NotTaken { line } => line,
             NoBasis { frame_term } => frame_term,
             BadVector { term } => term,
             TwoDegrees { element } | TwoBidegrees { element } | TooManyElements { element } => {
@@ -238,6 +254,8 @@ impl Refusal {
             18 => "a component's degree is above 255",
             19 => "a completed file would have more than 64 elements",
             20 => "level 9 is not empty",
+            21 => "a line of the log has the wrong shape, is missing or is one pick too many",
+            22 => "a pick is no term of the working value, or the log ends before that is zero",
             23 => "a term of the vector is out of range, not below the one before it, or the 513th",
             24 => "a variable's weight is above 15",
             25 => "an element has terms of two bidegrees",

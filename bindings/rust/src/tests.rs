@@ -1,7 +1,7 @@
 use crate::{
-    betti, bidegrees, calls, completed, hilbert, layout, member, minimal, sheet, Division, Engine,
-    Order, Pick, Printing, Problem, Refusal, Term, Way, HIGHEST_LEVEL, LEAST_TERMS, VERSION,
-    WORKING_TERMS,
+    betti, bidegrees, calls, completed, hilbert, layout, member, minimal, replay, sheet, Division,
+    Engine, Order, Pick, Printing, Problem, Refusal, Term, Way, HIGHEST_LEVEL, LEAST_TERMS,
+    VERSION, WORKING_TERMS,
 };
 
 const PRINTED: &[u8] = b"R,7,2,1,1\nT,1,1,1,1,0\nT,1,1,1,0,1\nT,2,1,1,0,2\nT,2,1,1,0,0\nE,4\n";
@@ -548,6 +548,38 @@ fn the_completed_file() {
     assert_eq!(completed(b""), b"X,1,1\n");
 }
 
+/// logs of the printed instance: taken, 12, 21 and 22 with their lines
+#[test]
+fn logs_replayed() {
+    let printed = "R,7,2,1,1\nT,1,1,1,1,0\nT,1,1,1,0,1\nT,2,1,1,0,2\nT,2,1,1,0,0\nE,4\n";
+    let vector = "S,1,1,1,2,1,0\nS,1,1,6,1,0,2\nS,1,1,6,1,0,0\nS,1,1,1,2,0,1\n";
+    for (lines, answer) in [
+        ("L,1,1\nP,1,2,1\nP,1,0,1\nP,0,3,1\n", vector),
+        ("L,1,1\nP,1,0,1\nP,1,2,1\nP,0,3,1\n", vector),
+        ("", "X,21,7\n"),
+        ("L,1,1", "X,21,7\n"),
+        ("L,10,1\n", "X,12,7\n"),
+        ("L,1,2\n", "X,12,7\n"),
+        ("L,1,1\nP,0,0,1\n", "X,22,8\n"),
+        ("L,1,1\nP,1,2,1\nP,1,0\n", "X,21,9\n"),
+        ("L,1,1\nP,1,2,1\nP,1,0,1\n", "X,22,10\n"),
+        ("L,1,1\nP,1,2,1\nP,1,0,1\nP,0,3,1\nP,0,3,1\n", "X,22,11\n"),
+    ] {
+        let input = format!("{printed}{lines}");
+        let found = replay(input.as_bytes());
+        assert_eq!(String::from_utf8_lossy(&found), answer, "{lines}");
+    }
+    assert_eq!(
+        Refusal::printed(b"X,21,7\n"),
+        Some(Refusal::BadLog { line: 7 })
+    );
+    assert_eq!(
+        Refusal::printed(b"X,22,8\n"),
+        Some(Refusal::NotTaken { line: 8 })
+    );
+    assert_eq!(replay(b""), b"X,1,1\n");
+}
+
 /// the same over an engine, with levels above or without, many vectors of one basis; 23 with the term
 #[test]
 fn vectors_divided() {
@@ -674,6 +706,7 @@ fn short_buffers_of_pages() {
         (calls::hilbert, layout::HILBERT_BYTES, hilbert(file)),
         (calls::member, layout::MEMBER_BYTES, member(file)),
         (calls::completed, layout::COMPLETED_BYTES, completed(file)),
+        (calls::replay, layout::REPLAY_BYTES, replay(file)),
     ];
     for (call, room, printed) in pages {
         let lengths = (layout::STATE_WORDS, layout::WORK_WORDS, room);

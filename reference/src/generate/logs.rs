@@ -91,6 +91,16 @@ pub fn recorded_input(random: &mut Random) -> Vec<u8> {
     }
 }
 
+/// A log of a random vector of this level over a file; `None` if the level has none, or if it takes too
+/// many products.
+pub fn recorded_at(random: &mut Random, file: &[u8], level: u64) -> Option<Vec<u8>> {
+    let basis = lifted_by_tree(&Limits::document_01(), file, 50 * PRODUCTS)?;
+    let below = basis.levels.get(..level as usize)?;
+    let log = Log::of(random, &basis.parameters, below, 50 * PRODUCTS)?;
+    log.whole
+        .then(|| log.input(file.to_vec(), &basis.parameters, level))
+}
+
 /// A recorded run of one frame term.
 struct Log {
     vector: u64,
