@@ -281,7 +281,8 @@ module _ (lim : Limits) (o : T (sensible? lim)) where
 
     module _ (k place most : ℕ) where
       -- by any picks
-      own-log : (W : Strategy) → Picks W → W .drops ≡ true → W .stops ≡ false → (n : ℕ) (m : Monomial) (r : Run) (ls : List Line) (vs : List (List ℕ)) (w : Vector)
+      own-log : (W : Strategy) → Picks W → W .drops ≡ true → W .stops ≡ false
+          → (n : ℕ) (m : Monomial) (r : Run) (ls : List Line) (vs : List (List ℕ)) (w : Vector)
           → T (sound? lim (record { parameters = q; levels = f ∷ below })) → Member m (frame (lim .numbering (q .code)) (leading-monomials f))
           → start S₀ W m ≡ done r → run S₀ W n m ≡ done w → Says (lim .field) (q .n) vs ls → length ls ≤ most
           → map (pick-of (q .n)) vs ≡ picks-of S₀ W n r → p-lines most S₀ (lim .field) (q .n) k place 0 r ls ≡ done w

@@ -97,7 +97,8 @@ pub record Log-right (lim : Limits) (q : Parameters) (f : Level) (below : List L
       → start (stage-over lim (q .p) (q .code) (f ∷ below)) (hybrid-strategy (stage-over lim (q .p) (q .code) (f ∷ below)) code) m ≡ done r
       → run (stage-over lim (q .p) (q .code) (f ∷ below)) (hybrid-strategy (stage-over lim (q .p) (q .code) (f ∷ below)) code) n m ≡ done w
       → Says (lim .field) (q .n) vs ls → length ls ≤ most
-      → map (pick-of (q .n)) vs ≡ picks-of (stage-over lim (q .p) (q .code) (f ∷ below)) (hybrid-strategy (stage-over lim (q .p) (q .code) (f ∷ below)) code) n r
+      → map (pick-of (q .n)) vs
+      ≡ picks-of (stage-over lim (q .p) (q .code) (f ∷ below)) (hybrid-strategy (stage-over lim (q .p) (q .code) (f ∷ below)) code) n r
       → p-lines most (stage-over lim (q .p) (q .code) (f ∷ below)) (lim .field) (q .n) k place 0 r ls ≡ done w
   -- "Lines are tested in turn": after picks that were terms, the lines behind them
   pub in-turn : (r r′ : Run) (before later : List Line) (vs : List (List ℕ)) → Says (lim .field) (q .n) vs before → length before ≤ most
