@@ -19,7 +19,7 @@ use Rattle.definitions.specs.Sheet.{printed, letter-X, x-lines, s-lines}
 use Rattle.definitions.specs.Program.{printed-or-refused, program}
 use Rattle.definitions.specs.After.{file-end}
 use Rattle.definitions.specs.Replay.{letter-L, lifted-below, replayed-vector, replay-over, replay-level, l-line, l-first, replay-of, replay}
-use Rattle.definitions.specs.Places.{most-picks}
+use Rattle.definitions.specs.Places.{most-levels, most-picks}
 use Rattle.definitions.specs.Layout.{Words, decode}
 use Rattle.pages.specs.bytes.Printing.{Printed}
 use Rattle.pages.proofs.bytes.Spelling.{spelled}
@@ -61,15 +61,15 @@ module _ (s : Words) (place k v : ℕ) (ls : List Line) where
   abbrev tested : ℕ → ℕ → Bool → Option Bytes
   tested w n b = printed-or-refused w (unless-refused b 12 place >>= λ u. lifted-below document-01 n (k - 1) 1 (decode document-01 s) >>= over)
 
-  outside : (leb 1 k ≡ false) ⊎ (leb k 9 ≡ false) → between 1 k 9 ≡ false
-  outside (inl e) = ap (λ b. b and leb k 9) e
+  outside : (leb 1 k ≡ false) ⊎ (leb k most-levels ≡ false) → between 1 k most-levels ≡ false
+  outside (inl e) = ap (λ b. b and leb k most-levels) e
   outside (inr e) = go (leb 1 k)
     where
-      go : (b : Bool) → (b and leb k 9) ≡ false
+      go : (b : Bool) → (b and leb k most-levels) ≡ false
       go true = e
       go false = refl
 
-  no-level : {out out′ : Bytes} {r : ℕ} → between 1 k 9 ≡ false → Printed out out′ 0 r (printed letter-X (12 ∷ place ∷ []))
+  no-level : {out out′ : Bytes} {r : ℕ} → between 1 k most-levels ≡ false → Printed out out′ 0 r (printed letter-X (12 ∷ place ∷ []))
       → Accepted-prints (λ n. replay-level document-01 n most-picks place k v ls) s out out′ r
   no-level e p w = record {
     bound = 0;
@@ -82,13 +82,13 @@ module _ (s : Words) (place k v : ℕ) (ls : List Line) where
       → Accepted-prints (λ n. replay-level document-01 n most-picks place k v ls) s out out′ r
   level-zero z p = no-level (outside (inl (lt-leb 1 k (omega (arith, z))))) p
 
-  pub level-past : {out out′ : Bytes} {r : ℕ} → 9 < k → Printed out out′ 0 r (printed letter-X (12 ∷ place ∷ []))
+  pub level-past : {out out′ : Bytes} {r : ℕ} → most-levels < k → Printed out out′ 0 r (printed letter-X (12 ∷ place ∷ []))
       → Accepted-prints (λ n. replay-level document-01 n most-picks place k v ls) s out out′ r
-  level-past l p = no-level (outside (inr (lt-leb k 9 l))) p
+  level-past l p = no-level (outside (inr (lt-leb k most-levels l))) p
 
-  module _ (low : 1 ≤ k) (high : k ≤ 9) (n : ℕ) where
-    inside : (w : ℕ) → tested w n true ≡ tested w n (between 1 k 9)
-    inside w = sym (λ i. tested w n (le-leb 1 k low i and le-leb k 9 high i))
+  module _ (low : 1 ≤ k) (high : k ≤ most-levels) (n : ℕ) where
+    inside : (w : ℕ) → tested w n true ≡ tested w n (between 1 k most-levels)
+    inside w = sym (λ i. tested w n (le-leb 1 k low i and le-leb k most-levels high i))
 
     pub below-stops : {out out′ : Bytes} {r : ℕ} (number there : ℕ) → refused number there [] ≡ lifted-below document-01 n (k - 1) 1 (decode document-01 s)
         → Printed out out′ 0 r (printed letter-X (number ∷ there ∷ [])) → Accepted-prints (λ n. replay-level document-01 n most-picks place k v ls) s out out′ r
