@@ -45,8 +45,8 @@ extern "C" {
  * more than once: no file makes them take more. From its caller's frame on (measured on x86-64; a thread has some 4 KiB of its own besides)
  * lifting by division and by hybrid takes 171 KiB, most of it for a table of what the frame terms of a level reach; in a work area with room for at most 128
  * terms the table is a small one, and lifting by hybrid takes 92 KiB. Reading takes 127 KiB, fetching 6, dividing 21, the sheet 155, the Betti page 152, the
- * bidegrees 154, the Hilbert function 161, the minimal numbers 186, membership 139, the completed file 127. The rest is for what runs beside them in
- * the thread.
+ * bidegrees 154, the Hilbert function 161, the minimal numbers 186, membership 139, the completed file 127, a replayed log 171. The rest is for what
+ * runs beside them in the thread.
  * TAGETESSASH_LIFT_STACK_BYTES is enough for threads that read, lift by division or hybrid, fetch and divide, TAGETESSASH_NARROW_STACK_BYTES for those that
  * lift by hybrid in so little room, fetch and divide. The tree calls itself, 4,096 deep at the most, since each unfinished subtree holds a term of the work
  * area: 3,050 KiB measured at that depth. */

@@ -38,7 +38,7 @@ static const struct {
     { "Hilbert function", TAGETESSASH_STACK_BYTES, 161 },
     { "membership", TAGETESSASH_STACK_BYTES, 139 },
     { "completed file", TAGETESSASH_STACK_BYTES, 127 },
-    { "replay", TAGETESSASH_STACK_BYTES, 165 },
+    { "replay", TAGETESSASH_STACK_BYTES, 171 },
 };
 
 static uint8_t file[TAGETESSASH_FILE_BYTES], sheet[TAGETESSASH_SHEET_BYTES], page[TAGETESSASH_PAGE_BYTES], lines[TAGETESSASH_BIDEGREES_BYTES],
