@@ -698,7 +698,7 @@ fn weights_change_nothing_else() {
 #[test]
 fn short_buffers_of_pages() {
     let file = b"R,7,1,1,1\nT,1,1,1,1\nE,1\n";
-    let pages: [(Printing, usize, Vec<u8>); 7] = [
+    let pages: [(Printing, usize, Vec<u8>); 8] = [
         (calls::sheet, layout::SHEET_BYTES, sheet(file)),
         (calls::betti, layout::PAGE_BYTES, betti(file)),
         (calls::minimal, layout::PAGE_BYTES, minimal(file)),

@@ -20,7 +20,7 @@ use Rattle.laws.proofs.Results.{If-some}
 use Rattle.laws.proofs.Reading.{Counts, shaped-length}
 use Rattle.reader.specs.fields.Scanning.{behind, shaped-of, shaped-first, in-sixteen}
 use Rattle.reader.proofs.fields.Lines.{first-of}
-use Rattle.after.proofs.Cutting.{behind-less}
+use Rattle.after.proofs.Cutting.{here, behind-less}
 use Rattle.runs.specs.run.Stages.{run-of}
 use Rattle.runs.proofs.reduction.Adding.{rows-none}
 use Rattle.replaying.specs.picks.Named.{named}
