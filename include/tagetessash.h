@@ -433,6 +433,8 @@ static inline const char *tagetessash_meaning(uint16_t number)
     case TAGETESSASH_BAD_DEGREE: return "a component's degree is above 255";
     case TAGETESSASH_TOO_MANY_ELEMENTS: return "a completed file would have more than 64 elements";
     case TAGETESSASH_NOT_ENDED: return "level 9 is not empty";
+    case TAGETESSASH_BAD_LOG: return "a line of the log has the wrong shape, is missing or is one pick too many";
+    case TAGETESSASH_NOT_TAKEN: return "a pick is no term of the working value, or the log ends before that is zero or goes on after it";
     case TAGETESSASH_BAD_VECTOR: return "a term of the vector is out of range, not below the one before it, or the 513th";
     case TAGETESSASH_BAD_WEIGHT: return "a variable's weight is above 15";
     case TAGETESSASH_TWO_BIDEGREES: return "an element has terms of two bidegrees";
@@ -443,7 +445,8 @@ static inline const char *tagetessash_meaning(uint16_t number)
 /* What a number's place counts; null for numbers whose place is 0. */
 static inline const char *tagetessash_place_name(uint16_t number)
 {
-    if ((number >= TAGETESSASH_BAD_LINE && number <= TAGETESSASH_TOO_MANY_TERMS) || number == TAGETESSASH_BAD_DEGREE || number == TAGETESSASH_BAD_WEIGHT)
+    if ((number >= TAGETESSASH_BAD_LINE && number <= TAGETESSASH_TOO_MANY_TERMS) || number == TAGETESSASH_BAD_DEGREE || number == TAGETESSASH_BAD_WEIGHT
+        || number == TAGETESSASH_BAD_LOG || number == TAGETESSASH_NOT_TAKEN)
         return "line";
     if (number == TAGETESSASH_NO_BASIS)
         return "frame term";

@@ -514,6 +514,9 @@ static void logs(void)
         sprintf(text, "%s%s", file, tried[i].lines);
         the_log_of(text, tried[i].printed);
     }
+    CHECK(strcmp(tagetessash_meaning(TAGETESSASH_BAD_LOG), "a line of the log has the wrong shape, is missing or is one pick too many") == 0);
+    CHECK(strcmp(tagetessash_place_name(TAGETESSASH_BAD_LOG), "line") == 0 && strcmp(tagetessash_place_name(TAGETESSASH_NOT_TAKEN), "line") == 0);
+    CHECK(strncmp(tagetessash_meaning(TAGETESSASH_NOT_TAKEN), "a pick is no term", 17) == 0);
 }
 
 /* x^2 + 1 over x + y, y^2 + 1, as lines and as rows that are lent; the zero vector, whose pointer may be null; 23 with the line and with the row; a word too

@@ -99,7 +99,8 @@ pub enum Refusal {
         /// the input's line, from 1
         line: usize,
     },
-    /// 22: a pick of a log is no term of the working value, or the log ends before that is zero. No call gives it; it is printed by [`crate::replay`].
+    /// 22: a pick of a log is no term of the working value, or the log ends before that is zero or goes on after it. No call gives it; it is printed by
+    /// [`crate::replay`].
     NotTaken {
         /// the input's line, from 1
         line: usize,
@@ -255,7 +256,7 @@ impl Refusal {
             19 => "a completed file would have more than 64 elements",
             20 => "level 9 is not empty",
             21 => "a line of the log has the wrong shape, is missing or is one pick too many",
-            22 => "a pick is no term of the working value, or the log ends before that is zero",
+            22 => "a pick is no term of the working value, or the log ends before that is zero or goes on after it",
             23 => "a term of the vector is out of range, not below the one before it, or the 513th",
             24 => "a variable's weight is above 15",
             25 => "an element has terms of two bidegrees",
@@ -266,7 +267,7 @@ impl Refusal {
     /// What the place counts, for refusals that have one.
     pub fn place_name(&self) -> Option<&'static str> {
         match self.number() {
-            1..=8 | 18 | 24 => Some("line"),
+            1..=8 | 18 | 21 | 22 | 24 => Some("line"),
             9 => Some("frame term"),
             13..=15 | 20 => Some("level"),
             17 | 19 | 25 => Some("element"),

@@ -780,7 +780,7 @@ fn every_number_is_a_refusal() {
                 assert_eq!(refusal.place(), place);
             }
             let other = Refusal::Other { number, place };
-            let known = matches!(number, 1..=9 | 11..=20 | 23..=25);
+            let known = matches!(number, 1..=9 | 11..=25);
             assert_eq!(refusal == other, !known);
         }
     }
