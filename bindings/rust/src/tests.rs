@@ -816,7 +816,7 @@ fn the_layout_is_the_headers() {
             numbers += 1;
         }
     }
-    assert_eq!(numbers, 27);
+    assert_eq!(numbers, 28);
     assert_eq!(layout::count_at(HIGHEST_LEVEL + 1), layout::rows_at(0));
     assert_eq!(layout::rows_at(HIGHEST_LEVEL + 1), layout::DEGREES_AT);
     let behind = layout::carried_at(0) - layout::DEGREES_AT;
