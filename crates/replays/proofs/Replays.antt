@@ -2,26 +2,27 @@
 use mathlib.Core.Path.{_≡_, refl, sym, ap, _∙_, subst}
 use mathlib.Core.Logic.{inl, inr}
 use mathlib.Core.Bool.{Bool, true, false, _||_}
-use mathlib.Core.Option.{Option, none, some}
+use mathlib.Core.Option.{Option, none, some, Option·none-ne-some}
 use mathlib.Core.List.{List, [], _∷_}
 use Prim.Native.Nat.{ℕ, zero, suc, _+_, _-_, _<_, _≤_}
 use native.Mathlib.Omega.{arith}
 use lib.Dec.{T, leb, ltb}
-use lib.ListN.{length, getD}
+use lib.ListN.{length, getD, drop}
 use borrow.Author.Tests.{lt-leb, le-leb}
 use Rattle.definitions.specs.Limits.{Limits, document-01}
-use Rattle.definitions.specs.Lists.{map, between, empty?}
-use Rattle.definitions.specs.Monomial.{Monomial, Vector, Level, no-term, leading-monomials}
+use Rattle.definitions.specs.Lists.{_then_, map, between, empty?}
+use Rattle.definitions.specs.Monomial.{Exponents, Monomial, Term, Vector, Level, fits?, no-term, vector-of, leading-monomials}
 use Rattle.definitions.specs.Frame.{frame}
 use Rattle.definitions.specs.Result.{Result, done, refused, unfinished, finished?, unless-refused, at-level, _>>=_}
-use Rattle.definitions.specs.Stage.{Stage, highest, stage-over}
-use Rattle.definitions.specs.Run.{Run, Strategy, start, run, runs, hybrid-strategy, by-pick}
-use Rattle.definitions.specs.Lifting.{by-hybrid, if-few}
+use Rattle.definitions.specs.Vectors.{combined, appended, or-last, store}
+use Rattle.definitions.specs.Stage.{Reduction, Stage, highest, stage-over}
+use Rattle.definitions.specs.Run.{Run, Strategy, start, run, runs, hybrid-strategy, by-pick, dropped?, unless-dropped, if-fits, multiple, add-products}
+use Rattle.definitions.specs.Lifting.{Lifting, by-hybrid, if-few}
 use Rattle.definitions.specs.Problem.{Bytes, Line, Parameters, shaped, problem}
-use Rattle.definitions.specs.State.{State, sound?}
+use Rattle.definitions.specs.State.{State, up-to, sound?}
 use Rattle.definitions.specs.Calls.{read, lift}
 use Rattle.definitions.specs.Sheet.{s-lines, variables-of}
-use Rattle.definitions.specs.Reckoning.{reckoned-vector}
+use Rattle.definitions.specs.Reckoning.{each, reckoned-vector, reckoned-level}
 use Rattle.definitions.specs.After.{file-of, lines-after, first-after}
 use Rattle.definitions.specs.Program.{printed-or-refused}
 use Rattle.definitions.specs.Replay.{letter-P, letter-L, pick-of, p-lines, lifted-below, replayed-vector, replay-over, replay-level, l-line, l-first}
@@ -34,7 +35,7 @@ use Rattle.laws.proofs.Members.{All}
 use Rattle.laws.proofs.Steady.{Steady, Ends, answered?, steady-fixed, steady-once, bind-steady, bind-fixed, bind-ends, bind-fixed-ends, result-steady}
 use Rattle.laws.proofs.Bound.{read-steady, lift-steady}
 use Rattle.laws.proofs.Numbers
-use Rattle.laws.proofs.Numbers.{Numbered, numbered-then, numbered-more, limit-number?, lift-number}
+use Rattle.laws.proofs.Numbers.{Numbered, numbered-then, numbered-more, limit-number?, lift-number, lift-level-number}
 use Rattle.laws.proofs.Numbers.{by-pick-number, start-number}
 use Rattle.ending.specs.Well.{Well, Bytewise}
 use Rattle.laws.proofs.Induced.{Shaped}
@@ -46,15 +47,18 @@ use Rattle.ending.proofs.Calls.{read-ends, sound-lift-ends}
 use Rattle.files.specs.Files.{Well-formed-file}
 use Rattle.demands.specs.Notions.{Gröbner-basis, Member}
 use Rattle.demands.specs.Demands.{sensible?}
+use Rattle.demands.specs.Exact.{Reckons}
 use Rattle.demands.proofs.Results.{Holds, holds, nothing, holds-at, some-is, upto-one}
 use Rattle.demands.specs.Picks.{Picks}
 use Rattle.demands.proofs.Picking.{hybrid-picks}
 use Rattle.demands.proofs.Reckoned.{vector-more}
-use Rattle.demands.proofs.Over.{few-variables, small-exponents}
+use Rattle.demands.proofs.Over.{few-variables, small-exponents, Lift-right}
+use Rattle.demands.proofs.Reckonings.{tower-reckons}
 use Rattle.demands.proofs.Reader.{files}
-use Rattle.demands.proofs.Demand2.{well-formed}
 use Rattle.demands.proofs.Sheets.{Reading, taken, refused-reading, still-reading, reading}
 use Rattle.demands.proofs.Lifts.{Lifted-to, one-more, limit-met, still-lifting, with-level, height-up-to, lifted-to}
+use Rattle.demands.proofs.Held.{Standing, level-stands}
+use Rattle.demands.proofs.Demand2.{well-formed}
 use Rattle.replays.specs.Replays
 use Rattle.replays.specs.Replays.{Says, picks-of, Log-right, L-line-right, Vector-right, replay-number?, Page, A9}
 use Rattle.replays.proofs.Logs.{taken-exactly, log-reckoned, taken-otherwise, log-in-turn, log-twenty-one, log-twenty-two, log-ends-early}
@@ -69,6 +73,98 @@ done-is {A} {a} e = ap (λ x. given-or a x) e
     given-or a (done b) = b
     given-or a (refused number at value) = a
     given-or a unfinished = a
+
+-- ## Refusals of levels below, and of the frame term's own products
+
+-- what is said of a refusal
+abbrev Refused-as : {A : Type 0} → (ℕ → ℕ → Vector → Type 0) → Result A → Type 0
+Refused-as P (done a) = Unit {0}
+Refused-as P (refused number at value) = P number at value
+Refused-as P unfinished = Unit {0}
+
+module _ (lim : Limits) (n : ℕ) where
+  abbrev lifted-on : ℕ → State → Result State
+  lifted-on k X = lift lim n X k (by-hybrid 2 (lim .working))
+
+  abbrev Limit-at : ℕ → ℕ → ℕ → Vector → Type 0
+  Limit-at k number at value = T (between 13 number 15) × (at ≡ k) × (value ≡ [])
+
+  lift-limit : (k : ℕ) (X : State) → Refused-as (Limit-at k) (lifted-on k X)
+  lift-limit k X = go (lift-level-number lim (X .parameters .p) (X .parameters .code) (up-to X (k - 1)) (by-hybrid 2 (lim .working)) n)
+    where
+      go : {x : Result Level} → Numbered limit-number? x
+          → Refused-as {A = State} (Limit-at k) (at-level k x >>= λ g. done (record { parameters = X .parameters; levels = g ∷ up-to X (k - 1) }))
+      go Numbers.gives = tt
+      go (Numbers.refuses h) = (h, refl, refl)
+      go (Numbers.stops h) = absurd h
+      go Numbers.open-yet = tt
+
+  -- refused while the level that is the place was lifted, over those below it
+  abbrev Below : ℕ → ℕ → State → ℕ → ℕ → Vector → Type 0
+  Below left k X number at value =
+      T (between 13 number 15) × (k ≤ at) × (at < left + k) × (value ≡ [])
+      × ((Y : State) × (lifted-below lim n (at - k) k X ≡ done Y) × (lifted-on at Y ≡ refused number at []))
+
+  below-limit : (left k : ℕ) (X : State) → Refused-as (Below left k X) (lifted-below lim n left k X)
+  below-limit zero k X = tt
+  below-limit (suc left) k X = first (lifted-on k X) refl (lift-limit k X) (λ Y. below-limit left (suc k) Y)
+    where
+      later : (Y : State) → lifted-on k X ≡ done Y → (x : Result State) → Refused-as (Below left (suc k) Y) x → Refused-as (Below (suc left) k X) x
+      later Y e (done Z) h = tt
+      later Y e unfinished h = tt
+      later Y e (refused number at value) (t, l, u, z, (U, d, r)) =
+          let i : at - k ≡ suc (at - suc k) = omega (arith, l) in
+          (t, omega (arith, l), omega (arith, u), z,
+          (U, ap (λ j. lifted-below lim n j k X) i ∙ ap (λ x. x >>= λ Z. lifted-below lim n (at - suc k) (suc k) Z) e ∙ d, r))
+
+      first : (x : Result State) → lifted-on k X ≡ x → Refused-as (Limit-at k) x → ((Y : State) → Refused-as (Below left (suc k) Y) (lifted-below lim n left
+          (suc k) Y))
+          → Refused-as (Below (suc left) k X) (x >>= λ Y. lifted-below lim n left (suc k) Y)
+      first (done Y) e h ih = later Y e (lifted-below lim n left (suc k) Y) (ih Y)
+      first unfinished e h ih = tt
+      first (refused number at value) e (t, a, z) ih =
+          let i : at - k ≡ 0 = omega (arith, a) in
+          (t, omega (arith, a), omega (arith, a), z,
+          (X, ap (λ j. lifted-below lim n j k X) i, ap (λ j. lifted-on j X) a ∙ e ∙ ap (λ v. refused number at v) z))
+
+-- 13 and 14: "A product is tested for 13 before 14"
+abbrev product-number? : ℕ → Bool
+product-number? n = between 13 n 14
+
+store-number : (limit p : ℕ) (t : Term) (v : Vector) → Numbered product-number? (store limit p t v)
+store-number limit p t v = go (combined p t v)
+  where
+    room : (b : Bool) → Numbered product-number? (appended b t v)
+    room true = Numbers.gives
+    room false = Numbers.refuses tt
+
+    go : (o : Option Vector) → Numbered product-number? (or-last limit t v o)
+    go none = room (ltb (length v) limit)
+    go (some w) = Numbers.gives
+
+add-products-number : (R : Reduction) (drops : Bool) (c : ℕ) (q : Exponents) (f v : Vector) → Numbered product-number? (add-products R drops c q f v)
+add-products-number R drops c q [] v = Numbers.gives
+add-products-number R drops c q (t ∷ f) v =
+    let u = multiple (R .p) c q t in
+    numbered-then (fits (fits? (R .limits .exponent) (u .1 .0)) u) (λ w. add-products-number R drops c q f w)
+  where
+    kept : (b : Bool) (t : Term) → Numbered product-number? (unless-dropped b R t v)
+    kept true t = Numbers.gives
+    kept false t = store-number (R .limits .working) (R .p) t v
+
+    fits : (b : Bool) (t : Term) → Numbered product-number? (if-fits b R drops t v)
+    fits true t = kept (dropped? R drops (t .1)) t
+    fits false t = Numbers.refuses tt
+
+start-limit : (S : Stage) (W : Strategy) (m : Monomial) → Refused-as (λ number at value. T (between 13 number 14) × (value ≡ [])) (start S W m)
+start-limit S W m = go (add-products-number (S .reduction) (W .drops) 1 (m .0) (vector-of (S .family) (m .1)) [])
+  where
+    go : {x : Result Vector} → Numbered product-number? x
+        → Refused-as {A = Run} (λ number at value. T (between 13 number 14) × (value ≡ [])) (x >>= λ v. done (record { value = v; vector = (1, m) ∷ [] }))
+    go Numbers.gives = tt
+    go (Numbers.refuses h) = (h, refl)
+    go (Numbers.stops h) = absurd h
+    go Numbers.open-yet = tt
 
 -- ## The L line
 
@@ -153,7 +249,9 @@ l-line-right lim n most place X = record {
   misshapen = λ line later e. ap (l-line lim n most place later X) e;
   no-level = λ line later v e h. level-out lim n most place X line later v e h;
   below-refused = λ line later v number at value e t b.
-      level-in lim n most place X line later v e t ∙ ap (λ x. x >>= over lim n most place X line later v e) b;
+      let (u, l, h, z, d) = subst (Refused-as (Below lim n (getD v 0 0 - 1) 1 X)) b (below-limit lim n (getD v 0 0 - 1) 1 X) in
+      (level-in lim n most place X line later v e t ∙ ap (λ x. x >>= over lim n most place X line later v e) b ∙ ap (λ z. refused number at z) z,
+      u, between-shown 1 at (getD v 0 0 - 1) l (omega (arith, h)), d);
   frame-refused = λ line later v Y e t b l.
       level-in lim n most place X line later v e t ∙ ap (λ x. x >>= over lim n most place X line later v e) b
       ∙ many lim n most place X line later v e Y l;
@@ -161,8 +259,13 @@ l-line-right lim n most place X = record {
       level-in lim n most place X line later v e t ∙ ap (λ x. x >>= over lim n most place X line later v e) b
       ∙ outside lim n most place X line later v e Y l h;
   start-refused = λ line later v Y number at value e t b l h s.
-      level-in lim n most place X line later v e t ∙ ap (λ x. x >>= over lim n most place X line later v e) b
-      ∙ inside lim n most place X line later v e Y l h ∙ ap (from-start lim n most place X line later v e Y) s;
+      let S = stage-over lim (Y .parameters .p) (Y .parameters .code) (Y .levels) in
+      let ms = frame (lim .numbering (Y .parameters .code)) (leading-monomials (highest (Y .levels))) in
+      let (u, z) = subst (Refused-as (λ number at value. T (between 13 number 14) × (value ≡ []))) s
+      (start-limit S (hybrid-strategy S 2) (getD ms (getD v 1 0 - 1) (no-term .1))) in
+      (level-in lim n most place X line later v e t ∙ ap (λ x. x >>= over lim n most place X line later v e) b
+      ∙ inside lim n most place X line later v e Y l h ∙ ap (from-start lim n most place X line later v e Y) s ∙ ap (λ z. refused number (getD v 0 0) z) z,
+      u);
   then-lines = λ line later v Y r e t b l h s.
       level-in lim n most place X line later v e t ∙ ap (λ x. x >>= over lim n most place X line later v e) b
       ∙ inside lim n most place X line later v e Y l h ∙ ap (from-start lim n most place X line later v e Y) s;
@@ -251,6 +354,30 @@ member-at : (ms : List Monomial) (i : ℕ) → i < length ms → Member (getD ms
 member-at [] i l = absurd (omega arith)
 member-at (m ∷ ms) zero l = inl refl
 member-at (m ∷ ms) (suc i) l = inr (member-at ms i (omega arith))
+
+-- the value of each
+each-at : (h : Monomial → Option Vector) (ms : List Monomial) (g : Level) → each h ms ≡ some g → (i : ℕ) → i < length ms
+    → h (getD ms i (no-term .1)) ≡ some (getD g i [])
+each-at h [] g e i l = absurd (omega arith)
+each-at h (m ∷ ms) g e i l = first (h m) refl e (λ vs b i l. each-at h ms vs b i l)
+  where
+    Later : Type 0
+    Later = (vs : List Vector) → each h ms ≡ some vs → (i : ℕ) → i < length ms → h (getD ms i (no-term .1)) ≡ some (getD vs i [])
+
+    found : (v : Vector) → h m ≡ some v → (vs : List Vector) → each h ms ≡ some vs → (i : ℕ) → i < length (m ∷ ms) → Later
+        → h (getD (m ∷ ms) i (no-term .1)) ≡ some (getD (v ∷ vs) i [])
+    found v a vs b zero l ih = a
+    found v a vs b (suc i) l ih = ih vs b i (omega arith)
+
+    others : (v : Vector) → h m ≡ some v → (y : Option (List Vector)) → each h ms ≡ y → (y then λ vs. some (v ∷ vs)) ≡ some g → Later
+        → h (getD (m ∷ ms) i (no-term .1)) ≡ some (getD g i [])
+    others v a none b d ih = absurd (Option·none-ne-some _ d)
+    others v a (some vs) b d ih = subst (λ g. h (getD (m ∷ ms) i (no-term .1)) ≡ some (getD g i [])) (some-is d) (found v a vs b i l ih)
+
+    first : (x : Option Vector) → h m ≡ x → (x then λ v. each h ms then λ vs. some (v ∷ vs)) ≡ some g → Later
+        → h (getD (m ∷ ms) i (no-term .1)) ≡ some (getD g i [])
+    first none a d ih = absurd (Option·none-ne-some _ d)
+    first (some v) a d ih = others v a (each h ms) refl d ih
 
 all-member : {A : Type 0} (P : A → Type 0) (l : List A) → All P l → (a : A) → Member a l → P a
 all-member P [] h a m = absurd m
@@ -363,7 +490,50 @@ module _ (lim : Limits) (o : T (sensible? lim)) where
       go (f ∷ below) s h = framed most place k v later (X .parameters) f below w s (leb (length (all most place k v later (X .parameters) f below w s))
           (lim .vectors)) h
 
+  -- the vector with that number of the level that any way lifts
+  module _ (most place k v : ℕ) (later : List Line) (X : State) (w : Vector) (s : T (sound? lim X)) (height : length (X .levels) ≡ k)
+      (c : replayed-vector lim most place k v later X ≡ done w) where
+    abbrev terms : List Monomial
+    terms = frame (lim .numbering (X .parameters .code)) (leading-monomials (highest (X .levels)))
+
+    right : Vector-right lim v X w
+    right = vector-right most place k v later X w s c
+
+    all-below : up-to X (k - 1) ≡ X .levels
+    all-below = let z : length (X .levels) - suc (k - 1) ≡ 0 = omega (arith, height) in ap (λ i. drop i (X .levels)) z
+
+    vector-at : (g : Level) → Lift-right lim (X .parameters) (up-to X (k - 1)) g → vector-of g v ≡ w
+    vector-at g h =
+        let l = between-low 1 v (length terms) (right .in-frame) in
+        let u = between-high 1 v (length terms) (right .in-frame) in
+        let e = subst (λ below. reckoned-level lim (h .bound) (X .parameters .p) (X .parameters .code) below ≡ some g) all-below (h .reckons) in
+        let i : v ≡ suc (v - 1) = omega (arith, l) in
+        let (bound, d) = right .reckons in
+        ap (vector-of g) i
+        ∙ upto-one (λ N. reckoned-vector N (X .parameters .p) (X .parameters .code) (X .levels) (getD terms (v - 1) (no-term .1)))
+        (λ N. vector-more N (X .parameters .p) (X .parameters .code) (X .levels) (getD terms (v - 1) (no-term .1))) (h .bound) bound (getD g (v - 1) []) w
+        (each-at (reckoned-vector (h .bound) (X .parameters .p) (X .parameters .code) (X .levels)) terms g e (v - 1) (omega (arith, l, u))) d
+
+    pub by-any-way : (n : ℕ) (way : Lifting) (Z : State) → lift lim n X k way ≡ done Z → vector-of (highest (Z .levels)) v ≡ w
+    by-any-way n way Z e = if-done-says (λ Z. vector-of (highest (Z .levels)) v ≡ w) (lift lim n X k way) (go (lifted-to lim o X s k way n)) Z e
+      where
+        go : {x : Result State} → Lifted-to lim X k x → If-done (λ Z. vector-of (highest (Z .levels)) v ≡ w) x
+        go (one-more g h) = vector-at g h
+        go (limit-met h) = tt
+        go still-lifting = tt
+
   -- ## The levels below
+
+  -- what a level more keeps, the levels below keep
+  below-keep : (P : ℕ → State → Type 0) (n : ℕ)
+      → ((k : ℕ) (X : State) → P k X → T (between 1 k (lim .levels)) → If-done (P (suc k)) (lift lim n X k (by-hybrid 2 (lim .working))))
+      → (left k : ℕ) (X : State) → P k X → 1 ≤ k → left + k ≤ suc (lim .levels) → If-done (P (left + k)) (lifted-below lim n left k X)
+  below-keep P n more zero k X s l h = subst (λ j. P j X) (let e : k ≡ 0 + k = omega arith in e) s
+  below-keep P n more (suc left) k X s l h =
+      if-done-bind (P (suc k)) (P (suc left + k)) (lift lim n X k (by-hybrid 2 (lim .working))) (λ Y. lifted-below lim n left (suc k) Y)
+      (more k X s (between-shown 1 k (lim .levels) l (omega (arith, h)))) λ Y t.
+      subst (λ j. If-done (P j) (lifted-below lim n left (suc k) Y)) (let e : left + suc k ≡ suc left + k = omega arith in e)
+      (below-keep P n more left (suc k) Y t (omega arith) (omega (arith, h)))
 
   -- sound, with levels 0 to k − 1
   abbrev pub Stands : ℕ → State → Type 0
@@ -385,12 +555,32 @@ module _ (lim : Limits) (o : T (sensible? lim)) where
       go still-lifting = tt
 
   pub below-stands : (n left k : ℕ) (X : State) → Stands k X → 1 ≤ k → left + k ≤ suc (lim .levels) → If-done (Stands (left + k)) (lifted-below lim n left k X)
-  below-stands n zero k X s l h = subst (λ j. Stands j X) (let e : k ≡ 0 + k = omega arith in e) s
-  below-stands n (suc left) k X s l h =
-      if-done-bind (Stands (suc k)) (Stands (suc left + k)) (lift lim n X k (by-hybrid 2 (lim .working))) (λ Y. lifted-below lim n left (suc k) Y)
-      (one-more-stands n k X s (between-shown 1 k (lim .levels) l (omega (arith, h)))) λ Y t.
-      subst (λ j. If-done (Stands j) (lifted-below lim n left (suc k) Y)) (let e : left + suc k ≡ suc left + k = omega arith in e)
-      (below-stands n left (suc k) Y t (omega arith) (omega (arith, h)))
+  below-stands n = below-keep Stands n (one-more-stands n)
+
+  -- the reckoning's levels 0 to k − 1 of the elements f
+  module _ (q : Parameters) (f : Level) where
+    abbrev Reckoned-below : ℕ → State → Type 0
+    Reckoned-below k X = (X .parameters ≡ q) × Standing lim (X .parameters) f (k - 1) (X .levels)
+
+    one-more-reckoned : (n k : ℕ) (X : State) → Reckoned-below k X → T (between 1 k (lim .levels))
+        → If-done (Reckoned-below (suc k)) (lift lim n X k (by-hybrid 2 (lim .working)))
+    one-more-reckoned n k X (e, s) t = go (lifted-to lim o X (s .sound) k (by-hybrid 2 (lim .working)) n)
+      where
+        inside : k - 1 < length (X .levels)
+        inside = let h = s .height in omega (arith, h)
+
+        go : {x : Result State} → Lifted-to lim X k x → If-done (Reckoned-below (suc k)) x
+        go (one-more g w) =
+            let j : k ≡ suc k - 1 = omega arith in
+            (e, subst (λ h. Standing lim (X .parameters) f h (g ∷ up-to X (k - 1))) j
+            (level-stands lim o (X .parameters) f (X .levels) (k - 1) k s t inside g w))
+        go (limit-met h) = tt
+        go still-lifting = tt
+
+    below-reckoned : (n left : ℕ) → Standing lim q f 0 (f ∷ []) → left ≤ lim .levels
+        → If-done (Reckoned-below (left + 1)) (lifted-below lim n left 1 (record { parameters = q; levels = f ∷ [] }))
+    below-reckoned n left s l =
+        below-keep Reckoned-below n (one-more-reckoned n) left 1 (record { parameters = q; levels = f ∷ [] }) (refl, s) (omega arith) (omega (arith, l))
 
   below-steady : (left k : ℕ) (X : State) → Steady finished? (λ n. lifted-below lim n left k X)
   below-steady zero k X = steady-fixed finished? (done X)
@@ -550,12 +740,9 @@ module _ (lim : Limits) (o : T (sensible? lim)) where
       shown : {x : Option Bytes} (a : Bytes) → x ≡ some a → T (answered? x)
       shown a e = subst (λ y. T (answered? y)) (sym e) tt
 
-  module _ (n : ℕ) (bytes : Bytes) (q : Parameters) (f : Level) (e : Well-formed-file lim (file-of bytes) q f) (gb : Gröbner-basis q [] f) where
+  module _ (n : ℕ) (bytes : Bytes) (q : Parameters) (f : Level) (e : Well-formed-file lim (file-of bytes) q f) (s₂ : Standing lim q f 0 (f ∷ [])) where
     abbrev X₂ : State
     X₂ = record { parameters = q; levels = f ∷ [] }
-
-    stands : Stands 1 X₂
-    stands = (well-formed lim o (file-of bytes) q f e, refl)
 
     given-page : (out : Bytes) (ls : List Line) → lines-after bytes ≡ ls → l-first lim n most-picks (first-after bytes) ls X₂ ≡ done out → Page lim bytes out
     given-page out [] r h = absurd (refused-is-not h)
@@ -569,16 +756,20 @@ module _ (lim : Limits) (o : T (sensible? lim)) where
             (ap (l-line lim n most-picks (first-after bytes) later X₂) a ∙ h) in
             let l = between-low 1 (getD v 0 0) (lim .levels) t in
             let u = between-high 1 (getD v 0 0) (lim .levels) t in
-            let z = if-done-says (Stands (getD v 0 0 - 1 + 1)) (lifted-below lim n (getD v 0 0 - 1) 1 X₂)
-            (below-stands n (getD v 0 0 - 1) 1 X₂ stands (omega arith) (omega (arith, l, u))) Y b in
-            let k : length (Y .levels) ≡ getD v 0 0 = z .1 ∙ (let i : getD v 0 0 - 1 + 1 ≡ getD v 0 0 = omega (arith, l) in i) in
+            let (p, z) = if-done-says (Reckoned-below q f (getD v 0 0 - 1 + 1)) (lifted-below lim n (getD v 0 0 - 1) 1 X₂)
+            (below-reckoned q f n (getD v 0 0 - 1) s₂ (omega (arith, u))) Y b in
+            let k : length (Y .levels) ≡ getD v 0 0 = let i = z .height in omega (arith, l, i) in
+            let R : Reckons lim (record { basis = some (q, f); h = getD v 0 0 - 1 }) (Y .levels) =
+            subst (λ x. Reckons lim (record { basis = some (x, f); h = getD v 0 0 - 1 }) (Y .levels)) p
+            (tower-reckons lim (Y .parameters) f (Y .levels) (getD v 0 0 - 1) (let i = z .height in omega (arith, i)) (z .tower)) in
             subst (Page lim bytes) (sym d)
-            (Replays.given n line later v e gb r a t b (z .0) k c (vector-right most-picks (first-after bytes) (getD v 0 0) (getD v 1 0) later Y w (z .0) c))
+            (Replays.given n line later v e (s₂ .exact) r a t b (z .sound) k p R c
+            (vector-right most-picks (first-after bytes) (getD v 0 0) (getD v 1 0) later Y w (z .sound) c))
 
     page-of : {x : Result Bytes} → Numbered replay-number? x → l-first lim n most-picks (first-after bytes) (lines-after bytes) X₂ ≡ x
         → Holds (Page lim bytes) (printed-or-refused (q .n) x)
     page-of (Numbers.gives {a}) r = holds (given-page a (lines-after bytes) refl r)
-    page-of (Numbers.refuses {number} {place} h) r = holds (Replays.not-taken n number place e gb r h)
+    page-of (Numbers.refuses {number} {place} h) r = holds (Replays.not-taken n number place e (s₂ .exact) r h)
     page-of (Numbers.stops h) r = absurd h
     page-of Numbers.open-yet r = nothing
 
@@ -589,7 +780,7 @@ module _ (lim : Limits) (o : T (sensible? lim)) where
           → Holds (Page lim bytes) (printed-or-refused (variables-of (problem lim (file-of bytes))) (x >>= replay-of lim n most-picks bytes))
       go (taken {q} {f} e s) = subst (λ y. Holds (Page lim bytes) (printed-or-refused (variables-of y) (replay-of lim n most-picks bytes
           (record { parameters = q; levels = f ∷ [] })))) (sym (files lim o .taken (file-of bytes) q f e))
-          (page-of n bytes q f e (s .exact)
+          (page-of n bytes q f e s
           (l-number lim n most-picks (first-after bytes) (lines-after bytes) (record { parameters = q; levels = f ∷ [] })) refl)
       go (refused-reading r) = holds (Replays.not-read r)
       go still-reading = nothing
@@ -599,6 +790,7 @@ module _ (lim : Limits) (o : T (sensible? lim)) where
     logs = log-right;
     l-lines = l-line-right lim;
     vectors = vector-right;
+    ways = λ n most place k v way later X Z w s h e c. by-any-way most place k v later X w s h c n way Z e;
     pages = λ n bytes out e. holds-at e (page-at n bytes);
     ends = λ bytes. let (n, t) = whole-ends bytes in
         (n, answer-of (replay lim n bytes) (printed-answered (variables-of (problem lim (file-of bytes))) (whole bytes n) t));

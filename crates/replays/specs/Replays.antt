@@ -9,13 +9,15 @@ use lib.Dec.{T}
 use lib.ListN.{length, getD}
 use Rattle.definitions.specs.Limits.{Limits}
 use Rattle.definitions.specs.Lists.{map, between}
-use Rattle.definitions.specs.Monomial.{Monomial, Vector, Level, no-term, leading-monomials}
+use Rattle.definitions.specs.Monomial.{Monomial, Vector, Level, no-term, vector-of, leading-monomials}
 use Rattle.definitions.specs.Frame.{frame}
 use Rattle.definitions.specs.Result.{Result, done, refused, unfinished, _>>=_}
 use Rattle.definitions.specs.Stage.{Stage, highest, stage-over}
 use Rattle.definitions.specs.Run.{Run, Strategy, Step, on, end, start, run, runs, hybrid-strategy, by-pick}
+use Rattle.definitions.specs.Lifting.{Lifting, by-hybrid}
 use Rattle.definitions.specs.Problem.{Bytes, Line, Parameters, shaped, problem}
 use Rattle.definitions.specs.State.{State, sound?}
+use Rattle.definitions.specs.Calls.{lift}
 use Rattle.definitions.specs.Reckoning.{reckoned-vector}
 use Rattle.definitions.specs.Sheet.{s-lines, x-lines, variables-of}
 use Rattle.definitions.specs.After.{file-of, lines-after, first-after}
@@ -24,6 +26,7 @@ use Rattle.definitions.specs.Places.{most-picks}
 use Rattle.files.specs.Files.{Well-formed-file}
 use Rattle.demands.specs.Notions.{Gröbner-basis, Member}
 use Rattle.demands.specs.Demands.{Refused-reading}
+use Rattle.demands.specs.Exact.{Reckons}
 use Rattle.demands.specs.Picks.{Picks}
 
 -- the numbers that P lines say
@@ -77,7 +80,7 @@ pub record Log-right (lim : Limits) (q : Parameters) (f : Level) (below : List L
       → start (stage-over lim (q .p) (q .code) (f ∷ below)) (hybrid-strategy (stage-over lim (q .p) (q .code) (f ∷ below)) 2) m ≡ done r
       → p-lines most (stage-over lim (q .p) (q .code) (f ∷ below)) (lim .field) (q .n) k place 0 r ls ≡ done w
       → (bound : ℕ) × (reckoned-vector bound (q .p) (q .code) (f ∷ below) m ≡ some w)
-  -- "so the agreement voted for covers such logs too": two logs of one frame term give the same vector
+  -- two logs of one frame term give the same vector
   pub agree : (m : Monomial) (r : Run) (ls ls′ : List Line) (w w′ : Vector) → T (sound? lim (record { parameters = q; levels = f ∷ below }))
       → Member m (frame (lim .numbering (q .code)) (leading-monomials f))
       → start (stage-over lim (q .p) (q .code) (f ∷ below)) (hybrid-strategy (stage-over lim (q .p) (q .code) (f ∷ below)) 2) m ≡ done r
@@ -130,10 +133,11 @@ pub record L-line-right (lim : Limits) (n most place : ℕ) (X : State) : Type 0
   -- 12: "a level outside 1..9 before any lifting", whatever lifting would meet
   pub no-level : (line : Line) (later : List Line) (v : List ℕ) → shaped (lim .field) letter-L 2 line ≡ some v → ¬ (T (between 1 (getD v 0 0) (lim .levels)))
       → l-first lim n most place (line ∷ later) X ≡ refused 12 place []
-  -- 13 to 15 of a level below end the work, with that level as place
+  -- 13 to 15 of a level below end the work, with that level as place: those below it were lifted
   pub below-refused : (line : Line) (later : List Line) (v : List ℕ) (number at : ℕ) (value : Vector) → shaped (lim .field) letter-L 2 line ≡ some v
       → T (between 1 (getD v 0 0) (lim .levels)) → lifted-below lim n (getD v 0 0 - 1) 1 X ≡ refused number at value
-      → l-first lim n most place (line ∷ later) X ≡ refused number at value
+      → (l-first lim n most place (line ∷ later) X ≡ refused number at []) × T (between 13 number 15) × T (between 1 at (getD v 0 0 - 1))
+      × ((Y : State) × (lifted-below lim n (at - 1) 1 X ≡ done Y) × (lift lim n Y at (by-hybrid 2 (lim .working)) ≡ refused number at []))
   -- 15: the frame of the level itself, "before any .. lifting" of it
   pub frame-refused : (line : Line) (later : List Line) (v : List ℕ) (Y : State) → shaped (lim .field) letter-L 2 line ≡ some v
       → T (between 1 (getD v 0 0) (lim .levels)) → lifted-below lim n (getD v 0 0 - 1) 1 X ≡ done Y
@@ -153,7 +157,7 @@ pub record L-line-right (lim : Limits) (n most place : ℕ) (X : State) : Type 0
       → start (stage-over lim (Y .parameters .p) (Y .parameters .code) (Y .levels))
       (hybrid-strategy (stage-over lim (Y .parameters .p) (Y .parameters .code) (Y .levels)) 2)
       (getD (frame (lim .numbering (Y .parameters .code)) (leading-monomials (highest (Y .levels)))) (getD v 1 0 - 1) (no-term .1)) ≡ refused number at value
-      → l-first lim n most place (line ∷ later) X ≡ refused number (getD v 0 0) value
+      → (l-first lim n most place (line ∷ later) X ≡ refused number (getD v 0 0) []) × T (between 13 number 14)
   -- then the lines behind it, the first at the next place: their vector "in S lines", or their refusal
   pub then-lines : (line : Line) (later : List Line) (v : List ℕ) (Y : State) (r : Run) → shaped (lim .field) letter-L 2 line ≡ some v
       → T (between 1 (getD v 0 0) (lim .levels)) → lifted-below lim n (getD v 0 0 - 1) 1 X ≡ done Y
@@ -186,11 +190,12 @@ replay-number? n = between 12 n 15 || between 21 n 22
 
 -- what is printed for a file and the lines after it
 pub data Page (lim : Limits) (bytes : Bytes) : Bytes → Type 0 where
-  -- the S lines of the reckoning's vector v of level k, over the levels below
+  -- the S lines of the reckoning's vector v of level k, over the reckoning's levels 0 to k − 1 of the file
   given : {q : Parameters} {f : Level} {Y : State} {w : Vector} (n : ℕ) (line : Line) (later : List Line) (v : List ℕ)
       → Well-formed-file lim (file-of bytes) q f → Gröbner-basis q [] f → lines-after bytes ≡ line ∷ later → shaped (lim .field) letter-L 2 line ≡ some v
       → T (between 1 (getD v 0 0) (lim .levels))
       → lifted-below lim n (getD v 0 0 - 1) 1 (record { parameters = q; levels = f ∷ [] }) ≡ done Y → T (sound? lim Y) → length (Y .levels) ≡ getD v 0 0
+      → Y .parameters ≡ q → Reckons lim (record { basis = some (q, f); h = getD v 0 0 - 1 }) (Y .levels)
       → replayed-vector lim most-picks (first-after bytes) (getD v 0 0) (getD v 1 0) later Y ≡ done w
       → Vector-right lim (getD v 1 0) Y w
       → Page lim bytes (s-lines (Y .parameters .n) (getD v 0 0) (getD v 1 0) w)
@@ -208,6 +213,9 @@ pub record A9 (lim : Limits) : Type 0 where
   -- a vector that a log gave, over any sound state
   pub vectors : (most place k v : ℕ) (later : List Line) (X : State) (w : Vector) → T (sound? lim X)
       → replayed-vector lim most place k v later X ≡ done w → Vector-right lim v X w
+  -- "so the agreement voted for covers such logs too": over levels 0 to k − 1 it is vector v of the level k that any way lifts
+  pub ways : (n most place k v : ℕ) (way : Lifting) (later : List Line) (X Z : State) (w : Vector) → T (sound? lim X) → length (X .levels) ≡ k
+      → lift lim n X k way ≡ done Z → replayed-vector lim most place k v later X ≡ done w → vector-of (highest (Z .levels)) v ≡ w
   pub pages : (n : ℕ) (bytes out : Bytes) → replay lim n bytes ≡ some out → Page lim bytes out
   -- for every input some bound suffices, and no two bounds give two pages
   pub ends : (bytes : Bytes) → (n : ℕ) × ((out : Bytes) × (replay lim n bytes ≡ some out))
