@@ -103,7 +103,7 @@ narrow working log lines = replay (with-working working document-01) 99
 pub record In-less-room : Type 0 where
   greatest-first : narrow 3 ("L,1,1" ∷ "P,1,3,1" ∷ "P,0,4,1" ∷ "P,3,0,1" ∷ "P,0,3,1" ∷ [])
       ("S,1,1,1,2,0,3" ∷ "S,1,1,1,1,1,0" ∷ "S,1,1,1,1,0,1" ∷ "S,1,1,1,2,2,0" ∷ "S,1,1,1,1,0,0" ∷ [])
-  -- 13 to 15 with the level as place: the products of the frame term's own element are two, and those of a pick make four
+  -- 13 to 15 with the level as place: the products of the frame term's own element are three, and those of a pick make four
   own-log-of-code-2 : narrow 3 ("L,1,1" ∷ "P,0,3,1" ∷ "P,2,0,1" ∷ "P,1,0,1" ∷ "P,1,1,1" ∷ "P,0,4,1" ∷ "P,2,1,1" ∷ "P,1,1,1" ∷ "P,1,2,1" ∷ "P,0,3,1"
       ∷ "P,2,0,1" ∷ "P,1,0,1" ∷ "P,1,1,1" ∷ "P,1,3,1" ∷ "P,3,0,1" ∷ []) ("X,14,1" ∷ [])
   -- "Levels below .. are lifted as for the sheet", by pick code 2

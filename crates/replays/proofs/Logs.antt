@@ -252,25 +252,28 @@ log-reckoned lim o q f below m k place most r ls w s t e d =
 
 -- ## A log that is not taken: 22, or 13 to 15 at the level
 
-abbrev Refuses : {A : Type 0} → (ℕ → ℕ → Type 0) → Result A → Type 0
+-- what is said of a refusal
+abbrev pub Refuses : {A : Type 0} → (ℕ → ℕ → Vector → Type 0) → Result A → Type 0
 Refuses P (done a) = Unit {0}
-Refuses P (refused number at value) = P number at
+Refuses P (refused number at value) = P number at value
 Refuses P unfinished = Unit {0}
 
-refuses-then : {A B : Type 0} (P : ℕ → ℕ → Type 0) (x : Result A) (f : A → Result B) → Refuses P x → ((a : A) → Refuses P (f a)) → Refuses P (x >>= f)
+pub refuses-then : {A B : Type 0} (P : ℕ → ℕ → Vector → Type 0) (x : Result A) (f : A → Result B) → Refuses P x → ((a : A) → Refuses P (f a))
+    → Refuses P (x >>= f)
 refuses-then P (done a) f h k = k a
 refuses-then P (refused number at value) f h k = h
 refuses-then P unfinished f h k = tt
 
-refuses-more : {A : Type 0} (P Q : ℕ → ℕ → Type 0) → ((number at : ℕ) → P number at → Q number at) → (x : Result A) → Refuses P x → Refuses Q x
+refuses-more : {A : Type 0} (P Q : ℕ → ℕ → Vector → Type 0) → ((number at : ℕ) (value : Vector) → P number at value → Q number at value) → (x : Result A)
+    → Refuses P x → Refuses Q x
 refuses-more P Q f (done a) h = tt
-refuses-more P Q f (refused number at value) h = f number at h
+refuses-more P Q f (refused number at value) h = f number at value h
 refuses-more P Q f unfinished h = tt
 
 module _ (S : Stage) (field n k most : ℕ) where
   -- so many lines from this place on
-  abbrev Not-taken : ℕ → ℕ → ℕ → ℕ → Type 0
-  Not-taken place long number at = ((number ≡ 22) × T (between place at (place + long))) ⊎ (T (between 13 number 15) × (at ≡ k))
+  abbrev Not-taken : ℕ → ℕ → ℕ → ℕ → Vector → Type 0
+  Not-taken place long number at value = ((number ≡ 22) × T (between place at (place + long))) ⊎ (T (between 13 number 15) × (at ≡ k))
 
   -- a step's numbers, the level as its place
   at-level-number : {A : Type 0} (place long : ℕ) {x : Result A} → Numbered limit-number? x → Refuses (Not-taken place long) (at-level k x)
@@ -296,12 +299,12 @@ module _ (S : Stage) (field n k most : ℕ) where
       (λ r′. refuses-more (Not-taken (suc place) (length ls)) (Not-taken place (suc (length ls))) later (p-lines most S field n k (suc place) (suc picks) r′ ls)
       (not-taken (suc place) (suc picks) r′ ls vs (t .1) (omega arith)))
     where
-      later : (number at : ℕ) → Not-taken (suc place) (length ls) number at → Not-taken place (suc (length ls)) number at
-      later number at (inl (e, b)) =
+      later : (number at : ℕ) (value : Vector) → Not-taken (suc place) (length ls) number at value → Not-taken place (suc (length ls)) number at value
+      later number at value (inl (e, b)) =
           let lo = between-low (suc place) at (suc place + length ls) b in
           let hi = between-high (suc place) at (suc place + length ls) b in
           inl (e, between-shown place at (place + suc (length ls)) (omega (arith, lo)) (omega (arith, hi)))
-      later number at (inr h) = inr h
+      later number at value (inr h) = inr h
 
       placed : (o : Option ℕ) → Refuses (Not-taken place (suc (length ls))) (replayed S k place r o)
       placed none = inl (refl, between-shown place place (place + suc (length ls)) (omega arith) (omega arith))
@@ -315,7 +318,7 @@ module _ (S : Stage) (field n k most : ℕ) where
       allowed false u = absurd u
 
   pub taken-otherwise : (place number at : ℕ) (value : Vector) (r : Run) (ls : List Line) (vs : List (List ℕ)) → Says field n vs ls → length ls ≤ most
-      → p-lines most S field n k place 0 r ls ≡ refused number at value → Not-taken place (length ls) number at
+      → p-lines most S field n k place 0 r ls ≡ refused number at value → Not-taken place (length ls) number at value
   taken-otherwise place number at value r ls vs t l e = subst (Refuses (Not-taken place (length ls))) e (not-taken place 0 r ls vs t (omega arith))
 
 -- ## "Lines are tested in turn"

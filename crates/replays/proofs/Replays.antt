@@ -1,7 +1,7 @@
 -- Request A9, whole.
 use mathlib.Core.Path.{_≡_, refl, sym, ap, _∙_, subst}
 use mathlib.Core.Logic.{inl, inr}
-use mathlib.Core.Bool.{Bool, true, false, _||_}
+use mathlib.Core.Bool.{Bool, true, false}
 use mathlib.Core.Option.{Option, none, some, Option·none-ne-some}
 use mathlib.Core.List.{List, [], _∷_}
 use Prim.Native.Nat.{ℕ, zero, suc, _+_, _-_, _<_, _≤_}
@@ -35,7 +35,7 @@ use Rattle.laws.proofs.Members.{All}
 use Rattle.laws.proofs.Steady.{Steady, Ends, answered?, steady-fixed, steady-once, bind-steady, bind-fixed, bind-ends, bind-fixed-ends, result-steady}
 use Rattle.laws.proofs.Bound.{read-steady, lift-steady}
 use Rattle.laws.proofs.Numbers
-use Rattle.laws.proofs.Numbers.{Numbered, numbered-then, numbered-more, limit-number?, lift-number, lift-level-number}
+use Rattle.laws.proofs.Numbers.{Numbered, numbered-then, limit-number?, lift-level-number}
 use Rattle.laws.proofs.Numbers.{by-pick-number, start-number}
 use Rattle.ending.specs.Well.{Well, Bytewise}
 use Rattle.laws.proofs.Induced.{Shaped}
@@ -45,7 +45,7 @@ use Rattle.ending.proofs.Soundness.{descending-well, sound-prime, sound-levels,
 use Rattle.ending.proofs.Falling.{start-good}
 use Rattle.ending.proofs.Calls.{read-ends, sound-lift-ends}
 use Rattle.files.specs.Files.{Well-formed-file}
-use Rattle.demands.specs.Notions.{Gröbner-basis, Member}
+use Rattle.demands.specs.Notions.{Member}
 use Rattle.demands.specs.Demands.{sensible?}
 use Rattle.demands.specs.Exact.{Reckons}
 use Rattle.demands.proofs.Results.{Holds, holds, nothing, holds-at, some-is, upto-one}
@@ -60,9 +60,9 @@ use Rattle.demands.proofs.Lifts.{Lifted-to, one-more, limit-met, still-lifting,
 use Rattle.demands.proofs.Held.{Standing, level-stands}
 use Rattle.demands.proofs.Demand2.{well-formed}
 use Rattle.replays.specs.Replays
-use Rattle.replays.specs.Replays.{Says, picks-of, Log-right, L-line-right, Vector-right, replay-number?, Page, A9}
+use Rattle.replays.specs.Replays.{Says, picks-of, Log-right, L-line-right, Vector-right, Refused-at, Page, A9}
 use Rattle.replays.proofs.Logs.{taken-exactly, log-reckoned, taken-otherwise, log-in-turn, log-twenty-one, log-twenty-two, log-ends-early}
-use Rattle.replays.proofs.Logs.{passed, failed}
+use Rattle.replays.proofs.Logs.{passed, failed, Refuses, refuses-then}
 use Rattle.replays.proofs.Logs.{refused-is-not, unfinished-is-not}
 use Rattle.replays.proofs.Codes.{step-same, own}
 
@@ -76,12 +76,6 @@ done-is {A} {a} e = ap (λ x. given-or a x) e
 
 -- ## Refusals of levels below, and of the frame term's own products
 
--- what is said of a refusal
-abbrev Refused-as : {A : Type 0} → (ℕ → ℕ → Vector → Type 0) → Result A → Type 0
-Refused-as P (done a) = Unit {0}
-Refused-as P (refused number at value) = P number at value
-Refused-as P unfinished = Unit {0}
-
 module _ (lim : Limits) (n : ℕ) where
   abbrev lifted-on : ℕ → State → Result State
   lifted-on k X = lift lim n X k (by-hybrid 2 (lim .working))
@@ -89,11 +83,11 @@ module _ (lim : Limits) (n : ℕ) where
   abbrev Limit-at : ℕ → ℕ → ℕ → Vector → Type 0
   Limit-at k number at value = T (between 13 number 15) × (at ≡ k) × (value ≡ [])
 
-  lift-limit : (k : ℕ) (X : State) → Refused-as (Limit-at k) (lifted-on k X)
+  lift-limit : (k : ℕ) (X : State) → Refuses (Limit-at k) (lifted-on k X)
   lift-limit k X = go (lift-level-number lim (X .parameters .p) (X .parameters .code) (up-to X (k - 1)) (by-hybrid 2 (lim .working)) n)
     where
       go : {x : Result Level} → Numbered limit-number? x
-          → Refused-as {A = State} (Limit-at k) (at-level k x >>= λ g. done (record { parameters = X .parameters; levels = g ∷ up-to X (k - 1) }))
+          → Refuses {A = State} (Limit-at k) (at-level k x >>= λ g. done (record { parameters = X .parameters; levels = g ∷ up-to X (k - 1) }))
       go Numbers.gives = tt
       go (Numbers.refuses h) = (h, refl, refl)
       go (Numbers.stops h) = absurd h
@@ -105,27 +99,35 @@ module _ (lim : Limits) (n : ℕ) where
       T (between 13 number 15) × (k ≤ at) × (at < left + k) × (value ≡ [])
       × ((Y : State) × (lifted-below lim n (at - k) k X ≡ done Y) × (lifted-on at Y ≡ refused number at []))
 
-  below-limit : (left k : ℕ) (X : State) → Refused-as (Below left k X) (lifted-below lim n left k X)
+  below-limit : (left k : ℕ) (X : State) → Refuses (Below left k X) (lifted-below lim n left k X)
   below-limit zero k X = tt
   below-limit (suc left) k X = first (lifted-on k X) refl (lift-limit k X) (λ Y. below-limit left (suc k) Y)
     where
-      later : (Y : State) → lifted-on k X ≡ done Y → (x : Result State) → Refused-as (Below left (suc k) Y) x → Refused-as (Below (suc left) k X) x
+      later : (Y : State) → lifted-on k X ≡ done Y → (x : Result State) → Refuses (Below left (suc k) Y) x → Refuses (Below (suc left) k X) x
       later Y e (done Z) h = tt
       later Y e unfinished h = tt
       later Y e (refused number at value) (t, l, u, z, (U, d, r)) =
-          let i : at - k ≡ suc (at - suc k) = omega (arith, l) in
-          (t, omega (arith, l), omega (arith, u), z,
-          (U, ap (λ j. lifted-below lim n j k X) i ∙ ap (λ x. x >>= λ Z. lifted-below lim n (at - suc k) (suc k) Z) e ∙ d, r))
+          let i : at - k ≡ suc (at - suc k) = omega (arith, l) in (
+            t,
+            omega (arith, l),
+            omega (arith, u),
+            z,
+            (U, ap (λ j. lifted-below lim n j k X) i ∙ ap (λ x. x >>= λ Z. lifted-below lim n (at - suc k) (suc k) Z) e ∙ d, r),
+          )
 
-      first : (x : Result State) → lifted-on k X ≡ x → Refused-as (Limit-at k) x → ((Y : State) → Refused-as (Below left (suc k) Y) (lifted-below lim n left
+      first : (x : Result State) → lifted-on k X ≡ x → Refuses (Limit-at k) x → ((Y : State) → Refuses (Below left (suc k) Y) (lifted-below lim n left
           (suc k) Y))
-          → Refused-as (Below (suc left) k X) (x >>= λ Y. lifted-below lim n left (suc k) Y)
+          → Refuses (Below (suc left) k X) (x >>= λ Y. lifted-below lim n left (suc k) Y)
       first (done Y) e h ih = later Y e (lifted-below lim n left (suc k) Y) (ih Y)
       first unfinished e h ih = tt
       first (refused number at value) e (t, a, z) ih =
-          let i : at - k ≡ 0 = omega (arith, a) in
-          (t, omega (arith, a), omega (arith, a), z,
-          (X, ap (λ j. lifted-below lim n j k X) i, ap (λ j. lifted-on j X) a ∙ e ∙ ap (λ v. refused number at v) z))
+          let i : at - k ≡ 0 = omega (arith, a) in (
+            t,
+            omega (arith, a),
+            omega (arith, a),
+            z,
+            (X, ap (λ j. lifted-below lim n j k X) i, ap (λ j. lifted-on j X) a ∙ e ∙ ap (λ v. refused number at v) z),
+          )
 
 -- 13 and 14: "A product is tested for 13 before 14"
 abbrev product-number? : ℕ → Bool
@@ -156,11 +158,11 @@ add-products-number R drops c q (t ∷ f) v =
     fits true t = kept (dropped? R drops (t .1)) t
     fits false t = Numbers.refuses tt
 
-start-limit : (S : Stage) (W : Strategy) (m : Monomial) → Refused-as (λ number at value. T (between 13 number 14) × (value ≡ [])) (start S W m)
+start-limit : (S : Stage) (W : Strategy) (m : Monomial) → Refuses (λ number at value. T (between 13 number 14) × (value ≡ [])) (start S W m)
 start-limit S W m = go (add-products-number (S .reduction) (W .drops) 1 (m .0) (vector-of (S .family) (m .1)) [])
   where
     go : {x : Result Vector} → Numbered product-number? x
-        → Refused-as {A = Run} (λ number at value. T (between 13 number 14) × (value ≡ [])) (x >>= λ v. done (record { value = v; vector = (1, m) ∷ [] }))
+        → Refuses {A = Run} (λ number at value. T (between 13 number 14) × (value ≡ [])) (x >>= λ v. done (record { value = v; vector = (1, m) ∷ [] }))
     go Numbers.gives = tt
     go (Numbers.refuses h) = (h, refl)
     go (Numbers.stops h) = absurd h
@@ -249,9 +251,12 @@ l-line-right lim n most place X = record {
   misshapen = λ line later e. ap (l-line lim n most place later X) e;
   no-level = λ line later v e h. level-out lim n most place X line later v e h;
   below-refused = λ line later v number at value e t b.
-      let (u, l, h, z, d) = subst (Refused-as (Below lim n (getD v 0 0 - 1) 1 X)) b (below-limit lim n (getD v 0 0 - 1) 1 X) in
-      (level-in lim n most place X line later v e t ∙ ap (λ x. x >>= over lim n most place X line later v e) b ∙ ap (λ z. refused number at z) z,
-      u, between-shown 1 at (getD v 0 0 - 1) l (omega (arith, h)), d);
+      let (u, l, h, z, d) = subst (Refuses (Below lim n (getD v 0 0 - 1) 1 X)) b (below-limit lim n (getD v 0 0 - 1) 1 X) in (
+        level-in lim n most place X line later v e t ∙ ap (λ x. x >>= over lim n most place X line later v e) b ∙ ap (λ z. refused number at z) z,
+        u,
+        between-shown 1 at (getD v 0 0 - 1) l (omega (arith, h)),
+        d,
+      );
   frame-refused = λ line later v Y e t b l.
       level-in lim n most place X line later v e t ∙ ap (λ x. x >>= over lim n most place X line later v e) b
       ∙ many lim n most place X line later v e Y l;
@@ -261,88 +266,129 @@ l-line-right lim n most place X = record {
   start-refused = λ line later v Y number at value e t b l h s.
       let S = stage-over lim (Y .parameters .p) (Y .parameters .code) (Y .levels) in
       let ms = frame (lim .numbering (Y .parameters .code)) (leading-monomials (highest (Y .levels))) in
-      let (u, z) = subst (Refused-as (λ number at value. T (between 13 number 14) × (value ≡ []))) s
-      (start-limit S (hybrid-strategy S 2) (getD ms (getD v 1 0 - 1) (no-term .1))) in
-      (level-in lim n most place X line later v e t ∙ ap (λ x. x >>= over lim n most place X line later v e) b
-      ∙ inside lim n most place X line later v e Y l h ∙ ap (from-start lim n most place X line later v e Y) s ∙ ap (λ z. refused number (getD v 0 0) z) z,
-      u);
+      let (u, z) = subst (Refuses (λ number at value. T (between 13 number 14) × (value ≡ []))) s
+      (start-limit S (hybrid-strategy S 2) (getD ms (getD v 1 0 - 1) (no-term .1))) in (
+        level-in lim n most place X line later v e t ∙ ap (λ x. x >>= over lim n most place X line later v e) b
+            ∙ inside lim n most place X line later v e Y l h ∙ ap (from-start lim n most place X line later v e Y) s
+            ∙ ap (λ z. refused number (getD v 0 0) z) z,
+        u,
+      );
   then-lines = λ line later v Y r e t b l h s.
       level-in lim n most place X line later v e t ∙ ap (λ x. x >>= over lim n most place X line later v e) b
       ∙ inside lim n most place X line later v e Y l h ∙ ap (from-start lim n most place X line later v e Y) s;
   printed = λ line later v out e h. given-by lim n most place X line later v e out h .1;
 }
 
--- ## By which numbers
-
-or-left : (a b : Bool) → T a → T (a || b)
-or-left true b h = tt
-or-left false b h = absurd h
-
-limit-here : (n : ℕ) → T (limit-number? n) → T (replay-number? n)
-limit-here n h =
-    let l = between-low 13 n 15 h in
-    let u = between-high 13 n 15 h in
-    or-left (between 12 n 15) (between 21 n 22) (between-shown 12 n 15 (omega (arith, l)) u)
-
-level-number : {A : Type 0} (k : ℕ) {x : Result A} → Numbered limit-number? x → Numbered replay-number? (at-level k x)
-level-number k Numbers.gives = Numbers.gives
-level-number k (Numbers.refuses {number} h) = Numbers.refuses (limit-here number h)
-level-number k (Numbers.stops h) = absurd h
-level-number k Numbers.open-yet = Numbers.open-yet
-
-unless-number : (b : Bool) (number place : ℕ) → T (replay-number? number) → Numbered replay-number? (unless-refused b number place)
-unless-number true number place h = Numbers.gives
-unless-number false number place h = Numbers.refuses h
+-- ## By which numbers, and at which places
 
 few-number : (b : Bool) (ms : List Monomial) → Numbered limit-number? (if-few b ms)
 few-number true ms = Numbers.gives
 few-number false ms = Numbers.refuses tt
 
-module _ (most : ℕ) (S : Stage) (field n k : ℕ) where
-  replayed-number : (place : ℕ) (r : Run) (o : Option ℕ) → Numbered replay-number? (replayed S k place r o)
-  replayed-number place r none = Numbers.refuses tt
-  replayed-number place r (some i) =
-      numbered-then (level-number k (by-pick-number S (hybrid-strategy S 2) r (some i))) (λ s. Numbers.gives)
+module _ (lim : Limits) (first count : ℕ) where
+  abbrev Said : ℕ → ℕ → Vector → Type 0
+  Said number at value = Refused-at lim first count number at × (value ≡ [])
 
-  p-line-number : (place picks : ℕ) (r : Run) (o : Option (List ℕ)) → Numbered replay-number? (p-line most S n k place picks r o)
-  p-line-number place picks r none = Numbers.refuses tt
-  p-line-number place picks r (some v) =
-      numbered-then (unless-number (ltb picks most) 21 place tt) (λ u. replayed-number place r (place-from (pick-of n v) 0 (r .value)))
+  level-said : {A : Type 0} (k : ℕ) → T (between 1 k (lim .levels)) → {x : Result A} → Numbered limit-number? x → Refuses Said (at-level k x)
+  level-said k t Numbers.gives = tt
+  level-said k t (Numbers.refuses h) = (Replays.limit-met h t, refl)
+  level-said k t (Numbers.stops h) = absurd h
+  level-said k t Numbers.open-yet = tt
 
-  zero-number : (b : Bool) (place : ℕ) (r : Run) → Numbered replay-number? (if-zero b S place r)
-  zero-number true place r = Numbers.gives
-  zero-number false place r = Numbers.refuses tt
+  module _ (most : ℕ) (S : Stage) (field n k : ℕ) (t : T (between 1 k (lim .levels))) where
+    replayed-said : (place : ℕ) (r : Run) (o : Option ℕ) → first < place → place ≤ first + count → Refuses Said (replayed S k place r o)
+    replayed-said place r none l h = (Replays.no-pick (between-shown (suc first) place (first + count) l h), refl)
+    replayed-said place r (some i) l h =
+        refuses-then Said (at-level k (by-pick S (hybrid-strategy S 2) r (some i))) (λ s. done (run-after s))
+        (level-said k t (by-pick-number S (hybrid-strategy S 2) r (some i))) (λ s. tt)
 
-  p-lines-number : (place picks : ℕ) (r : Run) (ls : List Line) → Numbered replay-number? (p-lines most S field n k place picks r ls)
-  p-lines-number place picks r [] = zero-number (empty? (r .value)) place r
-  p-lines-number place picks r (line ∷ later) =
-      numbered-then (p-line-number place picks r (shaped field letter-P (suc n) line)) (λ r′. p-lines-number (suc place) (suc picks) r′ later)
+    p-line-said : (place picks : ℕ) (r : Run) (o : Option (List ℕ)) → first < place → place < first + count → Refuses Said (p-line most S n k place picks r o)
+    p-line-said place picks r o l h = shape o
+      where
+        twenty-one : Said 21 place []
+        twenty-one = (Replays.misshapen (between-shown first place (first + (count - 1)) (omega (arith, l)) (omega (arith, l, h))), refl)
 
-module _ (lim : Limits) (n most place : ℕ) where
-  below-number : (left k : ℕ) (X : State) → Numbered replay-number? (lifted-below lim n left k X)
-  below-number zero k X = Numbers.gives
-  below-number (suc left) k X =
-      numbered-then (numbered-more limit-here (lift-number lim n X k (by-hybrid 2 (lim .working)))) (λ Y. below-number left (suc k) Y)
+        allowed : (b : Bool) (o : Option ℕ) → Refuses Said (unless-refused b 21 place >>= λ u. replayed S k place r o)
+        allowed true o = replayed-said place r o l (omega (arith, h))
+        allowed false o = twenty-one
 
-  vector-number : (k v : ℕ) (later : List Line) (X : State) → Numbered replay-number? (replayed-vector lim most place k v later X)
-  vector-number k v later X =
-      let S = stage-over lim (X .parameters .p) (X .parameters .code) (X .levels) in
-      let all = frame (lim .numbering (X .parameters .code)) (leading-monomials (highest (X .levels))) in
-      numbered-then (level-number k (few-number (leb (length all) (lim .vectors)) all)) λ ms.
-      numbered-then (unless-number (between 1 v (length ms)) 12 place tt) λ u.
-      numbered-then (level-number k (start-number S (hybrid-strategy S 2) (getD ms (v - 1) (no-term .1)))) λ r.
-      p-lines-number most S (lim .field) (X .parameters .n) k (suc place) 0 r later
+        shape : (o : Option (List ℕ)) → Refuses Said (p-line most S n k place picks r o)
+        shape none = twenty-one
+        shape (some v) = allowed (ltb picks most) (place-from (pick-of n v) 0 (r .value))
 
-  l-line-number : (later : List Line) (X : State) (o : Option (List ℕ)) → Numbered replay-number? (l-line lim n most place later X o)
-  l-line-number later X none = Numbers.refuses tt
-  l-line-number later X (some v) =
-      numbered-then (unless-number (between 1 (getD v 0 0) (lim .levels)) 12 place tt) λ u.
-      numbered-then (below-number (getD v 0 0 - 1) 1 X) λ Y.
-      numbered-then (vector-number (getD v 0 0) (getD v 1 0) later Y) (λ w. Numbers.gives)
+    p-lines-said : (place picks : ℕ) (r : Run) (ls : List Line) → first < place → place + length ls ≤ first + count
+        → Refuses Said (p-lines most S field n k place picks r ls)
+    p-lines-said place picks r [] l h = go (empty? (r .value))
+      where
+        go : (b : Bool) → Refuses Said (if-zero b S place r)
+        go true = tt
+        go false = (Replays.no-pick (between-shown (suc first) place (first + count) l (omega (arith, h))), refl)
+    p-lines-said place picks r (line ∷ later) l h =
+        refuses-then Said (p-line most S n k place picks r (shaped field letter-P (suc n) line))
+        (λ r′. p-lines most S field n k (suc place) (suc picks) r′ later)
+        (p-line-said place picks r (shaped field letter-P (suc n) line) l (omega (arith, h)))
+        (λ r′. p-lines-said (suc place) (suc picks) r′ later (omega (arith, l)) (omega (arith, h)))
 
-  l-number : (ls : List Line) (X : State) → Numbered replay-number? (l-first lim n most place ls X)
-  l-number [] X = Numbers.refuses tt
-  l-number (line ∷ later) X = l-line-number later X (shaped (lim .field) letter-L 2 line)
+  module _ (most k v : ℕ) (t : T (between 1 k (lim .levels))) (later : List Line) (h : suc (length later) ≤ count) (X : State) where
+    abbrev S₃ : Stage
+    S₃ = stage-over lim (X .parameters .p) (X .parameters .code) (X .levels)
+
+    abbrev lines : Run → Result Vector
+    lines r = p-lines most S₃ (lim .field) (X .parameters .n) k (suc first) 0 r later
+
+    abbrev begun : List Monomial → Result Vector
+    begun ms = at-level k (start S₃ (hybrid-strategy S₃ 2) (getD ms (v - 1) (no-term .1))) >>= lines
+
+    begun-said : (ms : List Monomial) → Refuses Said (begun ms)
+    begun-said ms =
+        refuses-then Said (at-level k (start S₃ (hybrid-strategy S₃ 2) (getD ms (v - 1) (no-term .1)))) lines
+        (level-said k t (start-number S₃ (hybrid-strategy S₃ 2) (getD ms (v - 1) (no-term .1))))
+        (λ r. p-lines-said most S₃ (lim .field) (X .parameters .n) k t (suc first) 0 r later (omega arith) (omega (arith, h)))
+
+    vector-said : Refuses Said (replayed-vector lim most first k v later X)
+    vector-said =
+        let all = frame (lim .numbering (X .parameters .code)) (leading-monomials (highest (X .levels))) in
+        refuses-then Said (at-level k (if-few (leb (length all) (lim .vectors)) all))
+        (λ ms. unless-refused (between 1 v (length ms)) 12 first >>= λ u. begun ms)
+        (level-said k t (few-number (leb (length all) (lim .vectors)) all)) (λ ms. numbered (between 1 v (length ms)) ms)
+      where
+        numbered : (b : Bool) (ms : List Monomial) → Refuses Said (unless-refused b 12 first >>= λ u. begun ms)
+        numbered true ms = begun-said ms
+        numbered false ms = (Replays.no-number, refl)
+
+    over-said : Refuses Said (replay-over lim most first k v later X)
+    over-said = refuses-then Said (replayed-vector lim most first k v later X) (λ w. done (s-lines (X .parameters .n) k v w)) vector-said (λ w. tt)
+
+  module _ (n most k v : ℕ) (later : List Line) (h : suc (length later) ≤ count) (X : State) where
+    below-said : T (between 1 k (lim .levels)) → Refuses Said (lifted-below lim n (k - 1) 1 X)
+    below-said t = go (lifted-below lim n (k - 1) 1 X) (below-limit lim n (k - 1) 1 X)
+      where
+        go : (x : Result State) → Refuses (Below lim n (k - 1) 1 X) x → Refuses Said x
+        go (done Y) b = tt
+        go unfinished b = tt
+        go (refused number at value) (u, l, m, z, d) =
+            let hi = between-high 1 k (lim .levels) t in
+            (Replays.limit-met u (between-shown 1 at (lim .levels) l (omega (arith, l, m, hi))), z)
+
+    level-line-said : Refuses Said (replay-level lim n most first k v later X)
+    level-line-said = go (between 1 k (lim .levels)) refl
+      where
+        go : (b : Bool) → between 1 k (lim .levels) ≡ b
+            → Refuses Said (unless-refused b 12 first >>= λ u. lifted-below lim n (k - 1) 1 X >>= replay-over lim most first k v later)
+        go false e = (Replays.no-number, refl)
+        go true e =
+            let t : T (between 1 k (lim .levels)) = subst T (sym e) tt in
+            refuses-then Said (lifted-below lim n (k - 1) 1 X) (replay-over lim most first k v later) (below-said t) (λ Y. over-said most k v t later h Y)
+
+l-said : (lim : Limits) (n most place : ℕ) (ls : List Line) (X : State) → Refuses (Said lim place (length ls)) (l-first lim n most place ls X)
+l-said lim n most place [] X = (Replays.misshapen (between-shown place place (place + 0) (omega arith) (omega arith)), refl)
+l-said lim n most place (line ∷ later) X = go (shaped (lim .field) letter-L 2 line)
+  where
+    go : (o : Option (List ℕ)) → Refuses (Said lim place (suc (length later))) (l-line lim n most place later X o)
+    go none =
+        let count = suc (length later) in
+        (Replays.misshapen (between-shown place place (place + (count - 1)) (omega arith) (omega arith)), refl)
+    go (some v) = level-line-said lim place (suc (length later)) n most (getD v 0 0) (getD v 1 0) later (omega arith) X
 
 -- ## The rest is for sensible limits
 
@@ -571,9 +617,11 @@ module _ (lim : Limits) (o : T (sensible? lim)) where
 
         go : {x : Result State} → Lifted-to lim X k x → If-done (Reckoned-below (suc k)) x
         go (one-more g w) =
-            let j : k ≡ suc k - 1 = omega arith in
-            (e, subst (λ h. Standing lim (X .parameters) f h (g ∷ up-to X (k - 1))) j
-            (level-stands lim o (X .parameters) f (X .levels) (k - 1) k s t inside g w))
+            let j : k ≡ suc k - 1 = omega arith in (
+              e,
+              subst (λ h. Standing lim (X .parameters) f h (g ∷ up-to X (k - 1))) j
+                  (level-stands lim o (X .parameters) f (X .levels) (k - 1) k s t inside g w),
+            )
         go (limit-met h) = tt
         go still-lifting = tt
 
@@ -766,12 +814,13 @@ module _ (lim : Limits) (o : T (sensible? lim)) where
             (Replays.given n line later v e (s₂ .exact) r a t b (z .sound) k p R c
             (vector-right most-picks (first-after bytes) (getD v 0 0) (getD v 1 0) later Y w (z .sound) c))
 
-    page-of : {x : Result Bytes} → Numbered replay-number? x → l-first lim n most-picks (first-after bytes) (lines-after bytes) X₂ ≡ x
-        → Holds (Page lim bytes) (printed-or-refused (q .n) x)
-    page-of (Numbers.gives {a}) r = holds (given-page a (lines-after bytes) refl r)
-    page-of (Numbers.refuses {number} {place} h) r = holds (Replays.not-taken n number place e (s₂ .exact) r h)
-    page-of (Numbers.stops h) r = absurd h
-    page-of Numbers.open-yet r = nothing
+    page-of : (x : Result Bytes) → l-first lim n most-picks (first-after bytes) (lines-after bytes) X₂ ≡ x
+        → Refuses (Said lim (first-after bytes) (length (lines-after bytes))) x → Holds (Page lim bytes) (printed-or-refused (q .n) x)
+    page-of (done a) r h = holds (given-page a (lines-after bytes) refl r)
+    page-of (refused number place value) r (h, z) =
+        subst (λ v. Holds (Page lim bytes) (printed-or-refused (q .n) (refused number place v))) (sym z)
+        (holds (Replays.not-taken n number place e (s₂ .exact) (r ∙ ap (λ v. refused number place v) z) h))
+    page-of unfinished r h = nothing
 
   page-at : (n : ℕ) (bytes : Bytes) → Holds (Page lim bytes) (replay lim n bytes)
   page-at n bytes = go (reading lim o n (file-of bytes))
@@ -780,8 +829,8 @@ module _ (lim : Limits) (o : T (sensible? lim)) where
           → Holds (Page lim bytes) (printed-or-refused (variables-of (problem lim (file-of bytes))) (x >>= replay-of lim n most-picks bytes))
       go (taken {q} {f} e s) = subst (λ y. Holds (Page lim bytes) (printed-or-refused (variables-of y) (replay-of lim n most-picks bytes
           (record { parameters = q; levels = f ∷ [] })))) (sym (files lim o .taken (file-of bytes) q f e))
-          (page-of n bytes q f e s
-          (l-number lim n most-picks (first-after bytes) (lines-after bytes) (record { parameters = q; levels = f ∷ [] })) refl)
+          (page-of n bytes q f e s (replay-of lim n most-picks bytes (record { parameters = q; levels = f ∷ [] })) refl
+          (l-said lim n most-picks (first-after bytes) (lines-after bytes) (record { parameters = q; levels = f ∷ [] })))
       go (refused-reading r) = holds (Replays.not-read r)
       go still-reading = nothing
 

@@ -1,7 +1,7 @@
 -- Request A9: what is claimed of a log of picks, of the L line before it, and of the program.
 use mathlib.Core.Path.{_≡_}
 use mathlib.Core.Logic.{_↔_, _⊎_}
-use mathlib.Core.Bool.{Bool, true, false, _||_}
+use mathlib.Core.Bool.{true, false}
 use mathlib.Core.Option.{Option, none, some}
 use mathlib.Core.List.{List, [], _∷_, _++_}
 use Prim.Native.Nat.{ℕ, zero, suc, _+_, _-_, _<_, _≤_}
@@ -184,9 +184,16 @@ pub record Vector-right (lim : Limits) (v : ℕ) (Y : State) (w : Vector) : Type
 
 -- ## The program
 
--- 12 to 15, 21 and 22
-abbrev pub replay-number? : ℕ → Bool
-replay-number? n = between 12 n 15 || between 21 n 22
+-- by which numbers the lines after E are refused, and at which places; the first has place first, there are count
+pub data Refused-at (lim : Limits) (first count : ℕ) : ℕ → ℕ → Type 0 where
+  -- "12's place being the L line"
+  no-number : Refused-at lim first count 12 first
+  -- the level
+  limit-met : {number at : ℕ} → T (between 13 number 15) → T (between 1 at (lim .levels)) → Refused-at lim first count number at
+  -- a line, or the first where there is none
+  misshapen : {at : ℕ} → T (between first at (first + (count - 1))) → Refused-at lim first count 21 at
+  -- a line behind the first, or the absent one behind the last
+  no-pick : {at : ℕ} → T (between (suc first) at (first + count)) → Refused-at lim first count 22 at
 
 -- what is printed for a file and the lines after it
 pub data Page (lim : Limits) (bytes : Bytes) : Bytes → Type 0 where
@@ -202,10 +209,10 @@ pub data Page (lim : Limits) (bytes : Bytes) : Bytes → Type 0 where
   -- a file that is not read or not accepted
   not-read : {number place : ℕ} {value : Vector} → Refused-reading lim (file-of bytes) number place value
       → Page lim bytes (x-lines (variables-of (problem lim (file-of bytes))) number place value)
-  -- 12 to 15, 21 or 22, "tested in turn after acceptance"
+  -- 12 to 15, 21 or 22 in their places, "tested in turn after acceptance"
   not-taken : {q : Parameters} {f : Level} (n number place : ℕ) → Well-formed-file lim (file-of bytes) q f → Gröbner-basis q [] f
       → l-first lim n most-picks (first-after bytes) (lines-after bytes) (record { parameters = q; levels = f ∷ [] }) ≡ refused number place []
-      → T (replay-number? number) → Page lim bytes (x-lines (q .n) number place [])
+      → Refused-at lim (first-after bytes) (length (lines-after bytes)) number place → Page lim bytes (x-lines (q .n) number place [])
 
 pub record A9 (lim : Limits) : Type 0 where
   pub logs : (q : Parameters) (f : Level) (below : List Level) (k place most : ℕ) → Log-right lim q f below k place most
