@@ -1,11 +1,15 @@
-//! One file through the program and the unrelated implementation: the page's bytes.
+//! One file through the call, the program and the unrelated implementation: the page's bytes.
 
+use common::buffers::PAGE;
+use common::call::Call;
 use common::pages::{labels, totals, COLUMNS};
+use common::printer::Printer;
 use common::printing::{Files, Printing, Spoiled};
 use common::program::{By, Program};
 use reference::betti::page;
+use tagetessash::calls;
 
-/// The program, and what the pages have.
+/// Call and program, and what the pages have.
 pub struct Compare {
     pub printing: Printing<()>,
     /// pages with a negative row, with an empty row in the middle
@@ -18,18 +22,19 @@ pub struct Compare {
 }
 
 impl Files for Compare {
-    fn file_by(&mut self, file: &[u8], budget: u64, by: By) {
+    fn take(&mut self, file: &[u8], budget: u64, by: Option<By>) {
         if let Some(expected) = self.printing.expected(file, budget) {
-            self.expect(file, &expected, by);
+            self.held(file, &expected, by);
         }
     }
 }
 
 impl Compare {
-    pub fn new(spoil: Option<Spoiled<()>>) -> Compare {
-        let program = Program::new("betti_numbers", "BETTI");
+    pub fn new(seed: u64, spoil: Option<Spoiled<()>>) -> Compare {
+        let call = Call::new(calls::betti, PAGE, seed);
+        let printer = Printer::new(call, Program::new("betti_numbers", "BETTI"));
         Compare {
-            printing: Printing::new(program, page, spoil),
+            printing: Printing::new(printer, page, spoil),
             negative: 0,
             gaps: 0,
             columns: [0; COLUMNS],
@@ -39,6 +44,10 @@ impl Compare {
 
     /// One file whose page is known.
     pub fn expect(&mut self, file: &[u8], expected: &[u8], by: By) {
+        self.held(file, expected, Some(by));
+    }
+
+    fn held(&mut self, file: &[u8], expected: &[u8], by: Option<By>) {
         if self.printing.expect(file, expected, by) {
             self.count(expected);
         }

@@ -1,9 +1,10 @@
-//! The program that prints the Betti page against the unrelated implementation, byte for byte: on generated and damaged files, on the files of examples/, the
-//! request's own and files about the longest.
+//! The Betti page against the unrelated implementation, byte for byte: the proved call on generated and damaged files, on the files of examples/, the request's
+//! own and files about the longest; and the program that people run, on all but the generated and damaged ones and on one in ten of these.
 //!
 //!     test-betti [FILES [SEED]]      at least so many files (20,000 without it)
-//!     test-betti spoil first|last|middle|shorter|longer|line
-//!                                    spoils one page: the run must find it and exit with 1
+//!     test-betti spoil [program] first|last|middle|shorter|longer|line
+//!     test-betti spoil number|behind|state|work
+//!                                    spoils one answer of the call or of the program: the run must find it and exit with 1
 //!
 //! The program is target/bin/betti_numbers, or what the environment variable BETTI says.
 
@@ -26,7 +27,7 @@ const SEED: u64 = 20_260_801;
 
 fn main() {
     let (mut wanted, seed, spoil) = asked(&words(), "files", (FILES, SEED), &spoils(&[]));
-    let mut compare = Compare::new(spoil);
+    let mut compare = Compare::new(seed, spoil);
     let mut random = Random::new(seed);
     if spoil.is_some() {
         wanted = 100;
@@ -36,7 +37,7 @@ fn main() {
         for (_, file) in examples() {
             // one that has elements of two degrees takes no product more than acceptance
             compare.file_by(&file, EXAMPLE_BUDGET, By::Pipe(1_000));
-            compare.file(&file, EXAMPLE_BUDGET);
+            compare.file_by(&file, EXAMPLE_BUDGET, By::File);
         }
         at_the_limits(&mut compare, &mut random, stopped_file);
         // 17
@@ -105,7 +106,7 @@ fn printed(compare: &mut Compare) {
         let file = format!(
             "R,7,8,{order},2\nD,255,0\nT,1,1,1{large}\nT,2,1,2{unit}\nT,3,1,2{unit}\nE,3\n"
         );
-        compare.file(file.as_bytes(), BUDGET);
+        compare.file_by(file.as_bytes(), BUDGET, By::File);
     }
 }
 

@@ -1,7 +1,10 @@
-//! One file through the program and the unrelated implementation: the bytes of the lines. Beside them the programs of the sheet and of the Betti page: with a G
-//! line they print what they print without it, and with every a at 1 the counts summed over b are the page's.
+//! One file through the call, the program and the unrelated implementation: the bytes of the lines. Beside them the sheet and the Betti page, by call and by
+//! program: with a G line they are what they are without it, and with every a at 1 the counts summed over b are the page's.
 
+use common::buffers::{BIDEGREES, PAGE, SHEET};
+use common::call::Call;
 use common::pages::{by_degree, Numbers, COLUMNS};
+use common::printer::Printer;
 use common::printing::{Files, Printing, Spoiled};
 use common::program::{By, Program};
 use reference::betti::page;
@@ -9,8 +12,9 @@ use reference::bidegrees::bidegrees;
 use reference::reader::{read_problem, Problem};
 use reference::sheet::sheet;
 use reference::Limits;
+use tagetessash::calls;
 
-/// What `spoil` changes besides bytes that the program wrote.
+/// What `spoil` changes besides an answer.
 #[derive(Clone, Copy, PartialEq, Eq)]
 pub enum Own {
     /// a count of a Betti page whose counts are summed
@@ -27,12 +31,12 @@ pub const SPOILS: [(&str, Own); 3] = [
     ("sheet", Own::Sheet),
 ];
 
-/// The programs, and what the lines have.
+/// Calls and programs, and what the lines have.
 pub struct Compare {
     limits: Limits,
     pub printing: Printing<Own>,
-    betti: Program,
-    syzygies: Program,
+    betti: Printer,
+    syzygies: Printer,
     /// files with a second sum above 0
     pub second: u64,
     /// the last column in use, by column
@@ -47,10 +51,10 @@ pub struct Compare {
 }
 
 impl Files for Compare {
-    /// And beside the other programs.
-    fn file_by(&mut self, file: &[u8], budget: u64, by: By) {
+    /// And beside sheet and page.
+    fn take(&mut self, file: &[u8], budget: u64, by: Option<By>) {
         if let Some(expected) = self.printing.expected(file, budget) {
-            self.expect(file, &expected, by);
+            self.held(file, &expected, by);
             if let Ok(problem) = read_problem(&self.limits, file) {
                 self.beside(file, &problem, &expected, budget);
             }
@@ -59,13 +63,16 @@ impl Files for Compare {
 }
 
 impl Compare {
-    pub fn new(spoil: Option<Spoiled<Own>>) -> Compare {
-        let program = Program::new("bidegrees", "BIDEGREES");
+    pub fn new(seed: u64, spoil: Option<Spoiled<Own>>) -> Compare {
+        let lines = Call::new(calls::bidegrees, BIDEGREES, seed);
+        let lines = Printer::new(lines, Program::new("bidegrees", "BIDEGREES"));
+        let pages = Call::new(calls::betti, PAGE, seed);
+        let sheets = Call::new(calls::sheet, SHEET, seed);
         Compare {
             limits: Limits::document_01(),
-            printing: Printing::new(program, bidegrees, spoil),
-            betti: Program::new("betti_numbers", "BETTI"),
-            syzygies: Program::new("syzygies", "SYZYGIES"),
+            printing: Printing::new(lines, bidegrees, spoil),
+            betti: Printer::new(pages, Program::new("betti_numbers", "BETTI")),
+            syzygies: Printer::new(sheets, Program::new("syzygies", "SYZYGIES")),
             second: 0,
             columns: [0; COLUMNS],
             most: 0,
@@ -77,12 +84,16 @@ impl Compare {
 
     /// One file whose lines are known.
     pub fn expect(&mut self, file: &[u8], expected: &[u8], by: By) {
+        self.held(file, expected, Some(by));
+    }
+
+    fn held(&mut self, file: &[u8], expected: &[u8], by: Option<By>) {
         if self.printing.expect(file, expected, by) {
             self.count(expected);
         }
     }
 
-    /// A file that is read, beside the programs of the sheet and of the Betti page.
+    /// A file that is read, beside the sheet and the Betti page.
     fn beside(&mut self, file: &[u8], problem: &Problem, lines: &[u8], budget: u64) {
         let ones = problem.weights.iter().all(|[a, _]| *a == 1);
         let sums = ones && lines.starts_with(b"B");
@@ -93,7 +104,7 @@ impl Compare {
         let Some(expected) = page(&self.limits, file, Some(budget)).0 else {
             return;
         };
-        let mut printed = self.betti.run(file, By::File);
+        let mut printed = self.betti.print(file, None, None);
         if let Some(bare) = without {
             let two_degrees = usize::from(printed.starts_with(b"X,17,"));
             let two_bidegrees = usize::from(lines.starts_with(b"X,25,"));
@@ -101,7 +112,7 @@ impl Compare {
             if (two_degrees == 1 || !other(&printed)) && (two_bidegrees == 1 || !other(lines)) {
                 self.refused[two_degrees][two_bidegrees] += 1;
             }
-            let plain = self.betti.run(&bare, By::File);
+            let plain = self.betti.print(&bare, None, None);
             if self.printing.spoils(Own::Page) {
                 printed[0] ^= 1;
             }
@@ -111,8 +122,8 @@ impl Compare {
             }
             // where 25 comes nothing was lifted yet
             if let Some(expected) = sheet(&self.limits, file, Some(budget)).0 {
-                let mut printed = self.syzygies.run(file, By::File);
-                let plain = self.syzygies.run(&bare, By::File);
+                let mut printed = self.syzygies.print(file, None, None);
+                let plain = self.syzygies.print(&bare, None, None);
                 if self.printing.spoils(Own::Sheet) {
                     *printed.last_mut().expect("it prints something") ^= 1;
                 }

@@ -1,9 +1,11 @@
-//! The program that prints bidegrees against the unrelated implementation, byte for byte: on generated and damaged files, on the files of examples/, the
-//! Specification's own and files about the longest. Beside it the programs of the sheet and of the Betti page, on files with a G line and without it.
+//! Bidegrees against the unrelated implementation, byte for byte: the proved call on generated and damaged files, on the files of examples/, the
+//! Specification's own and files about the longest; and the program that people run, on all but the generated and damaged ones and on one in ten of these.
+//! Beside them the sheet and the Betti page, on files with a G line and without it, of one in ten by program too.
 //!
 //!     test-bidegrees [FILES [SEED]]      at least so many files (20,000 without it)
-//!     test-bidegrees spoil first|last|middle|shorter|longer|line|sum|page|sheet
-//!                                        spoils what a program printed, once: the run must find it and exit with 1
+//!     test-bidegrees spoil [program] first|last|middle|shorter|longer|line
+//!     test-bidegrees spoil number|behind|state|work|sum|page|sheet
+//!                                        spoils one answer of a call or of a program: the run must find it and exit with 1
 //!
 //! The programs are target/bin/bidegrees, betti_numbers and syzygies, or what the environment variables BIDEGREES, BETTI and SYZYGIES say.
 
@@ -36,7 +38,7 @@ const SEED: u64 = 20_261_401;
 
 fn main() {
     let (mut wanted, seed, spoil) = asked(&words(), "files", (FILES, SEED), &spoils(&SPOILS));
-    let mut compare = Compare::new(spoil);
+    let mut compare = Compare::new(seed, spoil);
     let mut random = Random::new(seed);
     if spoil.is_some() {
         wanted = 400;
@@ -49,10 +51,14 @@ fn main() {
             // one that has elements of two bidegrees takes no product more than acceptance
             compare.file_by(&file, EXAMPLE_BUDGET, By::Pipe(1_000));
             let bare = without_weight_lines(&file);
-            compare.file(&bare, EXAMPLE_BUDGET);
+            compare.file_by(&bare, EXAMPLE_BUDGET, By::File);
             let ones = vec![[1, 0]; variables_of(&bare) as usize];
-            compare.file(&with_weights(&bare, &ones), EXAMPLE_BUDGET);
-            compare.file(&with_random_weights(&mut random, &bare), EXAMPLE_BUDGET);
+            for weights in [
+                with_weights(&bare, &ones),
+                with_random_weights(&mut random, &bare),
+            ] {
+                compare.file_by(&weights, EXAMPLE_BUDGET, By::File);
+            }
         }
         at_the_limits(&mut compare, &mut random, bistopped_file);
         // 25

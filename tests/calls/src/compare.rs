@@ -2,7 +2,7 @@
 
 use crate::divided::divide_call_within;
 use crate::proved;
-use common::buffers::{BIDEGREES, LEAST_WORK, MINIMAL, OUT, ROW, STATE, TREE_WORK, WORK};
+use common::buffers::{BIDEGREES, LEAST_WORK, OUT, PAGE, ROW, STATE, TREE_WORK, WORK};
 use common::report::{shown, NUMBERS};
 use reference::buffers::{
     fetch_call, lift_call_within, read_call_within, BIDEGREES_CALL, HILBERT_CALL, MINIMAL_CALL,
@@ -42,7 +42,7 @@ impl Buffers {
             quotients: vec![0; OUT + MORE],
             remainder: vec![0; OUT + MORE],
             printed: vec![0; BIDEGREES + MORE],
-            page: vec![0; MINIMAL + MORE],
+            page: vec![0; PAGE + MORE],
         }
     }
 }
@@ -65,7 +65,7 @@ pub const WHOLE: Lent = Lent {
     cache: CACHE,
     out: OUT,
     printed: BIDEGREES,
-    page: MINIMAL,
+    page: PAGE,
 };
 
 /// A call with its arguments.
@@ -312,7 +312,7 @@ impl Compare {
                     // `divide` spoils them
                     Spoiled::Quotients | Spoiled::Remainder => {}
                     Spoiled::Printed => self.ours.printed[BIDEGREES] ^= 1,
-                    Spoiled::Page => self.ours.page[MINIMAL] ^= 1,
+                    Spoiled::Page => self.ours.page[PAGE] ^= 1,
                 }
             }
         }

@@ -10,7 +10,7 @@ mod proved;
 
 use common::arguments::{asked, words};
 use common::buffers::{
-    self, row, BIDEGREES, DEGREES, HILBERT, LEAST_WORK, MINIMAL, OUT, ROW, STATE, WORK,
+    self, row, BIDEGREES, DEGREES, HILBERT, LEAST_WORK, OUT, PAGE, ROW, STATE, WORK,
 };
 use common::deep::{deep, on_small_stack, DEEPEST};
 use common::examples::examples;
@@ -396,7 +396,7 @@ impl Lists {
             cache,
             out: self.length(OUT),
             printed: self.length(BIDEGREES),
-            page: MINIMAL,
+            page: PAGE,
         }
     }
 
@@ -435,7 +435,7 @@ impl Lists {
         let (call, room) = match kind {
             0 => (Call::Bidegrees(&file), BIDEGREES),
             1 => (Call::Hilbert(&file), HILBERT),
-            _ => (Call::Minimal(&file), MINIMAL),
+            _ => (Call::Minimal(&file), PAGE),
         };
         let lent = self.lent(WORK, 0);
         let lent = with_room(&call, self.length(room), lent);
@@ -688,7 +688,7 @@ fn weight_lines(lists: &mut Lists) {
         for (call, room) in [
             (Call::Bidegrees(&file), BIDEGREES),
             (Call::Hilbert(&file), HILBERT),
-            (Call::Minimal(&file), MINIMAL),
+            (Call::Minimal(&file), PAGE),
         ] {
             for (state, work, room) in [
                 (STATE - 1, WORK, room),

@@ -44,15 +44,22 @@ pub const SHEET: usize = 1_400_000;
 pub const BIDEGREES: usize = 11 * VECTORS * 23;
 /// That of the Hilbert function: an X line and 512 W lines.
 pub const HILBERT: usize = 29 + 512 * 62;
-/// That of the minimal numbers, as of the Betti page: 20,666 rows and the totals.
-pub const MINIMAL: usize = 73 * (20_666 + 1);
+/// That of the Betti page and of the minimal numbers: 20,666 rows and the totals.
+pub const PAGE: usize = 73 * (20_666 + 1);
+/// That of membership: 1,024 lines and the M line.
+pub const MEMBER: usize = 1_024 * 62 + 4;
+/// That of the completed file: 65,536 bytes, and behind them 512 T lines and an E line.
+pub const COMPLETED: usize = 65_536 + 512 * 68 + 8;
+/// That of a replayed log: 512 lines.
+pub const REPLAY: usize = 512 * 74;
 
 // as the page has them
 const _: () = assert!(ROW == 6 && rows(0) == 1_295 && LEVEL_ROWS == 12_288 && STATE == 125_471);
 const _: () = assert!(DEGREES == 124_175 && carried(0) == 124_191 && carried(9) == 125_343);
 const _: () = assert!(WORK == 3_072 && TREE_WORK == 24_576 && OUT == 3_072 && BIDEGREES == 32_384);
 const _: () = assert!(LEAST_WORK == 192);
-const _: () = assert!(HILBERT == 31_773 && MINIMAL == 1_508_691);
+const _: () = assert!(HILBERT == 31_773 && PAGE == 1_508_691);
+const _: () = assert!(MEMBER == 63_492 && COMPLETED == 100_360 && REPLAY == 37_888);
 
 /// The word that holds how many vectors level k has; the ends of its vectors stand behind it.
 pub const fn count(k: usize) -> usize {

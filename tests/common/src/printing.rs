@@ -1,8 +1,9 @@
-//! A program that prints against the unrelated implementation, file by file: the bytes, what the files met, and how something is spoiled so that the comparison
-//! itself is tried.
+//! What prints against the unrelated implementation, file by file: the bytes, what the files met, and how something is spoiled so that the comparison itself is
+//! tried.
 
-use crate::program::{By, Program};
-use crate::report::{counts, shown, NUMBERS};
+use crate::printer::{self, Printer, Spoil};
+use crate::program::By;
+use crate::report::{counts, differ, NUMBERS};
 use reference::generate::weight_lines::without_weight_lines;
 use reference::reader::read_problem;
 use reference::{Limits, Printed};
@@ -20,77 +21,40 @@ pub const APART: u64 = 4;
 
 /// A test that takes one file after the other.
 pub trait Files {
-    /// One file by both, unless it takes more products than that.
-    fn file_by(&mut self, file: &[u8], budget: u64, by: By);
+    /// One file by the call and the unrelated implementation, unless it takes more products than that; by the program too, where it is said how it gets the
+    /// file, and else some.
+    fn take(&mut self, file: &[u8], budget: u64, by: Option<By>);
+
+    fn file_by(&mut self, file: &[u8], budget: u64, by: By) {
+        self.take(file, budget, Some(by));
+    }
 
     fn file(&mut self, file: &[u8], budget: u64) {
-        self.file_by(file, budget, By::File);
+        self.take(file, budget, None);
     }
 }
 
-/// What may be changed in the bytes that a program wrote.
-#[derive(Clone, Copy, PartialEq, Eq)]
-pub enum Bytes {
-    /// the first one
-    First,
-    /// the last one
-    Last,
-    /// one in the middle
-    Middle,
-    /// a byte less
-    Shorter,
-    /// a byte more
-    Longer,
-    /// a line less
-    Line,
-}
-
-const BYTES: [(&str, Bytes); 6] = [
-    ("first", Bytes::First),
-    ("last", Bytes::Last),
-    ("middle", Bytes::Middle),
-    ("shorter", Bytes::Shorter),
-    ("longer", Bytes::Longer),
-    ("line", Bytes::Line),
-];
-
-impl Bytes {
-    fn spoil(self, written: &mut Vec<u8>) {
-        let middle = written.len() / 2;
-        match self {
-            Bytes::First => written[0] ^= 1,
-            Bytes::Last => *written.last_mut().expect("it prints something") ^= 1,
-            Bytes::Middle => written[middle] ^= 1,
-            Bytes::Shorter => _ = written.pop(),
-            Bytes::Longer => written.push(10),
-            Bytes::Line => {
-                let first = written.iter().position(|byte| *byte == 10);
-                written.drain(..=first.expect("a line"));
-            }
-        }
-    }
-}
-
-/// What `spoil` changes: bytes, or something of the test's own.
+/// What `spoil` changes: an answer, or something of the test's own.
 #[derive(Clone, Copy, PartialEq, Eq)]
 pub enum Spoiled<Own> {
-    Bytes(Bytes),
+    Printed(Spoil),
     Own(Own),
 }
 
 /// All that can be spoiled, by name.
 pub fn spoils<Own: Copy>(own: &[(&'static str, Own)]) -> Vec<(&'static str, Spoiled<Own>)> {
-    let bytes = BYTES.map(|(name, bytes)| (name, Spoiled::Bytes(bytes)));
+    let printed = printer::spoils().into_iter();
+    let printed = printed.map(|(name, spoil)| (name, Spoiled::Printed(spoil)));
     let own = own.iter().map(|(name, own)| (*name, Spoiled::Own(*own)));
-    bytes.into_iter().chain(own).collect()
+    printed.chain(own).collect()
 }
 
-/// The program, and what the files met.
+/// Call and program, and what the files met.
 pub struct Printing<Own> {
     limits: Limits,
-    program: Program,
+    pub printer: Printer,
     expected: Printed,
-    /// runs so far, and files that take too many products
+    /// files so far, and those that take too many products
     pub files: u64,
     pub left_out: u64,
     /// files so far by the number of their X line, 0 where there is none
@@ -109,11 +73,11 @@ pub struct Printing<Own> {
 }
 
 impl<Own: Copy + PartialEq> Printing<Own> {
-    /// The program, what the unrelated implementation prints, and what to spoil.
-    pub fn new(program: Program, expected: Printed, spoil: Option<Spoiled<Own>>) -> Printing<Own> {
+    /// Call and program, what the unrelated implementation prints, and what to spoil.
+    pub fn new(printer: Printer, expected: Printed, spoil: Option<Spoiled<Own>>) -> Printing<Own> {
         Printing {
             limits: Limits::document_01(),
-            program,
+            printer,
             expected,
             files: 0,
             left_out: 0,
@@ -136,21 +100,21 @@ impl<Own: Copy + PartialEq> Printing<Own> {
     }
 
     /// One file of which it is known what is printed; says whether it is not refused.
-    pub fn expect(&mut self, file: &[u8], expected: &[u8], by: By) -> bool {
-        let mut ours = self.program.run(file, by);
-        let spoil = self.spoil.filter(|(from, _)| self.files >= *from);
-        if let Some((_, Spoiled::Bytes(bytes))) = spoil {
-            bytes.spoil(&mut ours);
-        }
+    pub fn expect(&mut self, file: &[u8], expected: &[u8], by: Option<By>) -> bool {
+        let spoil = match self.spoil.filter(|(from, _)| self.files >= *from) {
+            Some((_, Spoiled::Printed(spoil))) => Some(spoil),
+            _ => None,
+        };
+        let ours = self.printer.print(file, by, spoil);
         if ours != expected {
             self.differ(file, "what is printed differs", &ours, expected);
         }
         self.count(file, expected)
     }
 
-    /// What the program writes for a file that counts nowhere.
-    pub fn run(&self, file: &[u8]) -> Vec<u8> {
-        self.program.run(file, By::File)
+    /// What is printed of a file that counts nowhere.
+    pub fn print(&mut self, file: &[u8]) -> Vec<u8> {
+        self.printer.print(file, None, None)
     }
 
     /// Whether to spoil this now.
@@ -186,12 +150,12 @@ impl<Own: Copy + PartialEq> Printing<Own> {
         self.read.is_multiple_of(APART).then_some(bare)
     }
 
-    /// Of such a file the program prints the same bytes without the line.
+    /// Of such a file the same bytes are printed without the line.
     pub fn without_weights(&mut self, file: &[u8], printed: &[u8], own: Own) {
         let Some(bare) = self.without_line(file) else {
             return;
         };
-        let mut plain = self.run(&bare);
+        let mut plain = self.print(&bare);
         if self.spoils(own) {
             plain[0] ^= 1;
         }
@@ -220,16 +184,20 @@ impl<Own: Copy + PartialEq> Printing<Own> {
     /// What every test tells first.
     pub fn report(&self, name: &str, systematic: u64, seed: u64) {
         println!(
-            "{name}: {} files agree byte for byte ({systematic} systematic, {} left out that take more products, seed {seed}); program {}",
+            "{name}: {} files agree byte for byte by the call ({systematic} systematic, {} left out that take more products, seed {seed}); \
+             {} of {} calls also by the program {}",
             self.files,
             self.left_out,
-            self.program.name()
+            self.printer.runs,
+            self.printer.files,
+            self.printer.name()
         );
         println!("  {}", counts(&self.met).join(", "));
     }
 
     /// A run in which something hardly comes tests too little: what every file can meet, these numbers besides, and none of those.
     pub fn enough(&self, besides: &[usize], never: &[usize]) {
+        self.printer.enough();
         let always = [0, 1, 2, 3, 4, 5, 6, 7, 8, 9, 13, 14, 15, 18, 24];
         for number in always.iter().chain(besides) {
             assert!(self.met[*number] >= 10, "number {number} came too seldom");
@@ -253,17 +221,7 @@ impl<Own: Copy + PartialEq> Printing<Own> {
 
     /// Tells what differs, and ends the test.
     pub fn differ(&self, file: &[u8], what: &str, ours: &[u8], expected: &[u8]) -> ! {
-        let at = ours
-            .iter()
-            .zip(expected)
-            .take_while(|(a, b)| a == b)
-            .count();
-        println!("file {} ({} bytes): {what}", self.files, file.len());
-        println!("file: {}", shown(file, 1_000));
-        println!("the same up to byte {at}; from there on");
-        println!("the program: {}", shown(&ours[at..], 1_000));
-        println!("expected: {}", shown(&expected[at..], 1_000));
-        std::process::exit(1);
+        differ(self.files, file, what, ours, expected)
     }
 }
 

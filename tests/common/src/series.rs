@@ -1,4 +1,4 @@
-//! The files that every test of a program that prints takes before random ones.
+//! The files that every test of a call and a program that print takes before random ones.
 
 use crate::files::{changed_at, many_monomials, with_each_field, WRITTEN};
 use crate::printing::{Files, BUDGET, LONG_BUDGET};
@@ -51,7 +51,7 @@ pub fn variables_and_one() -> String {
 }
 
 /// Files of about 65,536 bytes and of about 2,048 T lines; levels and vectors about the longest; products about the largest. Files that lifting stops, or
-/// almost, besides.
+/// almost, besides. All by the program too.
 pub fn at_the_limits(
     test: &mut impl Files,
     random: &mut Random,
@@ -59,41 +59,41 @@ pub fn at_the_limits(
 ) {
     for length in [65_535, 65_536, 65_537] {
         let file = exact_length_file(random, length);
-        test.file(&file, LONG_BUDGET);
-        test.file(&file[..length - 1], LONG_BUDGET);
+        test.file_by(&file, LONG_BUDGET, By::File);
+        test.file_by(&file[..length - 1], LONG_BUDGET, By::File);
         test.file_by(&file, LONG_BUDGET, By::Pipe(4_096));
         // with a G line, which counts for the length
         let weights = random_weights(random, 8);
         let shorter = length - weight_line(&weights).len() - 1;
         let file = with_weights(&exact_length_file(random, shorter), &weights);
         assert_eq!(file.len(), length);
-        test.file(&file, LONG_BUDGET);
-        test.file(&file[..length - 1], LONG_BUDGET);
+        test.file_by(&file, LONG_BUDGET, By::File);
+        test.file_by(&file[..length - 1], LONG_BUDGET, By::File);
     }
     test.file_by(&vec![b'\n'; 70_000], LONG_BUDGET, By::Pipe(65_536));
     for lines in [2_047, 2_048, 2_049] {
         for _ in 0..5 {
             let file = exact_t_lines_file(random, lines);
-            test.file(&file, LONG_BUDGET);
-            test.file(&with_random_weights(random, &file), LONG_BUDGET);
+            test.file_by(&file, LONG_BUDGET, By::File);
+            test.file_by(&with_random_weights(random, &file), LONG_BUDGET, By::File);
         }
     }
     for _ in 0..50 {
         for problem in [large_product(random), graded_tails(random)] {
-            test.file(&problem_file(&problem), LONG_BUDGET);
+            test.file_by(&problem_file(&problem), LONG_BUDGET, By::File);
             let mixed = with_mixed_elements(random, problem);
-            test.file(&problem_file(&mixed), LONG_BUDGET);
+            test.file_by(&problem_file(&mixed), LONG_BUDGET, By::File);
         }
-        test.file(&stopped(random), LONG_BUDGET);
+        test.file_by(&stopped(random), LONG_BUDGET, By::File);
         let file = problem_file(&many_monomials(random));
-        test.file(&with_random_weights(random, &file), LONG_BUDGET);
+        test.file_by(&with_random_weights(random, &file), LONG_BUDGET, By::File);
         let file = limit_file(random);
-        test.file(&file, LONG_BUDGET);
-        test.file(&with_random_weights(random, &file), LONG_BUDGET);
+        test.file_by(&file, LONG_BUDGET, By::File);
+        test.file_by(&with_random_weights(random, &file), LONG_BUDGET, By::File);
     }
 }
 
-/// What one element alone has, in every place, of as many elements and of more.
+/// What one element alone has, in every place, of as many elements and of more. All by the program too.
 pub fn every_place(
     test: &mut impl Files,
     random: &mut Random,
@@ -102,7 +102,7 @@ pub fn every_place(
     for first in 1..=64 {
         for count in [first.max(2), random.between(first.max(2), 64), 64] {
             let problem = with_one(random, count, first);
-            test.file(&problem_file(&problem), BUDGET);
+            test.file_by(&problem_file(&problem), BUDGET, By::File);
         }
     }
 }

@@ -1,14 +1,18 @@
-//! One file through the program and the unrelated implementation: the bytes. Beside them what a completed file promises.
+//! One file through the call, the program and the unrelated implementation: the bytes. Beside them what a completed file promises.
 
 use crate::module::{added_rightly, same_module};
+use common::buffers::COMPLETED;
+use common::call::Call;
+use common::printer::Printer;
 use common::printing::{Files, Printing, Spoiled};
 use common::program::{By, Program};
 use reference::completing::complete;
 use reference::monomial::{Monomial, Term, UNIT};
 use reference::reader::read_problem;
 use reference::Limits;
+use tagetessash::calls;
 
-/// What `spoil` changes besides bytes that the program wrote.
+/// What `spoil` changes besides an answer.
 #[derive(Clone, Copy, PartialEq, Eq)]
 pub enum Own {
     /// an added element becomes 1 in the last component
@@ -34,10 +38,10 @@ pub const SPOILS: [(&str, Own); 6] = [
     ("again", Own::Again),
 ];
 
-/// Of the completed files one in so many goes through the program again.
+/// Of the completed files one in so many is completed again.
 const AGAIN: u64 = 8;
 
-/// The program, and what the files have.
+/// Call and program, and what the files have.
 pub struct Compare {
     pub printing: Printing<Own>,
     limits: Limits,
@@ -60,9 +64,9 @@ pub struct Compare {
 }
 
 impl Files for Compare {
-    fn file_by(&mut self, file: &[u8], budget: u64, by: By) {
+    fn take(&mut self, file: &[u8], budget: u64, by: Option<By>) {
         if let Some(expected) = self.printing.expected(file, budget) {
-            self.expect(file, &expected, by);
+            self.held(file, &expected, by);
         }
     }
 }
@@ -75,10 +79,11 @@ fn before_end(file: &[u8]) -> &[u8] {
 }
 
 impl Compare {
-    pub fn new(spoil: Option<Spoiled<Own>>) -> Compare {
-        let program = Program::new("complete", "COMPLETE");
+    pub fn new(seed: u64, spoil: Option<Spoiled<Own>>) -> Compare {
+        let call = Call::new(calls::completed, COMPLETED, seed);
+        let printer = Printer::new(call, Program::new("complete", "COMPLETE"));
         Compare {
-            printing: Printing::new(program, complete, spoil),
+            printing: Printing::new(printer, complete, spoil),
             limits: Limits::document_01(),
             unchanged: 0,
             longer: 0,
@@ -96,6 +101,10 @@ impl Compare {
 
     /// One file of which it is known what is printed.
     pub fn expect(&mut self, file: &[u8], expected: &[u8], by: By) {
+        self.held(file, expected, Some(by));
+    }
+
+    fn held(&mut self, file: &[u8], expected: &[u8], by: Option<By>) {
         if !self.printing.expect(file, expected, by) {
             return;
         }
@@ -113,7 +122,7 @@ impl Compare {
         }
         self.promises(file, expected);
         if self.longer.is_multiple_of(AGAIN) || self.printing.spoils(Own::Again) {
-            let mut again = self.printing.run(expected);
+            let mut again = self.printing.print(expected);
             if self.printing.spoils(Own::Again) {
                 again[0] ^= 1;
             }

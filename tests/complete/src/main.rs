@@ -1,10 +1,12 @@
-//! The program that completes a basis against the unrelated implementation, byte for byte: on generators, Gröbner bases with elements left out, files at every
-//! limit that an addition can pass, damaged files and the files of examples/. Of each completed file that no line before E is changed, what was added is monic
-//! and divided by nothing before it, and, by a plain Buchberger that shares nothing with the program, that it is a Gröbner basis of the same module.
+//! A basis completed against the unrelated implementation, byte for byte: the proved call on generators, Gröbner bases with elements left out, files at every
+//! limit that an addition can pass, damaged files and the files of examples/; and the program that people run, on those by hand, of examples/, at the limits, and
+//! on one in ten of the others. Of each completed file that no line before E is changed, what was added is monic and divided by nothing before it, and, by a
+//! plain Buchberger that shares nothing with the engine, that it is a Gröbner basis of the same module.
 //!
 //!     test-complete [FILES [SEED]]     at least so many files (20,000 without it)
-//!     test-complete spoil first|last|middle|shorter|longer|line|other|fewer|double|twice|given|again
-//!                                      spoils what the program printed, once: the run must find it and exit with 1
+//!     test-complete spoil [program] first|last|middle|shorter|longer|line
+//!     test-complete spoil number|behind|state|work|other|fewer|double|twice|given|again
+//!                                      spoils one answer of the call or of the program: the run must find it and exit with 1
 //!
 //! The program is target/bin/complete, or what the environment variable COMPLETE says.
 
@@ -31,7 +33,7 @@ const GIVEN: &str = "R,7,2,1,1\nD,5\nG,1,2,3,4\nT,1,1,1,2,0\nT,2,1,1,1,1\nT,2,1,
 
 fn main() {
     let (mut wanted, seed, spoil) = asked(&words(), "files", (FILES, SEED), &spoils(&SPOILS));
-    let mut compare = Compare::new(spoil);
+    let mut compare = Compare::new(seed, spoil);
     let mut random = Random::new(seed);
     if spoil.is_some() {
         wanted = 400;
@@ -42,7 +44,8 @@ fn main() {
         one_more_and_one_less(&mut compare);
         for (_, file) in examples() {
             compare.file_by(&file, EXAMPLE_BUDGET, By::Pipe(1_000));
-            compare.file(&with_random_weights(&mut random, &file), EXAMPLE_BUDGET);
+            let weights = with_random_weights(&mut random, &file);
+            compare.file_by(&weights, EXAMPLE_BUDGET, By::File);
         }
         at_the_limits(&mut compare, &mut random, stopped_file);
     }
@@ -89,6 +92,7 @@ fn report(compare: &Compare, systematic: u64, seed: u64) {
 /// A run in which something hardly comes tests too little.
 fn enough(compare: &Compare) {
     let printing = &compare.printing;
+    printing.printer.enough();
     for number in [0, 1, 2, 3, 4, 5, 6, 7, 8, 13, 14, 15, 18, 19, 24] {
         assert!(
             printing.met[number] >= 10,
@@ -187,7 +191,7 @@ fn of_length(bytes: usize) -> Vec<u8> {
 /// The 65th element, the 2,049th T line and the 65,537th byte, about where they come.
 fn one_more_and_one_less(compare: &mut Compare) {
     for others in 58..=62 {
-        compare.file(stuffed(others).as_bytes(), LONG_BUDGET);
+        compare.file_by(stuffed(others).as_bytes(), LONG_BUDGET, By::File);
     }
     compare.expect(stuffed(62).as_bytes(), b"X,19,65\n", By::File);
     for (head, line) in [
@@ -195,7 +199,8 @@ fn one_more_and_one_less(compare: &mut Compare) {
         ("D,1,2\n", 2_051),
         ("D,1,2\nG,1,1,1,1,1,1,1,1,1,1,1,1,1,1,1,1\n", 2_052),
     ] {
-        compare.file(long(2_044, head, false).as_bytes(), LONG_BUDGET);
+        let longest = long(2_044, head, false);
+        compare.file_by(longest.as_bytes(), LONG_BUDGET, By::File);
         let refused = format!("X,8,{line}\n");
         compare.expect(
             long(2_045, head, false).as_bytes(),
@@ -204,7 +209,7 @@ fn one_more_and_one_less(compare: &mut Compare) {
         );
     }
     for length in 65_500..=65_540 {
-        compare.file(&of_length(length), LONG_BUDGET);
+        compare.file_by(&of_length(length), LONG_BUDGET, By::File);
     }
     // the line that is added has 24 bytes
     for length in [65_513, 65_536, 65_537] {

@@ -1,7 +1,10 @@
-//! One file through the program and the unrelated implementation: the bytes of the lines. Beside them the values as a count of monomials from the file's text
-//! gives them, and what the program prints of a file with a G line without it.
+//! One file through the call, the program and the unrelated implementation: the bytes of the lines. Beside them the values as a count of monomials from the
+//! file's text gives them, and what is printed of a file with a G line without it.
 
 use crate::count::Leads;
+use common::buffers::HILBERT;
+use common::call::Call;
+use common::printer::Printer;
 use common::printing::{Files, Printing, Spoiled};
 use common::program::{By, Program};
 use reference::generate::pages::is_graded;
@@ -9,8 +12,9 @@ use reference::hilbert::hilbert;
 use reference::reader::{read_problem, Problem};
 use reference::Limits;
 use std::collections::BTreeSet;
+use tagetessash::calls;
 
-/// What `spoil` changes besides bytes that the program wrote.
+/// What `spoil` changes besides an answer.
 #[derive(Clone, Copy, PartialEq, Eq)]
 pub enum Own {
     /// a value that is held to the count
@@ -25,7 +29,7 @@ pub const SPOILS: [(&str, Own); 2] = [("counted", Own::Counted), ("without", Own
 const COUNTED: usize = 12_000;
 const MORE_COUNTED: usize = 80_000;
 
-/// The program, and what the lines have.
+/// Call and program, and what the lines have.
 pub struct Compare {
     pub printing: Printing<Own>,
     /// files with lines: by the number of variables, with an element of two degrees, with several components
@@ -46,18 +50,19 @@ pub struct Compare {
 }
 
 impl Files for Compare {
-    fn file_by(&mut self, file: &[u8], budget: u64, by: By) {
+    fn take(&mut self, file: &[u8], budget: u64, by: Option<By>) {
         if let Some(expected) = self.printing.expected(file, budget) {
-            self.expect(file, &expected, by);
+            self.held(file, &expected, by);
         }
     }
 }
 
 impl Compare {
-    pub fn new(spoil: Option<Spoiled<Own>>) -> Compare {
-        let program = Program::new("hilbert", "HILBERT");
+    pub fn new(seed: u64, spoil: Option<Spoiled<Own>>) -> Compare {
+        let call = Call::new(calls::hilbert, HILBERT, seed);
+        let printer = Printer::new(call, Program::new("hilbert", "HILBERT"));
         Compare {
-            printing: Printing::new(program, hilbert, spoil),
+            printing: Printing::new(printer, hilbert, spoil),
             variables: [0; 9],
             mixed: 0,
             modules: 0,
@@ -74,6 +79,10 @@ impl Compare {
 
     /// One file whose lines are known.
     pub fn expect(&mut self, file: &[u8], expected: &[u8], by: By) {
+        self.held(file, expected, Some(by));
+    }
+
+    fn held(&mut self, file: &[u8], expected: &[u8], by: Option<By>) {
         let has_lines = self.printing.expect(file, expected, by);
         self.printing.without_weights(file, expected, Own::Without);
         if has_lines {

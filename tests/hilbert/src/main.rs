@@ -1,9 +1,11 @@
-//! The program that prints the Hilbert function against the unrelated implementation, byte for byte: on generated and damaged files, on the files of examples/,
-//! the instances and files about the longest. Values also against a count of monomials from the file's text alone, and files with a G line also without it.
+//! The Hilbert function against the unrelated implementation, byte for byte: the proved call on generated and damaged files, on the files of examples/, the
+//! instances and files about the longest; and the program that people run, on all but the generated and damaged ones and on one in ten of these. Values also
+//! against a count of monomials from the file's text alone, and files with a G line also without it.
 //!
-//!     test-hilbert [FILES [SEED]]      at least so many files (10,000 without it)
-//!     test-hilbert spoil first|last|middle|shorter|longer|line|counted|without
-//!                                      spoils what the program printed, once: the run must find it and exit with 1
+//!     test-hilbert [FILES [SEED]]      at least so many files (20,000 without it)
+//!     test-hilbert spoil [program] first|last|middle|shorter|longer|line
+//!     test-hilbert spoil number|behind|state|work|counted|without
+//!                                      spoils one answer of the call or of the program: the run must find it and exit with 1
 //!
 //! The program is target/bin/hilbert, or what the environment variable HILBERT says.
 
@@ -31,12 +33,12 @@ use reference::generate::weight_lines::{
 use reference::random::Random;
 use std::path::Path;
 
-const FILES: u64 = 10_000;
+const FILES: u64 = 20_000;
 const SEED: u64 = 20_261_301;
 
 fn main() {
     let (mut wanted, seed, spoil) = asked(&words(), "files", (FILES, SEED), &spoils(&SPOILS));
-    let mut compare = Compare::new(spoil);
+    let mut compare = Compare::new(seed, spoil);
     let mut random = Random::new(seed);
     if spoil.is_some() {
         wanted = 400;
@@ -48,7 +50,8 @@ fn main() {
         every_spoiled_line(&mut compare, &mut random);
         for (_, file) in examples() {
             compare.file_by(&file, EXAMPLE_BUDGET, By::Pipe(1_000));
-            compare.file(&with_random_weights(&mut random, &file), EXAMPLE_BUDGET);
+            let weights = with_random_weights(&mut random, &file);
+            compare.file_by(&weights, EXAMPLE_BUDGET, By::File);
         }
         at_the_limits(&mut compare, &mut random, stopped_file);
         // an element of two degrees, where the Betti page has 17
@@ -119,7 +122,7 @@ fn instances(compare: &mut Compare) {
     let folder = Path::new(env!("CARGO_MANIFEST_DIR")).join("../sheet/instances");
     let mut kept = 0;
     for (name, file) in files_of(&folder) {
-        compare.file(&file, BUDGET);
+        compare.file_by(&file, BUDGET, By::File);
         if let Ok(lines) = std::fs::read(folder.join(format!("{name}.hilbert"))) {
             for by in [By::File, By::Pipe(1), By::Pipe(65_536)] {
                 compare.expect(&file, &lines, by);

@@ -1,11 +1,15 @@
-//! One input through the program and the unrelated implementation: the bytes of the lines. Beside them what they say, applied to the input's text.
+//! One input through the call, the program and the unrelated implementation: the bytes of the lines. Beside them what they say, applied to the input's text.
 
 use crate::apply::Divided;
+use common::buffers::MEMBER;
+use common::call::Call;
+use common::printer::Printer;
 use common::printing::{Files, Printing, Spoiled};
 use common::program::{By, Program};
 use reference::membership::membership;
+use tagetessash::calls;
 
-/// What `spoil` changes besides bytes that the program wrote.
+/// What `spoil` changes besides an answer.
 #[derive(Clone, Copy, PartialEq, Eq)]
 pub enum Own {
     /// a coefficient of what is applied
@@ -14,7 +18,7 @@ pub enum Own {
 
 pub const SPOILS: [(&str, Own); 1] = [("back", Own::Back)];
 
-/// The program, and what the lines have.
+/// Call and program, and what the lines have.
 pub struct Compare {
     pub printing: Printing<Own>,
     /// inputs that were divided: without a remainder and with one; those without V lines, and of several components
@@ -31,18 +35,19 @@ pub struct Compare {
 }
 
 impl Files for Compare {
-    fn file_by(&mut self, file: &[u8], budget: u64, by: By) {
+    fn take(&mut self, file: &[u8], budget: u64, by: Option<By>) {
         if let Some(expected) = self.printing.expected(file, budget) {
-            self.expect(file, &expected, by);
+            self.held(file, &expected, by);
         }
     }
 }
 
 impl Compare {
-    pub fn new(spoil: Option<Spoiled<Own>>) -> Compare {
-        let program = Program::new("member", "MEMBER");
+    pub fn new(seed: u64, spoil: Option<Spoiled<Own>>) -> Compare {
+        let call = Call::new(calls::member, MEMBER, seed);
+        let printer = Printer::new(call, Program::new("member", "MEMBER"));
         Compare {
-            printing: Printing::new(program, membership, spoil),
+            printing: Printing::new(printer, membership, spoil),
             members: 0,
             others: 0,
             nothing: 0,
@@ -56,6 +61,10 @@ impl Compare {
 
     /// One input whose lines are known.
     pub fn expect(&mut self, input: &[u8], expected: &[u8], by: By) {
+        self.held(input, expected, Some(by));
+    }
+
+    fn held(&mut self, input: &[u8], expected: &[u8], by: Option<By>) {
         if !self.printing.expect(input, expected, by) {
             return;
         }

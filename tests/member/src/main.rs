@@ -1,10 +1,12 @@
-//! The program that divides a vector by the elements of a file against the unrelated implementation, byte for byte: on files with V lines, right and damaged,
-//! combinations of the elements and others, at every limit, on the files of examples/ and with many bytes behind the last line. Of each division the quotients
-//! applied to the elements plus the remainder give the vector back, by arithmetic on the input's text alone.
+//! A vector divided by the elements of a file against the unrelated implementation, byte for byte: the proved call on files with V lines, right and damaged,
+//! combinations of the elements and others, at every limit, on the files of examples/ and with many bytes behind the last line; and the program that people
+//! run, on those by hand, of examples/ and the long ones, and on one in ten of the others. Of each division the quotients applied to the elements plus the
+//! remainder give the vector back, by arithmetic on the input's text alone.
 //!
 //!     test-member [INPUTS [SEED]]      at least so many inputs (20,000 without it)
-//!     test-member spoil first|last|middle|shorter|longer|line|back
-//!                                      spoils what the program printed, once: the run must find it and exit with 1
+//!     test-member spoil [program] first|last|middle|shorter|longer|line
+//!     test-member spoil number|behind|state|work|back
+//!                                      spoils one answer of the call or of the program: the run must find it and exit with 1
 //!
 //! The program is target/bin/member, or what the environment variable MEMBER says.
 
@@ -34,7 +36,7 @@ const PRINTED: &str = "R,7,2,1,1\nT,1,1,1,1,0\nT,1,1,1,0,1\nT,2,1,1,0,2\nT,2,1,1
 
 fn main() {
     let (mut wanted, seed, spoil) = asked(&words(), "inputs", (INPUTS, SEED), &spoils(&SPOILS));
-    let mut compare = Compare::new(spoil);
+    let mut compare = Compare::new(seed, spoil);
     let mut random = Random::new(seed);
     if spoil.is_some() {
         wanted = 400;
@@ -87,6 +89,7 @@ fn report(compare: &Compare, systematic: u64, seed: u64) {
 /// A run in which something hardly comes tests too little.
 fn enough(compare: &Compare) {
     let printing = &compare.printing;
+    printing.printer.enough();
     for number in [0, 1, 2, 3, 4, 5, 6, 7, 9, 13, 14, 23] {
         assert!(
             printing.met[number] >= 10,
@@ -197,9 +200,9 @@ fn over_examples(compare: &mut Compare, random: &mut Random) {
             compare.file_by(&input, EXAMPLE_BUDGET, by);
             let mut damaged = input;
             damage_behind(random, &mut damaged);
-            compare.file(&damaged, EXAMPLE_BUDGET);
+            compare.file_by(&damaged, EXAMPLE_BUDGET, By::File);
         }
-        compare.file(&file, EXAMPLE_BUDGET);
+        compare.file_by(&file, EXAMPLE_BUDGET, By::File);
     }
 }
 
@@ -207,21 +210,21 @@ fn over_examples(compare: &mut Compare, random: &mut Random) {
 fn long_inputs(compare: &mut Compare, random: &mut Random) {
     for length in [65_535, 65_536, 65_537] {
         let mut input = exact_length_file(random, length);
-        compare.file(&input, LONG_BUDGET);
+        compare.file_by(&input, LONG_BUDGET, By::File);
         input.extend(b"V,1,16,0,0,0,0,0,0,0,0\n");
-        compare.file(&input, LONG_BUDGET);
+        compare.file_by(&input, LONG_BUDGET, By::File);
         compare.file_by(&input, LONG_BUDGET, By::Pipe(4_096));
         input.resize(300_000, b'V');
         compare.file_by(&input, LONG_BUDGET, By::Pipe(65_536));
     }
     for _ in 0..200 {
-        compare.file(&limit_input(random), LONG_BUDGET);
+        compare.file_by(&limit_input(random), LONG_BUDGET, By::File);
     }
     for byte in *b"\nV,0E" {
         let mut input = PRINTED.as_bytes().to_vec();
         input.resize(400_000, byte);
-        compare.file(&input, BUDGET);
+        compare.file_by(&input, BUDGET, By::File);
         compare.file_by(&input, BUDGET, By::Pipe(4_096));
-        compare.file(&input[PRINTED.len()..], BUDGET);
+        compare.file_by(&input[PRINTED.len()..], BUDGET, By::File);
     }
 }

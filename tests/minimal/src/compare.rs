@@ -1,7 +1,11 @@
-//! One file through the program and the unrelated implementation: the page's bytes. Beside them the program of the Betti page: the same labels, no number above
-//! the page's, and in each degree what ranks can take away; what the program prints of the same module with more elements, and of a file without its G line.
+//! One file through the call, the program and the unrelated implementation: the page's bytes. Beside them the Betti page, by call and by program: the same
+//! labels, no number above the page's, and in each degree what ranks can take away; what is printed of the same module with more elements, and of a file
+//! without its G line.
 
+use common::buffers::PAGE;
+use common::call::Call;
 use common::pages::{by_degree, labels, totals, Numbers, COLUMNS};
+use common::printer::Printer;
 use common::printing::{Files, Printing, Spoiled};
 use common::program::{By, Program};
 use reference::generate::problems::problem_file;
@@ -11,8 +15,9 @@ use reference::random::Random;
 use reference::reader::{read_problem, Problem};
 use reference::Limits;
 use std::collections::BTreeSet;
+use tagetessash::calls;
 
-/// What `spoil` changes besides bytes that the program wrote.
+/// What `spoil` changes besides an answer.
 #[derive(Clone, Copy, PartialEq, Eq)]
 pub enum Own {
     /// a label of a Betti page
@@ -38,16 +43,16 @@ pub const SPOILS: [(&str, Own); 6] = [
     ("without", Own::Without),
 ];
 
-/// Of the files that are refused one in so many is also given to the program of the Betti page, and of the others one in so many gets more elements.
+/// Of the files that are refused one in so many also gets its Betti page printed, and of the others one in so many gets more elements.
 const REFUSED_APART: u64 = 4;
 const MORE_APART: u64 = 8;
 
-/// The programs, and what the pages have.
+/// Calls and programs, and what the pages have.
 pub struct Compare {
     limits: Limits,
     random: Random,
     pub printing: Printing<Own>,
-    betti: Program,
+    betti: Printer,
     /// pages with a number below the Betti page's, and with none above zero
     pub less: u64,
     pub dashes: u64,
@@ -68,26 +73,28 @@ pub struct Compare {
     pub longest: usize,
     /// pages of the same module with more elements
     pub more: u64,
-    /// refused files that the program of the Betti page refuses alike
+    /// refused files whose Betti page is refused alike
     pub refused: u64,
 }
 
 impl Files for Compare {
-    fn file_by(&mut self, file: &[u8], budget: u64, by: By) {
+    fn take(&mut self, file: &[u8], budget: u64, by: Option<By>) {
         if let Some(expected) = self.printing.expected(file, budget) {
-            self.expect(file, &expected, by);
+            self.held(file, &expected, by);
         }
     }
 }
 
 impl Compare {
     pub fn new(seed: u64, spoil: Option<Spoiled<Own>>) -> Compare {
-        let program = Program::new("minimal", "MINIMAL");
+        let call = Call::new(calls::minimal, PAGE, seed);
+        let printer = Printer::new(call, Program::new("minimal", "MINIMAL"));
+        let pages = Call::new(calls::betti, PAGE, seed);
         Compare {
             limits: Limits::document_01(),
             random: Random::new(seed),
-            printing: Printing::new(program, minimal, spoil),
-            betti: Program::new("betti_numbers", "BETTI"),
+            printing: Printing::new(printer, minimal, spoil),
+            betti: Printer::new(pages, Program::new("betti_numbers", "BETTI")),
             less: 0,
             dashes: 0,
             entered: [0; COLUMNS],
@@ -107,6 +114,10 @@ impl Compare {
 
     /// One file whose page is known.
     pub fn expect(&mut self, file: &[u8], expected: &[u8], by: By) {
+        self.held(file, expected, Some(by));
+    }
+
+    fn held(&mut self, file: &[u8], expected: &[u8], by: Option<By>) {
         let has_page = self.printing.expect(file, expected, by);
         self.printing.without_weights(file, expected, Own::Without);
         if !has_page {
@@ -126,7 +137,7 @@ impl Compare {
         if !self.printing.files.is_multiple_of(REFUSED_APART) {
             return;
         }
-        let mut page = self.betti.run(file, By::File);
+        let mut page = self.betti.print(file, None, None);
         if self.printing.spoils(Own::Refused) {
             page[0] ^= 1;
         }
@@ -140,7 +151,7 @@ impl Compare {
     /// "In the layout and the rows of the file's Betti page"; each number is the page's less the rank of the matrix that leaves the column, which is known from
     /// the column before, and less that of the one that enters it.
     fn beside(&mut self, file: &[u8], problem: &Problem, printed: &[u8], numbers: &Numbers) {
-        let page = self.betti.run(file, By::File);
+        let page = self.betti.print(file, None, None);
         if page.starts_with(b"X") {
             let what = "the Betti page is refused, the minimal numbers are not";
             self.printing.differ(file, what, printed, &page);
@@ -235,7 +246,7 @@ impl Compare {
         let Some(expected) = minimal(&self.limits, &other, Some(60_000)).0 else {
             return;
         };
-        let page = self.printing.run(&other);
+        let page = self.printing.print(&other);
         if page != expected {
             let what = "what is printed of the file with more elements differs";
             self.printing.differ(&other, what, &page, &expected);

@@ -1,9 +1,11 @@
-//! The program that prints minimal Betti numbers against the unrelated implementation, byte for byte: on generated and damaged files, the files of examples/,
-//! the instances and files about the longest. Beside it the program of the Betti page; the same module with more elements; files with a G line without it.
+//! Minimal Betti numbers against the unrelated implementation, byte for byte: the proved call on generated and damaged files, the files of examples/, the
+//! instances and files about the longest; and the program that people run, on all but the generated and damaged ones and on one in ten of these. Beside them
+//! the Betti page, of one in ten by program too; the same module with more elements; files with a G line without it.
 //!
-//!     test-minimal [FILES [SEED]]      at least so many files (10,000 without it)
-//!     test-minimal spoil first|last|middle|shorter|longer|line|label|above|rank|more|refused|without
-//!                                      spoils what a program printed, once: the run must find it and exit with 1
+//!     test-minimal [FILES [SEED]]      at least so many files (20,000 without it)
+//!     test-minimal spoil [program] first|last|middle|shorter|longer|line
+//!     test-minimal spoil number|behind|state|work|label|above|rank|more|refused|without
+//!                                      spoils one answer of a call or of a program: the run must find it and exit with 1
 //!
 //! The programs are target/bin/minimal and betti_numbers, or what the environment variables MINIMAL and BETTI say.
 
@@ -26,7 +28,7 @@ use reference::generate::weight_lines::with_random_weights;
 use reference::random::Random;
 use std::path::Path;
 
-const FILES: u64 = 10_000;
+const FILES: u64 = 20_000;
 const SEED: u64 = 20_260_701;
 
 /// x·e_1 + e_2 and y·e_2, the components of degrees 0 and 1, and the first of them again: constants in two columns.
@@ -46,7 +48,8 @@ fn main() {
         every_change_of(CONSTANTS, &mut compare, 7, 7);
         for (_, file) in examples() {
             compare.file_by(&file, EXAMPLE_BUDGET, By::Pipe(1_000));
-            compare.file(&with_random_weights(&mut random, &file), EXAMPLE_BUDGET);
+            let weights = with_random_weights(&mut random, &file);
+            compare.file_by(&weights, EXAMPLE_BUDGET, By::File);
         }
         large_matrices(&mut compare, &mut random);
         at_the_limits(&mut compare, &mut random, stopped_file);
@@ -123,7 +126,7 @@ fn instances(compare: &mut Compare) {
     let folder = Path::new(env!("CARGO_MANIFEST_DIR")).join("../sheet/instances");
     let mut kept = 0;
     for (name, file) in files_of(&folder) {
-        compare.file(&file, BUDGET);
+        compare.file_by(&file, BUDGET, By::File);
         if let Ok(page) = std::fs::read(folder.join(format!("{name}.minimal"))) {
             for by in ALL {
                 compare.expect(&file, &page, by);
@@ -178,7 +181,7 @@ fn printed(compare: &mut Compare) {
         let file = format!(
             "R,7,8,{order},2\nD,255,0\nT,1,1,1{large}\nT,2,1,2{unit}\nT,3,1,2{unit}\nE,3\n"
         );
-        compare.file(file.as_bytes(), BUDGET);
+        compare.file_by(file.as_bytes(), BUDGET, By::File);
     }
 }
 
@@ -226,7 +229,7 @@ fn large_matrices(compare: &mut Compare, random: &mut Random) {
                     }
                 }
                 file.push_str(&format!("E,{lines}\n"));
-                compare.file(file.as_bytes(), LONG_BUDGET);
+                compare.file_by(file.as_bytes(), LONG_BUDGET, By::File);
             }
             let mut file = format!("R,{p},1,{order},1\n");
             for number in 1..=64 {
@@ -234,7 +237,7 @@ fn large_matrices(compare: &mut Compare, random: &mut Random) {
                 file.push_str(&format!("T,{number},{by},1,1\n"));
             }
             file.push_str("E,64\n");
-            compare.file(file.as_bytes(), LONG_BUDGET);
+            compare.file_by(file.as_bytes(), LONG_BUDGET, By::File);
         }
     }
     for n in 2..=8 {
@@ -259,7 +262,7 @@ fn large_matrices(compare: &mut Compare, random: &mut Random) {
                 line(&|z| u64::from(z == x));
             }
             file.push_str(&format!("E,{number}\n"));
-            compare.file(file.as_bytes(), LONG_BUDGET);
+            compare.file_by(file.as_bytes(), LONG_BUDGET, By::File);
         }
     }
 }

@@ -1,6 +1,9 @@
-//! One input through the program and the unrelated implementation: the bytes of the vector or of the refusal. Beside them the same vector as the tree lifts it,
-//! which picks nothing.
+//! One input through the call, the program and the unrelated implementation: the bytes of the vector or of the refusal. Beside them the same vector as the tree
+//! lifts it, which picks nothing.
 
+use common::buffers::REPLAY;
+use common::call::Call;
+use common::printer::Printer;
 use common::printing::{Files, Printing, Spoiled, LONG_BUDGET};
 use common::program::{By, Program};
 use reference::behind::split;
@@ -9,8 +12,9 @@ use reference::lifting::Way;
 use reference::reader::read_problem;
 use reference::replay::replay;
 use reference::Limits;
+use tagetessash::calls;
 
-/// What `spoil` changes besides bytes that the program wrote.
+/// What `spoil` changes besides an answer.
 #[derive(Clone, Copy, PartialEq, Eq)]
 pub enum Own {
     /// a byte of the tree's vector
@@ -22,7 +26,7 @@ pub const SPOILS: [(&str, Own); 1] = [("tree", Own::Tree)];
 /// Rows of the tree's cache: enough for every subtree.
 const CACHE: u64 = 1_000_000;
 
-/// The program, and what the logs have.
+/// Call and program, and what the logs have.
 pub struct Compare {
     pub printing: Printing<Own>,
     /// logs that were taken, by level
@@ -39,18 +43,19 @@ pub struct Compare {
 }
 
 impl Files for Compare {
-    fn file_by(&mut self, file: &[u8], budget: u64, by: By) {
+    fn take(&mut self, file: &[u8], budget: u64, by: Option<By>) {
         if let Some(expected) = self.printing.expected(file, budget) {
-            self.expect(file, &expected, by);
+            self.held(file, &expected, by);
         }
     }
 }
 
 impl Compare {
-    pub fn new(spoil: Option<Spoiled<Own>>) -> Compare {
-        let program = Program::new("replay", "REPLAY");
+    pub fn new(seed: u64, spoil: Option<Spoiled<Own>>) -> Compare {
+        let call = Call::new(calls::replay, REPLAY, seed);
+        let printer = Printer::new(call, Program::new("replay", "REPLAY"));
         Compare {
-            printing: Printing::new(program, replay, spoil),
+            printing: Printing::new(printer, replay, spoil),
             levels: [0; 10],
             picks: 0,
             short: 0,
@@ -62,6 +67,10 @@ impl Compare {
 
     /// One input of which it is known what is printed.
     pub fn expect(&mut self, input: &[u8], expected: &[u8], by: By) {
+        self.held(input, expected, Some(by));
+    }
+
+    fn held(&mut self, input: &[u8], expected: &[u8], by: Option<By>) {
         if !self.printing.expect(input, expected, by) {
             return;
         }

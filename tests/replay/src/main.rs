@@ -1,9 +1,11 @@
-//! The program that replays recorded picks against the unrelated implementation, byte for byte: logs of every pick code and of random picks at every level,
-//! each damaged in every way, logs at every limit, over the files of examples/ and with many bytes behind the last line. Each vector is the tree's, too.
+//! Recorded picks replayed against the unrelated implementation, byte for byte: the proved call on logs of every pick code and of random picks at every level,
+//! each damaged in every way, logs at every limit, over the files of examples/ and with many bytes behind the last line; and the program that people run, on
+//! those by hand, of every level, of examples/ and the long ones, and on one in ten of the others. Each vector is the tree's, too.
 //!
 //!     test-replay [INPUTS [SEED]]      at least so many inputs (20,000 without it)
-//!     test-replay spoil first|last|middle|shorter|longer|line|tree
-//!                                      spoils what the program printed, once: the run must find it and exit with 1
+//!     test-replay spoil [program] first|last|middle|shorter|longer|line
+//!     test-replay spoil number|behind|state|work|tree
+//!                                      spoils one answer of the call or of the program: the run must find it and exit with 1
 //!
 //! The program is target/bin/replay, or what the environment variable REPLAY says.
 
@@ -32,7 +34,7 @@ const SLOW: &str = include_str!("../../slow/fibonacci.txt");
 
 fn main() {
     let (mut wanted, seed, spoil) = asked(&words(), "inputs", (INPUTS, SEED), &spoils(&SPOILS));
-    let mut compare = Compare::new(spoil);
+    let mut compare = Compare::new(seed, spoil);
     let mut random = Random::new(seed);
     if spoil.is_some() {
         wanted = 400;
@@ -52,7 +54,7 @@ fn main() {
         if random.chance(3) {
             damage_some(&mut random, &mut input);
         }
-        compare.file(&input, LONG_BUDGET);
+        compare.file_by(&input, LONG_BUDGET, By::File);
     }
     report(&compare, systematic, seed);
     if wanted >= INPUTS / 2 {
@@ -82,6 +84,7 @@ fn report(compare: &Compare, systematic: u64, seed: u64) {
 /// A run in which something hardly comes tests too little.
 fn enough(compare: &Compare) {
     let printing = &compare.printing;
+    printing.printer.enough();
     for number in [0, 1, 2, 3, 4, 5, 6, 7, 9, 12, 13, 14, 21, 22] {
         assert!(
             printing.met[number] >= 10,
@@ -203,16 +206,16 @@ fn every_level(compare: &mut Compare, random: &mut Random) {
     for level in 1..=8 {
         for _ in 0..3 {
             let log = recorded_at(random, &file, level).expect("the level has vectors");
-            compare.file(&log, EXAMPLE_BUDGET);
+            compare.file_by(&log, EXAMPLE_BUDGET, By::File);
             let mut damaged = log;
             damage_log(random, &mut damaged);
-            compare.file(&damaged, EXAMPLE_BUDGET);
+            compare.file_by(&damaged, EXAMPLE_BUDGET, By::File);
         }
     }
     for lines in ["L,9,0\n", "L,9,1\n", "L,9,1\nP,0\n", "L,8,2\n"] {
         let input = [file.as_slice(), lines.as_bytes()].concat();
         compare.expect(&input, b"X,12,12\n", By::File);
-        compare.file(&input, EXAMPLE_BUDGET);
+        compare.file_by(&input, EXAMPLE_BUDGET, By::File);
     }
 }
 
@@ -221,14 +224,14 @@ fn over_examples(compare: &mut Compare, random: &mut Random) {
     for (_, file) in examples() {
         for level in 1..=4 {
             let Some(log) = recorded_at(random, &file, level) else {
-                compare.file(&file, EXAMPLE_BUDGET);
+                compare.file_by(&file, EXAMPLE_BUDGET, By::File);
                 break;
             };
             compare.file_by(&log, EXAMPLE_BUDGET, By::Pipe(1_000));
             for _ in 0..3 {
                 let mut damaged = log.clone();
                 damage_log(random, &mut damaged);
-                compare.file(&damaged, EXAMPLE_BUDGET);
+                compare.file_by(&damaged, EXAMPLE_BUDGET, By::File);
             }
         }
     }
@@ -238,29 +241,29 @@ fn over_examples(compare: &mut Compare, random: &mut Random) {
 fn long_inputs(compare: &mut Compare, random: &mut Random) {
     for length in [65_535, 65_536, 65_537] {
         let mut input = exact_length_file(random, length);
-        compare.file(&input, LONG_BUDGET);
+        compare.file_by(&input, LONG_BUDGET, By::File);
         input.extend(b"L,1,1\n");
-        compare.file(&input, LONG_BUDGET);
+        compare.file_by(&input, LONG_BUDGET, By::File);
         compare.file_by(&input, LONG_BUDGET, By::Pipe(4_096));
         input.resize(400_000, b'P');
         compare.file_by(&input, LONG_BUDGET, By::Pipe(65_536));
     }
     for picks in [4_095, 4_096, 4_097, 4_098] {
         let log = log_of_length(SLOW.as_bytes(), picks).expect("a log of so many picks");
-        compare.file(&log, EXAMPLE_BUDGET);
+        compare.file_by(&log, EXAMPLE_BUDGET, By::File);
         compare.file_by(&log, EXAMPLE_BUDGET, By::Pipe(4_096));
         for behind in ["P,0,0,0\n", "\n", "P", "x\n"] {
             let longer = [log.as_slice(), behind.as_bytes()].concat();
-            compare.file(&longer, EXAMPLE_BUDGET);
+            compare.file_by(&longer, EXAMPLE_BUDGET, By::File);
         }
     }
     for byte in *b"\nLP,0E" {
         for lines in ["", "L,1,1\n", "L,1,1\nP,1,2,1\nP,1,0,1\nP,0,3,1\n"] {
             let mut input = format!("{PRINTED}{lines}").into_bytes();
             input.resize(400_000, byte);
-            compare.file(&input, BUDGET);
+            compare.file_by(&input, BUDGET, By::File);
             compare.file_by(&input, BUDGET, By::Pipe(4_096));
         }
-        compare.file(&[byte; 400_000], BUDGET);
+        compare.file_by(&[byte; 400_000], BUDGET, By::File);
     }
 }

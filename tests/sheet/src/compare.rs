@@ -1,8 +1,8 @@
 //! One file through the proved call and the unrelated implementation: number, length, the sheet's bytes, and what stands in the buffers afterwards.
 
-use common::buffers::{all_zero, more, SHEET as OUT, STATE, WORK};
-use common::report::{shown, NUMBERS};
-use reference::random::Random;
+use common::buffers::SHEET;
+use common::call::{Call, Left, LEFT};
+use common::report::{differ, NUMBERS};
 use reference::sheet::sheet;
 use reference::Limits;
 use tagetessash::calls;
@@ -10,35 +10,26 @@ use tagetessash::calls;
 /// What `spoil` changes in one answer of the call or of the program, so that the comparison itself is tried.
 #[derive(Clone, Copy, PartialEq, Eq)]
 pub enum Spoiled {
-    Number,
+    Left(Left),
     Length,
     Byte,
-    Behind,
-    State,
-    Work,
     Program,
 }
 
-pub const SPOILS: [(&str, Spoiled); 7] = [
-    ("number", Spoiled::Number),
-    ("length", Spoiled::Length),
-    ("byte", Spoiled::Byte),
-    ("behind", Spoiled::Behind),
-    ("state", Spoiled::State),
-    ("work", Spoiled::Work),
-    ("program", Spoiled::Program),
-];
+pub fn spoils() -> Vec<(&'static str, Spoiled)> {
+    let left = LEFT.map(|(name, left)| (name, Spoiled::Left(left)));
+    let others = [
+        ("length", Spoiled::Length),
+        ("byte", Spoiled::Byte),
+        ("program", Spoiled::Program),
+    ];
+    left.into_iter().chain(others).collect()
+}
 
-/// How much longer than it must be a buffer may be.
-const MORE: usize = 64;
-
-/// The call's buffers, and how many files met each number.
+/// The call, and how many files met each number.
 pub struct Compare {
     limits: Limits,
-    random: Random,
-    state: Vec<u16>,
-    work: Vec<u16>,
-    out: Vec<u8>,
+    call: Call,
     /// files so far, and those that take too many products
     pub files: u64,
     pub left_out: u64,
@@ -55,10 +46,7 @@ impl Compare {
     pub fn new(seed: u64) -> Compare {
         Compare {
             limits: Limits::document_01(),
-            random: Random::new(seed),
-            state: vec![0xaaaa; STATE + MORE],
-            work: vec![0xaaaa; WORK + MORE],
-            out: vec![0xaa; OUT + MORE],
+            call: Call::new(calls::sheet, SHEET, seed),
             files: 0,
             left_out: 0,
             met: [0; NUMBERS],
@@ -79,77 +67,32 @@ impl Compare {
             self.left_out += 1;
             return;
         };
-        let more = more(&mut self.random, MORE);
-        let lengths = (STATE + more, WORK + more, OUT + more);
-        // what stood in the buffers before must not matter
-        for _ in 0..16 {
-            let bits = self.random.bits();
-            let at = self.random.below(lengths.0 as u64) as usize;
-            self.state[at] = bits as u16;
-            let at = self.random.below(lengths.1 as u64) as usize;
-            self.work[at] = bits as u16;
-            let at = self.random.below(lengths.2 as u64) as usize;
-            self.out[at] = bits as u8;
-        }
-        if self.files.is_multiple_of(256) {
-            self.state.fill(self.random.bits() as u16);
-            self.work.fill(self.random.bits() as u16);
-            self.out.fill(self.random.bits() as u8);
-        }
-        let state = &mut self.state[..lengths.0];
-        let work = &mut self.work[..lengths.1];
-        let out = &mut self.out[..lengths.2];
-        let (mut number, mut length) = calls::sheet(file, state, work, out);
-        if let Some((at, what)) = self.spoil.filter(|(at, _)| *at == self.files) {
-            assert_eq!(at, self.files);
-            match what {
-                Spoiled::Number => number = 16,
-                Spoiled::Length => length += 1,
-                Spoiled::Byte => out[length - 1] ^= 1,
-                Spoiled::Behind => out[lengths.2 - 1] ^= 1,
-                Spoiled::State => state[lengths.0 - 1] ^= 1,
-                Spoiled::Work => work[0] ^= 1,
-                Spoiled::Program => {}
-            }
-        }
-        let wrong = if (number, length) != (0, expected.len()) {
-            format!(
-                "answered {number} with {length} bytes, expected {} bytes",
-                expected.len()
-            )
-        } else if out[..length] != expected[..] {
-            "the sheets differ".to_string()
-        } else if !all_zero(&out[length..]) {
-            "bytes stand behind the sheet".to_string()
-        } else if !all_zero(state) {
-            "words stand in the state".to_string()
-        } else if !all_zero(work) {
-            "words stand in the work area".to_string()
-        } else {
-            self.count(&expected);
-            return;
+        let spoil = self.spoil.filter(|(at, _)| *at == self.files);
+        let spoil = spoil.map(|(_, what)| what);
+        let left = match spoil {
+            Some(Spoiled::Left(left)) => Some(left),
+            _ => None,
         };
-        let ours = self.out[..length.min(self.out.len())].to_vec();
-        self.differ(file, &wrong, &ours, &expected);
+        let mut printed = match self.call.print(file, left) {
+            Ok(printed) => printed,
+            Err(wrong) => self.differ(file, &wrong, b"", b""),
+        };
+        match spoil {
+            Some(Spoiled::Length) => printed.push(0),
+            Some(Spoiled::Byte) => *printed.last_mut().expect("it prints something") ^= 1,
+            _ => {}
+        }
+        if printed != expected {
+            self.differ(file, "the sheets differ", &printed, &expected);
+        }
+        self.count(&expected);
     }
 
     /// A buffer that is too short: 16, and nothing changes.
     pub fn short_buffers(&mut self, file: &[u8], state: usize, work: usize, out: usize) {
-        assert!(state < STATE || work < WORK || out < OUT);
-        self.state.fill(self.random.bits() as u16);
-        self.work.fill(self.random.bits() as u16);
-        self.out.fill(self.random.bits() as u8);
-        let before = (self.state.clone(), self.work.clone(), self.out.clone());
-        let answer = calls::sheet(
-            file,
-            &mut self.state[..state],
-            &mut self.work[..work],
-            &mut self.out[..out],
-        );
-        if answer != (16, 0) || before != (self.state.clone(), self.work.clone(), self.out.clone())
-        {
-            println!("answered {answer:?} for buffers of {state}, {work}, {out}, or changed them");
-            std::process::exit(1);
+        if !self.call.refuses_short(file, state, work, out) {
+            let what = format!("not 16, or changed, for buffers of {state}, {work}, {out}");
+            self.differ(file, &what, b"", b"");
         }
         self.files += 1;
         self.met[16] += 1;
@@ -178,17 +121,6 @@ impl Compare {
     }
 
     pub fn differ(&self, file: &[u8], what: &str, ours: &[u8], expected: &[u8]) -> ! {
-        let shown = |bytes| shown(bytes, 1_000);
-        println!("file {} ({} bytes): {what}", self.files, file.len());
-        println!("file: {}", shown(file));
-        let at = ours
-            .iter()
-            .zip(expected)
-            .take_while(|(a, b)| a == b)
-            .count();
-        println!("the same up to byte {at}; from there on");
-        println!("proved: {}", shown(&ours[at..]));
-        println!("expected: {}", shown(&expected[at..]));
-        std::process::exit(1);
+        differ(self.files, file, what, ours, expected)
     }
 }

@@ -17,7 +17,7 @@ use common::files::{
 use common::program::{By, Program};
 use common::report::counts;
 use common::series::variables_and_one;
-use compare::{Compare, Spoiled, SPOILS};
+use compare::{spoils, Compare, Spoiled};
 use reference::generate::files::{edited_file, exact_length_file, exact_t_lines_file, limit_file};
 use reference::generate::problems::{problem_file, random_basis, random_set};
 use reference::random::Random;
@@ -35,7 +35,7 @@ const EXAMPLE_BUDGET: u64 = 10_000_000;
 const LONGEST: &str = "katsura4_lp";
 
 fn main() {
-    let (mut wanted, seed, spoil) = asked(&words(), "files", (FILES, SEED), &SPOILS);
+    let (mut wanted, seed, spoil) = asked(&words(), "files", (FILES, SEED), &spoils());
     if spoil.is_some() {
         wanted = 200;
     }
