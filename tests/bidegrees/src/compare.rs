@@ -23,20 +23,25 @@ pub enum Own {
     Page,
     /// a byte of a sheet of a file with a G line
     Sheet,
+    /// the same of what the programs print
+    ProgramPage,
+    ProgramSheet,
 }
 
-pub const SPOILS: [(&str, Own); 3] = [
+pub const SPOILS: [(&str, Own); 5] = [
     ("sum", Own::Sum),
     ("page", Own::Page),
     ("sheet", Own::Sheet),
+    ("program page", Own::ProgramPage),
+    ("program sheet", Own::ProgramSheet),
 ];
 
 /// Calls and programs, and what the lines have.
 pub struct Compare {
     limits: Limits,
     pub printing: Printing<Own>,
-    betti: Printer,
-    syzygies: Printer,
+    pub betti: Printer,
+    pub syzygies: Printer,
     /// files with a second sum above 0
     pub second: u64,
     /// the last column in use, by column
@@ -104,7 +109,8 @@ impl Compare {
         let Some(expected) = page(&self.limits, file, Some(budget)).0 else {
             return;
         };
-        let mut printed = self.betti.print(file, None, None);
+        let spoil = self.printing.spoils_program(Own::ProgramPage);
+        let mut printed = self.betti.print(file, None, spoil);
         if let Some(bare) = without {
             let two_degrees = usize::from(printed.starts_with(b"X,17,"));
             let two_bidegrees = usize::from(lines.starts_with(b"X,25,"));
@@ -122,7 +128,8 @@ impl Compare {
             }
             // where 25 comes nothing was lifted yet
             if let Some(expected) = sheet(&self.limits, file, Some(budget)).0 {
-                let mut printed = self.syzygies.print(file, None, None);
+                let spoil = self.printing.spoils_program(Own::ProgramSheet);
+                let mut printed = self.syzygies.print(file, None, spoil);
                 let plain = self.syzygies.print(&bare, None, None);
                 if self.printing.spoils(Own::Sheet) {
                     *printed.last_mut().expect("it prints something") ^= 1;

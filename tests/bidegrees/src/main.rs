@@ -4,7 +4,7 @@
 //!
 //!     test-bidegrees [FILES [SEED]]      at least so many files (20,000 without it)
 //!     test-bidegrees spoil [program] first|last|middle|shorter|longer|line
-//!     test-bidegrees spoil number|behind|state|work|sum|page|sheet
+//!     test-bidegrees spoil number|behind|state|work|sum|[program] page|[program] sheet
 //!                                        spoils one answer of a call or of a program: the run must find it and exit with 1
 //!
 //! The programs are target/bin/bidegrees, betti_numbers and syzygies, or what the environment variables BIDEGREES, BETTI and SYZYGIES say.
@@ -96,8 +96,14 @@ fn report(compare: &Compare, systematic: u64, seed: u64) {
     );
     println!(
         "  beside the Betti page: {} files with every a at 1 have its counts, summed over b; sheet and page of {} files are the same without the G line; \
-         [[neither, 25], [17, both]]: {:?}",
-        compare.summed, printing.without, compare.refused
+         [[neither, 25], [17, both]]: {:?}; {} of {} pages and {} of {} sheets also by program",
+        compare.summed,
+        printing.without,
+        compare.refused,
+        compare.betti.runs,
+        compare.betti.files,
+        compare.syzygies.runs,
+        compare.syzygies.files
     );
 }
 
@@ -105,6 +111,8 @@ fn report(compare: &Compare, systematic: u64, seed: u64) {
 fn enough(compare: &Compare) {
     let printing = &compare.printing;
     printing.enough(&[25], &[17, 20]);
+    compare.betti.enough();
+    compare.syzygies.enough();
     assert!(printing.met[0] >= 2 * printing.met[25]);
     assert!((1..=64).all(|place| printing.places(25).contains(&place)));
     assert_eq!(

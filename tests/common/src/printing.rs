@@ -1,7 +1,7 @@
 //! What prints against the unrelated implementation, file by file: the bytes, what the files met, and how something is spoiled so that the comparison itself is
 //! tried.
 
-use crate::printer::{self, Printer, Spoil};
+use crate::printer::{self, Bytes, Printer, Spoil};
 use crate::program::By;
 use crate::report::{counts, differ, NUMBERS};
 use reference::generate::weight_lines::without_weight_lines;
@@ -121,6 +121,12 @@ impl<Own: Copy + PartialEq> Printing<Own> {
     pub fn spoils(&self, own: Own) -> bool {
         let due = self.spoil.filter(|(from, _)| self.files >= *from);
         due.is_some_and(|(_, what)| what == Spoiled::Own(own))
+    }
+
+    /// What to spoil now of what another program prints.
+    pub fn spoils_program(&self, own: Own) -> Option<Spoil> {
+        let first = Spoil::Program(Bytes::First);
+        self.spoils(own).then_some(first)
     }
 
     fn count(&mut self, file: &[u8], printed: &[u8]) -> bool {

@@ -30,16 +30,21 @@ pub enum Own {
     More,
     /// the X line of a Betti page
     Refused,
+    /// a byte of a Betti page, or of its X line, by the program
+    ProgramPage,
+    ProgramRefused,
     /// a byte of the page of a file without its G line
     Without,
 }
 
-pub const SPOILS: [(&str, Own); 6] = [
+pub const SPOILS: [(&str, Own); 8] = [
     ("label", Own::Label),
     ("above", Own::Above),
     ("rank", Own::Rank),
     ("more", Own::More),
     ("refused", Own::Refused),
+    ("program page", Own::ProgramPage),
+    ("program refused", Own::ProgramRefused),
     ("without", Own::Without),
 ];
 
@@ -52,7 +57,7 @@ pub struct Compare {
     limits: Limits,
     random: Random,
     pub printing: Printing<Own>,
-    betti: Printer,
+    pub betti: Printer,
     /// pages with a number below the Betti page's, and with none above zero
     pub less: u64,
     pub dashes: u64,
@@ -137,7 +142,8 @@ impl Compare {
         if !self.printing.files.is_multiple_of(REFUSED_APART) {
             return;
         }
-        let mut page = self.betti.print(file, None, None);
+        let spoil = self.printing.spoils_program(Own::ProgramRefused);
+        let mut page = self.betti.print(file, None, spoil);
         if self.printing.spoils(Own::Refused) {
             page[0] ^= 1;
         }
@@ -151,7 +157,8 @@ impl Compare {
     /// "In the layout and the rows of the file's Betti page"; each number is the page's less the rank of the matrix that leaves the column, which is known from
     /// the column before, and less that of the one that enters it.
     fn beside(&mut self, file: &[u8], problem: &Problem, printed: &[u8], numbers: &Numbers) {
-        let page = self.betti.print(file, None, None);
+        let spoil = self.printing.spoils_program(Own::ProgramPage);
+        let page = self.betti.print(file, None, spoil);
         if page.starts_with(b"X") {
             let what = "the Betti page is refused, the minimal numbers are not";
             self.printing.differ(file, what, printed, &page);

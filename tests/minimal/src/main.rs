@@ -4,7 +4,7 @@
 //!
 //!     test-minimal [FILES [SEED]]      at least so many files (20,000 without it)
 //!     test-minimal spoil [program] first|last|middle|shorter|longer|line
-//!     test-minimal spoil number|behind|state|work|label|above|rank|more|refused|without
+//!     test-minimal spoil number|behind|state|work|label|above|rank|more|[program] refused|without|program page
 //!                                      spoils one answer of a call or of a program: the run must find it and exit with 1
 //!
 //! The programs are target/bin/minimal and betti_numbers, or what the environment variables MINIMAL and BETTI say.
@@ -93,10 +93,12 @@ fn report(compare: &Compare, systematic: u64, seed: u64) {
     );
     println!(
         "  {} files have the same numbers with more elements, {} print the same without the G line, {} refused ones are refused alike on the Betti page; \
-         17 at {} places; 13 to 15 at (number, level): {:?}",
+         {} of {} of its pages also by program; 17 at {} places; 13 to 15 at (number, level): {:?}",
         compare.more,
         printing.without,
         compare.refused,
+        compare.betti.runs,
+        compare.betti.files,
         printing.places(17).len(),
         printing.stops()
     );
@@ -106,6 +108,7 @@ fn report(compare: &Compare, systematic: u64, seed: u64) {
 fn enough(compare: &Compare) {
     let printing = &compare.printing;
     printing.enough(&[17], &[20, 25]);
+    compare.betti.enough();
     assert!((1..=64).all(|place| printing.places(17).contains(&place)));
     assert!(printing.with_degrees >= 500 && printing.with_weights >= 500);
     assert!(compare.less >= printing.met[0] / 2 && compare.dashes >= 100);
