@@ -2,7 +2,7 @@
 //! instances and files about the longest; and the program that people run, on all but the generated and damaged ones and on one in ten of these. Values also
 //! against a count of monomials from the file's text alone, and files with a G line also without it.
 //!
-//!     test-hilbert [FILES [SEED]]      at least so many files (20,000 without it)
+//!     test-hilbert [FILES [SEED]]      at least so many files (10,000 without it)
 //!     test-hilbert spoil [program] first|last|middle|shorter|longer|line
 //!     test-hilbert spoil number|behind|state|work|counted|without
 //!                                      spoils one answer of the call or of the program: the run must find it and exit with 1
@@ -33,7 +33,7 @@ use reference::generate::weight_lines::{
 use reference::random::Random;
 use std::path::Path;
 
-const FILES: u64 = 20_000;
+const FILES: u64 = 10_000;
 const SEED: u64 = 20_261_301;
 
 fn main() {

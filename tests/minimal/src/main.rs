@@ -2,7 +2,7 @@
 //! instances and files about the longest; and the program that people run, on all but the generated and damaged ones and on one in ten of these. Beside them
 //! the Betti page, of one in ten by program too; the same module with more elements; files with a G line without it.
 //!
-//!     test-minimal [FILES [SEED]]      at least so many files (20,000 without it)
+//!     test-minimal [FILES [SEED]]      at least so many files (10,000 without it)
 //!     test-minimal spoil [program] first|last|middle|shorter|longer|line
 //!     test-minimal spoil number|behind|state|work|label|above|rank|more|[program] refused|without|program page
 //!                                      spoils one answer of a call or of a program: the run must find it and exit with 1
@@ -28,7 +28,7 @@ use reference::generate::weight_lines::with_random_weights;
 use reference::random::Random;
 use std::path::Path;
 
-const FILES: u64 = 20_000;
+const FILES: u64 = 10_000;
 const SEED: u64 = 20_260_701;
 
 /// x·e_1 + e_2 and y·e_2, the components of degrees 0 and 1, and the first of them again: constants in two columns.
