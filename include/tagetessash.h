@@ -1,8 +1,10 @@
+/* SPDX-License-Identifier: MIT OR Apache-2.0 */
 /* The three calls of Tagetessash: read a problem file, lift a level, fetch a vector; a fourth that divides a vector by the elements of a state; and the sheet,
- * the Betti page, the minimal Betti numbers, the bidegrees and the Hilbert function of a file, whether a vector is in its module, and the file completed to a
- * Gröbner basis, each in one call.
+ * the Betti page, the minimal Betti numbers, the bidegrees and the Hilbert function of a file, whether a vector is in its module, the file completed to a
+ * Gröbner basis, and a recorded run replayed, each in one call.
  *
- * A header of one version does not fit a library of another: if (tagetessash_version() != TAGETESSASH_VERSION) do not go on.
+ * A header of one version does not fit a library of another: if (tagetessash_version() != TAGETESSASH_VERSION) do not go on. Within a version a library may
+ * have less than the header tells of, where tagetessash_minor() is below TAGETESSASH_MINOR; each function says since when it is there.
  *
  * The caller lends every buffer. The library keeps nothing between calls but what stands in the state, allocates nothing and has no data of its own, so
  * that threads with buffers of their own may call it at a time. C99 and C++.
@@ -31,14 +33,24 @@ extern "C" {
  *     1    an exponent has a word of its own, a row ten words
  *     2    the exponents are packed, a row has six words; what the accessors below give and what the sheet prints is as it was
  *     3    the state has degrees behind its rows, a D line is read, 18 is answered; all that a state of version 2 holds stands where it stood
- * tagetessash_betti, tagetessash_bidegrees, tagetessash_hilbert, tagetessash_minimal, tagetessash_member, tagetessash_divide, tagetessash_completed and
- * tagetessash_replay came later: a program of version 3 that does not call them fits every library of version 3, and one that does is not linked with a
- * library that has no such function. With the second came a file's G line, which was refused with 1, and 24: no state holds its weights, and every file that
- * was read before is read as before. Later still hybrid took work areas of fewer than TAGETESSASH_WORK_WORDS words: with as many or more every answer and
- * every word is as before, and a library of version 3 from before refuses fewer with 16. Version 1's buffers are long enough for version 3: a program that
- * was compiled with that header is refused nothing and reads other words. Only the version tells it. One of version 2 lends a state that is too short: where
- * it does not ask for the version, every call answers 16. */
+ * Version 1's buffers are long enough for version 3: a program that was compiled with that header is refused nothing and reads other words. Only the version
+ * tells it. One of version 2 lends a state that is too short: where it does not ask for the version, every call answers 16. */
 #define TAGETESSASH_VERSION 3
+
+/* Grows with everything that is added to a version: a function, or an answer where there was a refusal. Whatever a program of the same version and a smaller
+ * minor number asks is answered as before, every word of it, so that it runs with every library from its own minor number on.
+ *     0    what version 3 began with
+ *     1    tagetessash_betti
+ *     2    tagetessash_bidegrees; a file's G line, which was refused with 1, and 24: no state holds its weights
+ *     3    tagetessash_hilbert
+ *     4    tagetessash_minimal
+ *     5    hybrid takes work areas of fewer than TAGETESSASH_WORK_WORDS words, which were refused with 16
+ *     6    tagetessash_member, tagetessash_divide
+ *     7    tagetessash_completed
+ *     8    tagetessash_replay
+ *     9    tagetessash_minor, which a library from before does not have: in the shared library each function has the version that it came with, as
+ *          TAGETESSASH_3.6, so that a program is not started with a library that lacks what it calls; by dlsym a function that is not there is not found */
+#define TAGETESSASH_MINOR 9
 
 /* How many bytes of stack a call finds enough, from where it is called, so that a thread of this size and what its own functions need is safe. Of the stack
  * alone the library can not tell you that it is too small: the process dies. All calls but the tree's have arrays of fixed length, and no function calls itself
@@ -185,7 +197,8 @@ enum {
  *     D,d1,..,ds                                  or not at all: the degree of each component, 0 to 255
  *     G,a1,b1,..,an,bn                            or not at all: two weights of each variable, 0 to 15, for tagetessash_bidegrees alone
  *     T,element,coefficient,component,e1,..,en    a term, any number of them
- *     E,count                                     how many T lines there are */
+ *     E,count                                     how many T lines there are
+ * Since 3.0. */
 uint16_t tagetessash_read(const uint8_t *file, size_t file_bytes, uint16_t *state, size_t state_words, uint16_t *work, size_t work_words, size_t *place);
 
 /* Forms the frame of a level, 1 to 9, and lifts all its terms; the level below must be complete. After 0 the level is complete and those above it are dropped.
@@ -196,11 +209,11 @@ uint16_t tagetessash_read(const uint8_t *file, size_t file_bytes, uint16_t *stat
  * is used up to 512 terms, one for fewer than 32 is refused with 16. 14 comes at term w + 1 of the working value, while the vector keeps its 512 terms. In the
  * same call any w that finishes gives the same words of the state as 512 does; a larger w never refuses where a smaller one finished, and gives the same number
  * where that is not 14. 14 empties the state as always: keep a copy to try again with more. The area is zeroed throughout, however long. Reading, division and
- * the tree have no such choice, nor have the calls that print. */
+ * the tree have no such choice, nor have the calls that print. Since 3.0. */
 uint16_t tagetessash_lift(uint16_t *state, size_t state_words, uint16_t *work, size_t work_words, uint16_t *cache, size_t cache_words, size_t level,
     uint16_t way, uint16_t pick, size_t *place);
 
-/* Writes a vector, 1 to the level's count, of a complete level, 1 to 9, into out: its rows, greatest term first, then zeros. */
+/* Writes a vector, 1 to the level's count, of a complete level, 1 to 9, into out: its rows, greatest term first, then zeros. Since 3.0. */
 uint16_t tagetessash_fetch(const uint16_t *state, size_t state_words, uint16_t *out, size_t out_words, size_t level, size_t vector, size_t *place);
 
 /* Divides a vector by the elements of the state, level 0 (the levels above play no part), which it only reads: so many vectors may be asked of one basis. The
@@ -210,13 +223,13 @@ uint16_t tagetessash_fetch(const uint16_t *state, size_t state_words, uint16_t *
  * order, and remainder the rows of the remainder, no term of which has a reducer; zeros behind both, of TAGETESSASH_OUT_WORDS words each at the least. The
  * quotients applied to the elements plus the remainder give the vector back. Over an accepted basis the remainder is zero exactly where some combination of the
  * elements equals the vector. Refused by 16, 11, 23 with the row, then 13 or 14 with place 0 where the division meets a limit; after 23, 13 and 14 both buffers
- * are zero and the state is as it was. */
+ * are zero and the state is as it was. Since 3.6. */
 uint16_t tagetessash_divide(const uint16_t *state, size_t state_words, const uint16_t *vector, size_t vector_words, uint16_t *quotients,
     size_t quotients_words, uint16_t *remainder, size_t remainder_words, size_t *place);
 
 /* Writes the sheet of a problem file, the bytes that the program prints, into out, zeros after them, and how many there are into length. Returns 0 for every
  * file, a refused one too (its X line says so), or 16, which changes no buffer and has length 0. After 0 state and work are zero: they are lent for the work
- * alone. It lifts by the hybrid way with the newest term, which on some files takes very long. */
+ * alone. It lifts by the hybrid way with the newest term, which on some files takes very long. Since 3.0. */
 uint16_t tagetessash_sheet(const uint8_t *file, size_t file_bytes, uint16_t *state, size_t state_words, uint16_t *work, size_t work_words, uint8_t *out,
     size_t out_bytes, size_t *length);
 
@@ -224,7 +237,7 @@ uint16_t tagetessash_sheet(const uint8_t *file, size_t file_bytes, uint16_t *sta
  * lifted as for the sheet. A line has 72 bytes and byte 10: a label of 6, then columns 0 to 10 of 6 each, right-aligned, a dash for zero. Column 0 counts the
  * components, column 1 the elements, column k + 1 the vectors of level k; the row is the degree minus the column, and the last line has the totals. For a
  * refused file it writes the X line (and after X,9 the W lines) and nothing else; X,17 for an accepted one where an element has terms of two degrees. Returns 0
- * for every file, or 16, as tagetessash_sheet does. */
+ * for every file, or 16, as tagetessash_sheet does. Since 3.1. */
 uint16_t tagetessash_betti(const uint8_t *file, size_t file_bytes, uint16_t *state, size_t state_words, uint16_t *work, size_t work_words, uint8_t *out,
     size_t out_bytes, size_t *length);
 
@@ -232,7 +245,7 @@ uint16_t tagetessash_betti(const uint8_t *file, size_t file_bytes, uint16_t *sta
  * file's Betti page, and for each count there what is left of it once generators that are not needed are left out. In each degree the constants between a
  * column and the next one are a matrix, a row for each generator of the next column, in it the coefficient of 1 times each generator of this one; its rank
  * modulo p is taken from both counts. The last line has the totals of what is left. For a refused file it writes what tagetessash_betti writes, X,17 too (and
- * X,20 where level 9 is not empty, which no file brings about). Returns 0 for every file, or 16, as tagetessash_sheet does. */
+ * X,20 where level 9 is not empty, which no file brings about). Returns 0 for every file, or 16, as tagetessash_sheet does. Since 3.4. */
 uint16_t tagetessash_minimal(const uint8_t *file, size_t file_bytes, uint16_t *state, size_t state_words, uint16_t *work, size_t work_words, uint8_t *out,
     size_t out_bytes, size_t *length);
 
@@ -240,7 +253,7 @@ uint16_t tagetessash_minimal(const uint8_t *file, size_t file_bytes, uint16_t *s
  * generator of a column, by column, then a, then b, ascending. The columns are those of the Betti page. The bidegree of a term is two sums, of the exponents
  * times the weights a and times the weights b of the file's G line, the degree of its component (D) added to the first; without a G line the weights are 1 and
  * 0. A vector has that of its leading term's image. For a refused file it writes the X line (and after X,9 the W lines) and nothing else; X,25 for an accepted
- * one where an element has terms of two bidegrees (17 is not tested). Returns 0 for every file, or 16, as tagetessash_sheet does. */
+ * one where an element has terms of two bidegrees (17 is not tested). Returns 0 for every file, or 16, as tagetessash_sheet does. Since 3.2. */
 uint16_t tagetessash_bidegrees(const uint8_t *file, size_t file_bytes, uint16_t *state, size_t state_words, uint16_t *work, size_t work_words, uint8_t *out,
     size_t out_bytes, size_t *length);
 
@@ -248,7 +261,7 @@ uint16_t tagetessash_bidegrees(const uint8_t *file, size_t file_bytes, uint16_t 
  * value is how many monomials of that degree, the degree of their component (D) included, no leading monomial of an element divides: for a homogeneous file
  * the dimension of the quotient's part of that degree. It is found from the levels, lifted as for the sheet, as the alternating sum over the columns of the
  * Betti page. For a refused file it writes the X line (and after X,9 the W lines) and nothing else; an element may have terms of several degrees (neither 17
- * nor 25 is tested). Returns 0 for every file, or 16, as tagetessash_sheet does. */
+ * nor 25 is tested). Returns 0 for every file, or 16, as tagetessash_sheet does. Since 3.3. */
 uint16_t tagetessash_hilbert(const uint8_t *file, size_t file_bytes, uint16_t *state, size_t state_words, uint16_t *work, size_t work_words, uint8_t *out,
     size_t out_bytes, size_t *length);
 
@@ -257,14 +270,15 @@ uint16_t tagetessash_hilbert(const uint8_t *file, size_t file_bytes, uint16_t *s
  * A line C,coefficient,element,e1,..,en for each term of the quotients, descending in the induced order, a line W,coefficient,component,e1,..,en for each of
  * the remainder, no term of which has a reducer, then M,1 where there is none, which is where some combination of the elements equals the vector, else M,0. For
  * a refused file it writes the X line (and after X,9 the W lines) and nothing else; X,23 with the first line behind E that is no V line, out of range, not
- * below the one before it, or one too many; X,13,0 and X,14,0 where the division meets a limit. Returns 0 for every input, or 16, as tagetessash_sheet does. */
+ * below the one before it, or one too many; X,13,0 and X,14,0 where the division meets a limit. Returns 0 for every input, or 16, as tagetessash_sheet does.
+ * Since 3.6. */
 uint16_t tagetessash_member(const uint8_t *input, size_t input_bytes, uint16_t *state, size_t state_words, uint16_t *work, size_t work_words, uint8_t *out,
     size_t out_bytes, size_t *length);
 
 /* Writes the problem file completed to a Gröbner basis: as long as division stops at a value whose leading term no element's leading monomial divides (9),
  * that value, divided by its leading coefficient, is added as the last element. What stands before the E line is as it was given. A file that is accepted at
  * once is written as it is. For a file that is not read, one that meets 13 to 15, and where a 65th element (19), more than 65,536 bytes (1 at line 0) or a
- * 2,049th T line (8) would be needed, it writes the X line and nothing else. Returns 0 for every file, or 16, as tagetessash_sheet does. */
+ * 2,049th T line (8) would be needed, it writes the X line and nothing else. Returns 0 for every file, or 16, as tagetessash_sheet does. Since 3.7. */
 uint16_t tagetessash_completed(const uint8_t *file, size_t file_bytes, uint16_t *state, size_t state_words, uint16_t *work, size_t work_words, uint8_t *out,
     size_t out_bytes, size_t *length);
 
@@ -274,12 +288,15 @@ uint16_t tagetessash_completed(const uint8_t *file, size_t file_bytes, uint16_t 
  * step takes the term that the next line picks. Where every pick is a term of the working value and that is zero after the last one, a line
  * S,level,vector,coefficient,component,e1,..,en for each term: the vector is the one that every way gives, whoever wrote the log. Otherwise the X line (and
  * after X,9 the W lines) and nothing else; X,12 with the L line's number where there is no such level or vector, X,21 and X,22 as above, X,13 to X,15 with the
- * level where a limit is met. Returns 0 for every input, or 16, as tagetessash_sheet does. */
+ * level where a limit is met. Returns 0 for every input, or 16, as tagetessash_sheet does. Since 3.8. */
 uint16_t tagetessash_replay(const uint8_t *input, size_t input_bytes, uint16_t *state, size_t state_words, uint16_t *work, size_t work_words, uint8_t *out,
     size_t out_bytes, size_t *length);
 
-/* The version of the library. */
+/* The version of the library: TAGETESSASH_VERSION of the header that it came with. Since 3.0. */
 uint16_t tagetessash_version(void);
+
+/* What was added to its version: TAGETESSASH_MINOR of that header. Since 3.9. */
+uint16_t tagetessash_minor(void);
 
 /* What rows hold. */
 typedef struct {

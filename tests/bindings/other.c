@@ -3,6 +3,7 @@
 #include "tagetessash.h"
 
 uint16_t tagetessash_version(void) { return OTHER_VERSION; }
+uint16_t tagetessash_minor(void) { return TAGETESSASH_MINOR; }
 uint16_t tagetessash_read(
     const uint8_t *file, size_t file_bytes, uint16_t *state, size_t state_words, uint16_t *work, size_t work_words, size_t *place) { abort(); }
 uint16_t tagetessash_lift(uint16_t *state, size_t state_words, uint16_t *work, size_t work_words, uint16_t *cache, size_t cache_words, size_t level,

@@ -132,12 +132,19 @@ extern "C" {
         length: *mut usize,
     ) -> u16;
     fn tagetessash_version() -> u16;
+    fn tagetessash_minor() -> u16;
 }
 
 /// The library's version.
 pub fn version() -> u16 {
     // SAFETY: it takes nothing and reads nothing
     unsafe { tagetessash_version() }
+}
+
+/// What was added to that version.
+pub fn minor() -> u16 {
+    // SAFETY: it takes nothing and reads nothing
+    unsafe { tagetessash_minor() }
 }
 
 /// Number and place.

@@ -40,6 +40,14 @@ pub use refusal::Refusal;
 /// call.
 pub const VERSION: u16 = 3;
 
+/// What was added to this version that this crate knows of: `TAGETESSASH_MINOR` of the header.
+pub const MINOR: u16 = 9;
+
+/// What was added to its version that the library has. One with less than [`MINOR`] is not linked where it lacks a function that is called here.
+pub fn library_minor() -> u16 {
+    calls::minor()
+}
+
 /// The highest level.
 pub const HIGHEST_LEVEL: usize = 9;
 /// The terms of a working value for which the hybrid way may be given room at the least ([`Engine::lift_within`]): `TAGETESSASH_LEAST_TERMS` of the header.

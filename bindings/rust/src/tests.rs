@@ -1,7 +1,7 @@
 use crate::{
     betti, bidegrees, calls, completed, hilbert, layout, member, minimal, replay, sheet, Division,
     Engine, Order, Pick, Printing, Problem, Refusal, Term, Way, HIGHEST_LEVEL, LEAST_TERMS,
-    VERSION, WORKING_TERMS,
+    MINOR, VERSION, WORKING_TERMS,
 };
 
 const PRINTED: &[u8] = b"R,7,2,1,1\nT,1,1,1,1,0\nT,1,1,1,0,1\nT,2,1,1,0,2\nT,2,1,1,0,0\nE,4\n";
@@ -790,6 +790,8 @@ fn every_number_is_a_refusal() {
 fn the_library_is_of_this_version() {
     assert_eq!(calls::version(), VERSION);
     assert_eq!(of_header("VERSION"), Some(usize::from(VERSION)));
+    assert_eq!(crate::library_minor(), MINOR);
+    assert_eq!(of_header("MINOR"), Some(usize::from(MINOR)));
     assert_eq!(of_header("HIGHEST_LEVEL"), Some(HIGHEST_LEVEL));
     assert_eq!(of_header("LEAST_TERMS"), Some(LEAST_TERMS));
     assert_eq!(of_header("VECTOR_TERMS"), Some(WORKING_TERMS));

@@ -3,3 +3,7 @@ use Prim.Native.Nat.{ℕ}
 
 abbrev pub version : ℕ
 version = 3
+
+-- How often something was added since that a program of this version need not know of: a function, or an answer where there was a refusal.
+abbrev pub minor : ℕ
+minor = 9

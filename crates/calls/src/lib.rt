@@ -19,7 +19,7 @@ ghost use Rattle.definitions.specs.Replay.{replay as replay-definition};
 ghost use Rattle.definitions.specs.Places.{sheet-length, page-length, bidegrees-length, hilbert-length, member-length, completed-length, replay-length};
 ghost use Rattle.lift_call.specs.Codes.{coded-way};
 ghost use Rattle.lending.specs.Called.{told-of, called};
-ghost use Rattle.calls.specs.Version.{version};
+ghost use Rattle.calls.specs.Version.{version, minor};
 ghost use Rattle.calls.specs.Coded.{Read-says, Lift-says, Fetch-says, Divide-says};
 
 // "read a file and accept or refuse its basis"
@@ -234,4 +234,12 @@ pub extern "C" fn tagetessash_version() -> u16
     ensures { λ x. ⌜ x ≡ version ⌝ }
 {
     3
+}
+
+// What was added to this version: the header says with which number what came.
+#[no_mangle]
+pub extern "C" fn tagetessash_minor() -> u16
+    ensures { λ x. ⌜ x ≡ minor ⌝ }
+{
+    9
 }
