@@ -167,7 +167,7 @@ def verify(data, text):
 if __name__ == "__main__":
     try:
         _, problem, sheet = sys.argv
-        with open(problem, "rb") as problem, open(sheet, newline="", encoding="latin-1") as sheet:
+        with open(problem, "rb") as problem, open(0 if sheet == "-" else sheet, newline="", encoding="latin-1") as sheet:
             data, text = problem.read(), sheet.read()
     except (ValueError, OSError) as error:
         print(error if isinstance(error, OSError) else "verify.py FILE SHEET", file=sys.stderr)
