@@ -97,9 +97,10 @@ $(BUILD)/man3/%.3: include/tagetessash.h install/manual.awk
 	@mkdir -p $(BUILD)/man3
 	awk -v page=$* -v version=$(VERSION) -v date=$(DATE) -f install/manual.awk include/tagetessash.h >$@.new && mv $@.new $@
 
-# Each line of the list is a file or link that was put there.
+# Each line of the list is a file or link that was put there; what an installation before this one put there and this one has not goes.
 install: all
 	@set -eu; umask 022; list=$(BUILD)/list; : >$$list; \
+	if [ -r $(DESTDIR)$(LISTED) ]; then sort $(DESTDIR)$(LISTED); fi >$$list.before; \
 	put() { mode=$$1 to=$$2; shift 2; for file; do \
 	    $(INSTALL) -D -m $$mode "$$file" "$(DESTDIR)$$to/$${file##*/}"; echo "$$to/$${file##*/}" >>$$list; done; }; \
 	as() { $(INSTALL) -D -m $$1 "$$3" "$(DESTDIR)$$2"; echo "$$2" >>$$list; }; \
@@ -107,7 +108,8 @@ install: all
 	as 755 $(bindir)/tagetessash $(BUILD)/command; \
 	as 755 $(libexecdir)/command $(BUILD)/command.sh; \
 	put 755 $(libexecdir) $(PROGRAMS:%=$(PREBUILT)/%); \
-	put 644 $(libexecdir) $(PREBUILT)/MANIFEST $(SCRIPTS); \
+	put 644 $(libexecdir) $(PREBUILT)/MANIFEST; \
+	for file in $(SCRIPTS); do if [ -x "$$file" ]; then put 755 $(libexecdir) "$$file"; else put 644 $(libexecdir) "$$file"; fi; done; \
 	put 644 $(libdir) $(PREBUILT)/libtagetessash.a; \
 	put 755 $(libdir) $(SHARED); \
 	link $(notdir $(SHARED)) $(libdir)/$(SONAME); \
@@ -125,6 +127,7 @@ install: all
 	put 644 $(macaulay2dir) $(MACAULAY2); \
 	if [ -n "$(pythondir)" ]; then put 644 $(pythondir)/tagetessash $(PYTHON); fi; \
 	echo $(LISTED) >>$$list; \
+	sort $$list | comm -23 $$list.before - | while IFS= read -r path; do rm -f "$(DESTDIR)$$path"; done; \
 	$(INSTALL) -D -m 644 $$list $(DESTDIR)$(LISTED)
 	@echo "installed: $$(wc -l <$(BUILD)/list) files under $(DESTDIR)$(PREFIX)"
 
