@@ -1,3 +1,4 @@
+/* SPDX-License-Identifier: MIT OR Apache-2.0 */
 /* How long something took, in microseconds: the elapsed time; of what took a millisecond or longer the processor time of this thread where that is less, since
  * on a machine that does other work the elapsed time then has the others' turns in it. Of shorter calls some come through without them, and the processor time
  * is not exact enough: on a virtual machine it was seen to be some microseconds too small at times. */

@@ -1,3 +1,4 @@
+# SPDX-License-Identifier: MIT OR Apache-2.0
 # What stands behind an X line, for people: the line of the input with the usual causes, found by looking; after 9 which frame term it is, and the value; after
 # 17 two terms of the element that have different degrees, after 25 two that have different bidegrees; where completing met a limit, what was given.
 # Unproved, and nothing rests on it: it reads the problem file, then the sheet or the page, and prints lines for standard error.

@@ -1,4 +1,5 @@
 #!/usr/bin/env python3
+# SPDX-License-Identifier: MIT OR Apache-2.0
 """picks.py FILE LEVEL VECTOR [CODE]: the picks of a run of the hybrid way, as an L line and P lines for ./tagetessash replay.
 
 FILE is a problem file, VECTOR the number of a frame term of LEVEL (1 to 9), CODE a pick code: 1 the greatest term, 2 the newest (without it), 3 the oldest.

@@ -1,3 +1,4 @@
+-- SPDX-License-Identifier: MIT OR Apache-2.0
 -- A problem file from Macaulay2: problem G is its text, over a polynomial ring over ZZ/p with MonomialOrder => Lex, GLex or GRevLex. G is
 --     a Matrix   its columns as they stand, which should be a Groebner basis (gens gb)
 --     an Ideal   gens gb of it

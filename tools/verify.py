@@ -1,4 +1,5 @@
 #!/usr/bin/env python3
+# SPDX-License-Identifier: MIT OR Apache-2.0
 """verify.py FILE SHEET: is SHEET the sheet of the problem FILE? This trusts nobody and shares nothing with the engine.
 
 Why a listing is its own certificate. Let f be the vectors of a level. If each frame term of f stands in front of a vector that maps to zero (the sum of its

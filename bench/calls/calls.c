@@ -1,3 +1,4 @@
+/* SPDX-License-Identifier: MIT OR Apache-2.0 */
 /* Every call on one file, each by itself again and again: a line for each with its name and its shortest time in microseconds. Arguments: the file,
  * milliseconds for all of it, milliseconds of a processor that one call may take: a call that takes longer is left out, and so are those that need what it
  * gives. A refused call is timed like any other. Names: read; hybrid1:k, hybrid2:k, hybrid3:k, division:k, tree:k (a cache of 4,096 terms) for lifting level k

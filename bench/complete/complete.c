@@ -1,3 +1,4 @@
+/* SPDX-License-Identifier: MIT OR Apache-2.0 */
 /* A file completed, by tagetessash_completed again and again: how many elements the completed file has, or the X line, and the shortest time in microseconds.
  * Arguments: the file, milliseconds. */
 #include <stdio.h>

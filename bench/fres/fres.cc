@@ -1,3 +1,4 @@
+// SPDX-License-Identifier: MIT OR Apache-2.0
 /* Singular's fres beside the calls of the static library, on problem files, in one process: bench/run-fres compiles and runs it.
  *     fres MS LIMIT FILE..
  * MS: milliseconds for each file, shared by all ways in turns; LIMIT: milliseconds of a processor that the first call of a way may take, which a child makes:

@@ -1,3 +1,4 @@
+# SPDX-License-Identifier: MIT OR Apache-2.0
 # The table of bench/run-fres from the lines of bench/fres/fres.cc.
 function timed(value) { return value ~ /^[0-9.]+$/ }
 NR == 1 {

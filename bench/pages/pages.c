@@ -1,3 +1,4 @@
+/* SPDX-License-Identifier: MIT OR Apache-2.0 */
 /* The Betti page and the minimal numbers of one file, by tagetessash_betti and tagetessash_minimal in turns: the shortest time of each, in microseconds, their
  * ratio, and the bytes of the page. Arguments: the file, milliseconds. Only its bytes are printed of a file that is refused. */
 #include <stdio.h>

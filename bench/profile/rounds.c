@@ -1,3 +1,4 @@
+/* SPDX-License-Identifier: MIT OR Apache-2.0 */
 /* One way on many files, round after round, for bench/run-profile: rounds WAY MS LIMIT FILE.. WAY: read, sheet, minimal, hybrid1, hybrid2, hybrid3, division or
  * tree; MS: milliseconds in all; LIMIT: milliseconds of a processor that one call may take. Each file is read, or lifted to its end, once in each round, so
  * that the time of a profile is spread over the files as in a sum. Files that are refused or pass the limit are left out. Prints how many rounds and files

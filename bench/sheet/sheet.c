@@ -1,3 +1,4 @@
+/* SPDX-License-Identifier: MIT OR Apache-2.0 */
 /* The sheet of one file by tagetessash_sheet, again and again: the shortest time, in microseconds, and a sum of the bytes. Arguments: the file, milliseconds.
  *
  * It is compiled with the headers of other checkouts too: what it takes of a header, that of version 1 has. */

@@ -1,3 +1,4 @@
+/* SPDX-License-Identifier: MIT OR Apache-2.0 */
 /* The reading call and the sheet call on one file: the shortest time of each, in microseconds, and how many times as long the sheet takes. Arguments: the file,
  * milliseconds. It says what reading takes before it calls the sheet, which may not come to its end in reasonable time: bench/run-slow ends it then. */
 #include <stdio.h>

@@ -1,3 +1,4 @@
+/* SPDX-License-Identifier: MIT OR Apache-2.0 */
 /* Reading with acceptance and all levels of one file by hybrid with the greatest term, again and again: the median in microseconds, how many terms the levels
  * above 0 have, and a sum over all numbers that the calls gave. Arguments: the file, milliseconds.
  *

@@ -1,3 +1,4 @@
+/* SPDX-License-Identifier: MIT OR Apache-2.0 */
 /* Prints a problem file completed to a Groebner basis, by the library.
  *
  *     complete FILE

@@ -1,3 +1,4 @@
+/* SPDX-License-Identifier: MIT OR Apache-2.0 */
 /* Prints the Hilbert function of a problem file, by the library.
  *
  *     hilbert FILE

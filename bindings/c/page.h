@@ -1,3 +1,4 @@
+/* SPDX-License-Identifier: MIT OR Apache-2.0 */
 /* What the examples that print a page of a problem file have alike. */
 #include <stdio.h>
 #include <stdlib.h>

@@ -1,3 +1,4 @@
+/* SPDX-License-Identifier: MIT OR Apache-2.0 */
 /* Resolves a problem file by all three ways, or by one: how many vectors and terms each level has, the vectors and degrees if asked, and whether the ways
  * agree.
  *

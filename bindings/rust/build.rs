@@ -1,3 +1,4 @@
+// SPDX-License-Identifier: MIT OR Apache-2.0
 //! Links the static library: that of the folder `TAGETESSASH_LIB_DIR`, else the one that `tools/library` writes in the checkout.
 
 use std::path::Path;

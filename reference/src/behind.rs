@@ -1,3 +1,4 @@
+// SPDX-License-Identifier: MIT OR Apache-2.0
 //! Input with lines behind the problem file's E, as some requests allow.
 
 use crate::limits::Limits;

@@ -1,3 +1,4 @@
+// SPDX-License-Identifier: MIT OR Apache-2.0
 //! The Betti page (request A1).
 //!
 //! The degrees that elements and vectors carry are not looked at here: each frame term is walked

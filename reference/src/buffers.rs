@@ -1,3 +1,4 @@
+// SPDX-License-Identifier: MIT OR Apache-2.0
 //! The calls on lent buffers, as `docs/BUFFERS.md` lays them out.
 //!
 //! All buffers but the file hold 16-bit words. Offsets and lengths are functions of the limits;

@@ -1,3 +1,4 @@
+// SPDX-License-Identifier: MIT OR Apache-2.0
 //! Completing a basis (request A6): what refusal 9 shows is added until the file is accepted.
 
 use crate::engine::State;

@@ -1,3 +1,4 @@
+// SPDX-License-Identifier: MIT OR Apache-2.0
 //! A plain Buchberger completion, used only to make Gröbner bases for tests.
 
 use crate::field::Field;

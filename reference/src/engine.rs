@@ -1,3 +1,4 @@
+// SPDX-License-Identifier: MIT OR Apache-2.0
 //! The state and the three calls.
 
 use crate::field::is_prime;

@@ -1,3 +1,4 @@
+// SPDX-License-Identifier: MIT OR Apache-2.0
 //! "A coefficient is 1 to p − 1; sum and product are the remainders modulo p."
 
 /// Whether `p` is a prime number.

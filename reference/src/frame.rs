@@ -1,3 +1,4 @@
+// SPDX-License-Identifier: MIT OR Apache-2.0
 //! The frame of a level, and the reducer rule.
 
 use crate::monomial::{

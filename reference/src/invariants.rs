@@ -1,3 +1,4 @@
+// SPDX-License-Identifier: MIT OR Apache-2.0
 //! The degrees of generators, from the levels of a state.
 //!
 //! Column 0 is the file's free module, column k + 1 has a generator for each vector of level k.

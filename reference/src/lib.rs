@@ -1,3 +1,4 @@
+// SPDX-License-Identifier: MIT OR Apache-2.0
 //! A plain implementation of document 01: syzygies, frames and liftings over a prime field.
 //!
 //! It is written for reading and for comparing, not for speed: terms are kept in ordered maps and

@@ -1,3 +1,4 @@
+// SPDX-License-Identifier: MIT OR Apache-2.0
 //! Lifting the frame of a level by the three ways, and acceptance.
 
 use crate::field::Field;

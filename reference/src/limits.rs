@@ -1,3 +1,4 @@
+// SPDX-License-Identifier: MIT OR Apache-2.0
 //! The limits of document 01, as numbers that a test may make smaller.
 
 /// Every limit of document 01. All rules ask this struct, so that a test can meet refusals 5, 8

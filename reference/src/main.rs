@@ -1,3 +1,4 @@
+// SPDX-License-Identifier: MIT OR Apache-2.0
 //! The program `reference`; `reference help` tells its commands.
 
 #![forbid(unsafe_code)]

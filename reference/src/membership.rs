@@ -1,3 +1,4 @@
+// SPDX-License-Identifier: MIT OR Apache-2.0
 //! Whether a vector is in the module (request A12): division by the elements, with quotients and
 //! remainder.
 

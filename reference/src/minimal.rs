@@ -1,3 +1,4 @@
+// SPDX-License-Identifier: MIT OR Apache-2.0
 //! Minimal Betti numbers (request A7).
 //!
 //! The constants of all vectors are collected first, entry by entry, in one matrix for each column

@@ -1,3 +1,4 @@
+// SPDX-License-Identifier: MIT OR Apache-2.0
 //! Monomials, terms, vectors and the file's parameters.
 
 use crate::order::Order;

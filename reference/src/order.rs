@@ -1,3 +1,4 @@
+// SPDX-License-Identifier: MIT OR Apache-2.0
 //! The file's order, and the induced order of each level.
 
 use crate::monomial::{degree, leading_monomial, multiply, Exponents, Level, Monomial, VARIABLES};

@@ -1,3 +1,4 @@
+// SPDX-License-Identifier: MIT OR Apache-2.0
 //! What the programs of requests print: the lines of a refusal, or what they make of all levels.
 
 use crate::engine::{Basis, State};

@@ -1,3 +1,4 @@
+// SPDX-License-Identifier: MIT OR Apache-2.0
 //! A small seeded source of numbers (splitmix64). The same seed gives the same numbers forever.
 
 /// The source.

@@ -1,3 +1,4 @@
+// SPDX-License-Identifier: MIT OR Apache-2.0
 //! The plain reckoning: what the levels have to hold, by the definition of lifting alone.
 //!
 //! "No limit binds the reckoning, that on exponents included." It shares the frame, the reducer

@@ -1,3 +1,4 @@
+// SPDX-License-Identifier: MIT OR Apache-2.0
 //! Replaying picks that were recorded elsewhere (request A9).
 
 use crate::behind::{bytes_that_matter, split, LinesBehind};

@@ -1,3 +1,4 @@
+// SPDX-License-Identifier: MIT OR Apache-2.0
 //! Lists of calls as text, and what they answer.
 
 use crate::engine::{Answer, Basis, Outcome, State};

@@ -1,3 +1,4 @@
+// SPDX-License-Identifier: MIT OR Apache-2.0
 //! The sheet printed.
 
 use crate::engine::{Answer, Outcome, State};

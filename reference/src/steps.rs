@@ -1,3 +1,4 @@
+// SPDX-License-Identifier: MIT OR Apache-2.0
 //! How many steps lifting by pick code 2 takes, and files that take many.
 //!
 //! A step is one pick. No rule of document 01 bounds their number, so the count here stops at a cap.

@@ -1,3 +1,4 @@
+// SPDX-License-Identifier: MIT OR Apache-2.0
 //! Random bases: the ways agree, the vectors are syzygies with their frame terms in front, and
 //! the levels resolve.
 

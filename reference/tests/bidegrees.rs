@@ -1,3 +1,4 @@
+// SPDX-License-Identifier: MIT OR Apache-2.0
 //! Bidegrees (request A14): the G line, what stays as it is without it, the lines, and 25.
 
 use crate::common::*;

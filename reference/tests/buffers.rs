@@ -1,3 +1,4 @@
+// SPDX-License-Identifier: MIT OR Apache-2.0
 //! The calls on lent buffers: every word of every buffer afterwards, for any contents before.
 
 use crate::common::*;

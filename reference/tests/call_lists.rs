@@ -1,3 +1,4 @@
+// SPDX-License-Identifier: MIT OR Apache-2.0
 //! Random lists of calls: the claim about a whole list, and the text forms.
 
 use reference::engine::State;

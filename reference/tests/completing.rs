@@ -1,3 +1,4 @@
+// SPDX-License-Identifier: MIT OR Apache-2.0
 //! Completing a basis (request A6): what is added, what stays, and what is refused.
 
 use crate::common::*;

@@ -1,3 +1,4 @@
+// SPDX-License-Identifier: MIT OR Apache-2.0
 //! Damaged files and files at the limits: a listing or an X line with a number and a place.
 
 use crate::common::*;

@@ -1,3 +1,4 @@
+// SPDX-License-Identifier: MIT OR Apache-2.0
 //! Degrees of components (request A5): the D line, the degrees that a state's words hold, and what they are for soundness.
 
 use crate::common::*;

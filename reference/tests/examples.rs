@@ -1,3 +1,4 @@
+// SPDX-License-Identifier: MIT OR Apache-2.0
 //! The files of `examples/` against what Singular and Macaulay2 say of them.
 
 use crate::common::*;

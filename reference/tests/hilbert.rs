@@ -1,3 +1,4 @@
+// SPDX-License-Identifier: MIT OR Apache-2.0
 //! The Hilbert function (request A13): the lines, what they count, and what is refused.
 
 use crate::common::*;

@@ -1,3 +1,4 @@
+// SPDX-License-Identifier: MIT OR Apache-2.0
 //! The instances of document 01 and its printed example.
 
 use crate::common::*;

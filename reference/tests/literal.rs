@@ -1,3 +1,4 @@
+// SPDX-License-Identifier: MIT OR Apache-2.0
 //! The three ways once more, as literally as possible: terms in plain lists, recursion, counts
 //! taken anew each time. They have to agree with the library call for call, refusals included.
 

@@ -1,3 +1,4 @@
+// SPDX-License-Identifier: MIT OR Apache-2.0
 //! All tests of the unrelated implementation, as one program: compiled and linked once.
 
 mod bases;

@@ -1,3 +1,4 @@
+// SPDX-License-Identifier: MIT OR Apache-2.0
 //! Minimal Betti numbers (request A7): the page, ranks, what the numbers do not depend on, and what
 //! is refused.
 

@@ -1,3 +1,4 @@
+// SPDX-License-Identifier: MIT OR Apache-2.0
 //! Every refusal at least once with its place, and the order of refusals in a line.
 
 use crate::common::*;

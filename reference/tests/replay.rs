@@ -1,3 +1,4 @@
+// SPDX-License-Identifier: MIT OR Apache-2.0
 //! Picks recorded elsewhere (request A9): which logs are taken, the vector, and what is refused.
 
 use crate::common::*;

@@ -1,3 +1,4 @@
+// SPDX-License-Identifier: MIT OR Apache-2.0
 //! Lifting by hybrid in less work space (request A11): every length of work, by the words of all
 //! buffers afterwards.
 

@@ -1,3 +1,4 @@
+// SPDX-License-Identifier: MIT OR Apache-2.0
 //! How many steps pick code 2 takes, and slow files.
 
 use crate::common::*;

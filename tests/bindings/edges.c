@@ -1,3 +1,4 @@
+/* SPDX-License-Identifier: MIT OR Apache-2.0 */
 /* What the header says beyond the answers that resolve prints: its numbers, packed rows, null with length 0, buffers one word too short, work areas of many
  * lengths for hybrid, wrong numbers, altered states, levels dropped, degrees, weights, the accessors, the sheet, the Betti page, the minimal numbers, the
  * bidegrees, the Hilbert function. */

@@ -1,3 +1,4 @@
+/* SPDX-License-Identifier: MIT OR Apache-2.0 */
 /* The examples in C, many runs in one process, so that a memory checker is started once: it follows a process into its children.
  *
  *     many    each line of standard input is a run, OUTPUT WORD ARGUMENT..: the example named WORD in a child, its standard output in the file OUTPUT, its

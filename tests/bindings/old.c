@@ -1,3 +1,4 @@
+/* SPDX-License-Identifier: MIT OR Apache-2.0 */
 /* A program of an old version, TAGETESSASH_VERSION. What it took of that header is written out, since no later header changes a program that is compiled
  * already. Its buffers have that version's lengths. Those of version 1 are long enough still, so that only the version tells; a state of version 2 is too
  * short by the degrees (16). Exits with 0 if the library is of its version, else with 2. */

@@ -1,3 +1,4 @@
+/* SPDX-License-Identifier: MIT OR Apache-2.0 */
 /* A library of another version, OTHER_VERSION, of which nothing else is called. */
 #include <stdlib.h>
 #include "tagetessash.h"

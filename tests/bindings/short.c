@@ -1,3 +1,4 @@
+/* SPDX-License-Identifier: MIT OR Apache-2.0 */
 /* Linked with --wrap=malloc: every buffer is a word shorter than the program asked for, and so than it says to the library. A memory checker must find that. */
 #include <stddef.h>
 

@@ -1,3 +1,4 @@
+/* SPDX-License-Identifier: MIT OR Apache-2.0 */
 /* How much stack each call takes: each runs in a thread whose stack has the bytes that the header says are enough, painted before, looked at after.
  *
  *     stack FILE..            prints the most that each call took, from its caller's frame on and with what the thread has of its own; exits with 1 if one

@@ -1,3 +1,4 @@
+/* SPDX-License-Identifier: MIT OR Apache-2.0 */
 /* Many lifts side by side: each in a thread of its own, with a state, a work area for few terms and a stack of TAGETESSASH_NARROW_STACK_BYTES of its own.
  *
  *     threads [-t THREADS] [-r TERMS] [-s] FILE..

@@ -1,3 +1,4 @@
+/* SPDX-License-Identifier: MIT OR Apache-2.0 */
 // Preloaded before the C library: makes the program's reads and writes short, and lets single ones fail as a signal does.
 // IO_READ, IO_WRITE: the most bytes that one read of standard input, one write takes. IO_READ_FAILS, IO_WRITE_FAILS: the number of the one that fails, from 1;
 // with IO_FROM every one from that number on. IO_SPOIL: read, write or descriptor, a fault that the test must find.

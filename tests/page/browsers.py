@@ -1,3 +1,4 @@
+# SPDX-License-Identifier: MIT OR Apache-2.0
 """Pages printed by the browsers that are installed: Chromium, Firefox, WeasyPrint. Each is a function that prints an HTML file as a PDF file.
 
     browsers.py BROWSER HTML PDF

@@ -1,3 +1,4 @@
+# SPDX-License-Identifier: MIT OR Apache-2.0
 """A page read back, by nothing of what set it: from the text, from the HTML, from the JSON; and what it must say, from the problem file and what the programs
 print of it. Each gives the same object, Found, and they are compared."""
 import html.parser

@@ -1,3 +1,4 @@
+// SPDX-License-Identifier: MIT OR Apache-2.0
 //! Links the static library that `tools/test-library` writes, or that of the folder `TESTING_LIB_DIR`.
 
 use std::path::Path;

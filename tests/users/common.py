@@ -1,3 +1,4 @@
+# SPDX-License-Identifier: MIT OR Apache-2.0
 """What the tests in this folder have alike: tools/verify.py as `checker`, the command as people call it, a problem file taken apart, the guide's texts, a page
 of numbers, and a file's page made again from its sheet. A page is the Betti page, the minimal Betti numbers, the bidegrees or the Hilbert function: what the
 command prints of a file that is not refused, for all but the last because of an element of two degrees or bidegrees. And what Singular and Macaulay2 are told

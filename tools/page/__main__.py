@@ -1,4 +1,5 @@
 #!/usr/bin/env python3
+# SPDX-License-Identifier: MIT OR Apache-2.0
 """The printed page of a problem file: levels down the page, generators in columns, a blank margin for the reader's own marks.
 
     tagetessash page [OPTION..] FILE      writes the page of FILE (- is standard input) to standard output

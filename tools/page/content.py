@@ -1,3 +1,4 @@
+# SPDX-License-Identifier: MIT OR Apache-2.0
 """The page's content as JSON, by docs/page.schema.json."""
 from problem import ORDERS
 from words import Variable

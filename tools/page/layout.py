@@ -1,3 +1,4 @@
+# SPDX-License-Identifier: MIT OR Apache-2.0
 """Lines filled, levels cut into bands, parts broken into pages: for any unit of width and height."""
 
 

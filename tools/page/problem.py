@@ -1,3 +1,4 @@
+# SPDX-License-Identifier: MIT OR Apache-2.0
 """What the proved programs print of a problem file, taken apart. What is found here, the degree of each generator from exponents, is held to the Betti page and
 to the bidegrees."""
 import hashlib

@@ -1,3 +1,4 @@
+# SPDX-License-Identifier: MIT OR Apache-2.0
 """What text and HTML share: the page as parts, in the sequence in which they stand, and its sentences."""
 import re
 

@@ -1,3 +1,4 @@
+# SPDX-License-Identifier: MIT OR Apache-2.0
 """The page as text of 72 columns."""
 from layout import Matrix, Part, filled, paged
 from setter import Setter

@@ -1,3 +1,4 @@
+# SPDX-License-Identifier: MIT OR Apache-2.0
 """The page as HTML, made for print: every line and every page is broken here, by the widths of Times and Helvetica, so that no browser's own breaking, and no
 margin box, is relied on."""
 import functools

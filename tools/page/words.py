@@ -1,3 +1,4 @@
+# SPDX-License-Identifier: MIT OR Apache-2.0
 """Names, counts and words, for people: nothing that a name or a title has in it can be read as anything but text."""
 import re
 import unicodedata

@@ -1,3 +1,4 @@
+// SPDX-License-Identifier: MIT OR Apache-2.0
 //! What several of the benches use.
 //!
 //! - [`timing`]: runs in turns, and their medians.

@@ -1,3 +1,4 @@
+// SPDX-License-Identifier: MIT OR Apache-2.0
 //! What the plain Rust of several benches is made of, as one would write it. It is compiled into each of them. The exponents of a term are packed: a byte each
 //! in one number, x1's the top one. Those of an image may pass 255 and have sixteen bits each.
 

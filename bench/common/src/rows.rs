@@ -1,3 +1,4 @@
+// SPDX-License-Identifier: MIT OR Apache-2.0
 //! Numbers and rows, the same in every run.
 
 use common::buffers::{row, ROW};

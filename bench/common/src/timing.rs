@@ -1,3 +1,4 @@
+// SPDX-License-Identifier: MIT OR Apache-2.0
 //! Runs in turns, and their medians or the shortest in microseconds: what else the machine does meets all of them alike.
 
 use std::time::{Duration, Instant};

@@ -1,3 +1,4 @@
+// SPDX-License-Identifier: MIT OR Apache-2.0
 //! Times proved frames beside plain Rust on 128 leading monomials, for each order code and for several spreads over components.
 //! Both form the same frame, in turns; the ratio is that of the medians. One argument: how many turns.
 

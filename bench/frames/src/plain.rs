@@ -1,3 +1,4 @@
+// SPDX-License-Identifier: MIT OR Apache-2.0
 //! The frame as one would write it in Rust: for each element the generators of the earlier ones, sorted, equal ones once, the minimal ones kept.
 
 use bench_common::plain::{colon, compare, divides, terms, Term};

@@ -1,3 +1,4 @@
+// SPDX-License-Identifier: MIT OR Apache-2.0
 //! Times proved leaves beside plain Rust: comparison, product with 13's test, the search for an equal monomial, the reducer search, insertion into a
 //! descending sum. Plain Rust works on slices of packed terms; beside it stands the same on the proved code's own rows.
 //! All work on the same terms, in turns; a ratio is that of the medians. One argument: how many turns.

@@ -1,3 +1,4 @@
+// SPDX-License-Identifier: MIT OR Apache-2.0
 //! Times the proved soundness test beside a plain Rust one on full states: ten levels of 2,048 terms each.
 //! Both look at the same words, in turns; the ratio is that of the medians. One argument: how many turns.
 

@@ -1,3 +1,4 @@
+// SPDX-License-Identifier: MIT OR Apache-2.0
 //! The soundness test as one would write it in Rust: one pass over each level, images on level 0 made as it goes.
 
 use bench_common::plain::{compare_images, degree, image, is_prime, ranked, Image, Term};

@@ -1,3 +1,4 @@
+// SPDX-License-Identifier: MIT OR Apache-2.0
 //! Reading with acceptance and all levels, by each way, on the files of examples/: the public calls beside plain Rust that does the same, and beside other
 //! systems where they are installed. Both go in turns in one process; a time is the shortest. One argument: how long each cell may take, in milliseconds; a
 //! second one: the name of one file.

@@ -1,3 +1,4 @@
+// SPDX-License-Identifier: MIT OR Apache-2.0
 //! Other systems on the same elements: Singular's `sres` and Macaulay2's `res` with strategy 5 (`fres`: bench/run-fres, in the kernel). Each repeats the call
 //! inside one process, by its interpreter, and tells how long the repetitions took; reading and, in Singular, the test for a Gröbner basis are not part of
 //! it.

@@ -1,3 +1,4 @@
+// SPDX-License-Identifier: MIT OR Apache-2.0
 //! Plain Rust that does the same: reads a file, accepts its basis, and lifts level after level by each way, with the same limits and the same refusals 1 to 9,
 //! 13 to 15, 18 and 24. It lends no buffers and zeroes none: levels are vectors of vectors of terms.
 

@@ -1,3 +1,4 @@
+// SPDX-License-Identifier: MIT OR Apache-2.0
 //! Times the proved reader beside a plain Rust reader on the largest file that is accepted: 2,048 T lines, 65,536 bytes.
 //! Both read the same bytes into the same buffer, in turns; the ratio is that of the medians. One argument: how many turns.
 

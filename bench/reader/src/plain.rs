@@ -1,3 +1,4 @@
+// SPDX-License-Identifier: MIT OR Apache-2.0
 //! A plain Rust reader: the same tests in the same order, the same words, no allocation.
 
 use bench_common::plain::{compare, degree, is_prime, Term};

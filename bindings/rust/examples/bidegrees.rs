@@ -1,3 +1,4 @@
+// SPDX-License-Identifier: MIT OR Apache-2.0
 //! Prints the bidegrees of a problem file. Prints what bindings/c/bidegrees.c prints.
 //!
 //!     bidegrees FILE

@@ -1,3 +1,4 @@
+// SPDX-License-Identifier: MIT OR Apache-2.0
 //! Prints a problem file completed to a Gröbner basis. Prints what bindings/c/complete.c prints.
 //!
 //!     complete FILE

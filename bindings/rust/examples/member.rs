@@ -1,3 +1,4 @@
+// SPDX-License-Identifier: MIT OR Apache-2.0
 //! Asks of vectors whether they are in the module of a file's elements: the file is read once, then each vector divided. Prints what bindings/c/member.c
 //! prints.
 //!

@@ -1,3 +1,4 @@
+// SPDX-License-Identifier: MIT OR Apache-2.0
 //! Prints the minimal Betti numbers of a problem file. Prints what bindings/c/minimal.c prints.
 //!
 //!     minimal FILE

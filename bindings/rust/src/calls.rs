@@ -1,3 +1,4 @@
+// SPDX-License-Identifier: MIT OR Apache-2.0
 //! The calls themselves, over slices of any length. [`crate::Engine`] lends them buffers that are long enough, and a stack that the tree needs; the
 //! tests and the bench of this repository lend others.
 

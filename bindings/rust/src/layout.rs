@@ -1,3 +1,4 @@
+// SPDX-License-Identifier: MIT OR Apache-2.0
 //! Lengths and places in the lent buffers, in words, by the header's names; a test compares them with it.
 
 pub const STATE_WORDS: usize = 125_471;

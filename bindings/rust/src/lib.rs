@@ -1,3 +1,4 @@
+// SPDX-License-Identifier: MIT OR Apache-2.0
 //! Syzygies of a Gröbner basis over a small prime field, level upon level, by the proved engine.
 //!
 //! An [`Engine`] owns the buffers that the engine's calls are lent. [`Engine::read`] takes a problem file, which [`Problem`] writes from terms,

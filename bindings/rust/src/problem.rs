@@ -1,3 +1,4 @@
+// SPDX-License-Identifier: MIT OR Apache-2.0
 //! Problem files from terms.
 
 use crate::{Order, Term};

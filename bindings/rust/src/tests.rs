@@ -1,3 +1,4 @@
+// SPDX-License-Identifier: MIT OR Apache-2.0
 use crate::{
     betti, bidegrees, calls, completed, hilbert, layout, member, minimal, replay, sheet, Division,
     Engine, Order, Pick, Printing, Problem, Refusal, Term, Way, HIGHEST_LEVEL, LEAST_TERMS,

@@ -1,3 +1,4 @@
+// SPDX-License-Identifier: MIT OR Apache-2.0
 //! Files for bidegrees (request A14): bihomogeneous ones with and without D and G lines, those with
 //! an element of two bidegrees in any place, and those that are refused while they are lifted.
 

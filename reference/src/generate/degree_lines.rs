@@ -1,3 +1,4 @@
+// SPDX-License-Identifier: MIT OR Apache-2.0
 //! Files with D lines: right ones, and every way to spoil one.
 
 use crate::generate::problems::{degree_line, random_degrees};

@@ -1,3 +1,4 @@
+// SPDX-License-Identifier: MIT OR Apache-2.0
 //! Files at and past the limits, and damaged files.
 
 use crate::generate::degree_lines::{spoil_degree_line, with_degrees, with_random_degrees};

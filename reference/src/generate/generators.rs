@@ -1,3 +1,4 @@
+// SPDX-License-Identifier: MIT OR Apache-2.0
 //! Files for completing (request A6): Gröbner bases with elements left out, other generators, and files
 //! that pass a limit when something is added.
 

@@ -1,3 +1,4 @@
+// SPDX-License-Identifier: MIT OR Apache-2.0
 //! Problem files with recorded picks behind them (request A9): logs that are taken, logs at the limits,
 //! and logs damaged in every way.
 

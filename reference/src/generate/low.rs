@@ -1,3 +1,4 @@
+// SPDX-License-Identifier: MIT OR Apache-2.0
 //! Files for the Hilbert function (request A13): its lines show degrees 0 to 32, so that generators
 //! have degrees up to 32 and a little above. Two in five are inhomogeneous.
 

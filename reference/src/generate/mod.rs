@@ -1,3 +1,4 @@
+// SPDX-License-Identifier: MIT OR Apache-2.0
 //! Seeded problem files and lists of calls.
 //!
 //! - [`problems`]: random Gröbner bases and random sets of elements.

@@ -1,3 +1,4 @@
+// SPDX-License-Identifier: MIT OR Apache-2.0
 //! Files for the Betti page: homogeneous ones with and without a D line, those with an element of
 //! two degrees in any place, and those that are refused while they are lifted.
 

@@ -1,3 +1,4 @@
+// SPDX-License-Identifier: MIT OR Apache-2.0
 //! Random Gröbner bases of many families, and random sets that mostly are none.
 
 use crate::completion::{Caps, Completion};

@@ -1,3 +1,4 @@
+// SPDX-License-Identifier: MIT OR Apache-2.0
 //! Files for minimal Betti numbers (request A7): homogeneous bases in whose vectors constants occur
 //! often, in several columns and degrees, and mostly modulo 2 or 3, where ranks drop.
 

@@ -1,3 +1,4 @@
+// SPDX-License-Identifier: MIT OR Apache-2.0
 //! Bases for lifting in less work space (request A11): how many terms the working value of the
 //! hybrid way has at most is known, or is near 32 or 512.
 

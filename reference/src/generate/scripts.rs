@@ -1,3 +1,4 @@
+// SPDX-License-Identifier: MIT OR Apache-2.0
 //! Lists of calls, also with limits close to what a run needs.
 
 use crate::buffers::{out_words, whole_work_words, work_words, ROW};

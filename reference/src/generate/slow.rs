@@ -1,3 +1,4 @@
+// SPDX-License-Identifier: MIT OR Apache-2.0
 //! Gröbner bases on which lifting by pick code 2 takes very many steps, and whose sheets are short.
 //!
 //! The newest term is followed down to its end before the next is looked at, so that a monomial is

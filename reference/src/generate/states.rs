@@ -1,3 +1,4 @@
+// SPDX-License-Identifier: MIT OR Apache-2.0
 //! The words of a state that hold degrees, altered.
 
 use crate::buffers::{read_state, Layout};

@@ -1,3 +1,4 @@
+// SPDX-License-Identifier: MIT OR Apache-2.0
 //! Problem files with V lines behind them (request A12): vectors that are in the module, vectors that
 //! are not, vectors at the limits, and V lines damaged in every way.
 

@@ -1,3 +1,4 @@
+// SPDX-License-Identifier: MIT OR Apache-2.0
 //! Files with G lines (request A14): right ones, and every way to spoil one.
 
 use crate::generate::degree_lines::{components_of, with_degrees, without_lines, Spoiled};

@@ -1,3 +1,4 @@
+// SPDX-License-Identifier: MIT OR Apache-2.0
 //! One call on two sets of buffers: number, place (or length) and every word of every buffer.
 
 use crate::divided::divide_call_within;

@@ -1,3 +1,4 @@
+// SPDX-License-Identifier: MIT OR Apache-2.0
 //! The call that divides a lent vector, from docs/BUFFERS.md, "A vector divided", on parts of the unrelated implementation: its states, its order of terms and
 //! its division.
 

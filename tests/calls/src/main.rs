@@ -1,3 +1,4 @@
+// SPDX-License-Identifier: MIT OR Apache-2.0
 //! The public calls against the unrelated implementation: lists of calls on lent buffers; number, place and every word after each call.
 //!
 //!     test-calls [CALLS [SEED]]                                  at least so many calls (1,000,000 without it)

@@ -1,3 +1,4 @@
+// SPDX-License-Identifier: MIT OR Apache-2.0
 //! The proved calls, through the library's Rust crate: number and place as the unrelated implementation has them.
 
 use tagetessash::calls;

@@ -1,3 +1,4 @@
+// SPDX-License-Identifier: MIT OR Apache-2.0
 //! What a test is asked for on its command line.
 
 /// The words behind the program's name.

@@ -1,3 +1,4 @@
+// SPDX-License-Identifier: MIT OR Apache-2.0
 //! The buffers of docs/BUFFERS.md: lengths and places by name, in words; terms as rows of words.
 
 use reference::random::Random;

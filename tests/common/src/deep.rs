@@ -1,3 +1,4 @@
+// SPDX-License-Identifier: MIT OR Apache-2.0
 //! Bases over which the tree goes down as deep as its work area allows.
 
 use reference::generate::problems::element_of;

@@ -1,3 +1,4 @@
+// SPDX-License-Identifier: MIT OR Apache-2.0
 //! Problem files: some written out, some random; and every way to damage one at a byte.
 
 use reference::generate::problems::{element_of, random_basis, random_degrees, random_set, Size};

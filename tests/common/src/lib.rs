@@ -1,3 +1,4 @@
+// SPDX-License-Identifier: MIT OR Apache-2.0
 //! What several of the tests and benches use.
 //!
 //! - [`arguments`]: what a test is asked for on its command line.

@@ -1,3 +1,4 @@
+// SPDX-License-Identifier: MIT OR Apache-2.0
 //! A page in the layout of the Betti page: its labels and its numbers.
 
 use std::collections::BTreeMap;

@@ -1,3 +1,4 @@
+// SPDX-License-Identifier: MIT OR Apache-2.0
 //! A program that people run, as a process: a file on its standard input, what it writes on its standard output.
 
 use std::io::{Read, Write};

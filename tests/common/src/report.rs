@@ -1,3 +1,4 @@
+// SPDX-License-Identifier: MIT OR Apache-2.0
 //! How a test tells what it met, and what differs.
 
 /// One more than the largest number of a refusal.

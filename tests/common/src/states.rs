@@ -1,3 +1,4 @@
+// SPDX-License-Identifier: MIT OR Apache-2.0
 //! Sound states: levels of any vectors that are in range and descend, lifted or not; and their words altered.
 
 use crate::buffers::{

@@ -1,3 +1,4 @@
+// SPDX-License-Identifier: MIT OR Apache-2.0
 //! The elements of a completed file against those given: a Buchberger completion of another kind, with all terms reduced and pairs in another sequence, shows
 //! that they generate the same module and are a Gröbner basis of it.
 

@@ -1,3 +1,4 @@
+// SPDX-License-Identifier: MIT OR Apache-2.0
 //! Proved frames against the unrelated implementation: random leading monomials, and those of the example files and of the levels over them.
 //!
 //!     test-frames [LISTS [SEED]]           at least so many lists of leading monomials (150,000 without it)

@@ -1,3 +1,4 @@
+// SPDX-License-Identifier: MIT OR Apache-2.0
 //! The monomials that no leading monomial divides, counted one by one from the text of a file that is a Gröbner basis: no reader, no order, no resolution. The
 //! first T line of an element has its leading monomial.
 

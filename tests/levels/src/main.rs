@@ -1,3 +1,4 @@
+// SPDX-License-Identifier: MIT OR Apache-2.0
 //! The proved soundness test against the unrelated implementation: sound states, and states with words altered anywhere.
 //!
 //!     test-levels [STATES [SEED]]   at least so many states (400,000 without it)

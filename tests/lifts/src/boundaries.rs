@@ -1,3 +1,4 @@
+// SPDX-License-Identifier: MIT OR Apache-2.0
 //! Levels at the boundaries between table and run: nodes, edges and exponents at their bounds and one more, rooms of 32 to 512 terms, batches that end, sums of
 //! lower order that are not zero, altered states. `tables` says which boundary each meets.
 

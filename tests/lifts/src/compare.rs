@@ -1,3 +1,4 @@
+// SPDX-License-Identifier: MIT OR Apache-2.0
 //! One level lifted by both: number, count and every word of the result.
 
 use common::buffers::{self, more, ROW, STATE, TERMS, TREE_WORK, VECTORS};

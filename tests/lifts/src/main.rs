@@ -1,3 +1,4 @@
+// SPDX-License-Identifier: MIT OR Apache-2.0
 //! Proved lifting of a level against the unrelated implementation: number, count and every word, by all three ways, with document 01's limits and with
 //! smaller ones.
 //!

@@ -1,3 +1,4 @@
+// SPDX-License-Identifier: MIT OR Apache-2.0
 //! The table of a level, counted apart from the engine: the monomials that its frame terms reach ("nodes"), each expanded once by the reducer rule, and the
 //! products that lead to them ("edges"). So the test knows on which side of each boundary between table and run a lifting is, and how often each was met.
 

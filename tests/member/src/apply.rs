@@ -1,3 +1,4 @@
+// SPDX-License-Identifier: MIT OR Apache-2.0
 //! What was printed of a division against the input's text: arithmetic of this file's own, on terms as they stand in lines.
 
 use std::collections::BTreeMap;

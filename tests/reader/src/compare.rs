@@ -1,3 +1,4 @@
+// SPDX-License-Identifier: MIT OR Apache-2.0
 //! One file through both readers: number, place and every word of the state.
 
 use common::buffers::{all_zero, more, STATE};

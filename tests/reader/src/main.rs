@@ -1,3 +1,4 @@
+// SPDX-License-Identifier: MIT OR Apache-2.0
 //! The proved reader against the unrelated implementation: number, place and every word, file by file.
 //!
 //!     test-reader [FILES [SEED]]        at least so many files (260,000 without it)

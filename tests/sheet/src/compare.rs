@@ -1,3 +1,4 @@
+// SPDX-License-Identifier: MIT OR Apache-2.0
 //! One file through the proved call and the unrelated implementation: number, length, the sheet's bytes, and what stands in the buffers afterwards.
 
 use common::buffers::SHEET;

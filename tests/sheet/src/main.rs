@@ -1,3 +1,4 @@
+// SPDX-License-Identifier: MIT OR Apache-2.0
 //! The sheet against the unrelated implementation, byte for byte: the proved call on generated and damaged files, and the program that people run on the
 //! files of examples/, the instances of document 01 and files about the longest.
 //!

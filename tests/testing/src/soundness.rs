@@ -1,3 +1,4 @@
+// SPDX-License-Identifier: MIT OR Apache-2.0
 //! The proved soundness test, through the static library.
 
 extern "C" {
