@@ -46,7 +46,7 @@ from .engine import Command, Library, NotInstalled, engine
 from .problem import Problem
 
 __all__ = ["Problem", "Refused", "Resolution", "Betti", "Matrix", "Division", "NotInstalled", "Library", "Command", "engine"]
-__version__ = "3.7"
+__version__ = "3.9"
 
 # in a traceback under the name that people import
 for _error in (Refused, NotInstalled):

@@ -9,9 +9,11 @@ MEANINGS = {
     3: "the number of variables is not 1 to 8, the order none of three, or the number of components not 1 to 16",
     4: "a coefficient, component or exponent is out of range", 5: "an element number is out of sequence or above 64",
     6: "a term is not below the one before it in its element", 7: "the count of T lines is 0 or wrong", 8: "there are more than 2,048 terms",
-    9: "the elements are no Groebner basis", 13: "a product has an exponent above 255",
+    9: "the elements are no Groebner basis", 12: "there is no such level or vector", 13: "a product has an exponent above 255",
     14: "a working value, a vector, quotients or a remainder have more than 512 terms", 15: "a level has more than 128 vectors or more than 2,048 terms",
     17: "an element has terms of two degrees", 18: "a component's degree is above 255", 19: "a 65th element would be added", 20: "level 9 is not empty",
+    21: "there are more than 4,096 picks, or one is no component and n exponents",
+    22: "a pick is no term of the working value, or the picks end before it is zero or go on after that",
     23: "a term of the vector is out of range, not below the one before it, or the 513th", 24: "a variable's weight is above 15",
     25: "an element has terms of two bidegrees"}
 LIMITS = (13, 14, 15)

@@ -7,9 +7,9 @@ import shutil
 import subprocess
 from typing import Dict, List, Optional, Union
 
-WORDS = ("sheet", "betti", "minimal", "bidegrees", "hilbert", "member", "complete")
+WORDS = ("sheet", "betti", "minimal", "bidegrees", "hilbert", "member", "complete", "replay")
 # tagetessash_complete is a name of the header for something else
-CALLS = {"complete": "tagetessash_completion"}
+CALLS = {"complete": "tagetessash_completed"}
 
 
 class NotInstalled(RuntimeError):
@@ -54,7 +54,7 @@ class Command:
     """The command tagetessash."""
 
     USED_WRONGLY = 2
-    LAST_STATUS = 6
+    LAST_STATUS = 7
 
     def __init__(self, name: str):
         self.name = name

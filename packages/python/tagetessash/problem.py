@@ -7,6 +7,9 @@ from .answers import LIMITS, MEANINGS, Betti, Division, Refused, Resolution, num
 from .engine import engine
 from .polynomials import ORDERS, Parser, Term, entries, height, written
 
+# of a problem file
+MOST_BYTES, MOST_TERMS = 65536, 2048
+
 
 class Problem:
     """A basis of an ideal or of a submodule of a free module over ZZ/p.
@@ -116,6 +119,11 @@ class Problem:
         """Terms as a string; of a module with e1, e2, .. behind each."""
         return written(terms, self.names, self.p, self.components > 1)
 
+    def polynomials(self) -> List:
+        """The elements as strings; of a module as lists of them, one for each component."""
+        rows = [entries(e, self.components, self.names, self.p) for e in self.elements]
+        return rows if self.components > 1 else [row[0] for row in rows]
+
     def ask(self, word: str, behind: str = "") -> List[str]:
         """The lines that the engine prints, of the file with these lines behind it. Refused where it refuses."""
         key = word + "\n" + behind
@@ -134,7 +142,16 @@ class Problem:
             words = "%s, %s" % ("while the basis was being accepted" if place == 0 else "at level %d" % place, words)
         elif number in (17, 25):
             words += ": element %d" % place
+        elif number in (21, 22):
+            # behind the file and the L line
+            words += ": pick %d" % (place - self.text().count("\n") - 1)
+        elif word == "complete" and number in (1, 8) and not self.is_too_long():
+            words = "the completed file would have more than %s" % ("65,536 bytes" if number == 1 else "2,048 terms")
         raise Refused(number, place, words, value)
+
+    def is_too_long(self) -> bool:
+        """Whether the problem file has more bytes or terms than are read."""
+        return len(self.text()) > MOST_BYTES or sum(map(len, self.elements)) > MOST_TERMS
 
     def is_groebner_basis(self) -> bool:
         """Whether the elements are a Groebner basis by this order. Refused where a limit is met before that is known."""
@@ -200,10 +217,28 @@ class Problem:
         return self.member(vector).is_member
 
     def complete(self) -> "Problem":
-        """A Groebner basis: these elements and what must be added to them. The same problem where they are one."""
+        """A Groebner basis: these elements and what must be added to them. The same problem where they are one.
+
+        >>> from tagetessash import Problem
+        >>> Problem(7, "x y", ["x^2", "x*y + y^2"], order="lex").complete().polynomials()
+        ['x^2', 'x*y + y^2', 'y^3']
+        """
         new = self.of_text("\n".join(self.ask("complete")), " ".join(self.names))
         new.shift = self.shift
         return new
+
+    def replay(self, level: int, number: int, picks: Sequence[Tuple[int, Sequence[int]]]) -> List[Term]:
+        """The vector of frame term `number` of a level, lifted with the picks of a recorded run, each (component, exponents) of a term of the working value:
+        the one that the resolution has, whoever recorded them. Refused (22) where a pick is no term then.
+
+        >>> from tagetessash import Problem
+        >>> basis = Problem(7, "x y", ["x + y", "y^2 + 1"], order="lex")
+        >>> vector = basis.replay(1, 1, [(1, (1, 0)), (1, (1, 2)), (1, (0, 3))])
+        >>> vector == basis.resolution().levels[1][0]
+        True
+        """
+        lines = ["L,%d,%d\n" % (level, number)] + ["P,%s\n" % ",".join(map(str, (*exponents, component))) for component, exponents in picks]
+        return [(n[2], n[3], tuple(n[4:])) for n in map(numbers, self.ask("replay", "".join(lines)))]
 
     def numerator(self) -> Dict[int, int]:
         """{degree: coefficient} of the Hilbert series' numerator over (1 - t)^n, by the Betti page."""
