@@ -22,11 +22,13 @@ mandir = $(datadir)/man
 docdir = $(datadir)/doc/tagetessash
 pkgconfigdir = $(libdir)/pkgconfig
 completiondir = $(datadir)/bash-completion/completions
-# where Singular and Macaulay2 look, under any prefix that they stand in themselves
+# where Singular and Macaulay2 look, under the prefix that they stand in themselves; elsewhere docs/GUIDE.md, "Installing", says what to set
 singulardir = $(datadir)/singular/LIB
 macaulay2dir = $(datadir)/Macaulay2
-# a folder of sys.path; python3 says which, for its own prefix
-pythondir = $(shell python3 -c 'import sysconfig; print(sysconfig.get_path("purelib", "posix_prefix", {"base": "$(PREFIX)"}))' 2>/dev/null)
+# a folder of sys.path under the prefix, where there is one; python3 says which
+pythondir = $(shell python3 -c 'import sys, sysconfig; \
+    own = [f for f in sys.path if f.startswith("$(PREFIX)/lib/") and f.endswith("-packages")]; \
+    print(own[0] if own else sysconfig.get_path("purelib", "posix_prefix", {"base": "$(PREFIX)"}))' 2>/dev/null)
 
 CC = gcc
 CFLAGS ?= -O2
@@ -47,9 +49,12 @@ CALLS := $(shell sed -n 's/^uint16_t \(tagetessash_[a-z]*\).*/\1/p' include/tage
 BUILD = target/install
 SHARED = $(BUILD)/$(SONAME).$(MINOR)
 PAGES3 = $(BUILD)/man3/tagetessash.3 $(CALLS:%=$(BUILD)/man3/%.3)
-# what the command calls, as it stands in it
-SCRIPTS := $(shell sed -n 's/.*"$$tools\/\([a-z]*\(\.[a-z]*\)\{0,1\}\)".*/tools\/\1/p' tagetessash | sort -u)
-DOCS = README.md CHANGELOG.md CITATION.cff LICENSE-MIT LICENSE-APACHE $(filter-out docs/LANDINGS.md docs/PROVING.md,$(wildcard docs/*.md))
+# what the command calls, as it stands in it: files, and the folder of the printed page
+CALLED := $(shell sed -n 's/.*"$$tools\/\([a-z]*\(\.[a-z]*\)\{0,1\}\)".*/tools\/\1/p' tagetessash | sort -u)
+SCRIPT_FOLDERS := $(patsubst %/,%,$(sort $(dir $(wildcard $(CALLED:%=%/*.py)))))
+SCRIPTS := $(filter-out $(SCRIPT_FOLDERS),$(CALLED))
+DOCS = README.md CHANGELOG.md CITATION.cff LICENSE-MIT LICENSE-APACHE $(filter-out docs/LANDINGS.md docs/PROVING.md,$(wildcard docs/*.md)) \
+    $(wildcard docs/*.json docs/*.png)
 SINGULAR = $(wildcard packages/singular/*.lib)
 MACAULAY2 = $(wildcard packages/macaulay2/*.m2)
 PYTHON = $(wildcard packages/python/tagetessash/*.py) packages/python/tagetessash/py.typed
@@ -110,6 +115,7 @@ install: all
 	put 755 $(libexecdir) $(PROGRAMS:%=$(PREBUILT)/%); \
 	put 644 $(libexecdir) $(PREBUILT)/MANIFEST; \
 	for file in $(SCRIPTS); do if [ -x "$$file" ]; then put 755 $(libexecdir) "$$file"; else put 644 $(libexecdir) "$$file"; fi; done; \
+	for folder in $(SCRIPT_FOLDERS); do put 644 $(libexecdir)/$${folder##*/} $$folder/*.py; done; \
 	put 644 $(libdir) $(PREBUILT)/libtagetessash.a; \
 	put 755 $(libdir) $(SHARED); \
 	link $(notdir $(SHARED)) $(libdir)/$(SONAME); \

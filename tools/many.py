@@ -14,9 +14,9 @@ import sys
 import threading
 import time
 
-USED_WRONGLY, NO_MEMBER, ENDED_BY = 2, 6, 128
-# how a page is called by its form
-ENDINGS = {"page": "html"}
+USED_WRONGLY, NO_MEMBER, LAST_STATUS, ENDED_BY = 2, 6, 7, 128
+# how a page is called by its form, and its options that have a value
+FORMS, WITH_VALUE = {"--text": ".txt", "--json": ".json"}, ("--names", "--title", "--paper")
 
 
 def wrong(*words):
@@ -43,6 +43,9 @@ def taken_apart(words):
                 jobs = int(value)
         elif words[k].startswith("--") and not os.path.exists(words[k]):
             options.append(words[k])
+            if words[k] in WITH_VALUE and k + 1 < len(words):
+                k += 1
+                options.append(words[k])
         else:
             files.append(words[k])
         k += 1
@@ -79,10 +82,9 @@ class Many:
                 del self.running[child.pid]
                 if self.stopped:
                     return
-            if status == USED_WRONGLY or not 0 <= status <= NO_MEMBER:
+            if status == USED_WRONGLY or not 0 <= status <= LAST_STATUS:
                 raise OSError(words.decode("utf-8", "replace").strip().replace("tagetessash: ", "", 1) or "the command ended with status %d" % status)
-            with open(part, "rb") as out:
-                refusal = re.search(rb"^X,(\d+),", out.read(), re.M) if status else None
+            refusal = self.number(part, file) if status not in (0, NO_MEMBER) else None
             if words:
                 with open(said, "wb") as out:
                     out.write(words)
@@ -98,12 +100,23 @@ class Many:
                 os.remove(part)
         with self.lock:
             if refusal:
-                number = int(refusal[1])
-                self.refused[number] = self.refused.get(number, 0) + 1
+                self.refused[refusal] = self.refused.get(refusal, 0) + 1
             elif status == NO_MEMBER:
                 self.not_members += 1
             else:
                 self.accepted += 1
+
+    def number(self, part, file):
+        """By which number it was refused: of an answer that has an X line; a page says it in words, and the sheet has the line."""
+        if self.word == "page":
+            printed = subprocess.run([self.command, "sheet", file], stdin=subprocess.DEVNULL, stdout=subprocess.PIPE, stderr=subprocess.DEVNULL, check=False).stdout
+        else:
+            with open(part, "rb") as out:
+                printed = out.read()
+        found = re.search(rb"^X,(\d+),", printed, re.M)
+        if not found:
+            raise OSError("it was refused, and no X line says why")
+        return int(found[1])
 
     def stop(self):
         with self.lock:
@@ -126,7 +139,7 @@ class Many:
 def main():
     command, word, *words = sys.argv[1:]
     jobs, folder, options, files = taken_apart(words)
-    ending = word + ("." + ("txt" if "--text" in options else ENDINGS[word]) if word in ENDINGS else "")
+    ending = word + (next((FORMS[form] for form in options if form in FORMS), ".html") if word == "page" else "")
     names = {}
     for file in files:
         name = re.sub(r"\.txt$", "", os.path.basename(file)) + "." + ending
