@@ -114,8 +114,9 @@ install: all
 	as 755 $(libexecdir)/command $(BUILD)/command.sh; \
 	put 755 $(libexecdir) $(PROGRAMS:%=$(PREBUILT)/%); \
 	put 644 $(libexecdir) $(PREBUILT)/MANIFEST; \
-	for file in $(SCRIPTS); do if [ -x "$$file" ]; then put 755 $(libexecdir) "$$file"; else put 644 $(libexecdir) "$$file"; fi; done; \
-	for folder in $(SCRIPT_FOLDERS); do put 644 $(libexecdir)/$${folder##*/} $$folder/*.py; done; \
+	script() { if [ -x "$$2" ]; then put 755 $$1 "$$2"; else put 644 $$1 "$$2"; fi; }; \
+	for file in $(SCRIPTS); do script $(libexecdir) "$$file"; done; \
+	for folder in $(SCRIPT_FOLDERS); do for file in $$folder/*.py; do script $(libexecdir)/$${folder##*/} "$$file"; done; done; \
 	put 644 $(libdir) $(PREBUILT)/libtagetessash.a; \
 	put 755 $(libdir) $(SHARED); \
 	link $(notdir $(SHARED)) $(libdir)/$(SONAME); \
