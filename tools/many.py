@@ -109,7 +109,8 @@ class Many:
     def number(self, part, file):
         """By which number it was refused: of an answer that has an X line; a page says it in words, and the sheet has the line."""
         if self.word == "page":
-            printed = subprocess.run([self.command, "sheet", file], stdin=subprocess.DEVNULL, stdout=subprocess.PIPE, stderr=subprocess.DEVNULL, check=False).stdout
+            sheet = [self.command, "sheet", file]
+            printed = subprocess.run(sheet, stdin=subprocess.DEVNULL, stdout=subprocess.PIPE, stderr=subprocess.DEVNULL, check=False).stdout
         else:
             with open(part, "rb") as out:
                 printed = out.read()

@@ -82,7 +82,8 @@ def engines(kind: Optional[str] = None) -> List[Engine]:
         tried = None
         if kind in (None, "library"):
             own = os.path.join(os.path.dirname(os.path.abspath(__file__)), "libtagetessash.so.3")
-            for name in (os.environ.get("TAGETESSASH_LIB"), own if os.path.exists(own) else None, ctypes.util.find_library("tagetessash"), "libtagetessash.so.3"):
+            own = own if os.path.exists(own) else ""
+            for name in (os.environ.get("TAGETESSASH_LIB"), own, ctypes.util.find_library("tagetessash"), "libtagetessash.so.3"):
                 if name and not found:
                     try:
                         found.append(Library(name))
