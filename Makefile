@@ -53,7 +53,7 @@ PAGES3 = $(BUILD)/man3/tagetessash.3 $(CALLS:%=$(BUILD)/man3/%.3)
 CALLED := $(shell sed -n 's/.*"$$tools\/\([a-z]*\(\.[a-z]*\)\{0,1\}\)".*/tools\/\1/p' tagetessash | sort -u)
 SCRIPT_FOLDERS := $(patsubst %/,%,$(sort $(dir $(wildcard $(CALLED:%=%/*.py)))))
 SCRIPTS := $(filter-out $(SCRIPT_FOLDERS),$(CALLED))
-DOCS = README.md CHANGELOG.md CITATION.cff LICENSE-MIT LICENSE-APACHE $(filter-out docs/LANDINGS.md docs/PROVING.md,$(wildcard docs/*.md)) \
+DOCS = README.md CHANGELOG.md SECURITY.md CITATION.cff LICENSE-MIT LICENSE-APACHE $(filter-out docs/LANDINGS.md docs/PROVING.md,$(wildcard docs/*.md)) \
     $(wildcard docs/*.json docs/*.png)
 SINGULAR = $(wildcard packages/singular/*.lib)
 MACAULAY2 = $(wildcard packages/macaulay2/*.m2)
@@ -128,7 +128,9 @@ install: all
 	    put 644 $(mandir)/man$${page##*.} $(BUILD)/$${page##*/}; done; \
 	put 644 $(mandir)/man3 $(PAGES3); \
 	as 644 $(completiondir)/tagetessash install/completion.bash; \
-	put 644 $(docdir) $(DOCS); \
+	for text in $(DOCS); do \
+	    case $$text in *.md) sed 's|](docs/|](|g; s|](\.\./|](|g' $$text >$(BUILD)/$${text##*/}; text=$(BUILD)/$${text##*/} ;; esac; \
+	    put 644 $(docdir) $$text; done; \
 	put 644 $(docdir)/examples examples/*.txt examples/README.md bindings/c/*.c bindings/c/*.h; \
 	put 644 $(singulardir) $(SINGULAR); \
 	put 644 $(macaulay2dir) $(MACAULAY2); \
