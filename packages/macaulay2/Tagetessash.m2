@@ -7,7 +7,7 @@ newPackage("Tagetessash",
     DebuggingMode => false)
 
 export {"problemFile", "vectorLines", "provedResolution", "provedBetti", "provedMinimalBetti", "provedHilbert", "provedAnswers", "isProvedGroebnerBasis",
-    "gbWitness", "provedComplete", "provedMember", "provedDivision", "compareWithMacaulay2", "provedPage", "Rank"}
+    "gbWitness", "provedComplete", "provedMember", "provedDivision", "compareWithMacaulay2", "provedPage", "Rank", "Generators"}
 
 ---------------------------------------------------------------------------------------------------------------------------------------------------------------
 -- The problem file. What it can not say is an error: a file without it would be another problem.
@@ -73,6 +73,7 @@ problemDegrees = (F, s, asked, bigraded) -> (
 -- The terms of a matrix of one column, each coefficient, component, exponents, the greatest first.
 termsOf = v -> (
     p := char ring v;
+    if numRows v == 1 then return apply(listForm v_(0, 0), (e, c) -> {lift(c, ZZ) % p, 1} | e);
     while v != 0 list (
         t := leadTerm v;
         i := position(flatten entries t, c -> c != 0);
@@ -82,8 +83,11 @@ termsOf = v -> (
 line = x -> concatenate(between(",", apply(x, toString)), "\n")
 
 -- The matrix whose columns are taken, and in words which.
-columnsOf = G -> (
-    if instance(G, Ideal) then (gens gb G, "gens gb of the ideal")
+columnsOf = (G, generators) -> (
+    if instance(G, Ideal) and generators then (compress gens G, "the generators of the ideal as they stand")
+    else if instance(G, Module) and generators then (compress presentation G, "the module's presentation as it stands: relations among its generators")
+    else if generators then (compress G, "the columns of the matrix as they stand")
+    else if instance(G, Ideal) then (gens gb G, "gens gb of the ideal")
     else if instance(G, Module) then (gens gb presentation G, "gens gb of the module's presentation: the relations among its generators")
     else (G, "the columns of the matrix as they stand"))
 
@@ -93,7 +97,7 @@ problemOf = (G, o, graded) -> (
         error("a matrix, an ideal or a module is wanted; this is of type " | toString class G);
     R := ring G;
     code := problemCode R;
-    (g, took) := columnsOf G;
+    (g, took) := columnsOf(G, o.Generators);
     if not isFreeModule target g then error "the columns lie in a module that is not free; take problem of the module itself, or a matrix into a free module";
     if schreyerOrder target g != 0 then error "the columns lie in a module with a Schreyer order, which is not the ring's; take map(R^s, , entries g)";
     rows := numRows g;
@@ -128,16 +132,17 @@ problemOf = (G, o, graded) -> (
             | flatten apply(#elements, j -> apply(elements#j, t -> line({"T", j + 1} | t)))
             | {line {"E", count}})})
 
-plain = new OptionTable from {Rank => null, Sort => false, Degrees => null, Weights => null}
+plain = new OptionTable from {Rank => null, Sort => false, Generators => false, Degrees => null, Weights => null}
 
 isWeights = w -> instance(w, List) and all(w, x -> instance(x, List) and #x == 2 and all(x, y -> instance(y, ZZ)))
 isDegrees = d -> instance(d, List) and all(d, x -> instance(x, ZZ))
 
-problemFile = method(TypicalValue => String, Options => {Rank => null, Sort => false, Degrees => null, Weights => null, Verbose => false})
+problemFile = method(TypicalValue => String, Options => {Rank => null, Sort => false, Generators => false, Degrees => null, Weights => null, Verbose => false})
 problemFile Thing := o -> G -> (
-    if not ((o.Rank === null or instance(o.Rank, ZZ)) and instance(o.Sort, Boolean) and (o.Degrees === null or isDegrees o.Degrees)
-        and (o.Weights === null or isWeights o.Weights)) then
-        error "the options are Rank => a number, Sort => true or false, Degrees => a list of integers, and Weights => a list of pairs of integers";
+    if not ((o.Rank === null or instance(o.Rank, ZZ)) and instance(o.Sort, Boolean) and instance(o.Generators, Boolean)
+        and (o.Degrees === null or isDegrees o.Degrees) and (o.Weights === null or isWeights o.Weights)) then
+        error("the options are Rank => a number, Sort => true or false, Generators => true or false, Degrees => a list of integers, "
+            | "and Weights => a list of pairs of integers");
     q := problemOf(G, o, true);
     if o.Verbose then (
         stderr << "-- problem: " << q#"took" << ", " << q#"count" << (if q#"count" == 1 then " element" else " elements");
@@ -177,80 +182,102 @@ programName = () -> if getenv "TAGETESSASH" =!= "" then getenv "TAGETESSASH" els
 -- A word for the shell: nothing in it means anything.
 shellQuoted = text -> "'" | concatenate between("'\\''", separate("'", text)) | "'"
 
--- What turns the program's lines into lines of this system's text, each behind a letter: X and M lines as they are, the entries of a matrix for each level, for
--- the elements, for a value or remainder and for the quotients, the numbers of a page, of Hilbert functions and of bidegrees; the last line is `end`.
+-- What turns the lines that the program printed into parts of Macaulay2's text, a line for each, behind a letter: X and M lines as they are; S, T, W and C the
+-- entries of a matrix for a level, for the elements, for a value or remainder and for the quotients; Z the level that is empty; N the numbers of a page, of
+-- Hilbert functions and of bidegrees; `=` the exit status, e what was said. The last line is `end`, or `bad`. Entries are sums of terms t#k; behind a semicolon stand row and k of each
+-- column's first term, behind another one the terms, which mostly are few: each is made once. Nothing but numbers of the program's is in it.
 awkText = ///
-function line(label) { ended(); if (now != "") printf "\n"; printf "%s ", label; now = label; entries = 0 }
-function ended(  i) {
-    for (i = 1; i <= many; i++) { printf "%s(%d,%d)=>%s", (entries++ ? "," : ""), met[i] - 1, last - 1, sum[met[i]]; delete sum[met[i]] }
+function column(  i) {
+    for (i = 1; i <= many; i++) { printf "%s(%d,%d)=>%s", comma, met[i] - 1, last - 1, sum[met[i]]; comma = ","; delete sum[met[i]] }
     many = 0
 }
-function put(label, part, vector, at,  k, t) {
-    if (label != now || part != group) line(label)
-    else if (vector != last) ended()
-    group = part; last = vector
-    t = $at
-    for (k = at + 2; k <= NF; k++) if ($k > 0) t = t "*x#" (k - at - 2) ($k > 1 ? "^" $k : "")
-    if (t == $at) t = t "*x#" (NF - at - 1)
-    k = $(at + 1)
-    if (k in sum) sum[k] = sum[k] "+" t
-    else { met[++many] = k; sum[k] = t }
+function ended(  k, i, c, e, f) {
+    column()
+    if (now ~ /[STWC]/) {
+        printf ";%s;", front
+        for (k = 0; k < count; k++) {
+            c = split(term[k], e, ",")
+            f = e[1]
+            for (i = 2; i <= c; i++) if (e[i] > 0) f = f "*x#" (i - 2) (e[i] > 1 ? "^" e[i] : "")
+            printf "%s%s%s", k ? "," : "", f, f == e[1] ? "*x#" (c - 1) : ""
+        }
+    }
+    if (now != "") printf "\n"
+    now = ""
 }
-BEGIN { FS = "," }
-/^X,/ { line("X"); printf "%s,%s", $2, $3 }
-/^M,/ { line("M"); printf "%s", $2 }
-/^S,/ { put("S", $2, $3, 4) }
-/^T,/ { put("T", 1, $2, 3) }
-/^W,/ { put("W", 1, 1, 2) }
-/^C,/ { put("C", 1, 1, 2) }
-/^Z,/ { if ($3 > 0 && (now != "S" || $2 != group || $3 != last)) bad = 1; if ($3 > 0) { ended(); printf ";%d", $3; group = "" } }
-/^[HB],/ { if (now != "N") line("N"); for (i = 2; i <= NF; i++) printf "%s,", $i }
+function begin(letter) { ended(); printf "%s ", letter; now = letter; comma = front = ""; count = 0; split("", place) }
+function put(letter, part, vector, at,  k, i, t) {
+    if (letter != now || part != group) { begin(letter); group = part; last = "" }
+    i = $(at + 1)
+    t = $at substr($0, length($1) + length($2) + length($3) + (at > 2 ? length($4) : 0) + (at > 3 ? length($5) : 0) + at + 1)
+    if (t in place) k = place[t]
+    else { k = place[t] = count; term[count++] = t }
+    if (vector != last) {
+        column()
+        last = vector
+        front = front (front == "" ? "" : ",") (i - 1) "," k
+    }
+    if (i in sum) sum[i] = sum[i] "+t#" k
+    else { met[++many] = i; sum[i] = "t#" k }
+}
+said { if ($0 == "=") said = 0; else print "e " $0; next }
+/^[A-Z],/ && !/^[A-Z](,-?[0-9]+)+$/ { bad = 1; next }
+/^S,/ { put("S", $2, $3, 4); next }
+/^T,/ { put("T", 1, $2, 3); next }
+/^[WC],/ { put(substr($0, 1, 1), 1, 1, 2); next }
+/^Z,/ { if ($3 == 0) { begin("Z"); printf "%s", $2 } else if (now != "S" || $2 != group || $3 != last) bad = 1; next }
+/^[XM],/ { begin(substr($0, 1, 1)); printf "%s", substr($0, 3); next }
+/^[HB],/ { if (now != "N") begin("N"); printf "%s,", substr($0, 3); next }
 /^ *-?[0-9]+: / {
-    if (now != "N") line("N")
+    if (now != "N") begin("N")
     label = substr($0, 1, 5); sub(/:/, "", label); printf "%d,", label
     for (i = 0; i < 11; i++) { cell = substr($0, 7 + 6*i, 6); sub(/-/, "0", cell); printf "%d,", cell }
+    next
 }
-/^E,/ { if (now == "T") { ended(); printf ";%d", last } }
-END { ended(); if (now != "") printf "\n"; print (bad ? "bad" : "end") }
+/^= [0-9]+$/ { ended(); print; said = 1 }
+BEGIN { FS = "," }
+END { print (bad || said || now != "" ? "bad" : "end") }
 ///
 
 -- Jobs are (the words of a call, each a word for the shell, the problem's text, the V lines). For each: the parts printed, pairs of letter and text, what was
--- said, the exit status. One shell for all of them. With a name that is not empty the last job's output is written there as it is, unless the command failed.
+-- said, the exit status. One shell for all of them. With a name that is not empty there is one job, whose output is written there as it is, unless the command
+-- failed.
 ran = (jobs, kept) -> (
     folder := temporaryFileName();
     mkdir folder;
     at := name -> folder | "/" | name;
-    at "awk" << awkText << close;
-    script := {"p=", shellQuoted programName(), "\nf=", shellQuoted folder, "\nr() { k=$1; shift; \"$p\" \"$@\" </dev/null >\"$f/$k.out\" 2>\"$f/$k.err\"; ",
-        "s=$?; LC_ALL=C awk -f \"$f/awk\" \"$f/$k.out\" >\"$f/$k.parts\"; echo $s >\"$f/$k.status\"; }\n"};
-    script = script | flatten for i from 0 to #jobs - 1 list (
-        (words, text, vector) := jobs#i;
-        at(toString i | ".in") << text << close;
-        if vector != "" then at(toString i | ".vector") << vector << close;
-        {"r ", toString i, " ", words, " \"$f/", toString i, ".in\"", if vector != "" then " \"$f/" | toString i | ".vector\"" else "", "\n"});
-    name := toString(#jobs - 1);
-    if kept != "" then
-        script = script | {"case $s in 0|1|3|4|5) cat \"$f/", name, ".out\" >", shellQuoted kept, " || echo 256 >\"$f/", name, ".status\" ;; esac\n"};
-    at "run" << concatenate script << "echo whole >\"$f/done\"\n" << close;
+    awk := {"LC_ALL=C awk '", awkText, "' >\"$f/parts\"\n"};
+    script := {"p=", shellQuoted programName(), "\nf=", shellQuoted folder, "\n"} | if kept == "" then
+        {"r() { e=$(\"$p\" \"$@\" 2>&1 >&3 3>&-); printf '\\n= %s\\n%s\\n=\\n' $? \"$e\"; }\n{\nexec 3>&1\n"}
+        | flatten apply(jobs, (words, text, vector) -> {"r ", words, " <<'E'\n", text, vector, "E\n"}) | {"} | "} | awk
+    -- a page tells the name of its problem file
+    else {"e=$(\"$p\" ", jobs#0#0, " \"$f/problem.txt\" 2>&1 >\"$f/out\" </dev/null)\ns=$?\ncase $s in 0|1|3|4|5) { cat \"$f/out\" >", shellQuoted kept,
+        "; } 2>/dev/null || s=256 ;; esac\nprintf '= %s\\n%s\\n=\\n' $s \"$e\" | "} | awk;
+    if kept != "" then at "problem.txt" << jobs#0#1 << close;
+    at "run" << concatenate script << close;
     run(". " | shellQuoted at "run");
-    whole := fileExists at "done";
-    said := l -> not match("^tagetessash: prebuilt:", l);
-    answers := if whole then for i from 0 to #jobs - 1 list (
-        partsOf lines get at(toString i | ".parts"),
-        select(lines get at(toString i | ".err"), said),
-        value first lines get at(toString i | ".status"));
+    printed := if fileExists at "parts" then lines get at "parts" else {};
     scan(readDirectory folder, x -> if x != "." and x != ".." then removeFile at x);
     removeDirectory folder;
-    if not whole then error "the program was stopped before it was done";
+    if #printed == 0 or last printed != "end" then error "the program was stopped before it was done, or what it printed can not be read";
+    parts := {};
+    answers := {};
+    for l in drop(printed, -1) do (
+        if l#0 == "=" then (
+            answers = append(answers, (parts, {}, value substring(2, l)));
+            parts = {})
+        else if l#0 == "e" then (
+            said := substring(2, l);
+            if said != "" and not match("^tagetessash: prebuilt:", said) then (
+                a := last answers;
+                answers = append(drop(answers, -1), (a#0, append(a#1, replace("^standard input:", "line ", said)), a#2))))
+        else parts = append(parts, (l#0, substring(2, l))));
+    if #answers != #jobs then error("what the program " | programName() | " printed can not be read");
     for a in answers do (
         if a#2 == 127 then error("the program " | programName() | " is not found; the environment variable TAGETESSASH names it");
         if a#2 == 256 then error("the file " | kept | " can not be written");
-        if a#2 == 2 or a#2 > 6 then error("the program " | programName() | " failed with status " | toString a#2 | ": " | concatenate between("; ", a#1));
-        if a#0 === null then error("what the program " | programName() | " printed can not be read"));
+        if a#2 == 2 or a#2 > 6 then error("the program " | programName() | " failed with status " | toString a#2 | ": " | concatenate between("; ", a#1)));
     answers)
-
--- Lines as pairs of a letter and what stands behind it; null where the last line is not `end`.
-partsOf = l -> if #l == 0 or last l != "end" then null else apply(drop(l, -1), x -> (x#0, substring(2, x)))
 
 -- The text behind the last line with this letter, or null.
 printedPart = (answer, letter) -> (
@@ -259,22 +286,19 @@ printedPart = (answer, letter) -> (
 
 numbersOf = text -> if text === null then error "the program printed no numbers" else toList value("{" | substring(0, #text - 1, text) | "}")
 
--- Entries of a matrix, as they stand behind S, T, W and C: of the user's names none is in this text.
-entriesOf = (R, text) -> (value("x -> {" | text | "}")) (append(gens R, 1_R))
+-- What stands behind S, T, W and C: the entries of a matrix, and of each column the row and the degree of its first term. Of the user's names none is in this
+-- text.
+entriesOf = (R, text) -> (
+    (found, front, terms) := toSequence separate(";", text);
+    t := (value("x -> {" | terms | "}")) append(gens R, 1_R);
+    d := apply(t, degree);
+    ((value("t -> {" | found | "}")) t, apply(pack(2, toList value("{" | front | "}")), x -> (x#0, d#(x#1)))))
 
--- The degrees of so many columns, by those of the rows: of an entry's leading term.
-columnDegrees = (F, entries, count) -> (
-    found := new MutableHashTable;
+-- The matrix into F that is printed so.
+matrixOf = (F, text) -> (
+    (found, front) := entriesOf(ring F, text);
     d := degrees F;
-    for e in entries do (
-        (i, j) := e#0;
-        if not found#?j then found#j = degree leadTerm e#1 + d#i);
-    toList apply(count, j -> found#j))
-
--- A matrix of one column into F, out of the entries that were printed.
-columnOf = (F, text) -> (
-    found := entriesOf(ring F, text);
-    map(F, (ring F)^(-columnDegrees(F, found, 1)), found))
+    map(F, (ring F)^(apply(front, (i, e) -> - d#i - e)), found))
 
 -- A refusal as an error, in the words of this system.
 refused = (which, q, answer) -> (
@@ -282,7 +306,7 @@ refused = (which, q, answer) -> (
     said := concatenate between("; ", answer#1);
     if refusal === null then error(which | "the program said nothing that can be read: " | said);
     (number, place) := toSequence value("{" | refusal | "}");
-    if number == 9 then error(which | "the columns are no Groebner basis: " | toString entries columnOf(target q#"matrix", printedPart(answer, "W"))
+    if number == 9 then error(which | "the columns are no Groebner basis: " | toString entries matrixOf(target q#"matrix", printedPart(answer, "W"))
         | " is in their image, and no leading monomial divides its own (gbWitness)");
     if number == 17 then error(which | "generator " | toString place | " is not homogeneous");
     if number == 25 then error(which | "generator " | toString place | " is not homogeneous by both degrees");
@@ -318,12 +342,9 @@ levelsOf = (which, q, answer) -> (
         i := position(flatten entries t, c -> c != 0);
         degree t_(i, 0) + (degrees target g)#i);
     maps := {map(target g, R^(-own), entries g)};
-    for x in answer#0 do (
-        if x#0 != "S" then error "the program printed what no sheet has";
-        (text, count) := toSequence separate(";", x#1);
-        below := source last maps;
-        found := entriesOf(R, text);
-        maps = append(maps, map(below, R^(-columnDegrees(below, found, value count)), found)));
+    levels := select(answer#0, x -> x#0 == "S");
+    if printedPart(answer, "Z") =!= toString (#levels + 1) then error "the program printed no whole sheet";
+    for x in levels do maps = append(maps, matrixOf(source last maps, x#1));
     chainComplex maps)
 
 provedResolution = method(TypicalValue => ChainComplex)
@@ -396,17 +417,14 @@ isProvedGroebnerBasis Matrix := isProvedGroebnerBasis List := G -> answered(G, f
 gbWitness = method(TypicalValue => Matrix)
 gbWitness Matrix := gbWitness List := G -> answered(G, false, {"member"}, (which, q, printed) -> (
     if accepted(which, q, first printed) then map(target q#"matrix", (ring q#"matrix")^1, 0)
-    else columnOf(target q#"matrix", printedPart(first printed, "W"))))
+    else matrixOf(target q#"matrix", printedPart(first printed, "W"))))
 
 provedComplete = method(TypicalValue => Matrix)
 provedComplete Matrix := provedComplete List := G -> answered(G, false, {"complete"}, (which, q, printed) -> (
     unlessRefused(which, q, first printed);
     text := printedPart(first printed, "T");
     if text === null then error "the program printed no problem file";
-    (found, count) := toSequence separate(";", text);
-    g := q#"matrix";
-    found = entriesOf(ring g, found);
-    map(target g, (ring g)^(-columnDegrees(target g, found, value count)), found)))
+    matrixOf(target q#"matrix", text)))
 
 -- What is known of the columns of g, the columns of f, for each of these what was printed.
 divided = (g, f) -> (
@@ -432,7 +450,7 @@ provedDivision(RingElement, Matrix) := provedDivision(Vector, Matrix) := provedD
     -- columns side by side
     side := (F, letter) -> map(F, source v, flatten apply(#answers, j -> (
         text := printedPart(answers#j, letter);
-        if text === null then {} else apply(entriesOf(R, text), e -> (first e#0, j) => e#1))));
+        if text === null then {} else apply(first entriesOf(R, text), e -> (first e#0, j) => e#1))));
     (side(source g, "C"), side(target g, "W")))
 
 provedPage = method(TypicalValue => Nothing)
@@ -807,10 +825,12 @@ doc ///
     (problemFile, Thing)
     [problemFile, Rank]
     [problemFile, Sort]
+    [problemFile, Generators]
     [problemFile, Degrees]
     [problemFile, Weights]
     [problemFile, Verbose]
     Rank
+    Generators
   Headline
     the problem file that the program reads
   Usage
@@ -822,6 +842,9 @@ doc ///
       the rank of the free module, else that of the matrix's target
     Sort => Boolean
       whether elements with leading terms in one component ascend lexicographically by these; components ascend
+    Generators => Boolean
+      whether gens of an ideal, the presentation of a module or the columns of a matrix are taken as they stand, those that are zero left out: no Groebner
+      basis is computed, and tagetessash complete makes one of the file
     Degrees => List
       the degrees of the components, else those of the matrix's target, in a bigraded ring their first integers
     Weights => List
