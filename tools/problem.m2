@@ -1,3 +1,4 @@
+-- SPDX-License-Identifier: MIT OR Apache-2.0
 -- A problem file from Macaulay2: problem G is its text, over a polynomial ring over ZZ/p with MonomialOrder => Lex, GLex or GRevLex; vectorLines f is the V
 -- lines of a ring element, a vector or a matrix of one column. Both are of the package packages/macaulay2/Tagetessash.m2, whose help says what G may be and
 -- what the options Rank, Sort, Generators, Degrees and Weights do (help problemFile); docs/GUIDE.md has examples. Standard error says what was taken.

@@ -1,3 +1,4 @@
+-- SPDX-License-Identifier: MIT OR Apache-2.0
 newPackage("Tagetessash",
     Version => "0.3",
     Date => "November 2026",
@@ -184,8 +185,9 @@ shellQuoted = text -> "'" | concatenate between("'\\''", separate("'", text)) | 
 
 -- What turns the lines that the program printed into parts of Macaulay2's text, a line for each, behind a letter: X and M lines as they are; S, T, W and C the
 -- entries of a matrix for a level, for the elements, for a value or remainder and for the quotients; Z the level that is empty; N the numbers of a page, of
--- Hilbert functions and of bidegrees; `=` the exit status, e what was said. The last line is `end`, or `bad`. Entries are sums of terms t#k; behind a semicolon stand row and k of each
--- column's first term, behind another one the terms, which mostly are few: each is made once. Nothing but numbers of the program's is in it.
+-- Hilbert functions and of bidegrees; `=` the exit status, e what was said. The last line is `end`, or `bad`. Entries are sums of terms t#k; behind a semicolon
+-- stand row and k of each column's first term, behind another one the terms, which mostly are few: each is made once. Nothing but numbers of the program's is
+-- in it.
 awkText = ///
 function column(  i) {
     for (i = 1; i <= many; i++) { printf "%s(%d,%d)=>%s", comma, met[i] - 1, last - 1, sum[met[i]]; comma = ","; delete sum[met[i]] }
