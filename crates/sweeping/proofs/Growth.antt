@@ -1,4 +1,4 @@
--- A table that grows by an edge, by a row's product.
+-- A table that grows: by an edge, by a row's product, by the rows of a multiple, by a node that is expanded, by a frame term.
 use mathlib.Core.Path.{_≡_, refl, sym, ap, _∙_, subst}
 use mathlib.Core.Bool.{Bool, true, false}
 use mathlib.Core.List.{List, [], _∷_, _++_}

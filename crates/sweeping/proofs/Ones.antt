@@ -100,7 +100,7 @@ pub after-grown : (g : Ground) (out vector : Words) (i used v : ℕ) → used + 
     → out′ ≡ set (paste out (used * row-length + ends-length) vector (v * row-length)) i (used + v) → After g i (Used (used + v)) out′
 after-grown g out vector i used v h few there has kept out′ z = (h, subst (Kept (i + 1) (used + v)) (sym z) (kept-grown out vector i used v few there has kept))
 
--- with its run
+-- an outcome that is the run's gives, beside the vectors before it, what the definitions give
 pub kept-run : (S : Stage) (W : definition.Strategy) (k : ℕ) (l : Lifted) (m : Monomial) (x : Outcome) (vector : Words) → outcome-of x vector ≡ run S W k m
     → kept-one S l x vector ≡ lifted-one S W k l m
 kept-run S W k l m x vector e = ap (λ y. y >>= λ v. with-vector S l (v, [])) e
@@ -184,7 +184,7 @@ module _ (g : Ground) (S : Stage) (W : definition.Strategy) (frame : Words) (cou
       let z = going-end S W frame count (lifted-vectors out 0, 0) 0 (gone-none out) (omega (arith, e)) in
       ((z .0, ap (λ n. done (lifted-vectors out n)) e ∙ z .1), (omega arith, subst (λ n. Kept n 0 out) (sym e) (none-kept out)))
 
-  -- leaving may be allowed where nothing was left
+  -- what holds whether leaving is allowed or not holds where it is allowed
   pub gone-allowed : (leaves : Bool) (x : Gone) (out vector : Words) → Gone-as g S W frame count leaves x out vector
       → Gone-as g S W frame count true x out vector
   gone-allowed leaves (At i used) out vector r = record {

@@ -19,7 +19,7 @@ use Rattle.sweeping.specs.declared.growing.Grown.the-variants.{Sizes, Ov
 abbrev pub most-edges : ℕ → ℕ
 most-edges most = most * node-edges
 
--- n nodes, e edges, room for more
+-- n nodes and e edges, within the room of the slices
 pub record Roomy (most n e : ℕ) (nodes words slots : Words) : Type 0 where
   pub few-nodes : n ≤ most
   pub most-few : most ≤ most-nodes
@@ -74,7 +74,7 @@ abbrev pub Spanned-as : Stage → Bool → ℕ → ℕ → ℕ → ℕ → ℕ �
 Spanned-as S d count most n e c q f (Sizes n′ e′) nodes′ words′ = Spanned-by S d count most n n′ e e′ c q f nodes′ words′
 Spanned-as S d count most n e c q f Over nodes′ words′ = Unit {0}
 
--- node x is expanded: edges from e up to e′ lead to the other products of its reducer's multiple
+-- the node m is expanded: edges from e up to e′ lead to the other products of its reducer's multiple
 pub record Noded (S : Stage) (d : Bool) (count n′ e e′ : ℕ) (m : Monomial) (nodes′ words′ : Words) : Type 0 where
   pub told : Told S d count n′ nodes′
   pub leads : Leads-at (S .reduction) d (node-at nodes′) n′ (edges-in words′ e (e′ - e)) (products-of S (answer-at S m))

@@ -18,7 +18,7 @@ Reached-as S d count most n e v m (Sizes n′ e′) nodes spans words =
     Growing S d count n′ n′ e′ nodes spans words × Rooted S d n′ e′ nodes spans words m v × (n ≤ n′) × (n′ ≤ most) × (e ≤ e′) × (e′ ≤ most-edges most)
 Reached-as S d count most n e v m Over nodes spans words = Unit {0}
 
--- as many nodes as the slices have room for and the limits allow
+-- no more nodes than the slices have room for and the limits allow
 pub record Serving-nodes (g : Ground) (size most : ℕ) : Type 0 where
   pub most-few : most ≤ size
   pub few : most ≤ g .working

@@ -23,7 +23,7 @@ use runs::reduction;
 use runs::reduction::Ground;
 use vectors::terms;
 
-// Nodes and edges; or there is no room, or a product passes the limit on exponents.
+// Nodes and edges; or there is no room, or a product passes the limit on exponents or has a component that there is not.
 pub enum Grown {
     Sizes(usize, usize),
     Over,

@@ -174,7 +174,7 @@ pub enum Gone {
     Stopped(usize),
 }
 
-// Whether frame terms are left to a larger table: this one has not all of them.
+// Whether frame terms are left to a larger table: this one has not all of them, or does not serve.
 fn left(b: Batch, count: usize, leaves: bool) -> bool
     ensures { λ r. ⌜ (r ≡ true → leaves ≡ true) ⌝ }
 {

@@ -126,7 +126,8 @@ fn take(
     }
 }
 
-// The table of a batch that starts with frame term i; where it can not take it, or is not in order, frame term i alone has none.
+// The table of a batch that starts with frame term i. Where it can not take that one, that one alone has none; where its nodes are not in order, no frame term
+// of the batch has one.
 fn make(
     nodes: &mut [u16],
     edges: &mut [u16],

@@ -1,4 +1,4 @@
--- How large the sums of a pass can be: with e edges passed, coefficients below p, no sum is above e · p · p.
+-- How much the edges of one node add to the sums: with coefficients up to b, b · b for each edge at the most. Nothing here speaks of a whole pass.
 use mathlib.Core.Path.{_≡_}
 use mathlib.Core.List.{List, [], _∷_}
 use Prim.Native.Nat.{ℕ, zero, suc, _+_, _*_, _≤_}

@@ -144,7 +144,8 @@ module _ (lim : Limits) (q : Parameters) (f : Monomial.Level) (below : List Mono
           decided-by (run K (accepting-strategy K) n m) (safe (accepting-strategy K) (accepting-picks K) (λ t. absurd (subst T e t)) n)
           (left-decides-sound N (subst (λ b. T (sweeps? q below K b N m)) e tested) n)
 
-      -- (T1), (T2) and (T3) for a frame term with a certificate
+      -- a frame term with a certificate: no limit refuses a run, each that does not stop at 9 comes to the sweep's vector, the reckoning's; acceptance stops at
+      -- 9 exactly where the sweep leaves something
       pub certified : Certified lim q (f ∷ below) d N m
       certified = record {
         bound = reckons .0;

@@ -94,7 +94,7 @@ module _ (S : Stage) (d : Bool) (N : List Monomial) where
       (subst (λ m. All (λ t. Later N o (t .1)) (products-of S (answer-at S m))) (s .1) (w o (s .0))) (and-left (expanded? S d N (answer-at S x)) later t)))
       (forward-from w (suc o) M (s .2) (and-right (expanded? S d N (answer-at S x)) later t))
 
--- (T1), (T2) and (T3) from closure and order
+-- the same as with a certificate, from closure and order
 module _ (lim : Limits) (q : Parameters) (f : Monomial.Level) (below : List Monomial.Level)
     (s : Footing lim q (f ∷ below)) (m : Monomial) (i : Member m (frame (lim .numbering (q .code)) (leading-monomials f)))
     (d : Bool) (N : List Monomial) (t : T (table? (stage-over lim (q .p) (q .code) (f ∷ below)) d N m))

@@ -118,7 +118,7 @@ module _ (lim : Limits) (q : Parameters) (f : Level) (below : List Level)
   pub accepting-ends : (n : ℕ) × T (finished? (run S (accepting-strategy S) n m))
   accepting-ends = run-ends S well (accepting-strategy S) (accepting-picks S .inside) m eight
 
-  -- (T1)
+  -- within a closed table no limit refuses a run, and each that does not stop at 9 comes to the reckoning's vector
   pub within-table : One-vector lim q (f ∷ below) d m
   within-table = record {
     vector = first .vector;

@@ -194,7 +194,7 @@ module _ (lim : Limits) (q : Parameters) (P : Prime (q .p)) (eight : q .n ≤ 8)
 
 -- ## Over sound levels
 
--- (T2) the sweep gives the reckoning's vector
+-- the sweep gives the reckoning's vector
 pub sweep-reckons : (lim : Limits) (q : Parameters) (f : Monomial.Level) (below : List Monomial.Level) → Footing lim q (f ∷ below)
     → (m : Monomial) → Member m (frame (lim .numbering (q .code)) (leading-monomials f)) → (d : Bool) (N : List Monomial)
     → T (sweeps? q below (stage-over lim (q .p) (q .code) (f ∷ below)) d N m)

@@ -71,7 +71,7 @@ pub record Built (lim : Limits) (q : Parameters) (below : List Level) (d : Bool)
   pub few : T (few? (stage-over lim (q .p) (q .code) below) N)
   pub fit : T (nodes-fit? (stage-over lim (q .p) (q .code) below) N)
   pub placed : T (every (placed? q (components q (rest below))) N)
-  -- the one test that is made when all else is proved of the builder
+  -- tested when the table is made; all else is proved of the builder
   pub falling : T (falling? (stage-over lim (q .p) (q .code) below .below) N)
   pub rows : Rows-in (stage-over lim (q .p) (q .code) below) d N N rs
 
