@@ -22,7 +22,7 @@ use Rattle.laws.proofs.Modular.{Prime}
 use Rattle.laws.proofs.Tests.{and-right, between-low}
 use Rattle.ending.proofs.Soundness.{descending-well}
 use Rattle.demands.specs.Notions.{Member}
-use Rattle.demands.specs.Picks.{Picks}
+use Rattle.demands.specs.Picks.{Picks, run-by}
 use Rattle.demands.proofs.Results.{Ends, gives, refuses, open-yet, ends-turn, Refusal, limit, nine, refusal-map, upto-one}
 use Rattle.demands.proofs.Levels.{TLevel, mono, monos, flat, flats, lm}
 use Rattle.demands.proofs.Reckoned.{vector-more}
@@ -35,11 +35,11 @@ use Rattle.demands.proofs.Lifted.{term-fits}
 use Rattle.sweeps.specs.Table.{few?, table?}
 use Rattle.sweeps.specs.Safe.{Safe}
 use Rattle.sweeps.specs.Sweep.{swept, remainder, nodes-fit?, sweeps?, certified?}
-use Rattle.sweeps.specs.Claims.{One-vector, Decides, Certified}
+use Rattle.sweeps.specs.Claims.{All-serve, any-stops?, One-vector, Decides, Certified}
 use Rattle.sweeps.proofs.Footing.{Footing}
 use Rattle.sweeps.proofs.Unrefused.{safe-map}
 use Rattle.sweeps.proofs.Ending.{within-table, accepting-ends}
-use Rattle.sweeps.proofs.Vectors.{remainder-is}
+use Rattle.sweeps.proofs.Vectors.{remainder-empty}
 use Rattle.sweeps.proofs.Nodes.{Table-right, table-right, sweep-reckons}
 use Rattle.sweeps.proofs.Forward.{certified-table}
 use Rattle.sweeps.proofs.Dividing.{Zero, division-decides}
@@ -77,7 +77,7 @@ module _ (lim : Limits) (q : Parameters) (P : Prime (q .p)) (eight : q .n ≤ 8)
       Zero′ = Zero Z′ lim (r .x) (r .real .0) fits-x
 
       e : (Zero′ → remainder S (monos (q .n) (r .xs)) (mono (q .n) (r .x)) ≡ []) × (remainder S (monos (q .n) (r .xs)) (mono (q .n) (r .x)) ≡ [] → Zero′)
-      e = remainder-is Z′ lim false (r .xs) (r .falls) (r .forward) (r .x) (r .real) (r .begins) refl
+      e = remainder-empty Z′ lim false (r .xs) (r .falls) (r .forward) (r .x) (r .real) (r .begins) refl
 
 -- ## Over sound levels
 
@@ -131,6 +131,11 @@ module _ (lim : Limits) (q : Parameters) (f : Monomial.Level) (below : List Mono
       safe W k h n =
           safe-map (W .stops ≡ true) (λ v. v ≡ one .vector) (λ v. v ≡ swept K N m) (λ v e. e ∙ same) (run K W n m) (one .safe W k h n)
 
+      safe-by : (W : Strategy) → (T d → T (W .drops)) → (Ws : List Strategy) → All-serve d Ws
+          → Safe (any-stops? Ws ≡ true) (λ v. v ≡ swept K N m) (run-by K W Ws m)
+      safe-by W h Ws k =
+          safe-map (any-stops? Ws ≡ true) (λ v. v ≡ one .vector) (λ v. v ≡ swept K N m) (λ v e. e ∙ same) (run-by K W Ws m) (one .safe-by W h Ws k)
+
       -- 9 is no limit's number
       decided-by : (x : Result Vector) → Safe (true ≡ true) (λ v. v ≡ swept K N m) x → Left-decides K N m x → Decides K N m x
       decided-by x a (gives e) = (a, e)
@@ -151,6 +156,7 @@ module _ (lim : Limits) (q : Parameters) (f : Monomial.Level) (below : List Mono
         bound = reckons .0;
         reckons = reckons .1;
         safe = safe;
+        safe-by = safe-by;
         ends = λ W k h e. comes W (one .ends W k h e);
         by-hybrid = λ code. comes (hybrid-strategy K code) (one .by-hybrid code);
         by-division = λ e. comes (division-strategy K) (one .by-division e);

@@ -20,15 +20,28 @@ use Rattle.laws.proofs.Tests.{and-left, and-right, and-both}
 use Rattle.laws.proofs.Members.{All}
 use Rattle.demands.specs.Notions.{Member}
 use Rattle.sweeps.specs.Table.{node?, held?, all-held?, expanded?, closed?, begun?, few?, table?}
-use Rattle.sweeps.specs.Sweep.{edges, answer-at, placed?, falling?, ahead?, forward?, components, nodes?, sweeps?, nodes-fit?, certified?}
+use Rattle.sweeps.specs.Sweep.{
+  edges,
+  answer-at,
+  placed?,
+  falling?,
+  ahead?,
+  forward?,
+  components,
+  nodes?,
+  sweeps?,
+  nodes-fit?,
+  certified?,
+  closed-in-order?,
+}
 use Rattle.sweeps.specs.Places.{products-of}
 use Rattle.sweeps.specs.Claims.{Certified}
 use Rattle.sweeps.proofs.Footing.{Footing}
 use Rattle.sweeps.proofs.Unrefused.{or-says, node-says}
 use Rattle.sweeps.proofs.Forward.{or-left, or-right}
 use Rattle.sweeps.proofs.Places.{node-at}
-use Rattle.sweeps.proofs.Ordered.{Later, getD-drop, drop-length, Smaller, drop-split}
-use Rattle.sweeps.proofs.Kernel.{nodes-smaller}
+use Rattle.sweeps.proofs.Ordered.{Later, getD-drop, drop-length, Products-later, drop-split}
+use Rattle.sweeps.proofs.Kernel.{nodes-later}
 use Rattle.sweeps.proofs.Certified.{certified}
 
 -- where a node stands
@@ -84,7 +97,7 @@ module _ (S : Stage) (d : Bool) (N : List Monomial) where
       others [] t = tt
       others (u ∷ v) t = and-right (held? R d N (product q (u .1 .0), u .1 .1)) (all-held? R d N q v) t
 
-  forward-from : Smaller S N → (o : ℕ) (M : List Monomial) → M ≡ drop o N → T (every (λ x. expanded? S d N (answer-at S x)) M) → T (forward? S d M)
+  forward-from : Products-later S N → (o : ℕ) (M : List Monomial) → M ≡ drop o N → T (every (λ x. expanded? S d N (answer-at S x)) M) → T (forward? S d M)
   forward-from w o [] e t = tt
   forward-from w o (x ∷ M) e t =
       let s = drop-split o N x M e in
@@ -97,24 +110,39 @@ module _ (S : Stage) (d : Bool) (N : List Monomial) where
 -- the same as with a certificate, from closure and order
 module _ (lim : Limits) (q : Parameters) (f : Monomial.Level) (below : List Monomial.Level)
     (s : Footing lim q (f ∷ below)) (m : Monomial) (i : Member m (frame (lim .numbering (q .code)) (leading-monomials f)))
-    (d : Bool) (N : List Monomial) (t : T (table? (stage-over lim (q .p) (q .code) (f ∷ below)) d N m))
-    (fit : T (nodes-fit? (stage-over lim (q .p) (q .code) (f ∷ below)) N)) (placed : T (every (placed? q (components q below)) N))
-    (falls : T (falling? (stage-over lim (q .p) (q .code) (f ∷ below) .below) N)) where
+    (d : Bool) (N : List Monomial) (t : T (closed-in-order? q below (stage-over lim (q .p) (q .code) (f ∷ below)) d N m)) where
   abbrev K : Stage
   K = stage-over lim (q .p) (q .code) (f ∷ below)
 
+  abbrev placed : Bool
+  placed = every (placed? q (components q below)) N
+
+  abbrev falls : Bool
+  falls = falling? (K .below) N
+
+  table : T (table? K d N m)
+  table = and-left (table? K d N m) (nodes-fit? K N and placed and falls) t
+
   rests : T (begun? K d N m and closed? K d N)
-  rests = and-right (few? K N) (begun? K d N m and closed? K d N) t
+  rests = and-right (few? K N) (begun? K d N m and closed? K d N) table
+
+  others : T (nodes-fit? K N and placed and falls)
+  others = and-right (table? K d N m) (nodes-fit? K N and placed and falls) t
+
+  ordered : T (placed and falls)
+  ordered = and-right (nodes-fit? K N) (placed and falls) others
 
   forward : T (forward? K d N)
-  forward = forward-from K d N (nodes-smaller lim q f below s N placed falls) 0 N refl (and-right (begun? K d N m) (closed? K d N) rests)
+  forward =
+      forward-from K d N (nodes-later lim q f below s N (and-left placed falls ordered) (and-right placed falls ordered)) 0 N refl
+      (and-right (begun? K d N m) (closed? K d N) rests)
 
   certificate : T (certified? q below K d N m)
   certificate =
-      and-both (few? K N) (nodes-fit? K N and sweeps? q below K d N m) (and-left (few? K N) (begun? K d N m and closed? K d N) t)
-      (and-both (nodes-fit? K N) (sweeps? q below K d N m) fit (and-both (nodes? q below K d N) (begun? K d N m)
-      (and-both (every (placed? q (components q below)) N) (falling? (K .below) N and forward? K d N) placed (and-both (falling? (K .below) N) (forward? K d
-      N) falls forward))
+      and-both (few? K N) (nodes-fit? K N and sweeps? q below K d N m) (and-left (few? K N) (begun? K d N m and closed? K d N) table)
+      (and-both (nodes-fit? K N) (sweeps? q below K d N m) (and-left (nodes-fit? K N) (placed and falls) others)
+      (and-both (nodes? q below K d N) (begun? K d N m)
+      (and-both placed (falls and forward? K d N) (and-left placed falls ordered) (and-both falls (forward? K d N) (and-right placed falls ordered) forward))
       (and-left (begun? K d N m) (closed? K d N) rests)))
 
   pub closed-certified : Certified lim q (f ∷ below) d N m

@@ -15,6 +15,7 @@ use Rattle.definitions.specs.Stage.{Stage, stage-over}
 use Rattle.definitions.specs.Run.{Strategy, run, hybrid-strategy, division-strategy, accepting-strategy}
 use Rattle.definitions.specs.Problem.{Parameters}
 use Rattle.definitions.specs.Reckoning.{reckoned-vector}
+use Rattle.laws.proofs.Tests.{true-is}
 use Rattle.laws.proofs.Members.{All}
 use Rattle.laws.proofs.Induced.{Shaped}
 use Rattle.laws.proofs.Frames.{frame-shaped, leading-monomials-eight}
@@ -23,16 +24,17 @@ use Rattle.ending.proofs.Soundness.{descending-well, levels-lead}
 use Rattle.ending.proofs.Runs.{run-ends}
 use Rattle.demands.specs.Notions.{Member}
 use Rattle.demands.specs.Picks.{Picks, All-pick, run-by}
+use Rattle.demands.proofs.Members.{any-shown}
 use Rattle.demands.proofs.Results.{Gives, gives, refuses, open-yet, upto-one}
 use Rattle.demands.proofs.Reckoned.{vector-more}
 use Rattle.demands.proofs.Picking.{hybrid-picks, division-picks, accepting-picks}
 use Rattle.demands.proofs.Ways.{copies, run-as}
 use Rattle.sweeps.specs.Table.{table?}
 use Rattle.sweeps.specs.Safe.{Safe}
-use Rattle.sweeps.specs.Claims.{One-vector}
+use Rattle.sweeps.specs.Claims.{All-serve, any-stops?, One-vector}
 use Rattle.sweeps.proofs.Footing.{Footing}
 use Rattle.sweeps.proofs.Picked.{picks-reckon}
-use Rattle.sweeps.proofs.Unrefused.{Drops, Kind, Kinds, run-safe}
+use Rattle.sweeps.proofs.Unrefused.{safe-map, Drops, Kind, Kinds, run-safe}
 
 all-member : (P : Monomial → Type 0) (ms : List Monomial) → All P ms → (m : Monomial) → Member m ms → P m
 all-member P [] h m i = absurd i
@@ -57,6 +59,22 @@ module _ (lim : Limits) (q : Parameters) (f : Level) (below : List Level)
   one-vector : (v w : Vector) → Reckons v → Reckons w → v ≡ w
   one-vector v w a b =
       upto-one (λ N. reckoned-vector N (q .p) (q .code) (f ∷ below) m) (λ N. vector-more N (q .p) (q .code) (f ∷ below) m) (a .0) (b .0) v w (a .1) (b .1)
+
+  all-picks : (Ws : List Strategy) → All-serve d Ws → All-pick Ws
+  all-picks [] k = tt
+  all-picks (W ∷ Ws) k = (k .0 .0, all-picks Ws (k .1))
+
+  all-kinds : (nine : Type 0) (Ws : List Strategy) → All-serve d Ws → ((W : Strategy) → Member W Ws → W .stops ≡ true → nine) → Kinds S d N m nine K Ws
+  all-kinds nine [] k h = tt
+  all-kinds nine (W ∷ Ws) k h = (record { picks = k .0 .0; drops = k .0 .1; stops = h W (inl refl) }, all-kinds nine Ws (k .1) (λ U i. h U (inr i)))
+
+  -- each step with its own strategy
+  by-reckons : (W : Strategy) → Drops d (W .drops) → (Ws : List Strategy) → All-serve d Ws → Safe (any-stops? Ws ≡ true) Reckons (run-by S W Ws m)
+  by-reckons W D Ws k =
+      safe-gives (any-stops? Ws ≡ true) Reckons (run-by S W Ws m)
+      (run-safe S d N m (any-stops? Ws ≡ true) K W D Ws (all-kinds (any-stops? Ws ≡ true) Ws k
+      (λ U i e. true-is (any-stops? Ws) (any-shown (λ (X : Strategy). X .stops) Ws U i (subst T (sym e) tt)))))
+      (picks-reckon lim q f below s W Ws m i (all-picks Ws k))
 
   all-pick : (W : Strategy) → Picks W → (n : ℕ) → All-pick (copies n W)
   all-pick W P zero = tt
@@ -107,13 +125,15 @@ module _ (lim : Limits) (q : Parameters) (f : Level) (below : List Level)
   comes-to : (W : Strategy) → Picks W → Drops d (W .drops) → W .stops ≡ false → (n : ℕ) × (run S W n m ≡ done (first .vector))
   comes-to W P D e = let r = run-to W P D e in (r .steps, r .is ∙ ap done (one-vector (r .vector) (first .vector) (r .reckons) (first .reckons)))
 
+  is-first : (v : Vector) → Reckons v → v ≡ first .vector
+  is-first v h = one-vector v (first .vector) h (first .reckons)
+
   safe-to : (W : Strategy) → Picks W → Drops d (W .drops) → (n : ℕ) → Safe (W .stops ≡ true) (λ v. v ≡ first .vector) (run S W n m)
-  safe-to W P D n = go (run S W n m) (run-reckons W P D n)
-    where
-      go : (x : Result Vector) → Safe (W .stops ≡ true) Reckons x → Safe (W .stops ≡ true) (λ v. v ≡ first .vector) x
-      go (done v) h = one-vector v (first .vector) h (first .reckons)
-      go (refused number place value) h = h
-      go unfinished h = tt
+  safe-to W P D n = safe-map (W .stops ≡ true) Reckons (λ v. v ≡ first .vector) is-first (run S W n m) (run-reckons W P D n)
+
+  safe-by : (W : Strategy) → Drops d (W .drops) → (Ws : List Strategy) → All-serve d Ws
+      → Safe (any-stops? Ws ≡ true) (λ v. v ≡ first .vector) (run-by S W Ws m)
+  safe-by W D Ws k = safe-map (any-stops? Ws ≡ true) Reckons (λ v. v ≡ first .vector) is-first (run-by S W Ws m) (by-reckons W D Ws k)
 
   pub accepting-ends : (n : ℕ) × T (finished? (run S (accepting-strategy S) n m))
   accepting-ends = run-ends S well (accepting-strategy S) (accepting-picks S .inside) m eight
@@ -125,6 +145,7 @@ module _ (lim : Limits) (q : Parameters) (f : Level) (below : List Level)
     bound = first .reckons .0;
     reckons = first .reckons .1;
     safe = safe-to;
+    safe-by = safe-by;
     ends = comes-to;
     by-hybrid = λ code. comes-to (hybrid-strategy S code) (hybrid-picks S code) (λ t. tt) refl;
     by-division = λ e. comes-to (division-strategy S) (division-picks S) (λ t. subst T e t) refl;

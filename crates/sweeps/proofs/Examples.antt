@@ -1,6 +1,6 @@
 -- The twisted cubic, p = 7, degree reverse lexicographic: y² − xz, yz − xw, z² − yw; and a family that is no Gröbner basis.
 use mathlib.Core.Path.{_≡_, refl}
-use mathlib.Core.Logic.{inl}
+use mathlib.Core.Logic.{_≢_, inl}
 use mathlib.Core.Bool.{true, false}
 use mathlib.Core.List.{List, [], _∷_}
 use Prim.Native.Nat.{ℕ}
@@ -15,11 +15,12 @@ use Rattle.definitions.specs.State.{sound?}
 use native.Mathlib.Omega.{arith}
 use Rattle.sweeps.specs.Sizes.{resized, eight-variables}
 use Rattle.sweeps.specs.Table.{few?}
-use Rattle.sweeps.specs.Sweep.{swept, remainder, certified?}
-use Rattle.sweeps.specs.Places.{Row, no-more-in, skips-in, leads-in, Rows-in, Roots-in, renumbered, ordered-nodes, ordered-rows, inverse?}
-use Rattle.sweeps.specs.Claims.{Certified, Discovered, passed-vector, Passed}
+use Rattle.sweeps.specs.Sweep.{swept, remainder, certified?, closed-in-order?}
+use Rattle.sweeps.specs.Places.{Row, no-more-in, skips-in, leads-in, Rows-in, Roots-in, renumbered, no-row, ordered-nodes, ordered-rows, inverse?}
+use Rattle.sweeps.specs.Claims.{Certified, Discovered, passed-vector, passed-settled?, Passed}
 use Rattle.sweeps.proofs.Footing.{Footing, footing-resized, sound-footing}
 use Rattle.sweeps.proofs.Certified.{certified}
+use Rattle.sweeps.proofs.Closed.{closed-certified}
 use Rattle.sweeps.proofs.Renumbered.{discovered-passed}
 
 abbrev at : ℕ → ℕ → ℕ → ℕ → Exponents
@@ -81,6 +82,31 @@ the-run = refl
 the-division : run S (division-strategy S) 9 m ≡ done v
 the-division = refl
 
+the-acceptance : run S (accepting-strategy S) 9 m ≡ done v
+the-acceptance = refl
+
+closed : closed-in-order? q [] S false kept m ≡ true
+closed = refl
+
+not-closed : closed-in-order? q [] S false N m ≡ false
+not-closed = refl
+
+closed-not-descending : closed-in-order? q [] S true ((at 1 0 2 0, 1) ∷ (at 0 2 1 0, 1) ∷ []) m ≡ false
+closed-not-descending = refl
+
+-- the theorem's hypotheses can be met: where what is of lower order is kept, acceptance is decided
+stands : Footing document-01 (eight-variables q) (f ∷ [])
+stands = sound-footing document-01 q (omega arith) (f ∷ []) tt
+
+theorem-kept : Certified document-01 (eight-variables q) (f ∷ []) false kept m
+theorem-kept = certified document-01 (eight-variables q) f [] stands m (inl refl) false kept tt
+
+decided-kept : (v ≡ swept S kept m) × (remainder S kept m ≡ [])
+decided-kept = theorem-kept .decides refl 9
+
+theorem-closed : Certified document-01 (eight-variables q) (f ∷ []) false kept m
+theorem-closed = closed-certified document-01 (eight-variables q) f [] stands m (inl refl) false kept tt
+
 -- ## The same by a table, its nodes in the order of their discovery
 
 abbrev found : List Monomial
@@ -118,15 +144,71 @@ ordered = refl
 the-pass : passed-vector 7 N (ordered-rows order order rows) (renumbered order ((1, 1) ∷ [])) m ≡ v
 the-pass = refl
 
--- the theorem's hypotheses can be met
 discovered : Discovered document-01 (eight-variables q) (f ∷ []) true found rows
 discovered = record { few = tt; fit = tt; placed = tt; rows = rows-right }
 
-stands : Footing document-01 (eight-variables q) (f ∷ [])
-stands = sound-footing document-01 q (omega arith) (f ∷ []) tt
-
 theorem : Passed document-01 (eight-variables q) (f ∷ []) true (ordered-nodes order found) (ordered-rows order order rows) (renumbered order ((1, 1) ∷ [])) m
 theorem = discovered-passed document-01 (eight-variables q) f [] stands true found rows discovered order order tt tt m (inl refl) ((1, 1) ∷ []) roots-right
+
+-- ## Three nodes, of which each changes its place, so that an order is not its own inverse
+
+-- xyw, y²z, xz²
+abbrev found₃ : List Monomial
+found₃ = (at 1 1 0 1, 1) ∷ (at 0 2 1 0, 1) ∷ (at 1 0 2 0, 1) ∷ []
+
+abbrev rows₃ : List Row
+rows₃ = no-row ∷ record { reduced = true; turned = 6; multiple = (at 0 0 1 0, 1); edges = (2, 1) ∷ [] } ∷ record {
+  reduced = true;
+  turned = 6;
+  multiple = (at 1 0 0 0, 3);
+  edges
+      = (0, 1) ∷ [];
+} ∷ []
+
+-- y·f_2: y²z − xyw
+abbrev roots₃ : List (ℕ × ℕ)
+roots₃ = (1, 1) ∷ (0, 6) ∷ []
+
+abbrev order₃ : List ℕ
+order₃ = 1 ∷ 2 ∷ 0 ∷ []
+
+abbrev place₃ : List ℕ
+place₃ = 2 ∷ 0 ∷ 1 ∷ []
+
+orders₃ : inverse? 3 order₃ place₃ ≡ true
+orders₃ = refl
+
+-- an order is not its own inverse, and where order and place are exchanged, the nodes are in another order
+not-inverse : inverse? 3 order₃ order₃ ≡ false
+not-inverse = refl
+
+ordered₃ : ordered-nodes order₃ found₃ ≡ kept
+ordered₃ = refl
+
+exchanged₃ : ordered-nodes place₃ found₃ ≡ (at 1 0 2 0, 1) ∷ (at 1 1 0 1, 1) ∷ (at 0 2 1 0, 1) ∷ []
+exchanged₃ = refl
+
+the-roots₃ : renumbered place₃ roots₃ ≡ (0, 1) ∷ (2, 6) ∷ []
+the-roots₃ = refl
+
+the-pass₃ : passed-vector 7 kept (ordered-rows order₃ place₃ rows₃) (renumbered place₃ roots₃) m ≡ v
+the-pass₃ = refl
+
+the-flag₃ : passed-settled? 7 kept (ordered-rows order₃ place₃ rows₃) (renumbered place₃ roots₃) ≡ true
+the-flag₃ = refl
+
+theorem₃ : Passed document-01 (eight-variables q) (f ∷ []) false (ordered-nodes order₃ found₃) (ordered-rows order₃ place₃ rows₃) (renumbered place₃ roots₃) m
+theorem₃ =
+    discovered-passed document-01 (eight-variables q) f [] stands false found₃ rows₃
+    (record {
+      few = tt;
+      fit = tt;
+      placed = tt;
+      rows = ((refl, refl, refl), ((refl, refl, refl, leads-in 2 (lit< tt) refl tt no-more-in), ((refl, refl, refl, leads-in 0 (lit< tt) refl tt no-more-in), tt)));
+    })
+    order₃ place₃ tt tt m (inl refl) roots₃ (leads-in 1 (lit< tt) refl tt (leads-in 0 (lit< tt) refl tt no-more-in))
+
+-- ## With less room
 
 -- with room for as many terms as there are nodes, and for one more in a vector; not with room for fewer
 abbrev narrow : Limits
@@ -168,6 +250,13 @@ something-left = refl
 
 nine : run S′ (accepting-strategy S′) 9 m ≡ refused 9 0 ((1, (at 1 0 2 0, 1)) ∷ (6, (at 1 1 0 1, 1)) ∷ [])
 nine = refl
+
+theorem-left : Certified document-01 (eight-variables q) (g ∷ []) false kept m
+theorem-left = certified document-01 (eight-variables q) g [] (sound-footing document-01 q (omega arith) (g ∷ []) tt) m (inl refl) false kept tt
+
+-- 9, and so something is left
+decided-left : remainder S′ kept m ≢ []
+decided-left = theorem-left .decides refl 9 .1
 
 -- ## Level 2 over x, y, z
 

@@ -1,7 +1,7 @@
 -- Over the levels of a sound state: the pass over a table's places gives what every run gives.
 use mathlib.Core.Path.{_≡_, refl, sym, ap, _∙_, subst}
 use mathlib.Core.Logic.{_≢_, inl, inr}
-use mathlib.Core.Bool.{Bool, false}
+use mathlib.Core.Bool.{Bool, true, false}
 use mathlib.Core.Option.{some}
 use mathlib.Core.List.{List, [], _∷_}
 use Prim.Native.Nat.{ℕ, _≤_}
@@ -19,19 +19,20 @@ use Rattle.definitions.specs.Order.{compare-over}
 use Rattle.laws.proofs.Modular.{Prime}
 use Rattle.laws.proofs.Tests.{and-both}
 use Rattle.demands.specs.Notions.{Member}
+use Rattle.demands.specs.Picks.{run-by}
 use Rattle.demands.proofs.Levels.{Mono, TLevel, mono, mono-injective, monos, flats}
 use Rattle.demands.proofs.Setting.{Setting, L}
 use Rattle.demands.proofs.Soundness.{tlevel, tlevels, Levels-right}
 use Rattle.sweeps.specs.Table.{node?, few?, begun?}
 use Rattle.sweeps.specs.Sweep.{swept, remainder, placed?, falling?, forward?, components, nodes?, sweeps?, nodes-fit?, certified?}
 use Rattle.sweeps.specs.Places.{Row, Rows-right, Roots-right, Roots-in}
-use Rattle.sweeps.specs.Claims.{Decides, Certified, Built, passed-vector, passed-settled?, Flagged, Passed}
+use Rattle.sweeps.specs.Claims.{any-stops?, Decides, Certified, Built, passed-vector, passed-settled?, Flagged, Passed}
 use Rattle.sweeps.proofs.Footing.{Footing}
-use Rattle.sweeps.proofs.Unrefused.{node-says}
+use Rattle.sweeps.proofs.Unrefused.{safe-map, node-says}
 use Rattle.sweeps.proofs.Passing.{Below, Falling}
 use Rattle.sweeps.proofs.Nodes.{Z, tnodes, nodes-back, nodes-fall}
 use Rattle.sweeps.proofs.Places.{Apart, rows-forward, roots-begun, places-swept, places-settled}
-use Rattle.sweeps.proofs.Ordered.{Smaller, rows-later, roots-from, falling-smaller}
+use Rattle.sweeps.proofs.Ordered.{Products-later, rows-later, roots-from, falling-later}
 use Rattle.sweeps.proofs.Certified.{certified}
 
 -- ## Descending nodes are distinct
@@ -61,7 +62,7 @@ module _ (lim : Limits) (q : Parameters) (f : Monomial.Level) (below : List Mono
   -- what the descending nodes have, by the theory
   record Descends (S : Stage) (N : List Monomial) : Type 0 where
     apart : Apart N
-    smaller : Smaller S N
+    later : Products-later S N
 
   descends : (N : List Monomial) → T (every (placed? q (components q below)) N) → T (falling? (K .below) N) → Descends K N
   descends N =
@@ -71,7 +72,7 @@ module _ (lim : Limits) (q : Parameters) (f : Monomial.Level) (below : List Mono
       (record {
         apart = falling-apart (Z lim q P eight g b (r .deep) false) lim false (tnodes lim q P eight g b (r .deep) false N) (nodes-fall lim q P eight g b (r
             .deep) false N t k);
-        smaller = falling-smaller (Z lim q P eight g b (r .deep) false) lim false (tnodes lim q P eight g b (r .deep) false N) (nodes-fall lim q P eight g b
+        later = falling-later (Z lim q P eight g b (r .deep) false) lim false (tnodes lim q P eight g b (r .deep) false N) (nodes-fall lim q P eight g b
             (r .deep) false N t k);
       }))
     where
@@ -93,12 +94,12 @@ module _ (lim : Limits) (q : Parameters) (f : Monomial.Level) (below : List Mono
   nodes-apart : (N : List Monomial) → T (every (placed? q (components q below)) N) → T (falling? (K .below) N) → Apart N
   nodes-apart N t k = descends N t k .apart
 
-  pub nodes-smaller : (N : List Monomial) → T (every (placed? q (components q below)) N) → T (falling? (K .below) N) → Smaller K N
-  nodes-smaller N t k = descends N t k .smaller
+  pub nodes-later : (N : List Monomial) → T (every (placed? q (components q below)) N) → T (falling? (K .below) N) → Products-later K N
+  nodes-later N t k = descends N t k .later
 
   -- edges lead to later places
   pub rows-onward : (d : Bool) (N : List Monomial) (rs : List Row) → Built lim q (f ∷ below) d N rs → Rows-right K d 0 N rs
-  rows-onward d N rs B = rows-later K d N (nodes-smaller N (B .placed) (B .falling)) 0 N rs refl (B .rows)
+  rows-onward d N rs B = rows-later K d N (nodes-later N (B .placed) (B .falling)) 0 N rs refl (B .rows)
 
   module _ (d : Bool) (N : List Monomial) (rs : List Row) (B : Built lim q (f ∷ below) d N rs)
       (m : Monomial) (i : Member m (frame (lim .numbering (q .code)) (leading-monomials f))) (es : List (ℕ × ℕ)) (roots : Roots-in K d N m es) where
@@ -140,6 +141,8 @@ module _ (lim : Limits) (q : Parameters) (f : Monomial.Level) (below : List Mono
     passed = record {
       bound = C .bound;
       reckons = C .reckons ∙ ap some same;
+      safe-by = λ W h Ws k.
+          safe-map (any-stops? Ws ≡ true) (λ u. u ≡ swept K N m) (λ u. u ≡ v) (λ u e. e ∙ same) (run-by K W Ws m) (C .safe-by W h Ws k);
       ends = λ W k h e. (C .ends W k h e .0, C .ends W k h e .1 ∙ ap done same);
       by-hybrid = λ code. (C .by-hybrid code .0, C .by-hybrid code .1 ∙ ap done same);
       by-division = λ e. (C .by-division e .0, C .by-division e .1 ∙ ap done same);

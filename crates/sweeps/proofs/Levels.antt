@@ -1,4 +1,4 @@
--- A level whose frame terms are lifted one by one, each by whatever gives its run's vector; and acceptance.
+-- A level by division or by hybrid, each frame term lifted by whatever gives its run's vector; and acceptance.
 use mathlib.Core.Path.{_≡_, refl, sym, ap, _∙_, subst}
 use mathlib.Core.Bool.{Bool, true, false}
 use mathlib.Core.List.{List, [], _∷_}
@@ -41,8 +41,8 @@ done-finished : {A : Type 0} (x : Result A) (a : A) → x ≡ done a → T (fini
 done-finished x a e = subst (λ z. T (finished? z)) (sym e) tt
 
 module _ (S : Stage) (way : Lifting) (vector : Monomial → Vector) where
-  -- some bound lifts the frame term to vector m, whatever the cache
-  abbrev pub Lifts : Monomial → Type 0
+  -- some bound lifts the frame term to vector m and leaves the cache as it was, whatever is in it: division and hybrid do, the tree does not
+  abbrev Lifts : Monomial → Type 0
   Lifts m = (n : ℕ) × ((cache : Cache) → lift-one S way n cache m ≡ done (vector m, cache))
 
   abbrev known : Lifted → Cache → List Monomial → Result Level
@@ -57,7 +57,7 @@ module _ (S : Stage) (way : Lifting) (vector : Monomial → Vector) where
       go (refused number place value) t h = tt
       go unfinished t h = t
 
-  pub all-lifted : (ms : List Monomial) → All Lifts ms → (l : Lifted) (cache : Cache) → (n : ℕ) × (lift-all S (lift-one S way n) l cache ms ≡ known l cache ms)
+  all-lifted : (ms : List Monomial) → All Lifts ms → (l : Lifted) (cache : Cache) → (n : ℕ) × (lift-all S (lift-one S way n) l cache ms ≡ known l cache ms)
   all-lifted [] h l cache = (0, refl)
   all-lifted (m ∷ ms) h l cache = go (with-vector S l (vector m, cache)) refl (with-vector-finished S l (vector m, cache)) (λ l′. all-lifted ms (h .1) l′ cache)
     where
@@ -92,11 +92,11 @@ module _ (S : Stage) (way : Lifting) (vector : Monomial → Vector) where
           )
 
 -- the frame terms of the level
-abbrev pub frame-of : Limits → ℕ → Level → List Monomial
-frame-of lim code f = frame (lim .numbering code) (leading-monomials f)
+abbrev pub level-frame : Limits → ℕ → Level → List Monomial
+level-frame lim code f = frame (lim .numbering code) (leading-monomials f)
 
-pub level-lifted : (lim : Limits) (p code : ℕ) (below : List Level) (way : Lifting) (vector : Monomial → Vector)
-    → All (Lifts (stage-over lim p code below) way vector) (frame-of lim code (highest below))
+level-lifted : (lim : Limits) (p code : ℕ) (below : List Level) (way : Lifting) (vector : Monomial → Vector)
+    → All (Lifts (stage-over lim p code below) way vector) (level-frame lim code (highest below))
     → (n : ℕ) × (lift-level lim p code below way n ≡ (limited-frame lim code (highest below) >>= λ ms. level-by (stage-over lim p code below) vector ms))
 level-lifted lim p code below way vector h = go (leb (length ms) (lim .vectors)) (all-lifted S way vector ms h ([], 0) [])
   where
@@ -104,7 +104,7 @@ level-lifted lim p code below way vector h = go (leb (length ms) (lim .vectors))
     S = stage-over lim p code below
 
     ms : List Monomial
-    ms = frame-of lim code (highest below)
+    ms = level-frame lim code (highest below)
 
     go : (b : Bool) → (n : ℕ) × (lift-all S (lift-one S way n) ([], 0) [] ms ≡ level-by S vector ms)
         → (n : ℕ) × ((if-few b ms >>= λ ms. lift-all S (lift-one S way n) ([], 0) [] ms) ≡ (if-few b ms >>= λ ms. level-by S vector ms))
@@ -112,13 +112,40 @@ level-lifted lim p code below way vector h = go (leb (length ms) (lim .vectors))
     go false k = (0, refl)
 
 -- a run that comes to v lifts to v
-pub hybrid-lifts : (S : Stage) (code w : ℕ) (vector : Monomial → Vector) (m : Monomial)
+hybrid-lifts : (S : Stage) (code w : ℕ) (vector : Monomial → Vector) (m : Monomial)
     → (n : ℕ) × (run (narrowed w S) (hybrid-strategy (narrowed w S) code) n m ≡ done (vector m)) → Lifts S (by-hybrid code w) vector m
 hybrid-lifts S code w vector m (n, e) = (n, λ cache. ap (λ x. x >>= λ v. done (v, cache)) e)
 
-pub division-lifts : (S : Stage) (vector : Monomial → Vector) (m : Monomial) → (n : ℕ) × (run S (division-strategy S) n m ≡ done (vector m))
+division-lifts : (S : Stage) (vector : Monomial → Vector) (m : Monomial) → (n : ℕ) × (run S (division-strategy S) n m ≡ done (vector m))
     → Lifts S by-division vector m
 division-lifts S vector m (n, e) = (n, λ cache. ap (λ x. x >>= λ v. done (v, cache)) e)
+
+-- ## Whole levels
+
+-- a level by hybrid, each frame term's vector from a table or from its run
+pub hybrid-level : (lim : Limits) (p code : ℕ) (below : List Level) (pick w : ℕ) (vector : Monomial → Vector)
+    → All (λ m. (n : ℕ) × (run (stage-over (with-working w lim) p code below) (hybrid-strategy (stage-over (with-working w lim) p code below) pick) n m
+    ≡ done (vector m))) (level-frame lim code (highest below))
+    → (n : ℕ) × (lift-level lim p code below (by-hybrid pick w) n
+    ≡ (limited-frame lim code (highest below) >>= λ ms. level-by (stage-over lim p code below) vector ms))
+hybrid-level lim p code below pick w vector h =
+    let S = stage-over lim p code below in
+    let N = narrowed w S in
+    level-lifted lim p code below (by-hybrid pick w) vector
+    (all-map (λ m. (n : ℕ) × (run N (hybrid-strategy N pick) n m ≡ done (vector m))) (Lifts S (by-hybrid pick w) vector) (hybrid-lifts S pick w vector)
+    (level-frame lim code (highest below)) h)
+
+-- .. by division
+pub division-level : (lim : Limits) (p code : ℕ) (below : List Level) (vector : Monomial → Vector)
+    → All (λ m. (n : ℕ) × (run (stage-over lim p code below) (division-strategy (stage-over lim p code below)) n m ≡ done (vector m)))
+    (level-frame lim code (highest below))
+    → (n : ℕ) × (lift-level lim p code below by-division n
+    ≡ (limited-frame lim code (highest below) >>= λ ms. level-by (stage-over lim p code below) vector ms))
+division-level lim p code below vector h =
+    let S = stage-over lim p code below in
+    level-lifted lim p code below by-division vector
+    (all-map (λ m. (n : ℕ) × (run S (division-strategy S) n m ≡ done (vector m))) (Lifts S by-division vector) (division-lifts S vector)
+    (level-frame lim code (highest below)) h)
 
 -- ## Acceptance
 
@@ -126,7 +153,7 @@ module _ (S : Stage) where
   abbrev pub Comes : Monomial → Type 0
   Comes m = (n : ℕ) × (v : Vector) × (run S (accepting-strategy S) n m ≡ done v)
 
-  pub all-come : (i : ℕ) (ms : List Monomial) → All Comes ms → (n : ℕ) × (accept-from S n i ms ≡ done tt)
+  all-come : (i : ℕ) (ms : List Monomial) → All Comes ms → (n : ℕ) × (accept-from S n i ms ≡ done tt)
   all-come i [] h = (0, refl)
   all-come i (m ∷ ms) h = go (h .0) (all-come (suc i) ms (h .1))
     where
@@ -141,21 +168,6 @@ module _ (S : Stage) where
                 ∙ steady-from finished? (λ n. accept-from S n (suc i) ms) (accept-from-steady S (suc i) ms) c a (done-finished (accept-from S c (suc i) ms) tt
                 k) ∙ k,
           )
-
--- ## With tables
-
--- a level by hybrid, each frame term's vector from a table or from its run
-pub hybrid-level : (lim : Limits) (p code : ℕ) (below : List Level) (pick w : ℕ) (vector : Monomial → Vector)
-    → All (λ m. (n : ℕ) × (run (stage-over (with-working w lim) p code below) (hybrid-strategy (stage-over (with-working w lim) p code below) pick) n m
-    ≡ done (vector m))) (frame-of lim code (highest below))
-    → (n : ℕ) × (lift-level lim p code below (by-hybrid pick w) n
-    ≡ (limited-frame lim code (highest below) >>= λ ms. level-by (stage-over lim p code below) vector ms))
-hybrid-level lim p code below pick w vector h =
-    let S = stage-over lim p code below in
-    let N = narrowed w S in
-    level-lifted lim p code below (by-hybrid pick w) vector
-    (all-map (λ m. (n : ℕ) × (run N (hybrid-strategy N pick) n m ≡ done (vector m))) (Lifts S (by-hybrid pick w) vector) (hybrid-lifts S pick w vector)
-    (frame-of lim code (highest below)) h)
 
 -- a table whose flag says zero
 pub flag-comes : (lim : Limits) (q : Parameters) (below : List Level) (N : List Monomial) (rs : List Row) (es : List (ℕ × ℕ)) (m : Monomial)
@@ -173,7 +185,7 @@ flag-comes lim q below N rs es m P e =
     go n unfinished k t h = absurd t
 
 -- acceptance: each frame term comes to zero
-pub all-accepted : (lim : Limits) (p code : ℕ) (f : Level) → All (Comes (stage-over lim p code (f ∷ []))) (frame-of lim code f)
+pub all-accepted : (lim : Limits) (p code : ℕ) (f : Level) → All (Comes (stage-over lim p code (f ∷ []))) (level-frame lim code f)
     → (n : ℕ) × (accept lim p code f n ≡ (limited-frame lim code f >>= λ ms. done tt))
 all-accepted lim p code f h = go (leb (length ms) (lim .vectors)) (all-come S 1 ms h)
   where
@@ -181,7 +193,7 @@ all-accepted lim p code f h = go (leb (length ms) (lim .vectors)) (all-come S 1 
     S = stage-over lim p code (f ∷ [])
 
     ms : List Monomial
-    ms = frame-of lim code f
+    ms = level-frame lim code f
 
     go : (b : Bool) → (n : ℕ) × (accept-from S n 1 ms ≡ done tt) → (n : ℕ) × ((if-few b ms >>= λ ms. accept-from S n 1 ms) ≡ (if-few b ms >>= λ ms. done tt))
     go true k = k

@@ -80,8 +80,8 @@ pub roots-from : (S : Stage) (d : Bool) (N : List Monomial) (m : Monomial) (es :
 roots-from S d N m es h = leads-from N h
 
 -- each product of a node stands after it
-abbrev pub Smaller : Stage → List Monomial → Type 0
-Smaller S N = (o : ℕ) → o < length N → All (λ t. Later N o (t .1)) (products-of S (answer-at S (getD N o (no-term .1))))
+abbrev pub Products-later : Stage → List Monomial → Type 0
+Products-later S N = (o : ℕ) → o < length N → All (λ t. Later N o (t .1)) (products-of S (answer-at S (getD N o (no-term .1))))
 
 pub drop-split : (o : ℕ) (N : List Monomial) (x : Monomial) (M : List Monomial) → x ∷ M ≡ drop o N → (o < length N) × (getD N o (no-term .1) ≡ x) × (M
     ≡ drop (suc o) N)
@@ -93,7 +93,7 @@ drop-split o [] x M e = absurd (empty o e)
 drop-split zero (y ∷ N) x M e = (omega arith, ap (λ l. getD l 0 (no-term .1)) (sym e), ap rest e)
 drop-split (suc o) (y ∷ N) x M e = let h = drop-split o N x M e in (omega (arith, h .0), h .1, h .2)
 
-pub rows-later : (S : Stage) (d : Bool) (N : List Monomial) → Smaller S N → (o : ℕ) (M : List Monomial) (rs : List Row) → M ≡ drop o N → Rows-in S d N M rs
+pub rows-later : (S : Stage) (d : Bool) (N : List Monomial) → Products-later S N → (o : ℕ) (M : List Monomial) (rs : List Row) → M ≡ drop o N → Rows-in S d N M rs
     → Rows-right S d o M rs
 rows-later S d N w o [] [] e h = tt
 rows-later S d N w o [] (r ∷ rs) e h = h
@@ -141,8 +141,8 @@ module _ (Z : Setting) (lim : Limits) (d : Bool) where
   all-later N o x w [] h = tt
   all-later N o x w (t ∷ g) h = (w (t .1) (h .0), all-later N o x w g (h .1))
 
-  pub falling-smaller : (xs : List (Mono (Z .n))) → Falling Z lim d xs → Smaller (stage Z lim) (monos (Z .n) xs)
-  falling-smaller xs k o l =
+  pub falling-later : (xs : List (Mono (Z .n))) → Falling Z lim d xs → Products-later (stage Z lim) (monos (Z .n) xs)
+  falling-later xs k o l =
       let a : At xs o = at xs k o l in
       subst (λ m. All (λ t. Later (monos (Z .n) xs) o (t .1)) (products-of (stage Z lim) (answer-at (stage Z lim) m))) (sym (a .is)) (go a (answered Z (a .x)))
     where

@@ -32,7 +32,7 @@ use Rattle.demands.proofs.Steps.{stage}
 use Rattle.demands.proofs.Reckoned.{others-is, turned-good, turned-is}
 use Rattle.sweeps.specs.Table.{all-held?}
 use Rattle.sweeps.specs.Sweep.{edges, spread, passed, recorded, remaining, sweep, left, ahead?, forward?}
-use Rattle.sweeps.proofs.Spreading.{held, remainder, Spread, spread-edges}
+use Rattle.sweeps.proofs.Spreading.{held, as-remainder, Spread, spread-edges}
 
 module _ (Z : Setting) (lim : Limits) (d : Bool) where
   abbrev K : Stage
@@ -107,7 +107,7 @@ module _ (Z : Setting) (lim : Limits) (d : Bool) where
           Vec.same-trans (S Z) (h .like) (drop-lower (S Z) (L Z) (F Z) (red Z) g ((s, x) ∷ []) ((s, x) ∷ g) (o, tt)
           (Vec.same-trans (S Z) (Vec.same-sym (S Z) (Vec.same-middle (S Z) (s, x) g [])) (Vec.same-cons (S Z) (s, x) (Vec.same-sym (S Z) (Vec.same-nil (S Z)
           g)))));
-      even = λ e. Vec.same-trans (S Z) (remainder Z lim s x (g ++ ψ (S Z) (L Z) (F Z .f) (h .form))) (Vec.same-cons (S Z) (c, x) (h .even e));
+      even = λ e. Vec.same-trans (S Z) (as-remainder Z lim s x (g ++ ψ (S Z) (L Z) (F Z .f) (h .form))) (Vec.same-cons (S Z) (c, x) (h .even e));
       canonical = h .canonical;
       rests-canonical = (good-sum s (n tt) .0, good-sum s (n tt) .1, h .rests-under x below, h .rests-canonical);
       under = λ B k. h .under B (k .1);
@@ -132,7 +132,7 @@ module _ (Z : Setting) (lim : Limits) (d : Bool) where
         low = sp .low;
         r = r;
         known = known;
-        picked = remainder Z lim s x g;
+        picked = as-remainder Z lim s x g;
         recorded = Vec.same-refl (S Z);
         lower = sp .lower;
         products = sp .split;
@@ -151,7 +151,7 @@ module _ (Z : Setting) (lim : Limits) (d : Bool) where
 
           cancelled : Same (S Z) (((s, x) ∷ g) ++ scale (S Z) a (times (S Z) (L Z) (F Z .f) (r .at))) g′
           cancelled =
-              Vec.same-trans (S Z) (step-cancels (S Z) (L Z) (F Z) (red Z) ((s, x) ∷ g) g c x r (remainder Z lim s x g))
+              Vec.same-trans (S Z) (step-cancels (S Z) (L Z) (F Z) (red Z) ((s, x) ∷ g) g c x r (as-remainder Z lim s x g))
               (Vec.same-trans (S Z) (Vec.same-sym (S Z) split) (Vec.same-sym (S Z) (Vec.same-nil (S Z) g′)))
 
       reduced-node : Swept (x ∷ xs) ((s, x) ∷ g) ((a, mono (Z .n) (r .at)) ∷ w) u

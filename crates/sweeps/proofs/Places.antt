@@ -3,7 +3,7 @@ use mathlib.Core.Path.{_≡_, refl, sym, ap, ap₂, _∙_, subst}
 use mathlib.Core.Logic.{inl, inr}
 use mathlib.Core.Bool.{Bool, true, false, _||_}
 use mathlib.Core.List.{List, [], _∷_}
-use Prim.Native.Nat.{ℕ, zero, suc, _+_, _-_, _*_, _%_, _<_, _≤_}
+use Prim.Native.Nat.{ℕ, zero, suc, _+_, _-_, _*_, _%_, _<_}
 use native.Mathlib.Omega.{arith}
 use lib.Dec.{T, eqb}
 use lib.ListN.{length, getD, drop, length-drop, length-set}
@@ -155,13 +155,6 @@ module _ (S : Stage) (d : Bool) where
       find o (x ∷ M) (r ∷ rs) h (inl e) = at (suc o) M r (answer-at S x) (h .0) (subst (λ z. T (lower-order? (answer-at S z))) e (test d k))
       find o (x ∷ M) (r ∷ rs) h (inr i) = find (suc o) M rs (h .1) i
 
-  moved-length : (r : Row) (c : ℕ) (ss : List ℕ) → length (moved r c ss) ≡ length ss
-  moved-length r c ss = go (eqb c 0)
-    where
-      go : (b : Bool) → length (choose b ss (spread-at c (r .edges) ss)) ≡ length ss
-      go true = refl
-      go false = spread-length c (r .edges) ss
-
   -- a row does what its node does
   row-moves : (o : ℕ) (M : List Monomial) (r : Row) (a : Answer) → Row-right S d o M a r → Apart M
       → ((m : Monomial) → T (dropped? (S .reduction) d m) → T (node? m M) → ⊥) → (c : ℕ) (ss : List ℕ) → length (drop o ss) ≡ length M
@@ -285,19 +278,3 @@ settled-skip p x r rs ss e =
     go : (b : Bool) → ((b || true) and settled? p (suc x) rs ss) ≡ settled? p (suc x) rs ss
     go true = refl
     go false = refl
-
--- nothing comes of sums that are zero from place x on
-pub places-zero : (p x : ℕ) (rs : List Row) (ss : List ℕ) → ((i : ℕ) → x ≤ i → getD ss i 0 % p ≡ 0) → (places p x rs ss ≡ []) × (settled? p x rs ss ≡ true)
-places-zero p x [] ss z = (refl, refl)
-places-zero p x (r ∷ rs) ss z =
-    let h = places-zero p (suc x) rs ss (λ i l. z i (omega arith)) in
-    (places-skip p x r rs ss (z x (omega arith)) ∙ h .0, settled-skip p x r rs ss (z x (omega arith)) ∙ h .1)
-
--- sums before place o do not matter: they may be cleared
-pub places-alike : (S : Stage) (d : Bool) (o : ℕ) (M : List Monomial) (rs : List Row) → Rows-right S d o M rs → Apart M → (ss ss′ : List ℕ)
-    → length (drop o ss) ≡ length M → drop o ss ≡ drop o ss′
-    → (places (S .reduction .p) o rs ss ≡ places (S .reduction .p) o rs ss′) × (settled? (S .reduction .p) o rs ss ≡ settled? (S .reduction .p) o rs ss′)
-places-alike S d o M rs h a ss ss′ l e =
-    let u = pass S d o M rs h a ss l in
-    let w = pass S d o M rs h a ss′ (ap length (sym e) ∙ l) in
-    (u .vector ∙ ap (sweep S M) e ∙ sym (w .vector), u .rests ∙ ap (λ us. empty? (left S M us)) e ∙ sym (w .rests))

@@ -56,8 +56,8 @@ module _ (Z : Setting) (lim : Limits) where
   held (x ∷ xs) (s ∷ ss) = (s, x) ∷ held xs ss
 
   -- a number acts as its remainder
-  pub remainder : (c : ℕ) (x : Mono (Z .n)) (v : TVec (Z .n)) → Same (S Z) ((c, x) ∷ v) ((c % Z .p, x) ∷ v)
-  remainder c x v = record { at = λ φ. ap (λ z. plus (Z .p) z (ev (S Z) φ v)) (sym (times-left (Z .p) c (φ x))) }
+  pub as-remainder : (c : ℕ) (x : Mono (Z .n)) (v : TVec (Z .n)) → Same (S Z) ((c, x) ∷ v) ((c % Z .p, x) ∷ v)
+  as-remainder c x v = record { at = λ φ. ap (λ z. plus (Z .p) z (ev (S Z) φ v)) (sym (times-left (Z .p) c (φ x))) }
 
   pub zeros-held : (xs : List (Mono (Z .n))) → Same (S Z) (held xs (zeros (monos (Z .n) xs))) []
   zeros-held [] = Vec.same-refl (S Z)
@@ -81,7 +81,7 @@ module _ (Z : Setting) (lim : Limits) where
       go : (b : Bool) → (T b → y ≡ x) → T (elim b [ true ↦ true | false ↦ node? (mono (Z .n) y) (monos (Z .n) xs) ])
           → (T (node? (mono (Z .n) y) (monos (Z .n) xs)) → Same (S Z) (held xs later) ((c, y) ∷ held xs ss))
           → Same (S Z) (held (x ∷ xs) (elim b [ true ↦ (s + c) ∷ ss | false ↦ s ∷ later ])) ((c, y) ∷ (s, x) ∷ held xs ss)
-      go true e k ih = Vec.same-trans (S Z) (remainder (s + c) x (held xs ss)) (merged (Z .n) (Z .p) (Z .P) (c, y) (s, x) (held xs ss) (e tt))
+      go true e k ih = Vec.same-trans (S Z) (as-remainder (s + c) x (held xs ss)) (merged (Z .n) (Z .p) (Z .P) (c, y) (s, x) (held xs ss) (e tt))
       go false e k ih = Vec.same-trans (S Z) (Vec.same-cons (S Z) (s, x) (ih k)) (Vec.same-swap (S Z) (s, x) (c, y) (held xs ss))
 
   -- ## Products
@@ -134,7 +134,7 @@ module _ (Z : Setting) (lim : Limits) where
         -- c · t in front
         front : Same (S Z) ((c * t .0, t .1) ∷ (held xs ss ++ scaled)) (held xs ss ++ (times (Z .p) c (t .0), t .1) ∷ scaled)
         front =
-            Vec.same-trans (S Z) (remainder (c * t .0) (t .1) (held xs ss ++ scaled))
+            Vec.same-trans (S Z) (as-remainder (c * t .0) (t .1) (held xs ss ++ scaled))
             (Vec.same-middle (S Z) (times (Z .p) c (t .0), t .1) (held xs ss) scaled)
 
         go : (b : Bool) → (T b → T (node? m (monos (Z .n) xs))) → (T (node? m (monos (Z .n) xs)) → T b) → T (dropped? R d m) ⊎ T (node? m (monos (Z .n) xs))

@@ -102,17 +102,17 @@ module _ (Z : Setting) (lim : Limits) (d : Bool) (xs : List (Mono (Z .n))) (k : 
 
   -- ## The remainder
 
-  abbrev pub combined : TVec (Z .n)
-  combined = ψ (S Z) (L Z) (F Z .f) (reckon (S Z) (L Z) (F Z) (red Z) x)
+  abbrev pub put-in : TVec (Z .n)
+  put-in = ψ (S Z) (L Z) (F Z .f) (reckon (S Z) (L Z) (F Z) (red Z) x)
 
   -- zero exactly if nothing is left
-  pub remainder-is : d ≡ false → (Same (S Z) combined [] → remainder K (monos (Z .n) xs) (mono (Z .n) x) ≡ [])
-      × (remainder K (monos (Z .n) xs) (mono (Z .n) x) ≡ [] → Same (S Z) combined [])
+  pub remainder-empty : d ≡ false → (Same (S Z) put-in [] → remainder K (monos (Z .n) xs) (mono (Z .n) x) ≡ [])
+      × (remainder K (monos (Z .n) xs) (mono (Z .n) x) ≡ [] → Same (S Z) put-in [])
   unfolding sums
-  remainder-is e = (
+  remainder-empty e = (
     (λ z. pass .rests-is ∙ ap (vec (Z .n)) (canonical-unique (S Z) (L Z) (pass .rests) [] (pass .rests-canonical) tt (Vec.same-trans (S Z) (Vec.same-sym (S Z)
         same) z))),
-    (λ z. subst (Same (S Z) combined) (vec-empty (Z .n) (pass .rests) (sym (pass .rests-is) ∙ z)) same),
+    (λ z. subst (Same (S Z) put-in) (vec-empty (Z .n) (pass .rests) (sym (pass .rests-is) ∙ z)) same),
   )
     where
       form : TVec (Z .n)
@@ -121,7 +121,7 @@ module _ (Z : Setting) (lim : Limits) (d : Bool) (xs : List (Mono (Z .n))) (k : 
       whole : Same (S Z) g products
       whole = Vec.same-trans (S Z) (Vec.same-nil (S Z) g) (subst (λ z. Same (S Z) (g ++ z) products) (first .whole e) begin)
 
-      same : Same (S Z) combined (pass .rests)
+      same : Same (S Z) put-in (pass .rests)
       same =
           Vec.same-trans (S Z) (Vec.same-lin (S Z) (times (S Z) (L Z) (F Z .f)) (Vec.same-cons (S Z) (1, x) (Vec.same-sym (S Z) lifts)))
           (Vec.same-trans (S Z) (Vec.same-append (S Z) (Vec.same-trans (S Z) (Vec.scale-one (S Z) products) (Vec.same-sym (S Z) whole)) (Vec.same-refl (S Z)

@@ -7,7 +7,7 @@ use mathlib.Core.List.{List, [], _∷_}
 use Prim.Native.Nat.{ℕ}
 use lib.Dec.{T}
 use Rattle.definitions.specs.Limits.{Limits}
-use Rattle.definitions.specs.Lists.{every, rest}
+use Rattle.definitions.specs.Lists.{every, any, rest}
 use Rattle.definitions.specs.Monomial.{Monomial, Vector, Level}
 use Rattle.definitions.specs.Result.{Result, done, refused, unfinished, finished?}
 use Rattle.definitions.specs.Stage.{Stage, stage-over}
@@ -15,11 +15,19 @@ use Rattle.definitions.specs.Run.{Strategy, run, hybrid-strategy, division-stra
 use Rattle.definitions.specs.Lifting.{lift-all}
 use Rattle.definitions.specs.Problem.{Parameters}
 use Rattle.definitions.specs.Reckoning.{reckoned-vector}
-use Rattle.demands.specs.Picks.{Picks}
+use Rattle.laws.proofs.Members.{All}
+use Rattle.demands.specs.Picks.{Picks, run-by}
 use Rattle.sweeps.specs.Safe.{Safe}
 use Rattle.sweeps.specs.Table.{few?}
 use Rattle.sweeps.specs.Sweep.{zeros, swept, remainder, placed?, falling?, components, nodes-fit?}
 use Rattle.sweeps.specs.Places.{Row, spread-at, places, settled?, Rows-in}
+
+-- strategies for steps within a table: each picks inside the value, and drops what the table leaves out
+abbrev pub All-serve : Bool → List Strategy → Type 0
+All-serve d Ws = All (λ W. Picks W × (T d → T (W .drops))) Ws
+
+abbrev pub any-stops? : List Strategy → Bool
+any-stops? Ws = any (λ (W : Strategy). W .stops) Ws
 
 -- one vector, the reckoning's; no strategy that drops what the table leaves out is refused by a limit, and each that does not stop at 9 comes to it
 pub record One-vector (lim : Limits) (q : Parameters) (below : List Level) (d : Bool) (m : Monomial) : Type 0 where
@@ -29,6 +37,9 @@ pub record One-vector (lim : Limits) (q : Parameters) (below : List Level) (d : 
   -- within any number of steps
   pub safe : (W : Strategy) → Picks W → (T d → T (W .drops)) → (n : ℕ)
       → Safe (W .stops ≡ true) (λ v. v ≡ vector) (run (stage-over lim (q .p) (q .code) below) W n m)
+  -- .. each step with a strategy of its own, so that a pick may depend on all that went before
+  pub safe-by : (W : Strategy) → (T d → T (W .drops)) → (Ws : List Strategy) → All-serve d Ws
+      → Safe (any-stops? Ws ≡ true) (λ v. v ≡ vector) (run-by (stage-over lim (q .p) (q .code) below) W Ws m)
   -- within some number of steps
   pub ends : (W : Strategy) → Picks W → (T d → T (W .drops)) → W .stops ≡ false
       → (n : ℕ) × (run (stage-over lim (q .p) (q .code) below) W n m ≡ done vector)
@@ -53,6 +64,8 @@ pub record Certified (lim : Limits) (q : Parameters) (below : List Level) (d : B
   pub reckons : reckoned-vector bound (q .p) (q .code) below m ≡ some (swept (stage-over lim (q .p) (q .code) below) N m)
   pub safe : (W : Strategy) → Picks W → (T d → T (W .drops)) → (n : ℕ)
       → Safe (W .stops ≡ true) (λ v. v ≡ swept (stage-over lim (q .p) (q .code) below) N m) (run (stage-over lim (q .p) (q .code) below) W n m)
+  pub safe-by : (W : Strategy) → (T d → T (W .drops)) → (Ws : List Strategy) → All-serve d Ws
+      → Safe (any-stops? Ws ≡ true) (λ v. v ≡ swept (stage-over lim (q .p) (q .code) below) N m) (run-by (stage-over lim (q .p) (q .code) below) W Ws m)
   pub ends : (W : Strategy) → Picks W → (T d → T (W .drops)) → W .stops ≡ false
       → (n : ℕ) × (run (stage-over lim (q .p) (q .code) below) W n m ≡ done (swept (stage-over lim (q .p) (q .code) below) N m))
   pub by-hybrid : (code : ℕ) → (n : ℕ) × (run (stage-over lim (q .p) (q .code) below) (hybrid-strategy (stage-over lim (q .p) (q .code) below) code) n m
@@ -99,6 +112,9 @@ pub record Passed (lim : Limits) (q : Parameters) (below : List Level) (d : Bool
     × ℕ)) (m : Monomial) : Type 0 where
   pub bound : ℕ
   pub reckons : reckoned-vector bound (q .p) (q .code) below m ≡ some (passed-vector (q .p) N rs es m)
+  -- each step by any strategy that drops what the table leaves out
+  pub safe-by : (W : Strategy) → (T d → T (W .drops)) → (Ws : List Strategy) → All-serve d Ws
+      → Safe (any-stops? Ws ≡ true) (λ v. v ≡ passed-vector (q .p) N rs es m) (run-by (stage-over lim (q .p) (q .code) below) W Ws m)
   -- any strategy that drops what the table leaves out and does not stop at 9
   pub ends : (W : Strategy) → Picks W → (T d → T (W .drops)) → W .stops ≡ false
       → (n : ℕ) × (run (stage-over lim (q .p) (q .code) below) W n m ≡ done (passed-vector (q .p) N rs es m))
