@@ -187,7 +187,7 @@ fn past_zeros(sums: &[u64], from: usize, n: usize) -> usize
     x
 }
 
-// The next place from place `from` on whose sum is not zero, or n: of a large table a frame term reaches few nodes, so most places are passed over.
+// A place before which all sums from place `from` on are zero, n at the most: of a large table a frame term reaches few nodes, so most places are passed over.
 fn next(sums: &[u64], from: usize, n: usize) -> usize
     requires { ⌜ (from ≤ n) × (n ≤ length (now sums)) ⌝ }
     ensures { λ r. ⌜ Skips from r (now (sums .entry)) × (r ≤ n) ⌝ }

@@ -204,7 +204,10 @@ theorem₃ =
       few = tt;
       fit = tt;
       placed = tt;
-      rows = ((refl, refl, refl), ((refl, refl, refl, leads-in 2 (lit< tt) refl tt no-more-in), ((refl, refl, refl, leads-in 0 (lit< tt) refl tt no-more-in), tt)));
+      rows = (
+        (refl, refl, refl),
+        ((refl, refl, refl, leads-in 2 (lit< tt) refl tt no-more-in), ((refl, refl, refl, leads-in 0 (lit< tt) refl tt no-more-in), tt)),
+      );
     })
     order₃ place₃ tt tt m (inl refl) roots₃ (leads-in 1 (lit< tt) refl tt (leads-in 0 (lit< tt) refl tt no-more-in))
 

@@ -93,8 +93,8 @@ drop-split o [] x M e = absurd (empty o e)
 drop-split zero (y ∷ N) x M e = (omega arith, ap (λ l. getD l 0 (no-term .1)) (sym e), ap rest e)
 drop-split (suc o) (y ∷ N) x M e = let h = drop-split o N x M e in (omega (arith, h .0), h .1, h .2)
 
-pub rows-later : (S : Stage) (d : Bool) (N : List Monomial) → Products-later S N → (o : ℕ) (M : List Monomial) (rs : List Row) → M ≡ drop o N → Rows-in S d N M rs
-    → Rows-right S d o M rs
+pub rows-later : (S : Stage) (d : Bool) (N : List Monomial) → Products-later S N → (o : ℕ) (M : List Monomial) (rs : List Row) → M ≡ drop o N
+    → Rows-in S d N M rs → Rows-right S d o M rs
 rows-later S d N w o [] [] e h = tt
 rows-later S d N w o [] (r ∷ rs) e h = h
 rows-later S d N w o (x ∷ M) [] e h = h
