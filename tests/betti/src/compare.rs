@@ -1,3 +1,4 @@
+// SPDX-License-Identifier: MIT OR Apache-2.0
 //! One file through the call, the program and the unrelated implementation: the page's bytes.
 
 use common::buffers::PAGE;

@@ -1,3 +1,4 @@
+// SPDX-License-Identifier: MIT OR Apache-2.0
 //! One file through the call, the program and the unrelated implementation: the bytes of the lines. Beside them the sheet and the Betti page, by call and by
 //! program: with a G line they are what they are without it, and with every a at 1 the counts summed over b are the page's.
 

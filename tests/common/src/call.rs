@@ -1,3 +1,4 @@
+// SPDX-License-Identifier: MIT OR Apache-2.0
 //! A public call that prints, in the test's own process: what it answers, and what stands in the buffers afterwards.
 
 use crate::buffers::{all_zero, more, STATE, WORK};

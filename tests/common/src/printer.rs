@@ -1,3 +1,4 @@
+// SPDX-License-Identifier: MIT OR Apache-2.0
 //! What prints: a public call, in the test's own process, and the program that people run, which makes this call and no other.
 
 use crate::call::{Call, Left, LEFT};

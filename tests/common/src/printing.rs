@@ -1,3 +1,4 @@
+// SPDX-License-Identifier: MIT OR Apache-2.0
 //! What prints against the unrelated implementation, file by file: the bytes, what the files met, and how something is spoiled so that the comparison itself is
 //! tried.
 

@@ -1,3 +1,4 @@
+// SPDX-License-Identifier: MIT OR Apache-2.0
 //! The files that every test of a call and a program that print takes before random ones.
 
 use crate::files::{changed_at, many_monomials, with_each_field, WRITTEN};

@@ -1,3 +1,4 @@
+// SPDX-License-Identifier: MIT OR Apache-2.0
 //! One file through the call, the program and the unrelated implementation: the bytes. Beside them what a completed file promises.
 
 use crate::module::{added_rightly, same_module};

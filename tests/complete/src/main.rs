@@ -1,3 +1,4 @@
+// SPDX-License-Identifier: MIT OR Apache-2.0
 //! A basis completed against the unrelated implementation, byte for byte: the proved call on generators, Gröbner bases with elements left out, files at every
 //! limit that an addition can pass, damaged files and the files of examples/; and the program that people run, on those by hand, of examples/, at the limits, and
 //! on one in ten of the others. Of each completed file that no line before E is changed, what was added is monic and divided by nothing before it, and, by a

@@ -1,3 +1,4 @@
+// SPDX-License-Identifier: MIT OR Apache-2.0
 //! One file through the call, the program and the unrelated implementation: the bytes of the lines. Beside them the values as a count of monomials from the
 //! file's text gives them, and what is printed of a file with a G line without it.
 

@@ -1,3 +1,4 @@
+// SPDX-License-Identifier: MIT OR Apache-2.0
 //! One input through the call, the program and the unrelated implementation: the bytes of the lines. Beside them what they say, applied to the input's text.
 
 use crate::apply::Divided;

@@ -1,3 +1,4 @@
+// SPDX-License-Identifier: MIT OR Apache-2.0
 //! A vector divided by the elements of a file against the unrelated implementation, byte for byte: the proved call on files with V lines, right and damaged,
 //! combinations of the elements and others, at every limit, on the files of examples/ and with many bytes behind the last line; and the program that people
 //! run, on those by hand, of examples/ and the long ones, and on one in ten of the others. Of each division the quotients applied to the elements plus the

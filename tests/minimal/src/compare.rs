@@ -1,3 +1,4 @@
+// SPDX-License-Identifier: MIT OR Apache-2.0
 //! One file through the call, the program and the unrelated implementation: the page's bytes. Beside them the Betti page, by call and by program: the same
 //! labels, no number above the page's, and in each degree what ranks can take away; what is printed of the same module with more elements, and of a file
 //! without its G line.

@@ -1,3 +1,4 @@
+// SPDX-License-Identifier: MIT OR Apache-2.0
 //! Minimal Betti numbers against the unrelated implementation, byte for byte: the proved call on generated and damaged files, the files of examples/, the
 //! instances and files about the longest; and the program that people run, on all but the generated and damaged ones and on one in ten of these. Beside them
 //! the Betti page, of one in ten by program too; the same module with more elements; files with a G line without it.

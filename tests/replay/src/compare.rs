@@ -1,3 +1,4 @@
+// SPDX-License-Identifier: MIT OR Apache-2.0
 //! One input through the call, the program and the unrelated implementation: the bytes of the vector or of the refusal. Beside them the same vector as the tree
 //! lifts it, which picks nothing.
 

@@ -1,3 +1,4 @@
+// SPDX-License-Identifier: MIT OR Apache-2.0
 //! Recorded picks replayed against the unrelated implementation, byte for byte: the proved call on logs of every pick code and of random picks at every level,
 //! each damaged in every way, logs at every limit, over the files of examples/ and with many bytes behind the last line; and the program that people run, on
 //! those by hand, of every level, of examples/ and the long ones, and on one in ten of the others. Each vector is the tree's, too.
