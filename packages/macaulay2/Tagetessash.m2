@@ -10,6 +10,9 @@ newPackage("Tagetessash",
 export {"problemFile", "vectorLines", "provedResolution", "provedBetti", "provedMinimalBetti", "provedHilbert", "provedAnswers", "isProvedGroebnerBasis",
     "gbWitness", "provedComplete", "provedMember", "provedDivision", "compareWithMacaulay2", "provedPage", "Rank", "Generators"}
 
+-- matrices are made of thousands of terms
+importFrom_Core {"raw", "rawFromNumber", "rawSparseMatrix2"}
+
 ---------------------------------------------------------------------------------------------------------------------------------------------------------------
 -- The problem file. What it can not say is an error: a file without it would be another problem.
 
@@ -183,45 +186,60 @@ programName = () -> if getenv "TAGETESSASH" =!= "" then getenv "TAGETESSASH" els
 -- A word for the shell: nothing in it means anything.
 shellQuoted = text -> "'" | concatenate between("'\\''", separate("'", text)) | "'"
 
--- What turns the lines that the program printed into parts of Macaulay2's text, a line for each, behind a letter: X and M lines as they are; S, T, W and C the
--- entries of a matrix for a level, for the elements, for a value or remainder and for the quotients; Z the level that is empty; N the numbers of a page, of
--- Hilbert functions and of bidegrees; `=` the exit status, e what was said. The last line is `end`, or `bad`. Entries are sums of terms t#k; behind a semicolon
--- stand row and k of each column's first term, behind another one the terms, which mostly are few: each is made once. Nothing but numbers of the program's is
--- in it.
+-- What turns the lines that the program printed into parts of text, a line for each, behind a letter: X and M lines as they are; S, T, W and C the terms of a
+-- matrix for a level, for the elements, for a value or remainder and for the quotients; Z the empty level; N the numbers of a page, of Hilbert functions and of
+-- bidegrees; `=` the exit status, e what was said. The last line is `end`, or `bad`.
+-- Terms are bytes, since Macaulay2 reads these far faster than text, each a number below 128 and 32: the line of the letter has the terms' rows, lines t behind
+-- it their columns, which monomial (two lines: the number's rest by 128, the number of 128s), which coefficient (two lines), of each column's first term row and
+-- monomial (three lines); then the monomials and the coefficients themselves, each once, as text.
 awkText = ///
-function column(  i) {
-    for (i = 1; i <= many; i++) { printf "%s(%d,%d)=>%s", comma, met[i] - 1, last - 1, sum[met[i]]; comma = ","; delete sum[met[i]] }
-    many = 0
-}
 function ended(  k, i, c, e, f) {
-    column()
     if (now ~ /[STWC]/) {
-        printf ";%s;", front
-        for (k = 0; k < count; k++) {
-            c = split(term[k], e, ",")
-            f = e[1]
-            for (i = 2; i <= c; i++) if (e[i] > 0) f = f "*x#" (i - 2) (e[i] > 1 ? "^" e[i] : "")
-            printf "%s%s%s", k ? "," : "", f, f == e[1] ? "*x#" (c - 1) : ""
+        printf "%s\nt %s\nt %s\nt %s\nt %s\nt %s\nt %s\nt %s\nt %s\nt ", rows, columns, m0, m1, c0, c1, f0, f1, f2
+        for (k = 0; k < monomials; k++) {
+            c = split(monomial[k], e, ",")
+            f = ""
+            for (i = 1; i <= c; i++) if (e[i] > 0) f = f (f == "" ? "" : "*") "x#" (i - 1) (e[i] > 1 ? "^" e[i] : "")
+            printf "%s%s", k ? "," : "", f == "" ? "x#" c : f
         }
+        printf "\nt %s", coefficients
     }
     if (now != "") printf "\n"
     now = ""
 }
-function begin(letter) { ended(); printf "%s ", letter; now = letter; comma = front = ""; count = 0; split("", place) }
-function put(letter, part, vector, at,  k, i, t) {
-    if (letter != now || part != group) { begin(letter); group = part; last = "" }
-    i = $(at + 1)
-    t = $at substr($0, length($1) + length($2) + length($3) + (at > 2 ? length($4) : 0) + (at > 3 ? length($5) : 0) + at + 1)
-    if (t in place) k = place[t]
-    else { k = place[t] = count; term[count++] = t }
-    if (vector != last) {
-        column()
-        last = vector
-        front = front (front == "" ? "" : ",") (i - 1) "," k
-    }
-    if (i in sum) sum[i] = sum[i] "+t#" k
-    else { met[++many] = i; sum[i] = "t#" k }
+function begin(letter) {
+    ended()
+    printf "%s ", letter
+    now = letter
+    rows = columns = m0 = m1 = c0 = c1 = f0 = f1 = f2 = coefficients = last = ""
+    monomials = numbers = 0
+    split("", place)
+    split("", number)
 }
+# behind the coefficient, which is field `at`, stand component and exponents
+function put(letter, part, vector, at,  k, e, row) {
+    if (letter != now || part != group) { begin(letter); group = part }
+    row = byte[$(at + 1) - 1]
+    rows = rows row
+    columns = columns byte[vector - 1]
+    e = substr($0, length($1) + length($2) + length($3) + (at > 2 ? length($4) : 0) + (at > 3 ? length($5) : 0) + at + 2)
+    if (e in place) k = place[e]
+    else { k = place[e] = monomials; monomial[monomials++] = e }
+    m0 = m0 byte[k % 128]
+    m1 = m1 byte[int(k / 128)]
+    if (vector != last) {
+        f0 = f0 row
+        f1 = f1 byte[k % 128]
+        f2 = f2 byte[int(k / 128)]
+        last = vector
+    }
+    e = $at
+    if (e in number) k = number[e]
+    else { coefficients = coefficients (numbers ? "," : "") e; k = number[e] = numbers++ }
+    c0 = c0 byte[k % 128]
+    c1 = c1 byte[int(k / 128)]
+}
+BEGIN { FS = ","; for (k = 0; k < 128; k++) byte[k] = sprintf("%c", k + 32) }
 said { if ($0 == "=") said = 0; else print "e " $0; next }
 /^[A-Z],/ && !/^[A-Z](,-?[0-9]+)+$/ { bad = 1; next }
 /^S,/ { put("S", $2, $3, 4); next }
@@ -237,7 +255,6 @@ said { if ($0 == "=") said = 0; else print "e " $0; next }
     next
 }
 /^= [0-9]+$/ { ended(); print; said = 1 }
-BEGIN { FS = "," }
 END { print (bad || said || now != "" ? "bad" : "end") }
 ///
 
@@ -273,6 +290,7 @@ ran = (jobs, kept) -> (
             if said != "" and not match("^tagetessash: prebuilt:", said) then (
                 a := last answers;
                 answers = append(drop(answers, -1), (a#0, append(a#1, replace("^standard input:", "line ", said)), a#2))))
+        else if l#0 == "t" then parts = append(drop(parts, -1), append(last parts, substring(2, l)))
         else parts = append(parts, (l#0, substring(2, l))));
     if #answers != #jobs then error("what the program " | programName() | " printed can not be read");
     for a in answers do (
@@ -284,23 +302,38 @@ ran = (jobs, kept) -> (
 -- The text behind the last line with this letter, or null.
 printedPart = (answer, letter) -> (
     found := select(answer#0, x -> x#0 == letter);
-    if #found == 0 then null else last last found)
+    if #found == 0 then null else (last found)#1)
+
+-- The matrix into F behind the last line with this letter, or null.
+printedMatrix = (F, answer, letter) -> (
+    found := select(answer#0, x -> x#0 == letter);
+    if #found == 0 then null else matrixOf(F, last found))
 
 numbersOf = text -> if text === null then error "the program printed no numbers" else toList value("{" | substring(0, #text - 1, text) | "}")
 
--- What stands behind S, T, W and C: the entries of a matrix, and of each column the row and the degree of its first term. Of the user's names none is in this
--- text.
-entriesOf = (R, text) -> (
-    (found, front, terms) := toSequence separate(";", text);
-    t := (value("x -> {" | terms | "}")) append(gens R, 1_R);
-    d := apply(t, degree);
-    ((value("t -> {" | found | "}")) t, apply(pack(2, toList value("{" | front | "}")), x -> (x#0, d#(x#1)))))
+-- What a byte of awk's says: where it leads to in a list, and in one of more than 128, cut into lists of 128.
+behind = l -> toList (32 : null) | l
+paged = l -> behind apply(pack(128, l), behind)
+numbers = behind toList (0 .. 127)
+byBytes = (l, low, high) -> (l = paged l; apply(ascii low, ascii high, (a, b) -> l#b#a))
 
--- The matrix into F that is printed so.
-matrixOf = (F, text) -> (
-    (found, front) := entriesOf(ring F, text);
-    d := degrees F;
-    map(F, (ring F)^(apply(front, (i, e) -> - d#i - e)), found))
+-- The matrix into F of a part: the monomials, each in the row of its term, times the coefficients, each in the column of its term. A column has the degree of
+-- its first term. Of the user's names none is in this text.
+matrixOf = (F, part) -> (
+    R := ring F;
+    (letter, rows, columns, m0, m1, c0, c1, f0, f1, f2, monomials, coefficients) := part;
+    rows = apply(ascii rows, k -> numbers#k);
+    columns = apply(ascii columns, k -> numbers#k);
+    monomials = (value("x -> {" | monomials | "}")) append(gens R, 1_R);
+    d := behind degrees F;
+    G := R^(apply(ascii f0, byBytes(apply(monomials, degree), f1, f2), (k, e) -> - d#k - e));
+    T := R^(#rows);
+    each := toList (0 .. #rows - 1);
+    zero := toList (degreeLength R : 0);
+    K := raw R;
+    coefficients = apply(toList value("{" | coefficients | "}"), c -> rawFromNumber(K, c));
+    map(F, G, rawSparseMatrix2(raw F, raw T, zero, rows, each, toSequence byBytes(apply(monomials, raw), m0, m1), 0)
+        * rawSparseMatrix2(raw T, raw G, zero, each, columns, toSequence byBytes(coefficients, c0, c1), 0)))
 
 -- A refusal as an error, in the words of this system.
 refused = (which, q, answer) -> (
@@ -308,7 +341,7 @@ refused = (which, q, answer) -> (
     said := concatenate between("; ", answer#1);
     if refusal === null then error(which | "the program said nothing that can be read: " | said);
     (number, place) := toSequence value("{" | refusal | "}");
-    if number == 9 then error(which | "the columns are no Groebner basis: " | toString entries matrixOf(target q#"matrix", printedPart(answer, "W"))
+    if number == 9 then error(which | "the columns are no Groebner basis: " | toString entries printedMatrix(target q#"matrix", answer, "W")
         | " is in their image, and no leading monomial divides its own (gbWitness)");
     if number == 17 then error(which | "generator " | toString place | " is not homogeneous");
     if number == 25 then error(which | "generator " | toString place | " is not homogeneous by both degrees");
@@ -346,7 +379,7 @@ levelsOf = (which, q, answer) -> (
     maps := {map(target g, R^(-own), entries g)};
     levels := select(answer#0, x -> x#0 == "S");
     if printedPart(answer, "Z") =!= toString (#levels + 1) then error "the program printed no whole sheet";
-    for x in levels do maps = append(maps, matrixOf(source last maps, x#1));
+    for x in levels do maps = append(maps, matrixOf(source last maps, x));
     chainComplex maps)
 
 provedResolution = method(TypicalValue => ChainComplex)
@@ -419,14 +452,14 @@ isProvedGroebnerBasis Matrix := isProvedGroebnerBasis List := G -> answered(G, f
 gbWitness = method(TypicalValue => Matrix)
 gbWitness Matrix := gbWitness List := G -> answered(G, false, {"member"}, (which, q, printed) -> (
     if accepted(which, q, first printed) then map(target q#"matrix", (ring q#"matrix")^1, 0)
-    else matrixOf(target q#"matrix", printedPart(first printed, "W"))))
+    else printedMatrix(target q#"matrix", first printed, "W")))
 
 provedComplete = method(TypicalValue => Matrix)
 provedComplete Matrix := provedComplete List := G -> answered(G, false, {"complete"}, (which, q, printed) -> (
     unlessRefused(which, q, first printed);
-    text := printedPart(first printed, "T");
-    if text === null then error "the program printed no problem file";
-    matrixOf(target q#"matrix", text)))
+    found := printedMatrix(target q#"matrix", first printed, "T");
+    if found === null then error "the program printed no problem file";
+    found))
 
 -- What is known of the columns of g, the columns of f, for each of these what was printed.
 divided = (g, f) -> (
@@ -449,10 +482,10 @@ provedDivision = method()
 provedDivision(RingElement, Matrix) := provedDivision(Vector, Matrix) := provedDivision(Matrix, Matrix) := (f, g) -> (
     (q, v, answers) := divided(g, f);
     R := ring g;
-    -- columns side by side
-    side := (F, letter) -> map(F, source v, flatten apply(#answers, j -> (
-        text := printedPart(answers#j, letter);
-        if text === null then {} else apply(first entriesOf(R, text), e -> (first e#0, j) => e#1))));
+    -- columns side by side, into the source and the target of g
+    side := (F, letter) -> map(F, source v, matrix {apply(answers, a -> (
+        found := printedMatrix(F, a, letter);
+        if found === null then map(F, R^1, 0) else found))});
     (side(source g, "C"), side(target g, "W")))
 
 provedPage = method(TypicalValue => Nothing)
