@@ -49,6 +49,7 @@ module _ {M : Monoid} (D : Division M) (ltb : M.E → M.E → Bool) where
   Over d l = Some (λ g. Divides g d) l
 
   drop_keeps : (c d : E) (l : List E) → Over d l → Divides c d ⊎ Over d (drop_multiples D ltb c l)
+  drop_keeps c d [] s = elim s [ ]
   drop_keeps c d (g ∷ l) s = go (divides? D ltb c g) (divides_is c g) s (drop_keeps c d l)
     where
       next : Divides c d ⊎ Over d (drop_multiples D ltb c l) → Divides c d ⊎ Over d (g ∷ drop_multiples D ltb c l)
@@ -63,6 +64,7 @@ module _ {M : Monoid} (D : Division M) (ltb : M.E → M.E → Bool) where
       go false h (inr p) ih = next (ih p)
 
   pub minimal_covers : (l : List E) (d : E) → Some (λ g. Divides g d) l → Some (λ g. Divides g d) (minimal D ltb l)
+  minimal_covers [] d s = elim s [ ]
   minimal_covers (c ∷ l) d s = go (any_divides? D ltb m c) (covered? m c) s (minimal_covers l d)
     where
       m : List E
@@ -93,6 +95,7 @@ module _ {M : Monoid} (D : Division M) (ltb : M.E → M.E → Bool) where
       go false (inr (inr p)) ih = inr (ih (inr p))
 
   pub sort_some : (P : E → Type 0) (l : List E) → Some P l → Some P (sort D ltb l)
+  sort_some P [] x' = elim x' [ ]
   sort_some P (c ∷ l) (inl p) = insert_some P c (sort D ltb l) (inl p)
   sort_some P (c ∷ l) (inr p) = insert_some P c (sort D ltb l) (inr (sort_some P l p))
 
@@ -129,6 +132,7 @@ module _ {M : Monoid} (D : Division M) (ltb : M.E → M.E → Bool) where
   sort_every P (c ∷ l) h = insert_every P c (sort D ltb l) h.0 (sort_every P l h.1)
 
   tagged_some : (P : E → Type 0) (i : ℕ) (l : List E) → Some P l → Some (λ (t : E × ℕ). (t.1 ≡ i) × P t.0) (tagged D ltb i l)
+  tagged_some P i [] x' = elim x' [ ]
   tagged_some P i (c ∷ l) (inl p) = inl (refl, p)
   tagged_some P i (c ∷ l) (inr s) = inr (tagged_some P i l s)
 

@@ -15,10 +15,12 @@ Every P (x ∷ l) = P x × Every P l
 
 module _ {A : Type 0} where
   pub some_map : (P Q : A → Type 0) → ((x : A) → P x → Q x) → (l : List A) → Some P l → Some Q l
+  some_map P Q h [] x' = elim x' [ ]
   some_map P Q h (x ∷ l) (inl p) = inl (h x p)
   some_map P Q h (x ∷ l) (inr s) = inr (some_map P Q h l s)
 
   pub some_left : (P : A → Type 0) (l k : List A) → Some P l → Some P (l ++ k)
+  some_left P [] k x' = elim x' [ ]
   some_left P (x ∷ l) k (inl p) = inl p
   some_left P (x ∷ l) k (inr s) = inr (some_left P l k s)
 
@@ -27,6 +29,7 @@ module _ {A : Type 0} where
   some_right P (x ∷ l) k s = inr (some_right P l k s)
 
   pub some_at : (d : A) (P : A → Type 0) (l : List A) → Some P l → (k : ℕ) × (k < length l) × P (get_or l k d)
+  some_at d P [] x' = elim x' [ ]
   some_at d P (x ∷ l) (inl p) = (0, omega arith, p)
   some_at d P (x ∷ l) (inr s) = let (k, h, p) = some_at d P l s in (suc k, omega arith, p)
 

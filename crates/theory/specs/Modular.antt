@@ -57,7 +57,7 @@ module _ (p : ℕ) where
       mul_comm = times_comm;
       mul_assoc = λ a b c. times_left p (a * b) c ∙ ap (λ z. z % p) (mul_assoc a b c) ∙ sym (times_right p a (b * c));
       mul_add = times_plus;
-      mul-zero = times_zero;
+      mul_zero = times_zero;
       zero_add_zero = zero-mod p;
       zero_add_mul = λ a b. ap (λ z. z % p) (zero_plus (times p a b)) ∙ mod-mod (a * b) p;
       zero_add_add = λ a b. ap (λ z. z % p) (zero_plus (plus p a b)) ∙ mod-mod (a + b) p;

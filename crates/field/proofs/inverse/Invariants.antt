@@ -1,0 +1,14 @@
+use native.Mathlib.Omega.{arith}
+use mathlib.Core.Path.{◌≡◌, sym, ◌∙◌}
+use Prim.Native.Nat.{◌-◌, ◌*◌, ◌<◌}
+use native.Mathlib.Nat.{mod-lt, div-le_self}
+use Prim.Native.Nat.{◌/◌}
+use Rattle.definitions.specs.Field.{times, inverse_by, inverse}
+use Rattle.field.proofs.Inverses.{inverse_start, inverse_on, inverse_end}
+use Rattle.field.proofs.inverse.Given as goal
+
+abbrev pub invariant-loop-x : goal.invariant-loop-x
+invariant-loop-x l = (l.r < l.p) × (times l.p l.r (inverse_by l.x l.p l.x) ≡ inverse l.p l.a)
+
+abbrev pub decreases-loop-x : goal.decreases-loop-x
+decreases-loop-x l = l.x
