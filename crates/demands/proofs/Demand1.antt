@@ -47,14 +47,14 @@ module _ (lim : Limits) (o : T (sensible? lim)) where
   read_length file state work r (accepted_as {q} {f} t e) =
       length_encode lim (small_exponents lim o) (length state) (basis_state (q, f)) (well_formed lim o file q f e)
       (long_state lim o division state work t)
-  read_length file state work r (Demands.ReadForm.IsRefused-as t b l) = length-replicate (length state) 0
+  read_length file state work r (Demands.ReadForm.refused_as t b l) = length-replicate (length state) 0
   read_length file state work r (Demands.ReadForm.too_short t) = refl
 
   lift_length : (k : ℕ) (way : Way) (state work cache : Words) (r : Lift) → LiftForm lim k way state work cache r → length r.2 ≡ length state
   lift_length k way state work cache r (lifted_as X g bound t e u y d s) =
       length_encode lim (small_exponents lim o) (length state) (record { parameters = X.parameters; levels = g ∷ up_to X (k - 1) }) s
       (long_state lim o way state work t)
-  lift_length k way state work cache r (Demands.LiftForm.IsRefused-as b t u y e l) = length-replicate (length state) 0
+  lift_length k way state work cache r (Demands.LiftForm.refused_as b t u y e l) = length-replicate (length state) 0
   lift_length k way state work cache r (Demands.LiftForm.no_level t u) = refl
   lift_length k way state work cache r (Demands.LiftForm.no_number t u x) = refl
   lift_length k way state work cache r (Demands.LiftForm.too_short t) = refl

@@ -71,7 +71,7 @@ module _ (lim : Limits) (o : T (sensible? lim)) where
       settles t (refused_reading {number} {place} {value} r) =
           holds (subst (λ z. ReadForm lim file state work (number, place, z, padded (length work) (rows_of value)))
           (sym (encode_empty lim (length state) (long_state division state work t)))
-          (Demands.ReadForm.IsRefused-as t r (value_room file state work t r)))
+          (Demands.ReadForm.refused_as t r (value_room file state work t r)))
       settles t still_reading = nothing
 
       go : (b : Bool) → (T b → T (long_enough? lim division state work)) → (T (not b) → T (not (long_enough? lim division state work)))
@@ -114,7 +114,7 @@ module _ (lim : Limits) (o : T (sensible? lim)) where
           (sym (all_zeros work)) (lifted_as X g w.bound t refl u y w.reckons (with_level lim X s k r l g w.sound)))
       settles t u y s r c e (Lifts.limit_met {number} l) =
           holds (subst₂ (λ y z. Form (number, k, y, z, zeros cache)) (sym (encode_empty lim (length state) (long_state way state work t)))
-          (sym (all_zeros work)) (Demands.LiftForm.IsRefused-as n t u y e l))
+          (sym (all_zeros work)) (Demands.LiftForm.refused_as n t u y e l))
       settles t u y s r c e still_lifting = nothing
 
       twelve : T (long_enough? lim way state work) → T (not (eleven? lim X k (k - 1))) → T (sound? lim X)

@@ -21,10 +21,12 @@ use Rattle.demands.proofs.Generators.{BelowAll, Sorted, Eights, MinimalGenerator
 -- ## Terms of one number
 
 pub tagged_either : (i : ℕ) (gs : List Exponents) (t : Monomial) → Member t (with_component i gs) → (t.1 ≡ i) × Member t.0 gs
+tagged_either i [] t x' = elim x' [ ]
 tagged_either i (g ∷ gs) t (inl e) = (ap (λ z. z.1) e, inl (ap (λ z. z.0) e))
 tagged_either i (g ∷ gs) t (inr m) = let (a, b) = tagged_either i gs t m in (a, inr b)
 
 tagged_member : (i : ℕ) (gs : List Exponents) (g : Exponents) → Member g gs → Member (g, i) (with_component i gs)
+tagged_member i [] g x' = elim x' [ ]
 tagged_member i (h ∷ gs) g (inl e) = inl (λ k. (e k, i))
 tagged_member i (h ∷ gs) g (inr m) = inr (tagged_member i gs g m)
 
@@ -269,6 +271,7 @@ module _ (code : ℕ) (f : Level) where
       (order code 8).irrefl _ ((order code 8).trans _ _ _ (says_under code t.0 u.0 a b h) (says_under code u.0 t.0 b a i))
 
   before_member : (t : Monomial) (ts : List Monomial) → BeforeAll code t ts → (u : Monomial) → Member u ts → Before code t u
+  before_member t [] b u x'' = elim x'' [ ]
   before_member t (s ∷ ts) b u (inl e) = subst (Before code t) (sym e) b.0
   before_member t (s ∷ ts) b u (inr m) = before_member t ts b.1 u m
 

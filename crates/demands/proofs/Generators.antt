@@ -142,6 +142,7 @@ module _ (code : ℕ) where
       go false r = r
 
   sorted_length : (l : List Exponents) → Sorted l → (g : Exponents) → Member g l → length g ≡ 8
+  sorted_length [] s g x'' = elim x'' [ ]
   sorted_length (h ∷ l) s g (inl e) = ap length e ∙ s.0
   sorted_length (h ∷ l) s g (inr i) = sorted_length l s.2 g i
 

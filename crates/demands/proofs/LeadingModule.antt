@@ -155,6 +155,7 @@ module _ (q : Parameters) (P : Prime q.p) (eight : q.n ≤ 8) (f : TLevel q.n) (
       one = go (Monomial.same_monomial? (mono q.n x) (mono q.n x)) (mono_same q.n x x refl)
         where
           go : (t : Bool) → T t → ¬ (◌≡◌ {A = ℕ} (elim t [ true ↦ Field.plus q.p 1 0 | false ↦ 0 ]) 0)
+          go false h e = elim h [ ]
           go true h e = (good_one q.p P).0 e
 
       put : put_for q.p (flat q.n TLeadings) c.by ≡ vec q.n (ψ (S Z) (L Z) (λ j. get_or TLeadings j []) w)

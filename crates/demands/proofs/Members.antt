@@ -20,6 +20,7 @@ use Rattle.demands.proofs.Comparisons.{Says, less, level, more, says_less, order
 
 module _ {A : Type 0} where
   pub member_left : (a : A) (l k : List A) → Member a l → Member a (l ++ k)
+  member_left a [] k x' = elim x' [ ]
   member_left a (b ∷ l) k (inl e) = inl e
   member_left a (b ∷ l) k (inr m) = inr (member_left a l k m)
 
@@ -47,6 +48,7 @@ module _ {A : Type 0} where
       go false h t r = let (x, m, s) = r t in (x, inr m, s)
 
   pub any_shown : (f : A → Bool) (l : List A) (a : A) → Member a l → T (f a) → T (any f l)
+  any_shown f [] a m t = elim m [ ]
   any_shown f (b ∷ l) a m t = go (f b) m (λ e. subst (λ z. T (f z)) e t) (λ i. any_shown f l a i t)
     where
       go : (s : Bool) → (a ≡ b) ⊎ Member a l → (a ≡ b → T s) → (Member a l → T (any f l)) → T (elim s [ true ↦ true | false ↦ any f l ])
@@ -56,6 +58,7 @@ module _ {A : Type 0} where
 
   -- the members that pass the test
   pub those_says : (f : A → Bool) (l : List A) (a : A) → Member a (those f l) → Member a l × T (f a)
+  those_says f [] a m = elim m [ ]
   those_says f (b ∷ l) a m = go (f b) (λ s. s) m (those_says f l a)
     where
       go : (s : Bool) → (T s → T (f b)) → Member a (elim s [ true ↦ b ∷ those f l | false ↦ those f l ]) → (Member a (those f l) → Member a l × T (f a))
@@ -65,6 +68,7 @@ module _ {A : Type 0} where
       go false h m k = (inr (k m).0, (k m).1)
 
   pub those_shown : (f : A → Bool) (l : List A) (a : A) → Member a l → T (f a) → Member a (those f l)
+  those_shown f [] a m t = elim m [ ]
   those_shown f (b ∷ l) a m t = go (f b) (λ e. subst (λ z. T (f z)) e t) m (λ i. those_shown f l a i t)
     where
       go : (s : Bool) → (a ≡ b → T s) → (a ≡ b) ⊎ Member a l → (Member a l → Member a (those f l))

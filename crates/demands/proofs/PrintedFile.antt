@@ -104,4 +104,5 @@ reads state work t = go (long_enough? document_01 division state work) t
   where
     go : (b : Bool) → T b → (read_reply document_01 99 (meant document_01 state) b printed_file then λ a. some (read_left document_01 state work a))
         ≡ some (0, 0, encode document_01 (length state) X₁, padded (length work) [])
+    go mathlib.Core.Bool.false t = elim t [ ]
     go true t = refl

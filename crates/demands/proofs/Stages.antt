@@ -175,6 +175,7 @@ module _ (Z : Setting) (eight : Z.n ≤ 8) (code : ℕ) where
 
   monos_find : (xs : List (Mono Z.n)) (t : Monomial) → Member t (monos Z.n xs) → (k : ℕ) × (k < length xs)
       × (t ≡ mono Z.n (term_at (ExpM Z.n) xs k))
+  monos_find [] t x' = elim x' [ ]
   monos_find (x ∷ xs) t (inl e) = (0, omega arith, e)
   monos_find (x ∷ xs) t (inr m) = let (k, l, e) = monos_find xs t m in (suc k, omega arith, e)
 

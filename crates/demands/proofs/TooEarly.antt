@@ -93,7 +93,7 @@ early_fetched a r e =
 pub early_lift : (r : Lift) → LiftForm tiny 5 division two_levels area [] r → r ≡ (11, 0, two_levels, area, [])
 unfolding low_bytes row_at rows
 early_lift r (lifted_as X g bound t e u l d s) = absurd (subst (λ Y. T (not (Calls.eleven? tiny Y 5 4))) (sym e) u)
-early_lift r (Demands.LiftForm.IsRefused-as bound t u l e n) = absurd u
+early_lift r (Demands.LiftForm.refused_as bound t u l e n) = absurd u
 early_lift r (Demands.LiftForm.no_level t u) = refl
 early_lift r (Demands.LiftForm.no_number t u l) = absurd u
 early_lift r (Demands.LiftForm.too_short t) = absurd t
@@ -104,7 +104,7 @@ early_lift r (Demands.LiftForm.too_short t) = absurd t
 pub wrong_pick : (r : Lift) → LiftForm tiny 2 (hybrid 9) two_levels area [] r → r ≡ (12, 0, two_levels, area, [])
 unfolding low_bytes row_at rows
 wrong_pick r (lifted_as X g bound t e u l d s) = absurd l
-wrong_pick r (Demands.LiftForm.IsRefused-as bound t u l e n) = absurd l
+wrong_pick r (Demands.LiftForm.refused_as bound t u l e n) = absurd l
 wrong_pick r (Demands.LiftForm.no_level t u) = absurd u
 wrong_pick r (Demands.LiftForm.no_number t u l) = refl
 wrong_pick r (Demands.LiftForm.too_short t) = absurd t
@@ -115,7 +115,7 @@ wrong_pick r (Demands.LiftForm.too_short t) = absurd t
 pub no_limit_met : (r : Lift) → LiftForm tiny 2 division two_levels area [] r → r.0 ≡ 0
 unfolding low_bytes row_at rows
 no_limit_met r (lifted_as X g bound t e u l d s) = refl
-no_limit_met r (Demands.LiftForm.IsRefused-as bound t u l e n) = absurd (done_not_refused e)
+no_limit_met r (Demands.LiftForm.refused_as bound t u l e n) = absurd (done_not_refused e)
 no_limit_met r (Demands.LiftForm.no_level t u) = absurd u
 no_limit_met r (Demands.LiftForm.no_number t u l) = absurd l
 no_limit_met r (Demands.LiftForm.too_short t) = absurd t
@@ -144,7 +144,7 @@ never_short false l t = l
 pub not_refused : (state work : Words) (r : Read) → T (long_enough? document_01 division state work) → ReadForm document_01 printed_file state work r
     → r.0 ≡ 0
 not_refused state work r l (accepted_as t w) = refl
-not_refused state work r l (Demands.ReadForm.IsRefused-as {number} {place} {value} t b k) =
+not_refused state work r l (Demands.ReadForm.refused_as {number} {place} {value} t b k) =
     let d = run_of printed_file number place value b in
     absurd (done_not_refused (same_reading printed_file 99 (done X₁) is_read tt d.0 number place value d.1))
 not_refused state work r l (Demands.ReadForm.too_short t) = absurd (never_short (long_enough? document_01 division state work) l t)
@@ -163,7 +163,7 @@ place_of unfinished = 0
 pub nine_at_two : (state work : Words) (r : Read) → ReadForm document_01 second_stops state work r → r.0 ≡ 9 → r.1 ≡ 2
 unfolding place_of
 nine_at_two state work r (accepted_as t w) e = absurd (omega (arith, e))
-nine_at_two state work r (Demands.ReadForm.IsRefused-as {number} {place} {value} t b k) e =
+nine_at_two state work r (Demands.ReadForm.refused_as {number} {place} {value} t b k) e =
     let d = run_of second_stops number place value b in
     ap place_of (sym (same_reading second_stops 99 (refused 9 2 ((6, xy 0 3 1) ∷ [])) refl tt d.0 number place value d.1))
 nine_at_two state work r (Demands.ReadForm.too_short t) e = absurd (omega (arith, e))

@@ -113,7 +113,7 @@ module _ (lim : Limits) (n k pick : ℕ) (state : Words) where
 
     by_form : (a : Lift) → LiftForm lim k (hybrid pick) state work cache a → (a.0 ≡ 16) ↔ Short
     by_form a (Demands.LiftForm.lifted_as X g bound t e u l d s) = (λ z. absurd (let y : 0 ≡ 16 = z in omega arith), λ s. absurd (not_short t s))
-    by_form a (Demands.LiftForm.IsRefused-as bound t u l e m) = (λ z. absurd (subst (λ j. T (limit? j)) z m), λ s. absurd (not_short t s))
+    by_form a (Demands.LiftForm.refused_as bound t u l e m) = (λ z. absurd (subst (λ j. T (limit? j)) z m), λ s. absurd (not_short t s))
     by_form a (Demands.LiftForm.no_level t u) = (λ z. absurd (let y : 11 ≡ 16 = z in omega arith), λ s. absurd (not_short t s))
     by_form a (Demands.LiftForm.no_number t u l) = (λ z. absurd (let y : 12 ≡ 16 = z in omega arith), λ s. absurd (not_short t s))
     by_form a (Demands.LiftForm.too_short t) = (λ z. too_short t, λ s. refl)

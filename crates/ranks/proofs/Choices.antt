@@ -15,6 +15,7 @@ abbrev pub Among : {A : Type 0} → A → List A → Type 0
 Among a l = Some (λ b. a ≡ b) l
 
 pub among_suc : (j : ℕ) (l : List ℕ) → Among j l → Among (suc j) (map suc l)
+among_suc j [] x' = elim x' [ ]
 among_suc j (k ∷ l) (inl e) = inl (ap suc e)
 among_suc j (k ∷ l) (inr s) = inr (among_suc j l s)
 

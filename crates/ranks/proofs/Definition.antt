@@ -29,6 +29,7 @@ chosen_among (true ∷ choice) (r ∷ M) = some_right (λ N. r ∷ chosen choice
 chosen_among (false ∷ choice) (r ∷ M) = some_left (λ N. chosen choice M ≡ N) (choices M) (map (λ l. r ∷ l) (choices M)) (chosen_among choice M)
 
 among_chosen : (M N : Matrix) → Among N (choices M) → (choice : List Bool) × (N ≡ chosen choice M)
+among_chosen [] N (inr x'') = elim x'' [ ]
 among_chosen [] N (inl e) = ([], e)
 among_chosen (r ∷ M) N m = go (among_either N (choices M) (map (λ l. r ∷ l) (choices M)) m) (among_chosen M)
   where
@@ -42,6 +43,7 @@ among_chosen (r ∷ M) N m = go (among_either N (choices M) (map (λ l. r ∷ l)
 -- ## The longest
 
 longest_above : (N : Matrix) (l : List Matrix) → Among N l → length N ≤ longest l
+longest_above N [] x' = elim x' [ ]
 longest_above N (L ∷ l) (inl e) = subst (λ z. length z ≤ longest (L ∷ l)) (sym e) (omega arith)
 longest_above N (L ∷ l) (inr m) = let h : length N ≤ longest l = longest_above N l m in omega arith
 

@@ -101,5 +101,6 @@ module _ (S : Scalars) where
           (let s : suc (length r.others) ≡ length cols = r.shorter in omega arith))
 
   pub some_nonzero : (x : List K) → Some (λ c. ¬ (Z S c)) x → Every (Z S) x → ⊥
+  some_nonzero [] x3 z = elim x3 [ ]
   some_nonzero (c ∷ x) (inl n) z = n z.0
   some_nonzero (c ∷ x) (inr s) z = some_nonzero x s z.1

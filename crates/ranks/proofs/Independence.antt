@@ -44,6 +44,7 @@ module _ {A : Type 0} (f : A → Bool) where
   every_second (a ∷ l) m t = every_second l m (and_right (f a) (every f (l ++ m)) t)
 
 in_front_says : (f : List ℕ → Bool) (ks : List ℕ) (ls : List (List ℕ)) → T (every f (in_front ks ls)) → (c : ℕ) → Among c ks → T (every (λ l. f (c ∷ l)) ls)
+in_front_says f [] ls t c x'' = elim x'' [ ]
 in_front_says f (k ∷ ks) ls t c (inl e) =
     subst (λ z. T (every (λ l. f (z ∷ l)) ls)) (sym e) (every_map_says f (λ l. k ∷ l) ls (every_first f (map (λ l. k ∷ l) ls) (in_front ks ls) t))
 in_front_says f (k ∷ ks) ls t c (inr m) = in_front_says f ks ls (every_second f (map (λ l. k ∷ l) ls) (in_front ks ls) t) c m

@@ -22,6 +22,7 @@ module _ {A : Type 0} where
       go (inr i) = inr i
 
   pub every_says : (f : A → Bool) (l : List A) → T (every f l) → (a : A) → Among a l → T (f a)
+  every_says f [] t a x'' = elim x'' [ ]
   every_says f (b ∷ l) t a (inl e) = subst (λ z. T (f z)) (sym e) (and_left (f b) (every f l) t)
   every_says f (b ∷ l) t a (inr m) = every_says f l (and_right (f b) (every f l) t) a m
 
@@ -31,6 +32,7 @@ module _ {A : Type 0} where
 
   -- the members that pass the test
   pub those_says : (f : A → Bool) (l : List A) (a : A) → Among a (those f l) → Among a l × T (f a)
+  those_says f [] a m = elim m [ ]
   those_says f (b ∷ l) a m = go (f b) (λ s. s) m (those_says f l a)
     where
       go : (s : Bool) → (T s → T (f b)) → Among a (elim s [ true ↦ b ∷ those f l | false ↦ those f l ]) → (Among a (those f l) → Among a l × T (f a))
@@ -40,6 +42,7 @@ module _ {A : Type 0} where
       go false h m k = (inr (k m).0, (k m).1)
 
   pub those_shown : (f : A → Bool) (l : List A) (a : A) → Among a l → T (f a) → Among a (those f l)
+  those_shown f [] a m t = elim m [ ]
   those_shown f (b ∷ l) a m t = go (f b) (λ e. subst (λ z. T (f z)) e t) m (λ i. those_shown f l a i t)
     where
       go : (s : Bool) → (a ≡ b → T s) → (a ≡ b) ⊎ Among a l → (Among a l → Among a (those f l))
@@ -51,10 +54,12 @@ module _ {A : Type 0} where
 
 module _ {A B : Type 0} (g : A → B) where
   pub among_map : (a : A) (l : List A) → Among a l → Among (g a) (map g l)
+  among_map a [] x' = elim x' [ ]
   among_map a (b ∷ l) (inl e) = inl (ap g e)
   among_map a (b ∷ l) (inr m) = inr (among_map a l m)
 
   pub map_among : (b : B) (l : List A) → Among b (map g l) → (a : A) × (b ≡ g a) × Among a l
+  map_among b [] x' = elim x' [ ]
   map_among b (a ∷ l) (inl e) = (a, e, inl refl)
   map_among b (a ∷ l) (inr m) = let (x, e, i) = map_among b l m in (x, e, inr i)
 
@@ -68,5 +73,6 @@ among_from a (suc n) j h k = go (ℕ_discrete j a) (λ u v. among_from (suc a) n
     go (no ne) r = inr (r (omega arith) (omega arith))
 
 pub from_among : (a n j : ℕ) → Among j (from a n) → (a ≤ j) × (j < a + n)
+from_among a zero j x' = elim x' [ ]
 from_among a (suc n) j (inl e) = (omega arith, omega arith)
 from_among a (suc n) j (inr m) = let (h, k) = from_among (suc a) n j m in (omega arith, omega arith)

@@ -4,25 +4,21 @@ use Rattle.monomial.specs.Values.{lane_bytes, lane_marks}
 use Rattle.laws.proofs.Packing.{bytes_of}
 use Rattle.monomial.proofs.Dividing.{enough}
 use Rattle.monomial.proofs.Raising.{raised_word, lcm_small}
-use Rattle.monomial.proofs.larger.Statement.{statement}
-use Rattle.monomial.proofs.larger.Tie as tie
+use Rattle.monomial.proofs.larger.Goals as goal
 
-add-m : tie.Need-overflow-add-m
-add-m c = omega (arith, and_le_r c.args.y lane_bytes)
+pub overflow_add-m : goal.overflow_add-m
+overflow_add-m c = omega (arith, and_le_r c.args.y lane_bytes)
 
-sub-m : tie.Need-overflow-sub-m
-sub-m c = enough c.args.x c.args.y
+pub overflow_sub-m : goal.overflow_sub-m
+overflow_sub-m c = enough c.args.x c.args.y
 
-sub-result : tie.Need-overflow-sub-result
-sub-result c = search rules
-
-add_result : tie.Need-overflow-add-result
-add_result c =
+pub overflow_add-result : goal.overflow_add-result
+overflow_add-result c =
     let m = bit_and c.args.y lane_bytes + lane_marks - bit_and c.args.x lane_bytes in
     let t = bit_and m lane_marks in
     omega (arith, and_le_r c.args.x lane_bytes, and_le_r m (t - t / 256), and_le_r m lane_marks)
 
-returns : tie.Need-returns
+pub returns : goal.returns
 returns c =
     let x = c.args.x in
     let y = c.args.y in
@@ -30,6 +26,3 @@ returns c =
     let b = bytes_of y (omega arith) in
     let e = raised_word x y a b in
     (e, subst (λ n. n ≤ lane_bytes) (sym e) (lcm_small x y a b))
-
-pub larger-spec : {M : Type 1} → statement M
-larger-spec = tie.close (tie.spec add-m sub-m sub-result add_result returns)
