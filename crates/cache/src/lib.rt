@@ -20,7 +20,7 @@ use vectors::terms::Term;
 use vectors::{sums, terms};
 
 // Where an entry's rows stand in the cache, and how many they are.
-#[derive(Drop)]
+#[derive(Clone, Copy)]
 pub enum Entry {
     Rows(usize, usize),
     Nowhere,
@@ -28,7 +28,7 @@ pub enum Entry {
 
 // A finished subtree: its rows in the cache, from a row on; or how many rows wait at the work area's end. The cache's rows come last. Or a refusal's
 // number.
-#[derive(Drop)]
+#[derive(Clone, Copy)]
 pub enum Subtree {
     Cached(usize, usize, usize),
     Waiting(usize, usize),

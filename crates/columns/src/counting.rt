@@ -14,7 +14,7 @@ ghost use Rattle.columns.specs.counting.Columns.{columns_of, column_of, Stands, 
 use state::soundness;
 
 // The smallest and the largest row in use, counted from −10.
-#[derive(Drop)]
+#[derive(Clone, Copy)]
 pub struct Rows {
     pub low: usize,
     pub high: usize,

@@ -18,7 +18,7 @@ ghost use Rattle.columns.specs.counting.Columns.{columns_of, column_of};
 use crate::counting;
 
 // What columns 0, 2, .. count, and what columns 1, 3, .. count.
-#[derive(Drop)]
+#[derive(Clone, Copy)]
 pub struct Sums {
     pub even: u64,
     pub odd: u64,

@@ -28,7 +28,7 @@ use state::{soundness, writing};
 use vectors::terms;
 
 // The file with an element more has so many bytes; or a refusal's number and place.
-#[derive(Drop)]
+#[derive(Clone, Copy)]
 pub enum Added {
     Grown(usize),
     Refused(u16, usize),

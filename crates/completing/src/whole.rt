@@ -20,7 +20,7 @@ use reader::problem;
 use runs::frame_terms::Accepted;
 
 // The file is accepted; it has an element more, so many bytes, and so many frame terms need no division; or it is refused in so many bytes.
-#[derive(Drop)]
+#[derive(Clone, Copy)]
 pub enum Tried {
     Accepted,
     Grown(usize, usize),

@@ -22,7 +22,7 @@ use state::soundness::Bounds;
 use vectors::terms;
 
 // Whether all rows are taken, or the number of the first bad one.
-#[derive(Drop)]
+#[derive(Clone, Copy)]
 pub enum Taken {
     All,
     Bad(usize),

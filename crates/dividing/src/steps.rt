@@ -25,14 +25,14 @@ use vectors::terms;
 use vectors::terms::Term;
 
 // The rows of value, quotients and remainder after a step; a refusal's number.
-#[derive(Drop)]
+#[derive(Clone, Copy)]
 pub enum Step {
     On(usize, usize, usize),
     Refused(u16),
 }
 
 // The rows of quotients and remainder; a refusal's number.
-#[derive(Drop)]
+#[derive(Clone, Copy)]
 pub enum Divided {
     Done(usize, usize),
     Refused(u16),

@@ -13,7 +13,7 @@ ghost use Rattle.fetch_call.specs.Replies.{fetch_reply};
 use state::{soundness, writing};
 
 // The refusal's number and place; 0 and 0 where the call succeeded.
-#[derive(Drop)]
+#[derive(Clone, Copy)]
 pub struct Reply {
     pub number: u16,
     pub place: usize,

@@ -10,7 +10,7 @@ ghost use Rattle.lending.specs.Called.{long_enough?, told, told_of};
 use vectors::terms;
 
 // 0 and how many bytes, or 16 and 0.
-#[derive(Drop)]
+#[derive(Clone, Copy)]
 pub struct Answer {
     pub number: u16,
     pub length: usize,

@@ -24,7 +24,7 @@ use runs::run::Strategy;
 use state::soundness;
 
 // The refusal that ended the levels and its place; 0 and 0 where there was none.
-#[derive(Drop)]
+#[derive(Clone, Copy)]
 pub struct Ended {
     pub number: u16,
     pub place: usize,

@@ -41,7 +41,7 @@ use vectors::sums::Stored;
 use vectors::terms;
 
 // The limits of a lifting, in terms: a working value's, a vector's, the tree's work area's, a level's.
-#[derive(Drop)]
+#[derive(Clone, Copy)]
 pub struct Bounds {
     pub working: usize,
     pub vector: usize,
@@ -69,7 +69,7 @@ pub fn usual() -> Bounds
 }
 
 // How many vectors and rows they have; a refusal's number; a value without a reducer, which lifting does not meet.
-#[derive(Drop)]
+#[derive(Clone, Copy)]
 pub enum Leveled {
     Vectors(usize, usize),
     Refused(u16),

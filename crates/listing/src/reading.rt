@@ -12,7 +12,7 @@ use reader::problem;
 use runs::frame_terms::Accepted;
 
 // Accepted, or refused in so many bytes.
-#[derive(Drop)]
+#[derive(Clone, Copy)]
 pub enum Begun {
     Accepted,
     Refused(usize),

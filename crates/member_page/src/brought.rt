@@ -16,7 +16,7 @@ use vectors::terms;
 use words::parameters::Parameters;
 
 // The terms that the lines brought, or the number of the first bad line.
-#[derive(Drop)]
+#[derive(Clone, Copy)]
 pub enum Brought {
     Terms(usize),
     Bad(usize),

@@ -19,14 +19,14 @@ ghost use Rattle.definitions.specs.Packed.{unpack, long_bound};
 ghost use Rattle.definitions.specs.Places.{most_exponent};
 ghost use Rattle.monomial.specs.Values.{monomial_of, unit, product_of, formed, even_lanes, pair_lanes, lane_sum, lane_bytes};
 
-#[derive(Drop)]
+#[derive(Clone, Copy)]
 pub struct Monomial {
     pub exponents: u64,
     pub component: u16,
 }
 
 // A product that may have an exponent above 255: then it does not fit, and its exponents say nothing.
-#[derive(Drop)]
+#[derive(Clone, Copy)]
 pub struct Product {
     pub fits: bool,
     pub monomial: Monomial,

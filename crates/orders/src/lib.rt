@@ -2,6 +2,7 @@
 // Exists for: `compare`, `compare_images`, `against_row`.
 // Knows: crate definitions' Order and Packed.
 // An image is a monomial of level 0 whose exponents may pass 255: level k's are at most 255 · (k + 1), so 16 bits hold them.
+#![tactic(auto)]
 ghost use Rattle.std.specs.Prelude.{◌≡◌, [], reverse, ◌+◌, ◌*◌, ◌≤◌, ◌<◌, length, get_or};
 ghost use Rattle.definitions.specs.Monomial.{degree, product};
 ghost use Rattle.definitions.specs.Order.{
@@ -32,7 +33,7 @@ ghost use Rattle.orders.specs.Images.{
 
 use monomial::Monomial;
 
-#[derive(Drop)]
+#[derive(Clone, Copy)]
 pub enum Comparison {
     Greater,
     Equal,
@@ -40,7 +41,7 @@ pub enum Comparison {
 }
 
 // The image of a module monomial on level 0; the rank of its component's image decides ties, then its own component.
-#[derive(Drop)]
+#[derive(Clone, Copy)]
 pub struct Image {
     pub exponents: [u16; words::EXPONENTS_LENGTH],
     pub rank: u16,

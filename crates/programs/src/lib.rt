@@ -37,7 +37,7 @@ pub fn page_bytes() -> [u8; words::PAGE_LENGTH]
 }
 
 // How many bytes stand in front, and what a read behind them answered: 0 at the input's end.
-#[derive(Drop)]
+#[derive(Clone, Copy)]
 pub struct Input {
     pub length: usize,
     pub more: isize,

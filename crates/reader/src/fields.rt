@@ -16,21 +16,21 @@ ghost use Rattle.reader.specs.fields.Scanning.{
 ghost use Rattle.reader.specs.declared.fields.End.TheVariants.{Misshapen};
 
 // A number and the position behind it.
-#[derive(Drop)]
+#[derive(Clone, Copy)]
 pub enum Field {
     Number(u16, usize),
     Wrong,
 }
 
 // The position behind a line that has the shape.
-#[derive(Drop)]
+#[derive(Clone, Copy)]
 pub enum End {
     Behind(usize),
     Misshapen,
 }
 
 // The numbers of such a line, zeros behind them.
-#[derive(Drop)]
+#[derive(Clone, Copy)]
 pub struct Line {
     pub end: End,
     pub numbers: [u16; 16],

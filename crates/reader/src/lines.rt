@@ -47,34 +47,34 @@ use words::parameters;
 use words::parameters::Parameters;
 
 // Behind the R line, or its refusal.
-#[derive(Drop)]
+#[derive(Clone, Copy)]
 pub enum Start {
     At(usize),
     Refused(u16),
 }
 
-#[derive(Drop)]
+#[derive(Clone, Copy)]
 pub struct First {
     pub start: Start,
     pub parameters: Parameters,
 }
 
 // Behind lines of the head: the position and the number of the line there; or a refusal, with its line.
-#[derive(Drop)]
+#[derive(Clone, Copy)]
 pub enum Opening {
     At(usize, usize),
     Refused(u16, usize),
 }
 
 // A line that may be left out: its numbers, or those that hold without it.
-#[derive(Drop)]
+#[derive(Clone, Copy)]
 pub struct Optional {
     pub opening: Opening,
     pub numbers: [u16; 16],
 }
 
 // The head, the lines before the first T line; zeros behind the degrees of the components and behind the weights of the variables, two for each.
-#[derive(Drop)]
+#[derive(Clone, Copy)]
 pub struct Head {
     pub opening: Opening,
     pub parameters: Parameters,
@@ -83,14 +83,14 @@ pub struct Head {
 }
 
 // A T line, with the position behind it; the end; a refusal, with its line.
-#[derive(Drop)]
+#[derive(Clone, Copy)]
 pub enum Step {
     Term(usize),
     End,
     Refused(u16, usize),
 }
 
-#[derive(Drop)]
+#[derive(Clone, Copy)]
 pub struct Taken {
     pub step: Step,
     pub numbers: [u16; 16],

@@ -43,14 +43,14 @@ use reducers::tables;
 use vectors::terms;
 use words::parameters::Parameters;
 
-#[derive(Drop)]
+#[derive(Clone, Copy)]
 pub enum Outcome {
     Done,
     Refused(u16, usize),
 }
 
 // Number 0 and place 0, or a refusal.
-#[derive(Drop)]
+#[derive(Clone, Copy)]
 pub struct Reading {
     pub number: u16,
     pub place: usize,

@@ -27,25 +27,25 @@ use vectors::terms;
 use vectors::terms::Term;
 
 // The number of the element, from 1, and the coefficient of its multiple.
-#[derive(Drop)]
+#[derive(Clone, Copy)]
 pub enum Answer {
     Reducer(usize, u16),
     LowerOrder,
 }
 
-#[derive(Drop)]
+#[derive(Clone, Copy)]
 pub struct Found {
     pub answer: Answer,
     pub quotient: u64,
 }
 
-#[derive(Drop)]
+#[derive(Clone, Copy)]
 pub struct Span {
     pub from: usize,
     pub to: usize,
 }
 
-#[derive(Drop)]
+#[derive(Clone, Copy)]
 pub struct Multiple {
     pub fits: bool,
     pub term: Term,

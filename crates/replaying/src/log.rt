@@ -20,14 +20,14 @@ use reader::fields::End as LineEnd;
 use runs::reduction::Ground;
 
 // Behind a line, the rows of value and vector; a refusal's number and place.
-#[derive(Drop)]
+#[derive(Clone, Copy)]
 enum Turn {
     On(usize, usize, usize),
     Refused(u16, usize),
 }
 
 // The rows of the vector, the value being zero; a refusal's number and place.
-#[derive(Drop)]
+#[derive(Clone, Copy)]
 pub enum Replayed {
     Finished(usize),
     Refused(u16, usize),

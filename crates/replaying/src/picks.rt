@@ -20,7 +20,7 @@ use vectors::sums;
 use vectors::sums::Place;
 
 // The rows of value and vector after the step; a refusal's number and place.
-#[derive(Drop)]
+#[derive(Clone, Copy)]
 pub enum Picked {
     On(usize, usize),
     Refused(u16, usize),

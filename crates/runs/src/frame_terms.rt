@@ -3,7 +3,7 @@
 // The vectors lifted are kept in one lent slice: first the end of each vector's rows, from word 128 on the rows.
 
 // The rows that the vectors have with this one; a refusal's number; the rows of a value without a reducer.
-#[derive(Drop)]
+#[derive(Clone, Copy)]
 pub enum One {
     Used(usize),
     Refused(u16),
@@ -11,7 +11,7 @@ pub enum One {
 }
 
 // The rows of all vectors; a refusal's number; the rows of a value without a reducer.
-#[derive(Drop)]
+#[derive(Clone, Copy)]
 pub enum Lifted {
     Rows(usize),
     Refused(u16),
@@ -19,7 +19,7 @@ pub enum Lifted {
 }
 
 // A refusal's number and place; the number of the frame term where division stopped, and the rows of the value there.
-#[derive(Drop)]
+#[derive(Clone, Copy)]
 pub enum Accepted {
     Yes,
     Refused(u16, usize),

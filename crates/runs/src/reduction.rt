@@ -34,7 +34,7 @@ use vectors::terms::Term;
 use vectors::{sums, terms};
 
 // What a lifting reads beside the lent slices: p, the order code; how many rows the heads, the spans and the table of images below have; limits.
-#[derive(Drop)]
+#[derive(Clone, Copy)]
 pub struct Ground {
     pub p: u16,
     pub code: u16,
@@ -48,7 +48,7 @@ pub struct Ground {
 }
 
 // The rows that a value has now, or a refusal's number.
-#[derive(Drop)]
+#[derive(Clone, Copy)]
 pub enum Added {
     Rows(usize),
     Refused(u16),

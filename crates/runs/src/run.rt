@@ -39,7 +39,7 @@ use vectors::terms::Term;
 use vectors::{sums, terms};
 
 // How a run goes: whether products of lower order are dropped, the pick code, whether a term without a reducer ends it.
-#[derive(Drop)]
+#[derive(Clone, Copy)]
 pub struct Strategy {
     pub drops: bool,
     pub pick: u16,
@@ -47,7 +47,7 @@ pub struct Strategy {
 }
 
 // The rows of value and vector after a step; a refusal's number; the value's rows where its picked term has no reducer.
-#[derive(Drop)]
+#[derive(Clone, Copy)]
 pub enum Step {
     On(usize, usize),
     Refused(u16),
@@ -55,7 +55,7 @@ pub enum Step {
 }
 
 // The rows of the vector; a refusal's number; the rows of the value that has no reducer.
-#[derive(Drop)]
+#[derive(Clone, Copy)]
 pub enum Outcome {
     Finished(usize),
     Refused(u16),

@@ -35,7 +35,7 @@ use words::parameters;
 use words::parameters::Parameters;
 
 // What a row's words are held to: the greatest coefficient and component, the greatest of each exponent, packed as a row's are.
-#[derive(Drop)]
+#[derive(Clone, Copy)]
 pub struct Bounds {
     pub top: u16,
     pub components: u16,

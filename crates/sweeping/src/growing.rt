@@ -22,7 +22,7 @@ use runs::reduction::Ground;
 use vectors::terms;
 
 // Nodes and edges; or there is no room, or a product passes the limit on exponents or has a component that there is not.
-#[derive(Drop)]
+#[derive(Clone, Copy)]
 pub enum Grown {
     Sizes(usize, usize),
     Over,

@@ -160,7 +160,7 @@ fn keep(out: &mut [u16], i: usize, used: usize, vector: &[u16], x: Outcome, g: G
 }
 
 // The frame terms before this one are lifted, to so many rows; or as for a level.
-#[derive(Drop)]
+#[derive(Clone, Copy)]
 pub enum Gone {
     At(usize, usize),
     Refused(u16),

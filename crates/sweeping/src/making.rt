@@ -15,7 +15,7 @@ use runs::reduction::Ground;
 use vectors::terms;
 
 // Frame terms up to `to` have a table of so many nodes and edges, if it serves.
-#[derive(Drop)]
+#[derive(Clone, Copy)]
 pub struct Batch {
     pub to: usize,
     pub nodes: usize,
@@ -55,7 +55,7 @@ fn serving_nodes(g: Ground, size: usize) -> usize
 }
 
 // Frame terms up to `to` are in a table of so many nodes and edges.
-#[derive(Drop)]
+#[derive(Clone, Copy)]
 pub struct Taken {
     pub to: usize,
     pub nodes: usize,

@@ -20,7 +20,7 @@ use vectors::terms;
 use vectors::terms::Term;
 
 // A node; or a slot for a new one.
-#[derive(Drop)]
+#[derive(Clone, Copy)]
 pub enum Spot {
     Node(usize),
     Free(usize),

@@ -21,14 +21,14 @@ use vectors::terms;
 use vectors::terms::Term;
 
 // The rows of the vector; or a sum of lower order is not zero: then the run decides.
-#[derive(Drop)]
+#[derive(Clone, Copy)]
 pub enum Swept {
     Settled(usize),
     Unsettled,
 }
 
 // The rows of the vector so far; whether every sum of lower order was zero.
-#[derive(Drop)]
+#[derive(Clone, Copy)]
 pub struct Pass {
     pub rows: usize,
     pub settled: bool,

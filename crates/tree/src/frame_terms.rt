@@ -28,7 +28,7 @@ use vectors::terms;
 use vectors::terms::Term;
 
 // The rows of the vectors with this one, and those of the cache; or a refusal's number.
-#[derive(Drop)]
+#[derive(Clone, Copy)]
 pub enum One {
     Used(usize, usize),
     Refused(u16),

@@ -26,7 +26,7 @@ use vectors::terms;
 use vectors::terms::Term;
 
 // The rows of a sum and those of the cache, or a refusal's number.
-#[derive(Drop)]
+#[derive(Clone, Copy)]
 pub enum Sum {
     Rows(usize, usize),
     Refused(u16),

@@ -13,7 +13,7 @@ ghost use Rattle.vectors.specs.terms.Rows.{term_of, written, closed, opened, cle
 
 use monomial::Monomial;
 
-#[derive(Drop)]
+#[derive(Clone, Copy)]
 pub struct Term {
     pub coefficient: u16,
     pub monomial: Monomial,

@@ -13,7 +13,7 @@ use level::{all_levels, by_runs};
 use runs::run::Strategy;
 
 // "by one of three ways"; hybrid's with its pick code.
-#[derive(Drop)]
+#[derive(Clone, Copy)]
 pub enum Way {
     Division,
     Hybrid(u16),

@@ -6,7 +6,7 @@ ghost use Rattle.definitions.specs.Problem.{in_ranges?};
 ghost use Rattle.words.specs.parameters.Values.{parameters_of};
 
 // p, n, the order code, s.
-#[derive(Drop)]
+#[derive(Clone, Copy)]
 pub struct Parameters {
     pub p: u16,
     pub n: u16,

@@ -1,0 +1,12 @@
+use native.Mathlib.Omega.{arith}
+use mathlib.Core.Path.{◌≡◌, sym}
+use Prim.Native.Nat.{◌+◌, ◌-◌, ◌≤◌}
+use lib.ListN.{length, get_or}
+use Rattle.orders.proofs.Comparing.{EqualFrom, last_differing_equal, last_differing_greater, last_differing_smaller, equal_from_less}
+use Rattle.orders.proofs.last_differing.Given as goal
+
+abbrev pub invariant-loop-j : goal.invariant-loop-j
+invariant-loop-j l = (l.j ≤ 8) × (length l.x ≡ 8) × (length l.y ≡ 8) × EqualFrom l.j l.x l.y
+
+abbrev pub decreases-loop-j : goal.decreases-loop-j
+decreases-loop-j l = l.j

@@ -1,0 +1,13 @@
+use native.Mathlib.Omega.{arith}
+use mathlib.Core.Path.{◌≡◌, refl, sym, ◌∙◌}
+use Prim.Native.Nat.{◌-◌, ◌≤◌}
+use lib.ListN.{length, drop, get_or}
+use Rattle.definitions.specs.Order.{lexicographic}
+use Rattle.orders.proofs.Comparing.{lexicographic_greater, lexicographic_smaller, lexicographic_on, lexicographic_end}
+use Rattle.orders.proofs.lexicographic.Given as goal
+
+abbrev pub invariant-loop-j : goal.invariant-loop-j
+invariant-loop-j l = (l.j ≤ 8) × (length l.x ≡ 8) × (length l.y ≡ 8) × (lexicographic l.x l.y ≡ lexicographic (drop l.j l.x) (drop l.j l.y))
+
+abbrev pub decreases-loop-j : goal.decreases-loop-j
+decreases-loop-j l = 8 - l.j

@@ -1,0 +1,15 @@
+use native.Mathlib.Omega.{arith}
+use mathlib.Core.Path.{◌≡◌, sym, ◌∙◌}
+use Prim.Native.Nat.{◌+◌, ◌-◌, ◌<◌, ◌≤◌}
+use lib.ListN.{length, get_or}
+use Rattle.definitions.specs.Packed.{long_bound}
+use Rattle.orders.specs.Images.{row_image}
+use Rattle.orders.proofs.Comparing.{EqualFrom, last_differing_equal, last_differing_greater, last_differing_smaller, equal_from_less}
+use Rattle.orders.proofs.RowImages.{length_image, Behind, behind_start, behind_image, behind_on}
+use Rattle.orders.proofs.row_last_differing.Given as goal
+
+abbrev pub invariant-loop-j : goal.invariant-loop-j
+invariant-loop-j l = (l.j ≤ 8) × (length l.x ≡ 8) × (l.f < long_bound) × Behind l.e l.j l.f × EqualFrom l.j l.x (row_image l.e l.table l.to)
+
+abbrev pub decreases-loop-j : goal.decreases-loop-j
+decreases-loop-j l = l.j

@@ -1,0 +1,18 @@
+use native.Mathlib.Omega.{arith}
+use mathlib.Core.Path.{◌≡◌, refl, sym, ◌∙◌}
+use Prim.Native.Nat.{◌-◌, ◌<◌, ◌≤◌}
+use lib.ListN.{length, drop, get_or}
+use Rattle.definitions.specs.Order.{lexicographic}
+use Rattle.definitions.specs.Packed.{long_bound}
+use Rattle.orders.specs.Images.{row_image}
+use Rattle.orders.proofs.Comparing.{lexicographic_greater, lexicographic_smaller, lexicographic_on, lexicographic_end}
+use Rattle.orders.proofs.RowImages.{length_image, Ahead, ahead_start, ahead_image, ahead_on}
+use Rattle.orders.proofs.row_lexicographic.Given as goal
+
+abbrev pub invariant-loop-j : goal.invariant-loop-j
+invariant-loop-j l =
+    (l.j ≤ 8) × (length l.x ≡ 8) × (l.f < long_bound) × Ahead l.e l.j l.f
+    × (lexicographic l.x (row_image l.e l.table l.to) ≡ lexicographic (drop l.j l.x) (drop l.j (row_image l.e l.table l.to)))
+
+abbrev pub decreases-loop-j : goal.decreases-loop-j
+decreases-loop-j l = 8 - l.j
