@@ -31,6 +31,7 @@ module _ (P : Monomial → Type 0) where
   all_members (m ∷ ms) h = (h m (inl refl), all_members ms (λ x i. h x (inr i)))
 
   member_of : (ms : List Monomial) → All P ms → (m : Monomial) → Member m ms → P m
+  member_of [] h m x'' = elim x'' [ ]
   member_of (x ∷ ms) h m (inl e) = subst P (sym e) h.0
   member_of (x ∷ ms) h m (inr i) = member_of ms h.1 m i
 

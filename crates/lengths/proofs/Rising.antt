@@ -35,6 +35,7 @@ leading_at (v ∷ f) zero l = refl
 leading_at (v ∷ f) (suc k) l = leading_at f k (omega arith)
 
 leading_member : (f : Level) (v : Vector) → Member v f → Member (leading v) (leading_monomials f)
+leading_member [] v x' = elim x' [ ]
 leading_member (w ∷ f) v (inl e) = inl (ap leading e)
 leading_member (w ∷ f) v (inr i) = inr (leading_member f v i)
 

@@ -11,7 +11,7 @@ use Rattle.definitions.specs.Limits.{Limits}
 use Rattle.definitions.specs.Lists.{◌and◌, every, last}
 use Rattle.definitions.specs.Monomial.{Term, Vector}
 use Rattle.definitions.specs.Order.{compare_over, greater?}
-use Rattle.definitions.specs.Result.{Result, done, refused, unless_refused, ◌>>=◌}
+use Rattle.definitions.specs.Result.{Result, done, refused, unfinished, unless_refused, ◌>>=◌}
 use Rattle.definitions.specs.Vectors.{strictly_descending?}
 use Rattle.definitions.specs.Problem.{Line, Parameters, shaped, term_of, term_in_range?, below?}
 use Rattle.definitions.specs.State.{term_sound?}
@@ -90,5 +90,6 @@ module _ (lim : Limits) (q : Parameters) (few : q.n ≤ 8) where
   lines_bring place ls = go (v_lines lim q place [] ls) (lines_brought place [] nothing_brought ls)
     where
       go : (x : Result Vector) → Lines place (length ls) x → IfDone Brought x
+      go unfinished x'' = elim x'' [ ]
       go (done v) (brings h) = h
       go (refused number at value) (bad l k) = tt

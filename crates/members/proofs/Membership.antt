@@ -68,6 +68,7 @@ module _ (lim : Limits) (o : T (sensible? lim)) where
         → Lines lim q (sound_eight lim o (record { parameters = q; levels = f ∷ [] }) X) (first_after bytes) (length (lines_after bytes)) x
         → Holds (Page lim bytes) (printed_or_refused q.n (x >>= λ v. division_of lim q f v bound >>= λ d.
         done (division_lines q.n (stage_over lim q.p q.code (f ∷ [])) d)))
+    lines_page unfinished b x3 = elim x3 [ ]
     lines_page (done v) b (brings h) =
         page_of v b (brought_shown lim q (sound_eight lim o (record { parameters = q; levels = f ∷ [] }) X) v h) h.short (division_of lim q f v bound) refl
     lines_page (refused number place value) b (bad l k) =
@@ -148,6 +149,7 @@ module _ (lim : Limits) (o : T (sensible? lim)) where
 
       go : (x : Result Vector) → Lines lim q few (first_after bytes) (length (lines_after bytes)) x
           → Ends finished? (λ k. x >>= λ v. division_of lim q f v k >>= λ d. done (division_lines q.n (stage_over lim q.p q.code (f ∷ [])) d))
+      go unfinished x4 = elim x4 [ ]
       go (done v) (brings h) =
           bind_fixed_ends (λ d. done (division_lines q.n (stage_over lim q.p q.code (f ∷ [])) d)) (division_of lim q f v)
           (division_right lim o q f Y v (brought_shown lim q few v h)).ends (λ d. tt)

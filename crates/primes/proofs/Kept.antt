@@ -217,6 +217,7 @@ module _ (lim : Limits) (bound : ℕ) (l : lim.prime_bound ≤ bound) where
 -- ## Widths
 
 every_has : {A : Type 0} (test : A → Bool) (xs : List A) → T (every test xs) → (x : A) → Member x xs → T (test x)
+every_has {A = A} test [] t x x4 = elim x4 [ ]
 every_has test (y ∷ xs) t x (inl e) = subst (λ z. T (test z)) (sym e) (and_left (test y) (every test xs) t)
 every_has test (y ∷ xs) t x (inr i) = every_has test xs (and_right (test y) (every test xs) t) x i
 

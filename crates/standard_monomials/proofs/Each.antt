@@ -16,15 +16,18 @@ use Rattle.standard_monomials.specs.Notions.{Distinct, ListsEach}
 
 module _ {A : Type 0} where
   pub all_member : (P : A → Type 0) (l : List A) → All P l → (a : A) → Member a l → P a
+  all_member P [] h a x'' = elim x'' [ ]
   all_member P (b ∷ l) h a (inl e) = subst P (sym e) h.0
   all_member P (b ∷ l) h a (inr m) = all_member P l h.1 a m
 
 module _ {A B : Type 0} where
   pub map_shown : (h : A → B) (l : List A) (a : A) → Member a l → Member (h a) (map h l)
+  map_shown h [] a x' = elim x' [ ]
   map_shown h (b ∷ l) a (inl e) = inl (ap h e)
   map_shown h (b ∷ l) a (inr m) = inr (map_shown h l a m)
 
   pub map_says : (h : A → B) (l : List A) (b : B) → Member b (map h l) → (a : A) × Member a l × (b ≡ h a)
+  map_says h [] b x' = elim x' [ ]
   map_says h (a ∷ l) b (inl e) = (a, inl refl, e)
   map_says h (a ∷ l) b (inr m) = let (c, i, e) = map_says h l b m in (c, inr i, e)
 
@@ -64,17 +67,20 @@ module _ {A B : Type 0} (P : A → Type 0) (h : A → B) (apart : (a b : A) → 
 module _ {A : Type 0} where
   -- the list without this member
   taken : (a : A) (l : List A) → Member a l → List A
+  taken a [] x' = elim x' [ ]
   taken a (b ∷ l) (inl e) = l
   taken a (b ∷ l) (inr m) = b ∷ taken a l m
 
   taken_length : (a : A) (l : List A) (m : Member a l) → length l ≡ suc (length (taken a l m))
   unfolding taken
+  taken_length a [] m = elim m [ ]
   taken_length a (b ∷ l) (inl e) = refl
   taken_length a (b ∷ l) (inr m) = ap suc (taken_length a l m)
 
   -- what is in the list is the member, or still there
   taken_either : (a : A) (l : List A) (m : Member a l) (x : A) → Member x l → (x ≡ a) ⊎ Member x (taken a l m)
   unfolding taken
+  taken_either a [] m x _ = elim m [ ]
   taken_either a (b ∷ l) (inl e) x (inl z) = inl (z ∙ sym e)
   taken_either a (b ∷ l) (inl e) x (inr i) = inr i
   taken_either a (b ∷ l) (inr m) x (inl z) = inr (inl z)

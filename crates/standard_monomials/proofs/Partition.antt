@@ -82,6 +82,7 @@ product_divides (x ∷ g) (y ∷ q) (z ∷ a) t =
 
 module _ (code : ℕ) where
   member_eight : (ls : List Monomial) → Eights code ls → (l : Monomial) → Member l ls → length l.0 ≡ 8
+  member_eight [] e l x'' = elim x'' [ ]
   member_eight (k ∷ ls) e l (inl i) = ap (λ (m : Monomial). length m.0) i ∙ e.0
   member_eight (k ∷ ls) e l (inr i) = member_eight ls e.1 l i
 

@@ -118,6 +118,7 @@ leading_shown (v ∷ f) zero l = inl refl
 leading_shown (v ∷ f) (suc i) l = inr (leading_shown f i (omega (arith, l)))
 
 leading_says : (f : Level) (m : Monomial) → Member m (leading_monomials f) → (i : ℕ) × (i < length f) × (m ≡ leading (get_or f i []))
+leading_says [] m x' = elim x' [ ]
 leading_says (v ∷ f) m (inl e) = (0, omega arith, e)
 leading_says (v ∷ f) m (inr j) = let (i, l, e) = leading_says f m j in (suc i, omega (arith, l), e)
 
