@@ -2,5 +2,6 @@
 // Exists for: `lines::row_line`, `lines::total_line`; `bytes::number`.
 // Knows: crate definitions' Pages.
 // What a page counts, and how many rows it has, is its callers'.
+#![tactic(auto)]
 pub mod bytes;
 pub mod lines;

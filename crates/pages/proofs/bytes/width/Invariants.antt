@@ -1,0 +1,13 @@
+use native.Mathlib.Omega.{arith}
+use mathlib.Core.Path.{◌≡◌, refl, ap}
+use Prim.Native.Nat.{◌+◌}
+use lib.ListN.{length}
+use Rattle.definitions.specs.Sheet.{decimal}
+use Rattle.pages.proofs.bytes.Spelling.{one_digit, digits_grow, few_digits}
+use Rattle.pages.proofs.bytes.width.Given as goal
+
+abbrev pub invariant-loop-x : goal.invariant-loop-x
+invariant-loop-x l = l.w + length (decimal l.x) ≡ 1 + length (decimal l.v)
+
+abbrev pub decreases-loop-x : goal.decreases-loop-x
+decreases-loop-x l = l.x
