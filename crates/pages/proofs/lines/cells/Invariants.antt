@@ -1,12 +1,8 @@
-use native.Mathlib.Omega.{arith}
-use mathlib.Core.Path.{◌≡◌, refl, ap, ◌∙◌}
-use mathlib.Core.List.{[], ◌∷◌, ◌++◌}
+use mathlib.Core.Path.{◌≡◌}
 use Prim.Native.Nat.{◌+◌, ◌-◌, ◌*◌, ◌≤◌}
 use lib.ListN.{length, take}
-use lib.Seq.{take_all}
 use Rattle.pages.specs.bytes.Printing.{Printed}
-use Rattle.pages.proofs.bytes.Spelling.{nothing, after, spelled}
-use Rattle.pages.proofs.lines.Lining.{celled, cells_celled, celled_more}
+use Rattle.pages.proofs.lines.Lining.{celled}
 use Rattle.definitions.specs.Places.{cell_length}
 use Rattle.pages.proofs.lines.cells.Given as goal
 

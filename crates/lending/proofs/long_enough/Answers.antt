@@ -4,23 +4,19 @@ use borrow.Author.Tests.{le-leb, lt-leb}
 use lib.Dec.{leb}
 use Rattle.definitions.specs.Lists.{◌and◌}
 use Rattle.definitions.specs.Places.{state_length, value_length}
-use Rattle.lending.proofs.long_enough.Statement.{statement}
-use Rattle.lending.proofs.long_enough.Tie as tie
+use Rattle.lending.proofs.long_enough.Goals as goal
 
-returns : tie.Need-returns
-returns c =
-    let a = c.before.args in
+pub returns-then-state-lt-STATE_LENGTH : goal.returns-then-state-lt-STATE_LENGTH
+returns-then-state-lt-STATE_LENGTH c =
+    let a = c.args in
     sym (ap (λ b. b and leb value_length a.work and leb a.size a.out) (lt-leb state_length a.state (omega arith)))
 
-returns-2 : tie.Need-returns-2
-returns-2 c =
-    let a = c.before.before.args in
+pub returns-then-work-lt-VALUE_LENGTH : goal.returns-then-work-lt-VALUE_LENGTH
+returns-then-work-lt-VALUE_LENGTH c =
+    let a = c.args in
     sym (λ i. le-leb state_length a.state (omega arith) i and lt-leb value_length a.work (omega arith) i and leb a.size a.out)
 
-returns-3 : tie.Need-returns-3
-returns-3 c =
-    let a = c.before.before.args in
+pub returns : goal.returns
+returns c =
+    let a = c.args in
     sym (λ i. le-leb state_length a.state (omega arith) i and le-leb value_length a.work (omega arith) i and leb a.size a.out)
-
-pub long-enough-spec : {M : Type 1} → statement M
-long-enough-spec = tie.close (tie.spec returns returns-2 returns-3)
