@@ -9,7 +9,7 @@ use native.Mathlib.Numerals.{add-one}
 use lib.ListN.{length, drop, get_or, drop_of_length-le}
 use lib.Seq.{drop-cons}
 use borrow.Author.Tests.{eq-eqb, ne_eqb}
-use Rattle.definitions.specs.Problem.{Bytes, digit?, comma}
+use Rattle.definitions.specs.Problem.{Bytes, digit?}
 use Rattle.reader.specs.fields.Scanning.{digit_or_ten, number_first, kept, number_on, number_zero, field_first, line_end, numbers_first, shaped_first}
 use Rattle.reader.proofs.fields.Digits.{digit_is, digit_is_none, digit_zero, number_more, number_ends, number_ends_file, number_none, number_begins}
 use Rattle.reader.proofs.fields.Digits.{zero_first}

@@ -7,7 +7,6 @@ use lib.Dec.{T, eqb}
 use lib.ListN.{length, get_or, take, drop, replicate, length-append, length-drop, length-replicate, get_or-append}
 use lib.Seq.{paste, take_at, take_all, take-take}
 use Rattle.definitions.specs.Limits.{document_01}
-use Rattle.definitions.specs.Lists.{◌and◌}
 use Rattle.definitions.specs.Monomial.{Level, fits?}
 use Rattle.definitions.specs.Problem.{Parameters}
 use Rattle.definitions.specs.State.{sound?, terms_of}

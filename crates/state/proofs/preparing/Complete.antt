@@ -8,7 +8,6 @@ use lib.Dec.{T}
 use lib.ListN.{length, get_or, drop}
 use lib.Seq.{drop-nil}
 use Rattle.definitions.specs.Limits.{document_01}
-use Rattle.definitions.specs.Lists.{◌and◌}
 use Rattle.definitions.specs.Order.{compare_over}
 use Rattle.definitions.specs.Stage.{highest}
 use Rattle.definitions.specs.State.{State, empty, sound?, up_to}
