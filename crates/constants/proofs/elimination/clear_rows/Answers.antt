@@ -4,55 +4,36 @@ use lib.Seq.{paste, length-paste}
 use Rattle.definitions.specs.Field.{inverse}
 use Rattle.definitions.specs.Lists.{map}
 use Rattle.definitions.specs.Places.{most_vectors}
-use Prim.Native.Nat.{◌+◌, ◌-◌, ◌*◌, ◌≤◌}
+use Prim.Native.Nat.{◌+◌, ◌*◌}
 use lib.ListN.{length, take, drop, get_or}
 use Rattle.ranks.specs.Elimination.{cleared}
 use Rattle.constants.specs.elimination.Rows.{row_words, rows_at}
 use Rattle.constants.proofs.elimination.Words.{length_row, row_same}
 use Rattle.constants.proofs.elimination.Multiples.{length_cleared}
 use Rattle.constants.proofs.elimination.Rowwise.{Kept, kept_none, kept_more}
-use Rattle.constants.proofs.elimination.clear_rows.Statement.{statement}
-use Rattle.constants.proofs.elimination.clear_rows.Tie as tie
+use Rattle.constants.proofs.elimination.clear_rows.Goals as goal
 
-abbrev invariant-loop : tie.invariant-loop
-invariant-loop s₀ a b rows n c x p k₀ s k = (k ≤ rows) × (length s ≡ length s₀) × Kept n b (cleared p c (row_words s₀ a n)) s₀ k s
-
-abbrev decreases-loop : tie.decreases-loop
-decreases-loop s₀ a b rows n c x p k₀ s k = rows - k
-
-loop-holds : tie.Need-loop-init invariant-loop decreases-loop
-loop-holds c =
-    let a = c.before.args in
+pub loop-k-init : goal.loop-k-init
+loop-k-init c =
+    let a = c.args in
     (omega arith, refl, kept_none a.n a.b (cleared a.p a.c (row_words a.s.now a.a a.n)) a.s.now)
 
-mul-clear : tie.Need-overflow-mul-clear invariant-loop decreases-loop
-mul-clear c = omega arith
-
-add-clear : tie.Need-overflow-add-clear invariant-loop decreases-loop
-add-clear c = omega arith
-
-clear-requires : tie.Need-clear-requires invariant-loop decreases-loop
-clear-requires c κs =
-    let a = c.before.before.before.before.args in
-    let l = c.before.before.loop in (
+pub clear-requires : goal.clear-requires
+clear-requires c =
+    let a = c.args in
+    let l = c.loop-k in (
       omega arith,
       omega arith,
       omega arith,
       omega arith,
-      c.before.before.before.before.requires.5
+      c.requires.5
           ∙ ap (λ r. inverse a.p (get_or r a.c 0)) (row_same a.s.now l.s a.a a.n a.b (omega arith) (sym l.invariant.2.0)),
     )
 
-add-k : tie.Need-overflow-add-k invariant-loop decreases-loop
-add-k c = omega arith
-
-loop-less : tie.Need-loop-smaller invariant-loop decreases-loop
-loop-less c = omega arith
-
-loop-again : tie.Need-loop-preserved invariant-loop decreases-loop
-loop-again c =
-    let a = c.before.before.before.before.before.before.before.args in
-    let l = c.before.before.before.before.before.loop in
+pub loop-k-preserved : goal.loop-k-preserved
+loop-k-preserved c =
+    let a = c.args in
+    let l = c.loop-k in
     let d = a.s.now in
     let at = a.b + l.k * most_vectors in
     let v = row_words l.s a.a a.n in
@@ -60,7 +41,7 @@ loop-again c =
     let w = cleared a.p a.c v u in
     let lw : length w ≡ a.n =
     length_cleared a.p a.c v u a.n (length_row l.s a.a a.n (omega arith)) (length_row l.s at a.n (omega arith)) in
-    let e : c.before.before.clear.new.0 ≡ paste l.s at w a.n = c.before.before.clear.ensures in
+    let e : c.clear.new.s ≡ paste l.s at w a.n = c.clear.ensures in
     let we : w ≡ cleared a.p a.c (row_words d a.a a.n) (row_words d at a.n) =
     ap₂ (cleared a.p a.c) (row_same l.s d a.a a.n a.b (omega arith) l.invariant.2.0) (ap (take a.n) l.invariant.2.2) in (
       omega arith,
@@ -69,16 +50,10 @@ loop-again c =
           (kept_more a.n a.b (cleared a.p a.c (row_words d a.a a.n)) d l.s l.k w (omega arith) (omega arith) lw we l.invariant.2),
     )
 
-same_length : tie.Need-same-length invariant-loop decreases-loop
-same_length c = omega arith
-
-returns : tie.Need-returns invariant-loop decreases-loop
+pub returns : goal.returns
 returns c =
-    let a = c.before.before.before.args in
-    let l = c.before.loop in
+    let a = c.args in
+    let l = c.loop-k in
     let e : l.k ≡ a.rows = omega arith in
     let f = cleared a.p a.c (row_words a.s.now a.a a.n) in
     (l.invariant.1, subst (λ z. rows_at a.n z (drop a.b l.s) ≡ map f (rows_at a.n z (drop a.b a.s.now))) e l.invariant.2.1)
-
-pub clear-rows-spec : {M : Type 1} → statement M
-clear-rows-spec = tie.close (tie.spec invariant-loop decreases-loop loop-holds mul-clear add-clear clear-requires add-k loop-less loop-again same_length returns)
