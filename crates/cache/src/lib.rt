@@ -2,6 +2,8 @@
 // Exists for: `look_up`, `keep`, `held`.
 // Knows: crate definitions' Tree.
 // An entry of the cache is its rows, then a row with its monomial and, for a coefficient, their number.
+#![tactic(auto)]
+
 ghost use Rattle.std.specs.Prelude.{◌≡◌, ◌+◌, ◌-◌, ◌*◌, ◌≤◌, ◌<◌, length, take, drop};
 ghost use Rattle.definitions.specs.Lists.{choose};
 ghost use Rattle.definitions.specs.Layout.{rows};

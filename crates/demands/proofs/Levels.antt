@@ -8,9 +8,10 @@ use native.Mathlib.Omega.{arith}
 use lib.Dec.{T, eqb, eqb→eq, eqb_refl}
 use lib.ListN.{length, get_or}
 use Rattle.theory.specs.Laws.{Level}
-use Rattle.theory.specs.Induced.{Ind, ind_eq}
+use Rattle.theory.specs.Induced.{ind_eq}
 use Rattle.theory.specs.Induced
 use Rattle.theory.specs.Orders.{ExpM, MonoL}
+use Rattle.theory.proofs.Induced.{Ind}
 use Rattle.theory.proofs.Orders.{free_lt_is}
 use Rattle.definitions.specs.Monomial
 use Rattle.definitions.specs.Monomial.{Monomial, Term, Vector, same_exponents?, same_monomial?, leading}

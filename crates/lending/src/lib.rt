@@ -2,6 +2,8 @@
 // Exists for: `Answer`, `long_enough`, `too_short`, `finish`.
 // Knows: no page; its length and how it is printed are the call's.
 // The buffers are zeroed once, at the end.
+#![tactic(auto)]
+
 ghost use Rattle.std.specs.Prelude.{◌≡◌};
 ghost use Rattle.definitions.specs.Layout.{zeros};
 ghost use Rattle.vectors.specs.terms.Rows.{cleared};

@@ -3,5 +3,6 @@
 // Knows: crate definitions' Pages.
 // What a page counts, and how many rows it has, is its callers'.
 #![tactic(auto)]
+
 pub mod bytes;
 pub mod lines;

@@ -9,11 +9,11 @@ use lib.Dec.{T, eqb, eqb→eq}
 use lib.ListN.{length}
 use Rattle.theory.specs.Vec.{Same, scale, lin, All, times, ψ}
 use Rattle.theory.specs.Induced
-use Rattle.theory.specs.Syzygy.{Up}
 use Rattle.theory.specs.Reckon.{Reducer, Lower, turned, others}
 use Rattle.theory.specs.Runs
 use Rattle.theory.specs.Canon.{Canonical}
 use Rattle.theory.specs.Modular.{one_times}
+use Rattle.theory.proofs.Levels.{Up}
 use Rattle.theory.proofs.Vec
 use Rattle.theory.proofs.Runs.{drop_lower, step_keeps, step_cancels}
 use Rattle.definitions.specs.Limits.{Limits}

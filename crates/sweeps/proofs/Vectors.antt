@@ -9,9 +9,10 @@ use lib.ListN.{length, get_or}
 use Rattle.theory.specs.Laws.{Scalars}
 use Rattle.theory.specs.Vec.{Vec, ev, Same, scale, lin, All, times, ψ}
 use Rattle.theory.specs.Induced
-use Rattle.theory.specs.Syzygy.{Up, In, Ahead}
+use Rattle.theory.specs.Syzygy.{In, Ahead}
 use Rattle.theory.specs.Stage.{Real}
 use Rattle.theory.specs.Reckon.{reckon}
+use Rattle.theory.proofs.Levels.{Up}
 use Rattle.theory.proofs.Vec
 use Rattle.theory.proofs.Runs.{drop_lower}
 use Rattle.theory.proofs.Canon.{canon_all, canonical_is, canonical_unique}

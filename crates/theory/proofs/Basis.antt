@@ -6,7 +6,8 @@ use Prim.Native.Nat.{ℕ}
 use Rattle.theory.specs.Laws.{Scalars, Monoid, Level}
 use Rattle.theory.specs.Vec.{Vec, Same, All, times, ψ, Lead}
 use Rattle.theory.specs.Induced.{image}
-use Rattle.theory.specs.Syzygy.{Family, Up, In, Free, Covered, Frame, Lifted, Gröbner}
+use Rattle.theory.specs.Syzygy.{Family, In, Free, Covered, Frame, Lifted, Gröbner}
+use Rattle.theory.proofs.Levels.{Up}
 use Rattle.theory.proofs.Vec
 use Rattle.theory.proofs.Top.{Leading, leading, leading_lead, lead_nonzero}
 use Rattle.theory.proofs.Schreyer.{Combined, Led, Answer, schreyer, ψ_drop, free_lead}

@@ -3,8 +3,9 @@ use mathlib.Core.Bool.{Bool}
 use Prim.Native.Nat.{ℕ}
 use Rattle.theory.specs.Laws.{Scalars, Monoid}
 use Rattle.theory.specs.Syzygy.{Gröbner}
-use Rattle.theory.specs.Stage.{Stage, fam, above}
-use Rattle.theory.specs.Division.{Division, IndD}
+use Rattle.theory.specs.Stage.{Stage, fam}
+use Rattle.theory.specs.Division.{Division}
+use Rattle.theory.proofs.Levels.{above, IndD}
 use Rattle.theory.proofs.Search.{reducers}
 use Rattle.theory.proofs.Frames.{framed}
 use Rattle.theory.proofs.Tower.{next, Equipped, tower, tower_gröbner}

@@ -1,4 +1,6 @@
 pub mod Vec
+pub mod Induced
+pub mod Levels
 pub mod Lists
 pub mod Top
 pub mod Coef

@@ -6,7 +6,8 @@ use Prim.Native.Nat.{ℕ, zero, suc, ◌+◌, ◌<◌}
 use native.Mathlib.Omega.{arith}
 use Rattle.theory.specs.Laws.{Monoid, Tri, below, same, above}
 use Rattle.theory.specs.Induced.{nat_tri}
-use Rattle.theory.specs.Orders.{ExpM, Order, deg, sums, ColexO, DegRevLexO, FreeL}
+use Rattle.theory.specs.Orders.{ExpM, Order, deg, sums, ColexO, DegRevLexO}
+use Rattle.theory.proofs.Levels.{FreeL}
 
 -- ## Order 3
 

@@ -7,8 +7,9 @@ use native.Mathlib.Omega.{arith}
 use Rattle.theory.specs.Laws.{Scalars, Monoid, Level}
 use Rattle.theory.specs.Vec.{Vec, ev, Same, mapB, lin, All, times, ψ, Lead}
 use Rattle.theory.specs.Induced.{image, IndLt}
-use Rattle.theory.specs.Syzygy.{Family, Up, In, Ahead, Gröbner}
+use Rattle.theory.specs.Syzygy.{Family, In, Ahead, Gröbner}
 use Rattle.theory.specs.Reckon.{Lower, Reducers, lift, reckon}
+use Rattle.theory.proofs.Levels.{Up}
 use Rattle.theory.proofs.Vec
 use Rattle.theory.proofs.Top.{Le, δ, Leading, leading, leading_lead, lead_coef, lead_same, lead_unique}
 use Rattle.theory.proofs.Lift.{Normal, Normals, normals, normal, Under, under, up_in}

@@ -7,7 +7,8 @@ use Prim.Native.Nat.{ℕ}
 use Rattle.theory.specs.Laws.{Scalars, Monoid, Level}
 use Rattle.theory.specs.Vec.{Vec, ev, Same, scale, mapB, All, times, ψ, Lead}
 use Rattle.theory.specs.Induced.{image, IndLt, indAct, ind_compat}
-use Rattle.theory.specs.Syzygy.{Family, Up, In, Free, Covered, Frame, Lifted}
+use Rattle.theory.specs.Syzygy.{Family, In, Free, Covered, Frame, Lifted}
+use Rattle.theory.proofs.Levels.{Up}
 use Rattle.theory.proofs.Vec
 use Rattle.theory.proofs.Top.{Le, Top, top, Split, collect, lead_same}
 

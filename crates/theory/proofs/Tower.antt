@@ -7,11 +7,12 @@ use native.Mathlib.Omega.{arith}
 use Rattle.theory.specs.Laws.{Scalars, Monoid, Level}
 use Rattle.theory.specs.Vec.{Vec, ev, Same, scale, mapB, All, times, ψ, Lead}
 use Rattle.theory.specs.Induced.{image, indAct}
-use Rattle.theory.specs.Syzygy.{Family, Up, In, Ahead, Lifted, Gröbner}
+use Rattle.theory.specs.Syzygy.{Family, In, Ahead, Lifted, Gröbner}
 use Rattle.theory.specs.Reckon.{Reducers}
 use Rattle.theory.specs.Canon.{canon, Canonical}
 use Rattle.theory.specs.Runs.{Run}
-use Rattle.theory.specs.Stage.{Finite, family, Framed, Stage, fam, above, term, size, frame, reckoned, vector}
+use Rattle.theory.specs.Stage.{Finite, family, Framed, Stage, fam, term, size, frame, reckoned}
+use Rattle.theory.proofs.Levels.{Up, above, vector}
 use Rattle.theory.proofs.Vec
 use Rattle.theory.proofs.Top.{δ, lead_coef, lead_nonzero, lead_unique}
 use Rattle.theory.proofs.Canon.{canon_same, canon_canonical, canon_all, canonical_is, canonical_lead, canon_unique}

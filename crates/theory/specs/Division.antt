@@ -5,7 +5,6 @@ use Rattle.std.proofs.Math.Option.{Option, none, some}
 use Rattle.std.proofs.Math.Dec.{nleb→lt, eqb_refl}
 use Rattle.theory.specs.Laws.{Monoid, Level}
 use Rattle.theory.specs.Orders.{NatM, UnitM, ProdM, ExpM}
-use Rattle.theory.specs.Induced.{Ind}
 
 -- what a quotient says: m · a = b, or no m has m · a = b
 abbrev pub Quotient : {E B : Type 0} → (E → B) → B → Option E → Type 0
@@ -136,19 +135,3 @@ pub record Divided {M : Monoid} (L : Level M) : Type 0 where
   pub quotL_is : (x y : L.B) → Quotient (λ m. L.act m x) y (quotL x y)
   pub colonL : L.B → L.B → Option M.E
   pub colonL_is : (x y : L.B) → Colon L x y (colonL x y)
-
-module _ {M : Monoid} (D : Division M) (L : Level M) (lm : ℕ → L.B) where
-  pub ind_colon_is : (x y : M.E × ℕ) → Colon (Ind L lm) x y (colonB D x y)
-  ind_colon_is x y = go (eqb x.1 y.1) (λ t. eqb→eq x.1 y.1 t) (λ e. subst (λ z. T (eqb x.1 z)) e (eqb_refl x.1))
-    where
-      go : (t : Bool) → (T t → x.1 ≡ y.1) → (x.1 ≡ y.1 → T t)
-          → Colon (Ind L lm) x y (elim t [ true ↦ some (D.colon x.0 y.0) | false ↦ none ])
-      go true h k = (
-        (D.colon_up x.0 y.0, λ i. (D.colon_is x.0 y.0 i, h tt i)),
-        λ m n e. D.colon_least x.0 y.0 m n (λ i. (e i).0),
-      )
-      go false h k = λ m n e. k (λ i. (e i).1)
-
-  -- every level but the lowest is one
-  abbrev pub IndD : Divided (Ind L lm)
-  IndD = record { quotL = quotB D; quotL_is = quotB_is D; colonL = colonB D; colonL_is = ind_colon_is }

@@ -1,8 +1,6 @@
--- The order that leading monomials induce one level up (Doc 000, 3.1), and that it has the laws of a level again.
-use Rattle.std.specs.Prelude.{◌≡◌, refl, ◌⊎◌, Bool, true, false, not, ℕ, ◌<◌, ◌≤◌, T, ltb}
+-- The order that leading monomials induce one level up (Doc 000, 3.1). That it has the laws of a level again is in proofs/Induced.antt.
+use Rattle.std.specs.Prelude.{◌≡◌, ◌⊎◌, Bool, true, false, not, ℕ, ◌<◌, ◌≤◌, T, ltb}
 use Rattle.std.proofs.Common.{sym, ap, ◌∙◌, inl, inr, ⊎_elim, arith, le_antisymm, ltb→lt, nltb→le}
-use mathlib.Core.WellFounded.{Acc}
-use lib.WfN.{lt-wf_rel}
 use Rattle.theory.specs.Laws.{Monoid, Level, Tri, below, same, above}
 
 -- ## Numbers are compared by tests, so that comparisons compute at numerals
@@ -51,46 +49,6 @@ module _ {M : Monoid} (L : Level M) (lm : ℕ → L.B) where
   pub ind_eq : (x y : E × ℕ) → image x ≡ image y → x.1 ≡ y.1 → x ≡ y
   ind_eq x y e i = let m : x.0 ≡ y.0 = L.act_cancel x.0 y.0 (lm y.1) (rw i at e) in λ k. (m k, i k)
 
-  abbrev pub ind_tri_by : (x y : E × ℕ)
-      → Tri (Lt (image x) (image y)) (image x ≡ image y) (Lt (image y) (image x)) → Tri (x.1 < y.1) (x.1 ≡ y.1) (y.1 < x.1)
-      → Tri (IndLt x y) (x ≡ y) (IndLt y x)
-  ind_tri_by x y (below l) _ = below (inl l)
-  ind_tri_by x y (same e) (below l) = below (inr (e, l))
-  ind_tri_by x y (same e) (same i) = same (ind_eq x y e i)
-  ind_tri_by x y (same e) (above l) = above (inr (sym e, l))
-  ind_tri_by x y (above l) _ = above (inl l)
-
-  abbrev pub ind_tri : (x y : E × ℕ) → Tri (IndLt x y) (x ≡ y) (IndLt y x)
-  ind_tri x y = ind_tri_by x y (L.tri (image x) (image y)) (nat_tri x.1 y.1)
-
   pub ind_compat : (a : E) (x y : E × ℕ) → IndLt x y → IndLt (indAct a x) (indAct a y)
   ind_compat a x y (inl l) = inl (rw (image_act a x, image_act a y) (L.compat a _ _ l))
   ind_compat a x y (inr p) = inr (image_act a x ∙ ap (act a) p.0 ∙ sym (image_act a y), p.1)
-
-  -- well-founded: first along the images, then along the numbers at one image
-  pub ind_acc_at : (b : B) → ((y : B) → Lt y b → (z : E × ℕ) → image z ≡ y → Acc IndLt z)
-      → (n : ℕ) → Acc ◌<◌ n → (x : E × ℕ) → image x ≡ b → x.1 ≡ n → Acc IndLt x
-  ind_acc_at b hb n (Acc.intro n' hn) x e i =
-      Acc.intro x (λ z lt. ⊎_elim
-      (λ l. hb (image z) (rw e at l) z refl)
-      (λ p. ind_acc_at b hb z.1 (hn z.1 (rw i at p.1)) z (p.0 ∙ e) refl) lt)
-
-  pub ind_acc : (b : B) → Acc Lt b → (x : E × ℕ) → image x ≡ b → Acc IndLt x
-  ind_acc b (Acc.intro b' h) x e =
-      ind_acc_at b' (λ y l z e₂. ind_acc y (h y l) z e₂) x.1 (lt-wf_rel.wf.apply x.1) x e refl
-
-  -- the level above
-  abbrev pub Ind : Level M
-  Ind = record {
-    B = E × ℕ;
-    act = indAct;
-    act_act = λ a b x. λ k. (M.mulE_assoc a b x.0 k, x.1);
-    act_unit = λ x. λ k. (M.mulE_unit x.0 k, x.1);
-    act_cancel = λ a b x e. M.mulE_cancel a b x.0 (λ k. (e k).0);
-    Lt = IndLt;
-    irrefl = ind_irrefl;
-    trans = ind_trans;
-    tri = ind_tri;
-    compat = ind_compat;
-    wf = record { apply = λ x. ind_acc (image x) (L.wf.apply (image x)) x refl };
-  }

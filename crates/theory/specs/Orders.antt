@@ -5,7 +5,7 @@ use mathlib.Core.WellFounded.InvImage
 use mathlib.Core.WellFounded.{Acc, WellFounded}
 use lib.WfN.{lt-wf_rel}
 use Rattle.theory.specs.Laws.{Monoid, Level, Tri, below, same, above}
-use Rattle.theory.specs.Induced.{nat_tri, Ind}
+use Rattle.theory.specs.Induced.{nat_tri}
 
 -- ## Exponents
 
@@ -218,7 +218,3 @@ MonoL {M} O = record {
   compat = O.compat;
   wf = O.wf;
 }
-
--- the free module of level 0: monomials first, then the component; the order induced by leading monomials that are all 1
-abbrev pub FreeL : {M : Monoid} → Order M → Level M
-FreeL {M} O = Ind (MonoL O) (λ (j : ℕ). M.ε)

@@ -2,10 +2,9 @@
 use Rattle.std.specs.Prelude.{◌≡◌, ◌⊎◌, List, ℕ, ◌<◌, get_or, length}
 use Rattle.theory.specs.Laws.{Scalars, Monoid, Level}
 use Rattle.theory.specs.Vec.{Vec, Lead}
-use Rattle.theory.specs.Induced.{image, Ind}
+use Rattle.theory.specs.Induced.{image}
 use Rattle.theory.specs.Syzygy.{Family, Free, Covered, Frame}
 use Rattle.theory.specs.Reckon.{Reducers, reckon}
-use Rattle.theory.specs.Canon.{canon}
 
 -- f_0 .. f_{r-1}
 pub record Finite (S : Scalars) {M : Monoid} (L : Level M) : Type 1 where
@@ -43,10 +42,6 @@ module _ (S : Scalars) {M : Monoid} (G : Stage S M) where
   abbrev pub fam : Family S G.L
   fam = family S G.L G.A
 
-  -- the level above
-  abbrev pub above : Level M
-  above = Ind G.L G.A.lm
-
   -- frame term k; how many there are
   abbrev pub term : ℕ → M.E × ℕ
   term k = term_at M G.framed.terms k
@@ -60,7 +55,3 @@ module _ (S : Scalars) {M : Monoid} (G : Stage S M) where
   -- the reckoning's vector of a module monomial
   abbrev pub reckoned : M.E × ℕ → Vec S (M.E × ℕ)
   reckoned x = reckon S G.L fam G.reducer x
-
-  -- vector k of the level above: in canonical form
-  abbrev pub vector : ℕ → Vec S (M.E × ℕ)
-  vector k = canon S above (reckoned (term k))

@@ -2,7 +2,7 @@
 use Rattle.std.specs.Prelude.{◌≡◌, ◌⊎◌, [], ◌∷◌, ℕ, ◌<◌}
 use Rattle.theory.specs.Laws.{Scalars, Monoid, Level}
 use Rattle.theory.specs.Vec.{Vec, Same, All, ψ, Lead}
-use Rattle.theory.specs.Induced.{image, IndLt, indAct, Ind}
+use Rattle.theory.specs.Induced.{image, IndLt, indAct}
 
 -- f_j for each j of Dom, with leading monomial lm j
 pub record Family (S : Scalars) {M : Monoid} (L : Level M) : Type 1 where
@@ -12,10 +12,6 @@ pub record Family (S : Scalars) {M : Monoid} (L : Level M) : Type 1 where
   pub lead : (j : ℕ) → Dom j → Lead S L (f j) (lm j)
 
 module _ (S : Scalars) {M : Monoid} (L : Level M) (F : Family S L) where
-  -- the level above, where the e_j live
-  abbrev pub Up : Level M
-  Up = Ind L F.lm
-
   -- m · e_i with i in range
   abbrev pub In : M.E × ℕ → Type 0
   In x = F.Dom x.1

@@ -2,5 +2,7 @@
 // `frame_terms::lift_all`.
 // Knows: crate definitions' Tree and Lifting.
 // The cache's rows are a crate of their own.
+#![tactic(auto)]
+
 pub mod frame_terms;
 pub mod subtrees;

@@ -1,5 +1,3 @@
-use borrow.Author.Rules.{rules}
-use Prim.Native.Nat.{◌-◌}
 use Rattle.pages.proofs.bytes.Spelling.{one_byte}
 use Rattle.pages.proofs.bytes.byte.Goals as goal
 

@@ -1,8 +1,6 @@
 use native.Mathlib.Omega.{arith}
 use mathlib.Core.Path.{◌≡◌, refl, ap}
-use Prim.Native.Nat.{◌-◌, ◌≤◌}
-use lib.ListN.{length, replicate}
-use Rattle.pages.specs.bytes.Printing.{Printed}
+use lib.ListN.{replicate}
 use Rattle.pages.proofs.bytes.Spelling.{nothing, after, spelled, spaces_more, ends_spaces}
 use Rattle.pages.proofs.bytes.spaces.Goals as goal
 

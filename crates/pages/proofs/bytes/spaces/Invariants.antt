@@ -1,9 +1,7 @@
-use native.Mathlib.Omega.{arith}
-use mathlib.Core.Path.{◌≡◌, refl, ap}
+use mathlib.Core.Path.{◌≡◌}
 use Prim.Native.Nat.{◌-◌, ◌≤◌}
 use lib.ListN.{length, replicate}
 use Rattle.pages.specs.bytes.Printing.{Printed}
-use Rattle.pages.proofs.bytes.Spelling.{nothing, after, spelled, spaces_more, ends_spaces}
 use Rattle.pages.proofs.bytes.spaces.Given as goal
 
 abbrev pub invariant-loop-i : goal.invariant-loop-i

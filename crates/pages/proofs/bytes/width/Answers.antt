@@ -1,8 +1,6 @@
 use native.Mathlib.Omega.{arith}
-use mathlib.Core.Path.{◌≡◌, refl, ap}
-use Prim.Native.Nat.{◌+◌}
+use mathlib.Core.Path.{refl, ap}
 use lib.ListN.{length}
-use Rattle.definitions.specs.Sheet.{decimal}
 use Rattle.pages.proofs.bytes.Spelling.{one_digit, digits_grow, few_digits}
 use Rattle.pages.proofs.bytes.width.Goals as goal
 

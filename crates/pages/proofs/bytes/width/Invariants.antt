@@ -1,9 +1,7 @@
-use native.Mathlib.Omega.{arith}
-use mathlib.Core.Path.{◌≡◌, refl, ap}
+use mathlib.Core.Path.{◌≡◌}
 use Prim.Native.Nat.{◌+◌}
 use lib.ListN.{length}
 use Rattle.definitions.specs.Sheet.{decimal}
-use Rattle.pages.proofs.bytes.Spelling.{one_digit, digits_grow, few_digits}
 use Rattle.pages.proofs.bytes.width.Given as goal
 
 abbrev pub invariant-loop-x : goal.invariant-loop-x

@@ -1,4 +1,3 @@
-use borrow.Author.Rules.{rules}
 use native.Mathlib.Omega.{arith}
 use mathlib.Core.Path.{◌∙◌}
 use Prim.Native.Nat.{◌-◌}
@@ -10,11 +9,11 @@ use Rattle.pages.proofs.lines.cell.Goals as goal
 pub byte-requires : goal.byte-requires
 byte-requires c =
     omega (
-  arith,
-  c.requires,
-  ends_spaces 5 32
-      c.spaces-a.ensures,
-)
+      arith,
+      c.requires,
+      ends_spaces 5 32
+          c.spaces-a.ensures,
+    )
 
 pub returns-then-v-eq0 : goal.returns-then-v-eq0
 returns-then-v-eq0 c =

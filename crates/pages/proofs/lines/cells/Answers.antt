@@ -1,13 +1,9 @@
 use native.Mathlib.Omega.{arith}
-use mathlib.Core.Path.{◌≡◌, refl, ap, ◌∙◌}
+use mathlib.Core.Path.{refl, ap, ◌∙◌}
 use mathlib.Core.List.{[], ◌∷◌, ◌++◌}
-use Prim.Native.Nat.{◌+◌, ◌-◌, ◌*◌, ◌≤◌}
-use lib.ListN.{length, take}
 use lib.Seq.{take_all}
-use Rattle.pages.specs.bytes.Printing.{Printed}
 use Rattle.pages.proofs.bytes.Spelling.{nothing, after, spelled}
 use Rattle.pages.proofs.lines.Lining.{celled, cells_celled, celled_more}
-use Rattle.definitions.specs.Places.{cell_length}
 use Rattle.pages.proofs.lines.cells.Goals as goal
 
 pub loop-c-init : goal.loop-c-init

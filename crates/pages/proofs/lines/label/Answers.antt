@@ -1,11 +1,10 @@
-use borrow.Author.Rules.{rules}
 use native.Mathlib.Omega.{arith}
 use mathlib.Core.List.{[], ◌∷◌, ◌++◌}
-use Prim.Native.Nat.{◌+◌, ◌-◌}
+use Prim.Native.Nat.{◌-◌}
 use Rattle.definitions.specs.Sheet.{decimal}
 use Rattle.pages.proofs.bytes.Spelling.{after, spelled, few_digits, ends_spaces}
 use Rattle.pages.proofs.lines.Lining.{aligned_is}
-use lib.ListN.{length, length-append}
+use lib.ListN.{length-append}
 use Rattle.pages.proofs.lines.label.Goals as goal
 
 pub overflow_sub-w : goal.overflow_sub-w

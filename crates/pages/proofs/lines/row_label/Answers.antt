@@ -1,4 +1,3 @@
-use borrow.Author.Rules.{rules}
 use native.Mathlib.Omega.{arith}
 use Rattle.pages.proofs.bytes.Spelling.{spelled}
 use Rattle.pages.proofs.lines.Lining.{label_below, label_above}

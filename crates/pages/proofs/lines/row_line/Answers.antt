@@ -1,4 +1,3 @@
-use borrow.Author.Rules.{rules}
 use native.Mathlib.Omega.{arith}
 use Rattle.pages.proofs.bytes.Spelling.{after}
 use Rattle.pages.proofs.lines.row_line.Goals as goal

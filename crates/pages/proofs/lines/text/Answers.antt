@@ -1,9 +1,6 @@
 use native.Mathlib.Omega.{arith}
-use mathlib.Core.Path.{◌≡◌, refl}
-use Prim.Native.Nat.{◌+◌, ◌-◌, ◌≤◌}
-use lib.ListN.{length, take}
-use lib.Seq.{take_all, length-take-le}
-use Rattle.pages.specs.bytes.Printing.{Printed}
+use mathlib.Core.Path.{refl}
+use lib.Seq.{take_all}
 use Rattle.pages.proofs.bytes.Spelling.{nothing, after, spelled}
 use Rattle.pages.proofs.lines.Lining.{taken_more}
 use Rattle.pages.proofs.lines.text.Goals as goal

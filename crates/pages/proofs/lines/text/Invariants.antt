@@ -1,11 +1,7 @@
-use native.Mathlib.Omega.{arith}
-use mathlib.Core.Path.{◌≡◌, refl}
+use mathlib.Core.Path.{◌≡◌}
 use Prim.Native.Nat.{◌+◌, ◌-◌, ◌≤◌}
 use lib.ListN.{length, take}
-use lib.Seq.{take_all, length-take-le}
 use Rattle.pages.specs.bytes.Printing.{Printed}
-use Rattle.pages.proofs.bytes.Spelling.{nothing, after, spelled}
-use Rattle.pages.proofs.lines.Lining.{taken_more}
 use Rattle.pages.proofs.lines.text.Given as goal
 
 abbrev pub invariant-loop-i : goal.invariant-loop-i

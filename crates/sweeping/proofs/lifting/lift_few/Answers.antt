@@ -1,0 +1,57 @@
+use borrow.Author.Rules.{rules}
+use native.Mathlib.Omega.{arith}
+use mathlib.Core.Path.{◌≡◌, refl, sym, ap, ◌∙◌, subst}
+use mathlib.Core.Bool.{true, false}
+use mathlib.Core.List.{List, [], ◌∷◌, ◌++◌}
+use mathlib.Core.Logic.{inr}
+use Prim.Native.Nat.{ℕ, suc, ◌+◌, ◌-◌, ◌*◌, ◌<◌, ◌≤◌}
+use lib.ListN.{length, take, drop, get_or, set, length-set}
+use mathlib.Core.Bool.{Bool}
+use lib.Dec.{T}
+use Rattle.runs.specs.run.Stages.{strategy_of}
+use Rattle.runs.proofs.run.Stepping.{rooms_again}
+use Rattle.sweeping.specs.Nodes.{ground_stage}
+use Rattle.sweeping.specs.Gone.{GoneAs}
+use Rattle.sweeping.proofs.Ones.{gone_allowed}
+use Rattle.sweeping.proofs.lifting.lift_few.Reads as reads
+use Rattle.sweeping.proofs.lifting.lift_few.Lts as lts
+use Rattle.sweeping.proofs.lifting.lift_on.Reads as lift_on_reads
+use Rattle.sweeping.proofs.lifting.lift_few.Goals as goal
+
+pub lift_on-requires : goal.lift_on-requires
+lift_on-requires c =
+    let P = c.requires in (
+      P.0,
+      P.1,
+      P.2,
+      P.3,
+      P.4,
+      P.5,
+      P.6,
+      P.7,
+      P.8,
+      P.9,
+      P.10,
+      P.11,
+      record {
+        small = omega arith;
+        nodes_long = search rules;
+        edges_long = search rules;
+        spans_long = P.16;
+        order_long = search rules;
+        keys_long = search rules;
+        other_long = search rules;
+      },
+      search rules,
+      P.12,
+      P.13,
+      P.14,
+      P.15,
+    )
+
+pub returns : goal.returns
+returns c =
+    let a = c.args in
+    let x = c.lift_on in
+    gone_allowed a.g (ground_stage a.g a.level.now a.tables.now) (strategy_of a.g a.tables.now a.w) a.frame.now a.count _
+    x.result x.new.out x.new.vector x.ensures
