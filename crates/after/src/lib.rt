@@ -2,6 +2,8 @@
 // Exists for: `file_end`, `lines_in`.
 // Knows: crate definitions' After.
 // The bytes are looked at one by one; what the lines say is crate reader's.
+#![tactic(auto)]
+
 ghost use Rattle.std.specs.Prelude.{◌≡◌, true, ◌+◌, ◌≤◌, eqb, length, drop};
 ghost use Rattle.definitions.specs.Lists.{◌and◌};
 ghost use Rattle.definitions.specs.Problem.{lines, letter_E};

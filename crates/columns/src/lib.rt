@@ -4,6 +4,8 @@
 // `values::hilbert_value`.
 // Knows: crate definitions' Betti, Bidegrees and Hilbert.
 // It prints nothing.
+#![tactic(auto)]
+
 pub mod counting;
 pub mod mixed;
 pub mod values;

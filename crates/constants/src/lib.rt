@@ -2,6 +2,8 @@
 // Exists for: `marking::mark_columns`.
 // Knows: crate ranks' Elimination and Blocks, crate definitions' Minimal.
 // What is printed of the marks is its callers'.
+#![tactic(auto)]
+
 pub mod elimination;
 pub mod filling;
 pub mod marking;

@@ -2,6 +2,8 @@
 // Exists for: `fetch`; `Reply` and `level_number` for the other calls.
 // Knows: crate definitions' Layout.
 // A call asks for nothing: a buffer that is too short is 16, words that hold no state are 11.
+#![tactic(auto)]
+
 ghost use Rattle.std.specs.Prelude.{◌≡◌, ◌≤◌, ◌<◌, T, length, get_or};
 ghost use Rattle.definitions.specs.Limits.{document_01};
 ghost use Rattle.definitions.specs.Lists.{between};

@@ -13,7 +13,8 @@ abbrev pub invariant-loop-i : goal.invariant-loop-i
 invariant-loop-i l =
     (l.i ≤ l.len) × (l.a + l.k ≤ l.top) × (length l.work ≡ length l.initial.work)
     × Keeps l.a l.initial.work l.work × Leaves l.top l.initial.work l.work × (add_result (table_order l.code (table_of l.r l.table)) l.p l.top l.a l.c
-    (rows (choose l.in_cache l.cache l.initial.work) l.from l.len) (rows l.initial.work l.a l.n) ≡ adding_from (table_order l.code (table_of l.r l.table)) l.p l.top l.a l.c
+    (rows (choose l.in_cache l.cache l.initial.work) l.from l.len) (rows l.initial.work l.a l.n)
+    ≡ adding_from (table_order l.code (table_of l.r l.table)) l.p l.top l.a l.c
     (choose l.in_cache l.cache l.initial.work) l.from l.len l.i (rows l.work l.a l.k))
 
 abbrev pub decreases-loop-i : goal.decreases-loop-i

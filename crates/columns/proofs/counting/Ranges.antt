@@ -8,11 +8,11 @@ use lib.ListN.{length, get_or, take, drop, drop_of_length-le}
 use lib.Seq.{take-suc}
 use Rattle.definitions.specs.Limits.{document_01}
 use Rattle.definitions.specs.Lists.{map, from}
-use Rattle.definitions.specs.Layout.{Words, decode, degrees_at, holds_state?}
+use Rattle.definitions.specs.Layout.{Words, decode, holds_state?}
 use Rattle.definitions.specs.Betti.{rows_in_use, smallest, largest, all_rows}
 use Rattle.definitions.specs.Places.{most_carried, row_shift, page_columns, page_rows, degrees_start, state_length}
 use Rattle.laws.proofs.Members.{All, all_inside}
-use Rattle.betti.proofs.Rows.{Row, FewRows, rows_few, columns_low, length_from}
+use Rattle.betti.proofs.Rows.{Row, rows_few, columns_low, length_from}
 use Rattle.betti.proofs.Lines.{columns_are}
 use Rattle.state.proofs.preparing.Complete.{holds_sound}
 use Rattle.columns.specs.counting.Columns.{columns_of, column_of}

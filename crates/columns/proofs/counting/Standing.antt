@@ -13,7 +13,7 @@ use Rattle.definitions.specs.Lists.{◌and◌, between}
 use Rattle.definitions.specs.Monomial.{Level}
 use Rattle.definitions.specs.Degrees.{degrees_of, carried}
 use Rattle.definitions.specs.Layout.{Words, decode, degrees_at, level_at, levels_at, holds_state?}
-use Rattle.definitions.specs.Places.{most_components, most_vectors, all_levels, row_shift, page_columns, degrees_start, carried_offset, state_length}
+use Rattle.definitions.specs.Places.{most_components, most_vectors, all_levels, page_columns, degrees_start, state_length}
 use Rattle.laws.proofs.Tests.{and_right, between_low, between_high}
 use Rattle.laws.proofs.Sound.{sound_says}
 use Rattle.laws.proofs.Degrees.{carries_below, holds_says}

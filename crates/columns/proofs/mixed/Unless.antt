@@ -8,7 +8,7 @@ use native.Mathlib.Omega.{arith}
 use lib.ListN.{get_or}
 use Rattle.definitions.specs.Limits.{document_01}
 use Rattle.definitions.specs.Monomial.{Monomial, Level}
-use Rattle.definitions.specs.Result.{Result, done, refused}
+use Rattle.definitions.specs.Result.{done, refused}
 use Rattle.definitions.specs.Stage.{highest}
 use Rattle.definitions.specs.Layout.{Words, decode, level_at, levels_at}
 use Rattle.definitions.specs.Betti.{mixed?, first_mixed, unless_mixed}

@@ -14,11 +14,13 @@ use Rattle.tree.proofs.frame_terms.lift_all.Given as goal
 
 abbrev pub invariant-loop-i : goal.invariant-loop-i
 invariant-loop-i l =
-    (l.i ≤ l.count) × (l.used ≤ l.g.room) × (l.u ≤ l.room) × (length l.out ≡ length l.initial.out) × (length l.cache ≡ length l.initial.cache) × (length l.work ≡ length l.initial.work)
+    (l.i ≤ l.count) × (l.used ≤ l.g.room) × (l.u ≤ l.room) × (length l.out ≡ length l.initial.out) × (length l.cache ≡ length l.initial.cache) ×
+    (length l.work ≡ length l.initial.work)
     × Kept l.i l.used l.out ×
     (lift_all_definition (stage_of l.g l.level l.tables (table_order l.g.code (table_of l.g.r (above_in l.tables))))
     (tree_definition (stage_of l.g l.level l.tables (table_order l.g.code (table_of l.g.r (above_in l.tables)))) l.room) ([], 0) []
-    (frame_terms l.frame l.count) ≡ all_from (stage_of l.g l.level l.tables (table_order l.g.code (table_of l.g.r (above_in l.tables)))) l.room l.frame l.count l.i
+    (frame_terms l.frame l.count) ≡ all_from (stage_of l.g l.level l.tables (table_order l.g.code (table_of l.g.r
+    (above_in l.tables)))) l.room l.frame l.count l.i
     (lifted_vectors l.out l.i, l.used) (cache_of l.u l.cache))
 
 abbrev pub decreases-loop-i : goal.decreases-loop-i

@@ -13,7 +13,8 @@ use Rattle.tree.proofs.frame_terms.lift_vector.Given as goal
 
 abbrev pub invariant-loop-i : goal.invariant-loop-i
 invariant-loop-i l =
-    (l.k ≤ l.g.vector) × (l.v ≤ l.room) × (length l.vector ≡ length l.initial.vector) × (length l.cache ≡ length l.initial.cache) × (length l.work ≡ length l.initial.work) ×
+    (l.k ≤ l.g.vector) × (l.v ≤ l.room) × (length l.vector ≡ length l.initial.vector) × (length l.cache ≡ length l.initial.cache) ×
+    (length l.work ≡ length l.initial.work) ×
     (vector_definition (stage_of l.g l.level l.tables (table_order l.g.code (table_of l.g.r (above_in l.tables))))
     (lift_term (stage_of l.g l.level l.tables (table_order l.g.code (table_of l.g.r (above_in l.tables)))) l.room l.g.tree) 1 (unpack l.q)
     (rows l.level l.from (l.to - l.from)) (rows l.initial.vector 0 l.n, cache_of l.used l.initial.cache)

@@ -23,12 +23,14 @@ decreases-open_subtree l = l.left * 3
 
 abbrev pub invariant-lift_list-loop-i : goal.invariant-lift_list-loop-i
 invariant-lift_list-loop-i l =
-    (l.a + l.k ≤ l.g.tree) × (l.v ≤ l.room) × (length l.cache ≡ length l.initial.cache) × (length l.work ≡ length l.initial.work) × Keeps l.a l.initial.work l.work ×
+    (l.a + l.k ≤ l.g.tree) × (l.v ≤ l.room) × (length l.cache ≡ length l.initial.cache) × (length l.work ≡ length l.initial.work) ×
+    Keeps l.a l.initial.work l.work ×
     (list_definition (stage_of l.g l.level l.tables (table_order l.g.code (table_of l.g.r (above_in l.tables))))
     (term_definition (stage_of l.g l.level l.tables (table_order l.g.code (table_of l.g.r (above_in l.tables)))) l.room l.left) l.a l.c (unpack l.q)
     (rows l.level l.from (l.to - l.from)) (rows l.initial.work l.a l.n, cache_of l.used l.initial.cache)
     ≡ listing_from (stage_of l.g l.level l.tables (table_order l.g.code (table_of l.g.r (above_in l.tables))))
-    (term_definition (stage_of l.g l.level l.tables (table_order l.g.code (table_of l.g.r (above_in l.tables)))) l.room l.left) l.a l.c (unpack l.q) l.level l.to l.i
+    (term_definition (stage_of l.g l.level l.tables (table_order l.g.code (table_of l.g.r (above_in l.tables)))) l.room l.left) l.a l.c
+    (unpack l.q) l.level l.to l.i
     (rows l.work l.a l.k, cache_of l.v l.cache))
 
 abbrev pub decreases-lift_list-loop-i : goal.decreases-lift_list-loop-i

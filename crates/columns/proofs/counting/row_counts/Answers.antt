@@ -1,0 +1,37 @@
+use native.Mathlib.Omega.{arith}
+use mathlib.Core.Path.{◌≡◌, refl, ◌∙◌, subst}
+use lib.ListN.{get_or, length-set}
+use Rattle.lists.specs.Filling.{Filled, filled_more, filled_list}
+use Rattle.definitions.specs.Lists.{map}
+use Rattle.definitions.specs.Pages.{all_columns}
+use Rattle.definitions.specs.Betti.{betti_count}
+use Rattle.columns.specs.counting.Columns.{columns_of}
+use Rattle.columns.proofs.counting.Counts.{at_column}
+use native.Mathlib.Nat.{not-suc-le-zero}
+use Rattle.columns.proofs.counting.row_counts.Goals as goal
+
+pub loop-c-init : goal.loop-c-init
+loop-c-init c = (omega arith, refl, λ k h. absurd (not-suc-le-zero h))
+
+pub betti_count-requires : goal.betti_count-requires
+betti_count-requires c = let P = c.requires in (P.0, P.1, omega arith, P.2)
+
+pub loop-c-preserved : goal.loop-c-preserved
+loop-c-preserved c =
+    let a = c.args in
+    let l = c.loop-c in
+    let b = c.betti_count in
+    let f = betti_count (columns_of a.state.now) a.r in (
+      omega arith,
+      simp length-set l.invariant.1,
+      filled_more (λ k. get_or (map f all_columns) k 0) l.c b.result l.counts (omega arith)
+          (b.ensures ∙ at_column f l.c (omega arith)) l.invariant.2,
+    )
+
+pub returns : goal.returns
+returns c =
+    let a = c.args in
+    let l = c.loop-c in
+    let f = betti_count (columns_of a.state.now) a.r in
+    let e : l.c ≡ 11 = omega arith in
+    filled_list (map f all_columns) l.counts l.invariant.1 (subst (λ i. Filled (λ k. get_or (map f all_columns) k 0) i l.counts) e l.invariant.2)

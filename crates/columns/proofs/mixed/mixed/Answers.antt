@@ -1,0 +1,44 @@
+use native.Mathlib.Omega.{arith}
+use mathlib.Core.Path.{refl, sym, ◌∙◌}
+use lib.ListN.{take}
+use Rattle.definitions.specs.Bidegrees.{degree_weighted}
+use Rattle.columns.proofs.mixed.Mixing.{mixed_starts, mixed_on, mixed_stops, mixed_ends}
+use Rattle.columns.proofs.mixed.mixed.Goals as goal
+
+pub key_at-x-requires : goal.key_at-x-requires
+key_at-x-requires c = let P = c.requires in (omega arith, P.2, P.3, P.4)
+
+pub loop-i-init : goal.loop-i-init
+loop-i-init c = (omega arith, omega arith, refl)
+
+pub key_at-y-requires : goal.key_at-y-requires
+key_at-y-requires c = let P = c.requires in (omega arith, P.2, P.3, P.4)
+
+pub returns-then-x-y : goal.returns-then-x-y
+returns-then-x-y c =
+    let a = c.args in
+    let l = c.loop-i in
+    let s = a.level.now in
+    let g = degree_weighted a.kw (take a.n a.d.now) in
+    let x = c.key_at-x.ensures in
+    let y = c.key_at-y.ensures in
+    sym (mixed_starts g s a.from a.to (omega arith) ∙ l.invariant.2
+    ∙ mixed_stops g s a.from l.i a.to (omega arith) (λ e. c.if-x-y.true (x ∙ e ∙ sym y)))
+
+pub loop-i-preserved : goal.loop-i-preserved
+loop-i-preserved c =
+    let a = c.args in
+    let l = c.loop-i in
+    let s = a.level.now in
+    let g = degree_weighted a.kw (take a.n a.d.now) in
+    let x = c.key_at-x.ensures in
+    let y = c.key_at-y.ensures in
+    (omega arith, omega arith, l.invariant.2 ∙ mixed_on g s a.from l.i a.to (omega arith) (sym x ∙ c.if-x-y.false ∙ y))
+
+pub returns : goal.returns
+returns c =
+    let a = c.args in
+    let l = c.loop-i in
+    let s = a.level.now in
+    let g = degree_weighted a.kw (take a.n a.d.now) in
+    sym (mixed_starts g s a.from a.to (omega arith) ∙ l.invariant.2 ∙ mixed_ends g s a.from l.i a.to (omega arith))

@@ -1,0 +1,69 @@
+use native.Mathlib.Omega.{arith}
+use mathlib.Core.Path.{◌≡◌, refl, ap, ◌∙◌, subst}
+use Prim.Native.Nat.{ℕ, suc, ◌+◌, ◌-◌, ◌*◌, ◌<◌, ◌≤◌}
+use lib.ListN.{length, take, drop, get_or, length-replicate}
+use lib.Seq.{length-take-le}
+use Rattle.definitions.specs.Layout.{rows}
+use Rattle.definitions.specs.Places.{most_vectors, matrix_length}
+use Rattle.reducers.specs.tables.Cuts.{start_of, cut_level}
+use Rattle.ranks.specs.Blocks.{row_from, whole}
+use Rattle.constants.specs.elimination.Rows.{rows_at}
+use Rattle.constants.proofs.filling.Entering.{length_row_from}
+use Rattle.constants.proofs.filling.Vectorwise.{zero_part, vectors_more, vectors_behind}
+use Rattle.constants.proofs.filling.fill.Goals as goal
+
+pub loop-j-init : goal.loop-j-init
+loop-j-init c = (omega arith, refl, refl, refl, refl)
+
+pub offset_bounds-ends-j : goal.offset_bounds-ends-j
+offset_bounds-ends-j c = omega (arith, c.requires.2.ends_fit)
+
+pub bounds-ends-j : goal.bounds-ends-j
+bounds-ends-j c = omega (arith, c.requires.2.ends_fit)
+
+pub fill_vector-requires : goal.fill_vector-requires
+fill_vector-requires c =
+    let a = c.args in
+    let P = c.requires in
+    let l = c.loop-j in
+    let e = c.place-to.ensures.0 in
+    let long : length a.m.now ≡ matrix_length = ap length P.0 ∙ length-replicate {A = ℕ} matrix_length 0 in
+    let f = l.invariant.2 in
+    let k : l.j < a.a = omega arith in (
+      omega (arith, e, f, P.2.filled l.j k),
+      omega (arith, e, P.2.rows_fit l.j k),
+      P.4,
+      omega (arith, long, l.invariant.1, P.1, P.5),
+      ap (take a.b) (l.invariant.4 ∙ ap (drop (l.j * most_vectors)) P.0)
+          ∙ zero_part matrix_length (l.j * most_vectors) a.b (omega (arith, P.1, P.5, k)),
+    )
+
+pub loop-j-preserved : goal.loop-j-preserved
+loop-j-preserved c =
+    let a = c.args in
+    let P = c.requires in
+    let l = c.loop-j in
+    let p = c.place-to in
+    let f = c.fill_vector in
+    let es = take a.b a.below.now in
+    let many : length es ≡ a.b = length-take-le a.b a.below.now P.4 in
+    let long : length a.m.now ≡ matrix_length = ap length P.0 ∙ length-replicate {A = ℕ} matrix_length 0 in
+    let k : l.j < a.a = omega arith in
+    let room : l.j * most_vectors + a.b ≤ length l.m = omega (arith, long, l.invariant.1, P.1, P.5, k) in
+    let z : suc l.j ≡ l.j + 1 = omega arith in (
+      omega arith,
+      omega arith,
+      p.ensures.0 ∙ ap (start_of a.ends.now) z,
+      vectors_more a.level.now a.ends.now a.own.now es a.b l.j many l.m f.new.m l.from p.result P.5 room
+          (omega (arith, P.2.ends_fit, k)) (omega (arith, P.3, k)) l.invariant.2 p.ensures.0 l.invariant.3 f.ensures,
+      vectors_behind a.level.now a.ends.now a.own.now es a.b l.j many a.m.now l.m f.new.m
+          (row_from 1 es (get_or a.own.now l.j 0) (rows a.level.now l.from (p.result - l.from))) P.5 room
+          (length_row_from 1 es (get_or a.own.now l.j 0) (rows a.level.now l.from (p.result - l.from)) ∙ many) l.invariant.4 f.ensures,
+    )
+
+pub returns : goal.returns
+returns c =
+    let a = c.args in
+    let l = c.loop-j in
+    let e : l.j ≡ a.a = omega arith in
+    subst (λ j. rows_at a.b j l.m ≡ whole (take a.b a.below.now) (take j a.own.now) (cut_level j a.level.now a.ends.now)) e l.invariant.3

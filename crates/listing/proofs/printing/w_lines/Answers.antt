@@ -1,0 +1,11 @@
+use borrow.Author.Rules.{rules}
+use Rattle.definitions.specs.Layout.{rows}
+use Rattle.pages.proofs.bytes.Spelling.{spelled}
+use Rattle.listing.proofs.printing.Listing.{w_lines_are}
+use Rattle.listing.proofs.printing.w_lines.Goals as goal
+
+pub returns : goal.returns
+returns c =
+    let a = c.args in
+    let t = c.term_lines in
+    (spelled (w_lines_are a.n (rows a.s.now 0 a.m)) t.ensures.0, t.ensures.1)
