@@ -3,6 +3,7 @@
 // Knows: crate definitions' Minimal, crate ranks' theorem that marks count ranks.
 // Marks are crate constants', counts crate columns', lines crate pages'.
 #![tactic(auto)]
+
 pub mod numbers;
 pub mod page;
 pub mod whole;
