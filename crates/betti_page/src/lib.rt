@@ -2,5 +2,6 @@
 // Knows: crate definitions' Betti.
 // Its numbers are crate columns', its lines crate pages'.
 #![tactic(auto)]
+
 pub mod page;
 pub mod whole;

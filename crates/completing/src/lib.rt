@@ -3,6 +3,7 @@
 // Knows: crate definitions' Completing.
 // After an addition the file is read anew, and frame terms that divided to zero are passed over.
 #![tactic(auto)]
+
 pub mod adding;
 pub mod lines;
 pub mod whole;

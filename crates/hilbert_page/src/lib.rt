@@ -2,5 +2,6 @@
 // Knows: crate definitions' Hilbert.
 // Its values are crate columns'.
 #![tactic(auto)]
+
 pub mod page;
 pub mod whole;

@@ -21,11 +21,11 @@ use Rattle.completing.proofs.adding.add.Goals as goal
 pub overflow_add-result : goal.overflow_add-result
 overflow_add-result c =
     omega (
-  arith,
-  c.count_of-r.ensures,
-  few_elements c.args.state.now
-      c.requires.0,
-)
+      arith,
+      c.count_of-r.ensures,
+      few_elements c.args.state.now
+          c.requires.0,
+    )
 
 pub returns-then-most-r : goal.returns-then-most-r
 returns-then-most-r c =
@@ -55,20 +55,20 @@ front-at-requires c =
 pub overflow_add-r : goal.overflow_add-r
 overflow_add-r c =
     omega (
-  arith,
-  c.count_of-r.ensures,
-  few_elements c.args.state.now
-      c.requires.0,
-)
+      arith,
+      c.count_of-r.ensures,
+      few_elements c.args.state.now
+          c.requires.0,
+    )
 
 pub narrow-element-requires : goal.narrow-element-requires
 narrow-element-requires c =
     omega (
-  arith,
-  c.count_of-r.ensures,
-  few_elements c.args.state.now
-      c.requires.0,
-)
+      arith,
+      c.count_of-r.ensures,
+      few_elements c.args.state.now
+          c.requires.0,
+    )
 
 pub overflow_add-count : goal.overflow_add-count
 overflow_add-count c =

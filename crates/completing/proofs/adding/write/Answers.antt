@@ -9,10 +9,10 @@ value_lines-a-requires c = let P = c.requires in (P.0, P.1, P.2, omega (arith, P
 pub end_line-requires : goal.end_line-requires
 end_line-requires c =
     let P = c.requires in omega (
-  arith,
-  P.3,
-  c.value_lines-a.ensures.1,
-)
+      arith,
+      P.3,
+      c.value_lines-a.ensures.1,
+    )
 
 pub returns : goal.returns
 returns c =

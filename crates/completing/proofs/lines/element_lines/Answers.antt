@@ -33,8 +33,7 @@ pub multiplied-u-requires : goal.multiplied-u-requires
 multiplied-u-requires c = c.requires.1
 
 pub t_line-a-requires : goal.t_line-a-requires
-t_line-a-requires c =
-    (
+t_line-a-requires c = (
   c.requires.0,
   omega (
     arith,

@@ -16,9 +16,9 @@ accept_behind-requires c =
 pub pair_line-r-requires : goal.pair_line-r-requires
 pair_line-r-requires c =
     omega (
-  arith,
-  (c).requires.4,
-)
+      arith,
+      (c).requires.4,
+    )
 
 pub grow-requires : goal.grow-requires
 grow-requires c =

@@ -33,16 +33,16 @@ shape_of-out-in-Accepted c =
 pub shape_of-state-in-Accepted : goal.shape_of-state-in-Accepted
 shape_of-state-in-Accepted c =
     omega (
-  arith,
-  c.loop-left.invariant.2,
-)
+      arith,
+      c.loop-left.invariant.2,
+    )
 
 pub shape_of-work-in-Accepted : goal.shape_of-work-in-Accepted
 shape_of-work-in-Accepted c =
     omega (
-  arith,
-  c.loop-left.invariant.3,
-)
+      arith,
+      c.loop-left.invariant.3,
+    )
 
 pub returns-in-Accepted : goal.returns-in-Accepted
 returns-in-Accepted c =
@@ -67,23 +67,23 @@ returns-in-Accepted c =
 pub shape_of-out-in-Refused : goal.shape_of-out-in-Refused
 shape_of-out-in-Refused c =
     omega (
-  arith,
-  c.loop-left.invariant.1,
-)
+      arith,
+      c.loop-left.invariant.1,
+    )
 
 pub shape_of-state-in-Refused : goal.shape_of-state-in-Refused
 shape_of-state-in-Refused c =
     omega (
-  arith,
-  c.loop-left.invariant.2,
-)
+      arith,
+      c.loop-left.invariant.2,
+    )
 
 pub shape_of-work-in-Refused : goal.shape_of-work-in-Refused
 shape_of-work-in-Refused c =
     omega (
-  arith,
-  c.loop-left.invariant.3,
-)
+      arith,
+      c.loop-left.invariant.3,
+    )
 
 pub returns-in-Refused : goal.returns-in-Refused
 returns-in-Refused c =

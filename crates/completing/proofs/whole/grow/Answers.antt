@@ -12,8 +12,7 @@ pair_line-r-requires c =
 
 pub returns-in-Grown : goal.returns-in-Grown
 returns-in-Grown c =
-    let x = c.add in
-    (
+    let x = c.add in (
       sym x.ensures.0 ∙ ap (λ y. added_of y x.new.out) c.in-Grown.is,
       subst Short c.in-Grown.is x.ensures.1,
       c.less-from.ensures.0,
