@@ -1,10 +1,11 @@
 // The three calls, the one that divides a lent vector, and the sheet, the Betti page, the minimal numbers, the bidegrees, the Hilbert function, membership,
-// the completed file and a replayed log as one each, for programs in other languages: include/tagetessash.h declares them.
+// the completed file and a replayed log as one each, for programs in other languages: crate calls_c exports them, include/tagetessash.h declares them.
 // Exists for: `tagetessash_read`, `tagetessash_lift`, `tagetessash_fetch`, `tagetessash_divide`, `tagetessash_sheet`, `tagetessash_betti`,
 // `tagetessash_minimal`, `tagetessash_bidegrees`, `tagetessash_hilbert`, `tagetessash_member`, `tagetessash_completed`, `tagetessash_replay`;
 // `Making.all_calls`.
 // Knows: crates read_call, fetch_call, lift_call, divide_call, sheet and page_calls.
-// A slice is a pointer and a length.
+#![tactic(auto)]
+
 ghost use Rattle.std.specs.Prelude.{◌≡◌, ℕ};
 ghost use Rattle.definitions.specs.Limits.{document_01};
 ghost use Rattle.definitions.specs.Sheet.{sheet as sheet_definition};
@@ -22,13 +23,7 @@ ghost use Rattle.calls.specs.Version.{version, minor};
 ghost use Rattle.calls.specs.Coded.{ReadSays, LiftSays, FetchSays, DivideSays};
 
 // "read a file and accept or refuse its basis"
-#[unsafe(no_mangle)]
-pub extern "C" fn tagetessash_read(
-    file: &[u8],
-    state: &mut [u16],
-    work: &mut [u16],
-    place: &mut usize,
-) -> u16
+pub fn tagetessash_read(file: &[u8], state: &mut [u16], work: &mut [u16], place: &mut usize) -> u16
     ensures { ReadSays result place.new state.new work.new file.now state.old
         work.old }
 {
@@ -38,8 +33,7 @@ pub extern "C" fn tagetessash_read(
 }
 
 // "form the frame of level k and lift all its terms, in number order, by one of three ways"
-#[unsafe(no_mangle)]
-pub extern "C" fn tagetessash_lift(
+pub fn tagetessash_lift(
     state: &mut [u16],
     work: &mut [u16],
     cache: &mut [u16],
@@ -58,8 +52,7 @@ pub extern "C" fn tagetessash_lift(
 }
 
 // "fetch vector v of level k"
-#[unsafe(no_mangle)]
-pub extern "C" fn tagetessash_fetch(
+pub fn tagetessash_fetch(
     state: &[u16],
     out: &mut [u16],
     level: usize,
@@ -74,8 +67,7 @@ pub extern "C" fn tagetessash_fetch(
 }
 
 // "quotients applied to the elements plus the remainder give the vector back": of a lent vector, by the elements of the state.
-#[unsafe(no_mangle)]
-pub extern "C" fn tagetessash_divide(
+pub fn tagetessash_divide(
     state: &[u16],
     vector: &[u16],
     quotients: &mut [u16],
@@ -91,8 +83,7 @@ pub extern "C" fn tagetessash_divide(
 }
 
 // "The sheet printed": 0, and its bytes are the first `length` of out; or 16.
-#[unsafe(no_mangle)]
-pub extern "C" fn tagetessash_sheet(
+pub fn tagetessash_sheet(
     file: &[u8],
     state: &mut [u16],
     work: &mut [u16],
@@ -108,8 +99,7 @@ pub extern "C" fn tagetessash_sheet(
 }
 
 // "Betti page": 0, and its bytes are the first `length` of out; or 16.
-#[unsafe(no_mangle)]
-pub extern "C" fn tagetessash_betti(
+pub fn tagetessash_betti(
     file: &[u8],
     state: &mut [u16],
     work: &mut [u16],
@@ -125,8 +115,7 @@ pub extern "C" fn tagetessash_betti(
 }
 
 // "Minimal Betti numbers": 0, and the bytes of their page are the first `length` of out; or 16.
-#[unsafe(no_mangle)]
-pub extern "C" fn tagetessash_minimal(
+pub fn tagetessash_minimal(
     file: &[u8],
     state: &mut [u16],
     work: &mut [u16],
@@ -142,8 +131,7 @@ pub extern "C" fn tagetessash_minimal(
 }
 
 // "Two degrees side by side": 0, and the bytes of the lines are the first `length` of out; or 16.
-#[unsafe(no_mangle)]
-pub extern "C" fn tagetessash_bidegrees(
+pub fn tagetessash_bidegrees(
     file: &[u8],
     state: &mut [u16],
     work: &mut [u16],
@@ -159,8 +147,7 @@ pub extern "C" fn tagetessash_bidegrees(
 }
 
 // "Hilbert function": 0, and its lines are the first `length` bytes of out; or 16.
-#[unsafe(no_mangle)]
-pub extern "C" fn tagetessash_hilbert(
+pub fn tagetessash_hilbert(
     file: &[u8],
     state: &mut [u16],
     work: &mut [u16],
@@ -176,8 +163,7 @@ pub extern "C" fn tagetessash_hilbert(
 }
 
 // "Is this vector in the module?": 0, and the lines of a file and the V lines after it are the first `length` bytes of out; or 16.
-#[unsafe(no_mangle)]
-pub extern "C" fn tagetessash_member(
+pub fn tagetessash_member(
     input: &[u8],
     state: &mut [u16],
     work: &mut [u16],
@@ -193,8 +179,7 @@ pub extern "C" fn tagetessash_member(
 }
 
 // "Completing a basis": 0, and the completed file is the first `length` bytes of out, or a refusal's X line; or 16.
-#[unsafe(no_mangle)]
-pub extern "C" fn tagetessash_completed(
+pub fn tagetessash_completed(
     file: &[u8],
     state: &mut [u16],
     work: &mut [u16],
@@ -211,8 +196,7 @@ pub extern "C" fn tagetessash_completed(
 
 // "replays them in place of a pick code": 0, and the S lines of the vector that an L line and P lines after a file give are the first `length` bytes of out,
 // or a refusal's X line; or 16.
-#[unsafe(no_mangle)]
-pub extern "C" fn tagetessash_replay(
+pub fn tagetessash_replay(
     input: &[u8],
     state: &mut [u16],
     work: &mut [u16],
@@ -228,16 +212,14 @@ pub extern "C" fn tagetessash_replay(
 }
 
 // Which version of the calls, of the state's layout and of the sheet this library has.
-#[unsafe(no_mangle)]
-pub extern "C" fn tagetessash_version() -> u16
+pub fn tagetessash_version() -> u16
     ensures { result ≡ version }
 {
     3
 }
 
 // What was added to this version: the header says with which number what came.
-#[unsafe(no_mangle)]
-pub extern "C" fn tagetessash_minor() -> u16
+pub fn tagetessash_minor() -> u16
     ensures { result ≡ minor }
 {
     9

@@ -2,12 +2,14 @@
 // Exists for: `answer`.
 // Knows: crate page_calls.
 // It reads, makes one call and writes; all buffers are its own.
+#![tactic(auto)]
+
 ghost use Rattle.std.specs.Prelude.{◌≡◌, ℕ, ◌≤◌, length, take};
 ghost use Rattle.std.proofs.Math.Option.{some};
 ghost use Rattle.definitions.specs.Limits.{document_01};
 ghost use Rattle.definitions.specs.Hilbert.{hilbert as hilbert_definition};
 ghost use Rattle.definitions.specs.Places.{state_length, value_length, hilbert_length};
-ghost use Rattle.io.specs.Counts.{IsPrefixLen};
+ghost use Rattle.programs.specs.Streams.{IsPrefixLen};
 
 // The lines of the bytes that were read stand in front of out: how many bytes they are.
 fn answer(file: &[u8], state: &mut [u16], work: &mut [u16], out: &mut [u8]) -> usize
@@ -25,15 +27,15 @@ fn out_bytes() -> [u8; words::HILBERT_LENGTH]
     [0; words::HILBERT_LENGTH]
 }
 
-fn main() {
+fn main(rt: HostRuntime) {
     let mut file = programs::file_bytes();
     let mut state = programs::state_words();
     let mut work = programs::work_words();
     let mut out = out_bytes();
-    let input = programs::read(&mut file);
+    let input = programs::read(rt, &mut file);
     if input.more == 0 {
         let n = input.length;
         let length = answer(&file[..n], &mut state, &mut work, &mut out);
-        programs::write(&out[..length]);
+        programs::write(rt, &out[..length]);
     }
 }

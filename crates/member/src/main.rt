@@ -2,12 +2,14 @@
 // Exists for: `answer`.
 // Knows: crate page_calls.
 // It reads, makes one call and writes; all buffers are its own. No byte behind those that it reads changes what it writes.
+#![tactic(auto)]
+
 ghost use Rattle.std.specs.Prelude.{◌≡◌, ℕ, ◌≤◌, length, take};
 ghost use Rattle.std.proofs.Math.Option.{some};
 ghost use Rattle.definitions.specs.Limits.{document_01};
 ghost use Rattle.definitions.specs.Membership.{membership};
 ghost use Rattle.definitions.specs.Places.{state_length, value_length, brought_length, member_length};
-ghost use Rattle.io.specs.Counts.{IsPrefixLen};
+ghost use Rattle.programs.specs.Streams.{IsPrefixLen};
 
 // The lines of the bytes that were read stand in front of out: how many bytes they are.
 fn answer(input: &[u8], state: &mut [u16], work: &mut [u16], out: &mut [u8]) -> usize
@@ -32,15 +34,15 @@ fn out_bytes() -> [u8; words::MEMBER_LENGTH]
     [0; words::MEMBER_LENGTH]
 }
 
-fn main() {
+fn main(rt: HostRuntime) {
     let mut input = input_bytes();
     let mut state = programs::state_words();
     let mut work = programs::work_words();
     let mut out = out_bytes();
-    let read = programs::read(&mut input);
+    let read = programs::read(rt, &mut input);
     if read.more == 0 {
         let n = read.length;
         let length = answer(&input[..n], &mut state, &mut work, &mut out);
-        programs::write(&out[..length]);
+        programs::write(rt, &out[..length]);
     }
 }

@@ -2,12 +2,14 @@
 // Exists for: `answer`.
 // Knows: crate page_calls.
 // It reads, makes one call and writes; all buffers are its own.
+#![tactic(auto)]
+
 ghost use Rattle.std.specs.Prelude.{◌≡◌, ℕ, ◌≤◌, length, take};
 ghost use Rattle.std.proofs.Math.Option.{some};
 ghost use Rattle.definitions.specs.Limits.{document_01};
 ghost use Rattle.definitions.specs.Minimal.{minimal as minimal_definition};
 ghost use Rattle.definitions.specs.Places.{state_length, value_length, page_length};
-ghost use Rattle.io.specs.Counts.{IsPrefixLen};
+ghost use Rattle.programs.specs.Streams.{IsPrefixLen};
 
 // The page of minimal numbers of the bytes that were read stands in front of out: how many bytes it has.
 fn answer(file: &[u8], state: &mut [u16], work: &mut [u16], out: &mut [u8]) -> usize
@@ -19,15 +21,15 @@ fn answer(file: &[u8], state: &mut [u16], work: &mut [u16], out: &mut [u8]) -> u
     r.length
 }
 
-fn main() {
+fn main(rt: HostRuntime) {
     let mut file = programs::file_bytes();
     let mut state = programs::state_words();
     let mut work = programs::work_words();
     let mut out = programs::page_bytes();
-    let input = programs::read(&mut file);
+    let input = programs::read(rt, &mut file);
     if input.more == 0 {
         let n = input.length;
         let length = answer(&file[..n], &mut state, &mut work, &mut out);
-        programs::write(&out[..length]);
+        programs::write(rt, &out[..length]);
     }
 }

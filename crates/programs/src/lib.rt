@@ -1,13 +1,15 @@
 // What every program does: standard input to its end, buffers of its own, standard output.
 // Exists for: `read`, `write`; `file_bytes`, `state_words`, `work_words`, `page_bytes`.
-// Knows: the kit's io and libc.
+// Knows: std's streams.
+// A call that a signal interrupts before it moves a byte counts as one that failed.
 // What a program answers is its own.
+#![tactic(auto)]
+
 ghost use Rattle.std.specs.Prelude.{◌≡◌, ◌≤◌, length};
 ghost use Rattle.definitions.specs.Places.{state_length, value_length, read_length, page_length};
-ghost use Rattle.io.specs.Counts.{IsPrefixLen};
-ghost use Rattle.libc.specs.Io.{Moved};
+ghost use Rattle.programs.specs.Streams.{IsPrefixLen, Moved};
 
-use libc::{STDERR_FILENO, STDIN_FILENO, STDOUT_FILENO};
+use std::io::{Read, Write};
 
 // One byte more than the longest file: with it a longer one is told from it.
 pub fn file_bytes() -> [u8; words::READ_LENGTH]
@@ -44,32 +46,65 @@ pub struct Input {
 }
 
 // Standard input to its end, or until the buffer is full; where a read fails, that is told on standard error.
-pub fn read(file: &mut [u8]) -> Input
+pub fn read(rt: HostRuntime, file: &mut [u8]) -> Input
     ensures prefix_len { IsPrefixLen result.length file.new }
     ensures moved { Moved 1 result.more }
 {
-    let length = io::read_full(STDIN_FILENO, file);
+    let mut stdin = rt.stdin();
+    let length = read_full(&mut stdin, file);
     if file.len() <= length {
         return Input { length, more: 0 };
     }
     // read_full stops at the input's end and where a read fails: what came before a failure is not the file
     let mut next = [0u8; 1];
-    let more = libc::read(STDIN_FILENO, &mut next);
+    let more = more_of(&mut stdin, &mut next);
     if more != 0 {
-        io::write_all(
-            STDERR_FILENO,
-            &[b'n', b'o', b't', b' ', b'r', b'e', b'a', b'd', b'\n'],
-        );
+        write_all(&mut rt.stderr(), b"not read\n");
     }
     Input { length, more }
 }
 
 // All of this to standard output; where a write fails, that is told on standard error.
-pub fn write(out: &[u8]) {
-    if !io::write_all(STDOUT_FILENO, out) {
-        io::write_all(
-            STDERR_FILENO,
-            &[b'c', b'u', b't', b' ', b'o', b'f', b'f', b'\n'],
-        );
+pub fn write(rt: HostRuntime, out: &[u8]) {
+    if !write_all(&mut rt.stdout(), out) {
+        write_all(&mut rt.stderr(), b"cut off\n");
     }
+}
+
+// How many bytes stand in front of the buffer once it is full, the input ends or a read fails.
+fn read_full<R: Read>(from: &mut R, buffer: &mut [u8]) -> usize
+    ensures { IsPrefixLen result buffer.new }
+{
+    let mut done = 0;
+    while done < buffer.len() {
+        match from.read(&mut buffer[done..]) {
+            Ok(0) => return done,
+            Ok(n) => done += n,
+            Err(_) => return done,
+        }
+    }
+    done
+}
+
+// What one read answers: how many bytes it put into the buffer, -1 where it fails.
+fn more_of<R: Read>(from: &mut R, buffer: &mut [u8; 1]) -> isize
+    ensures { Moved 1 result }
+{
+    match from.read(buffer) {
+        Ok(n) => n as isize,
+        Err(_) => -1,
+    }
+}
+
+// Whether all of it was written; else the first write that takes nothing or fails is the last.
+fn write_all<W: Write>(to: &mut W, bytes: &[u8]) -> bool {
+    let mut done = 0;
+    while done < bytes.len() {
+        match to.write(&bytes[done..]) {
+            Ok(0) => return false,
+            Ok(n) => done += n,
+            Err(_) => return false,
+        }
+    }
+    true
 }

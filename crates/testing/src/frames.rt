@@ -24,8 +24,7 @@ fn tell(x: Stored, count: &mut usize) -> u16
 
 // The frame terms of r leading rows, numbered by the order code, into the rows of d; stores how many they are. 15 where they are more than the limit,
 // 16 where a slice is too short.
-#[unsafe(no_mangle)]
-pub extern "C" fn frames_form(
+pub fn frames_form(
     d: &mut [u16],
     limit: usize,
     c: &mut [u16],

@@ -60,8 +60,7 @@ fn descent_at(s: &[u16], i: usize, code: u16) -> usize
 }
 
 // How many of the first n rows are greater on level 0 than the row behind; none where there is no row behind the n.
-#[unsafe(no_mangle)]
-pub extern "C" fn leaves_descents(s: &[u16], n: usize, code: u16) -> usize
+pub fn leaves_descents(s: &[u16], n: usize, code: u16) -> usize
     ensures { result ≡ descents code s.now n }
 {
     if s.len() / words::ROW_LENGTH <= n {
@@ -121,8 +120,7 @@ fn fill_products(d: &mut [u16], s: &[u16], n: usize)
 }
 
 // The products of the first n rows, each with the exponents of the row behind it, in the rows of d; d as it is where the slices are too short.
-#[unsafe(no_mangle)]
-pub extern "C" fn leaves_products(d: &mut [u16], s: &[u16], n: usize)
+pub fn leaves_products(d: &mut [u16], s: &[u16], n: usize)
     ensures { d.new ≡ products s.now d.old n }
 {
     if s.len() / words::ROW_LENGTH <= n {
@@ -146,8 +144,7 @@ fn found_mark(x: Place) -> usize
 }
 
 // How many of the first n rows of s have their monomial among the first r rows of d; none where a slice is too short.
-#[unsafe(no_mangle)]
-pub extern "C" fn leaves_found(d: &[u16], r: usize, s: &[u16], n: usize) -> usize
+pub fn leaves_found(d: &[u16], r: usize, s: &[u16], n: usize) -> usize
     ensures { result ≡ found d.now r s.now n }
 {
     if d.len() / words::ROW_LENGTH < r {
@@ -212,8 +209,7 @@ fn count_lower(heads: &[u16], r: usize, spans: &[u16], k: usize, s: &[u16], n: u
 }
 
 // How many of n rows are of lower order by the elements of level k; none where the state or the rows are not as they must be.
-#[unsafe(no_mangle)]
-pub extern "C" fn leaves_lower(state: &[u16], k: usize, s: &[u16], n: usize) -> usize
+pub fn leaves_lower(state: &[u16], k: usize, s: &[u16], n: usize) -> usize
     ensures { result ≡ lower state.now k s.now n }
 {
     if ready(state, k, s, n) {
@@ -231,8 +227,7 @@ pub extern "C" fn leaves_lower(state: &[u16], k: usize, s: &[u16], n: usize) -> 
 
 // The terms of n rows one by one into an empty sum that descends in the order of the module over level k; the number of its rows, none where the state
 // or the rows are not as they must be.
-#[unsafe(no_mangle)]
-pub extern "C" fn leaves_sort(d: &mut [u16], s: &[u16], n: usize, state: &[u16], k: usize) -> usize
+pub fn leaves_sort(d: &mut [u16], s: &[u16], n: usize, state: &[u16], k: usize) -> usize
     ensures { rows d.new 0 result ≡ choose (ltb (length d.old / row_length) n) []
         (sorted state.now k s.now n) }
 {

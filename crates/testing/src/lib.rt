@@ -1,6 +1,8 @@
-// What the tests and benches call beside the public calls: one library to link, `tools/test-library` writes it.
-// Knows: the crates whose functions it exports, each module its own.
+// What the tests and benches call beside the public calls; crate testing_c exports it as one library to link.
+// Knows: the crates whose functions it calls, each module its own.
 // No code of the engine calls it.
+#![tactic(auto)]
+
 pub mod frames;
 pub mod leaves;
 pub mod reading;

@@ -7,8 +7,7 @@ ghost use Rattle.testing.specs.Reader.{called};
 use reader::problem;
 
 // Reads a file into a state of any length; answers the number and stores the place. The state is read, not accepted.
-#[unsafe(no_mangle)]
-pub extern "C" fn reader_read(file: &[u8], state: &mut [u16], place: &mut usize) -> u16
+pub fn reader_read(file: &[u8], state: &mut [u16], place: &mut usize) -> u16
     ensures { (result, place.new, state.new) ≡ called file.now state.old }
 {
     if state.len() < words::STATE_LENGTH {

@@ -7,8 +7,7 @@ ghost use Rattle.testing.specs.Soundness.{number_of};
 use state::soundness;
 
 // 16 for a state that is too short, 11 for one that counts as no accepted basis, 0 for any other.
-#[unsafe(no_mangle)]
-pub extern "C" fn soundness_number(state: &[u16]) -> u16
+pub fn soundness_number(state: &[u16]) -> u16
     ensures { result ≡ number_of state.now }
 {
     if state.len() < words::STATE_LENGTH {

@@ -127,8 +127,7 @@ fn tell(x: Leveled, count: &mut usize, used: &mut usize) -> u16
 }
 
 // The level over levels 0 to k − 1 of a state: on 0 the slice holds the ends of the vectors, and their rows from word 128 on.
-#[unsafe(no_mangle)]
-pub extern "C" fn lifts_level(
+pub fn lifts_level(
     out: &mut [u16],
     work: &mut [u16],
     cache: &mut [u16],

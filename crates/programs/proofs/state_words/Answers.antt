@@ -1,0 +1,9 @@
+-- by the law: counting so many zeros out would take the checker minutes
+use Rattle.std.proofs.Common.{ℕ}
+use Rattle.std.proofs.Math.Path.{sym}
+use Rattle.std.proofs.lemmas.List.{length-replicate}
+use Rattle.definitions.specs.Places.{state_length}
+use Rattle.programs.proofs.state_words.Goals as goal
+
+pub returns : goal.returns
+returns c = sym (length-replicate {A = ℕ} state_length 0)

@@ -1,0 +1,15 @@
+use Rattle.definitions.specs.Limits.{document_01}
+use Rattle.definitions.specs.Replay.{replay}
+use Rattle.definitions.specs.Places.{replay_length}
+use Rattle.lending.proofs.Front.{printed_in_front}
+use Rattle.replay.proofs.answer.Goals as goal
+
+pub returns-clause-prefix_len : goal.returns-clause-prefix_len
+returns-clause-prefix_len c =
+    (printed_in_front c.args.state.now c.args.work.now c.args.out.now _ _ _ _ _ replay_length (replay document_01) c.args.input.now c.requires.0 c.requires.1
+    c.requires.2 c.replay-r.ensures).0
+
+pub returns-clause-by_index : goal.returns-clause-by_index
+returns-clause-by_index c =
+    (printed_in_front c.args.state.now c.args.work.now c.args.out.now _ _ _ _ _ replay_length (replay document_01) c.args.input.now c.requires.0 c.requires.1
+    c.requires.2 c.replay-r.ensures).1
