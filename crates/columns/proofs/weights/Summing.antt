@@ -91,7 +91,8 @@ module _ (n : ℕ) (ws : List ℕ) (few : n ≤ most_variables) (all : length ws
       let v = take (2 * n) ws in
       let z : suc (2 * j) ≡ 2 * j + 1 = omega arith in
       let inside : suc (2 * j) < length v = omega (arith, taken, h) in
-      let a = sym (get_or-take (2 * n) ws (2 * j) 0 (omega (arith, h))) ∙ sym (firsts_pairs v j inside) ∙ get_d_map (λ (w : Bidegree). w.0) (pairs v) j (0, 0) in
+      let a = sym (get_or-take (2 * n) ws (2 * j) 0 (omega (arith, h))) ∙ sym (firsts_pairs v j inside)
+      ∙ get_d_map (λ (w : Bidegree). w.0) (pairs v) j (0, 0) in
       let b = ap (λ i. get_or ws i 0) (sym z) ∙ sym (get_or-take (2 * n) ws (suc (2 * j)) 0 (omega (arith, h))) ∙ sym (seconds_pairs v j inside)
       ∙ get_d_map (λ (w : Bidegree). w.1) (pairs v) j (0, 0) in
       λ i. (a i, b i)

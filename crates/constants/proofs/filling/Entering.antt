@@ -28,7 +28,8 @@ pub length_row_from : (j : ℕ) (es : List ℕ) (d : ℕ) (v : Vector) → lengt
 length_row_from j [] d v = refl
 length_row_from j (e ∷ es) d v = ap suc (length_row_from (suc j) es d v)
 
-getD_row_from : (j : ℕ) (es : List ℕ) (d : ℕ) (v : Vector) (i : ℕ) → i < length es → get_or (row_from j es d v) i 0 ≡ kept (get_or es i 0) d (constant v (j + i))
+getD_row_from : (j : ℕ) (es : List ℕ) (d : ℕ) (v : Vector) (i : ℕ) → i < length es →
+    get_or (row_from j es d v) i 0 ≡ kept (get_or es i 0) d (constant v (j + i))
 getD_row_from j [] d v i h = absurd (not-suc-le-zero h)
 getD_row_from j (e ∷ es) d v zero h = let z : j ≡ j + 0 = omega arith in ap (λ k. kept e d (constant v k)) z
 getD_row_from j (e ∷ es) d v (suc i) h =

@@ -39,7 +39,8 @@ level_of s (suc h) k l =
     many : length before ≡ h
     many = length-reverse (levels_at document_01 s h) ∙ length_levels s h
 
-    go : Dec (k ≡ h) → (k < h → get_or before k [] ≡ level_at document_01 s k) → get_or (before ++ level_at document_01 s h ∷ []) k [] ≡ level_at document_01 s k
+    go : Dec (k ≡ h) → (k < h → get_or before k [] ≡ level_at document_01 s k) →
+        get_or (before ++ level_at document_01 s h ∷ []) k [] ≡ level_at document_01 s k
     go (yes e) r =
         subst (λ i. get_or (before ++ level_at document_01 s h ∷ []) i [] ≡ level_at document_01 s i) (sym e)
         (get_or_at before (level_at document_01 s h) [] [] h many)

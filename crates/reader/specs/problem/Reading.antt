@@ -61,7 +61,8 @@ problem_words size file = definition.problem document_01 file >>= λ f. done (wo
 
 -- the words after a term was stored behind so many: its row, the end of its element, the count of elements
 abbrev pub stored : Words → ℕ → Words → Words
-stored s count w = set (set (paste s (rows_start + count * row_length) (row_of (term_in w)) row_length) (header_length + get_or w 0 0) (count + 1)) header_length
+stored s count w =
+    set (set (paste s (rows_start + count * row_length) (row_of (term_in w)) row_length) (header_length + get_or w 0 0) (count + 1)) header_length
     (get_or w 0 0)
 
 -- the words of a state with no element yet, from zeros: the header, the components' degrees

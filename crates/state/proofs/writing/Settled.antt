@@ -124,7 +124,8 @@ module _ (s z : Words) (h : ℕ) (long : state_length ≤ length s) (l : h ≤ a
 -- ## Degrees
 
 -- the words behind the components' degrees and behind those of the levels cleared
-module _ (s z : Words) (h n : ℕ) (long : state_length ≤ length s) (l : h ≤ all_levels) (few : Few s h) (c : get_or s 3 0 ≤ most_components) (e : n ≡ get_or s 3 0)
+module _ (s z : Words) (h n : ℕ) (long : state_length ≤ length s) (l : h ≤ all_levels) (few : Few s h) (c : get_or s 3 0 ≤ most_components)
+    (e : n ≡ get_or s 3 0)
     (t : CarriedTo s z h) where
   abbrev mid' : Words
   mid' = block_cleared (degrees_start + n) (carried_start - (degrees_start + n)) 0 z

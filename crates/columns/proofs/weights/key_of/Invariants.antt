@@ -7,7 +7,8 @@ use Rattle.columns.specs.weights.Keys.{most_key_weight}
 use Rattle.columns.proofs.weights.key_of.Given as goal
 
 abbrev pub invariant-loop-j : goal.invariant-loop-j
-invariant-loop-j l = (l.j ≤ exponents_length) × (weighted l.kw l.e ≡ l.sum + weighted (drop l.j l.kw) (drop l.j l.e)) × (l.sum ≤ l.j * (most_key_weight * most_exponent))
+invariant-loop-j l = (l.j ≤ exponents_length) × (weighted l.kw l.e ≡ l.sum + weighted (drop l.j l.kw) (drop l.j l.e))
+    × (l.sum ≤ l.j * (most_key_weight * most_exponent))
 
 abbrev pub decreases-loop-j : goal.decreases-loop-j
 decreases-loop-j l = exponents_length - l.j

@@ -11,7 +11,8 @@ abbrev pub invariant-loop-i : goal.invariant-loop-i
 invariant-loop-i l =
     (l.i ≤ l.rows) × (length l.m ≡ length l.initial.m) × (length l.marks ≡ length l.initial.marks)
     × (l.marks ≡ paste l.initial.marks l.at (Rattle.ranks.specs.Elimination.marks l.p (rows_at l.n l.rows l.initial.m)) l.i)
-    × (drop l.i (Rattle.ranks.specs.Elimination.marks l.p (rows_at l.n l.rows l.initial.m)) ≡ marks_of l.p (l.rows - l.i) (rows_at l.n (l.rows - l.i) (drop (l.i * most_vectors) l.m)))
+    × (drop l.i (Rattle.ranks.specs.Elimination.marks l.p (rows_at l.n l.rows l.initial.m))
+    ≡ marks_of l.p (l.rows - l.i) (rows_at l.n (l.rows - l.i) (drop (l.i * most_vectors) l.m)))
 
 abbrev pub decreases-loop-i : goal.decreases-loop-i
 decreases-loop-i l = l.rows - l.i

@@ -22,7 +22,8 @@ returns-then-said-eq0 c =
     let shape = has_shape (in_sixteen (shaped_first 65535 69 1 (drop a.at file))) a.place (e_judged a.place a.count) file l.result
     l.ensures next c.in-Behind.is in
     let said : c.size_of-said.result ≡ get_or w 0 0 = c.size_of-said.ensures in
-    refused_as c.refused-then-said-eq0.result file 7 a.place c.refused-then-said-eq0.ensures ∙ count_zero a.place a.count w (drop next file) (omega arith) ∙ shape
+    refused_as c.refused-then-said-eq0.result file 7 a.place c.refused-then-said-eq0.ensures
+    ∙ count_zero a.place a.count w (drop next file) (omega arith) ∙ shape
 
 pub returns-then-said-count : goal.returns-then-said-count
 returns-then-said-count c =

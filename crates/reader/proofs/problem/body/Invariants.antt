@@ -12,7 +12,8 @@ use Rattle.reader.proofs.problem.body.Given as goal
 
 abbrev pub invariant-loop-next : goal.invariant-loop-next
 invariant-loop-next l =
-    (l.count ≤ most_rows) × (length l.state ≡ length l.initial.state) × ((f : Level) × SoFar (parameters_of l.q) (drop degrees_start l.initial.state) f l.count l.elements l.before l.state
+    (l.count ≤ most_rows) × (length l.state ≡ length l.initial.state)
+    × ((f : Level) × SoFar (parameters_of l.q) (drop degrees_start l.initial.state) f l.count l.elements l.before l.state
     × (body document_01 (parameters_of l.q) l.first 0 [] (lines (drop l.from l.file))
     ≡ body document_01 (parameters_of l.q) (l.count + l.first) l.count f (lines (drop l.at l.file))))
 

@@ -29,8 +29,11 @@ loop-j-preserved c =
     let L = take a.s (drop degrees_start a.state.now) in
     let n : length L ≡ a.s = length-take-le a.s (drop degrees_start a.state.now) (omega (arith, length-drop degrees_start a.state.now)) in
     let q : get_or L l.j 0 ≡ get_or a.state.now (degrees_start + l.j) 0 = get_or-take a.s (drop degrees_start a.state.now) l.j 0 (omega arith)
-    ∙ get_or-drop degrees_start a.state.now l.j 0 in
-    (omega arith, l.invariant.1 ∙ fits_on most_degree L l.j (omega arith) (le-leb (get_or L l.j 0) most_degree (omega (arith, q, c.if-state-j-gt-MOST_DEGREE.false))))
+    ∙ get_or-drop degrees_start a.state.now l.j 0 in (
+      omega arith,
+      l.invariant.1 ∙ fits_on most_degree L l.j (omega arith)
+          (le-leb (get_or L l.j 0) most_degree (omega (arith, q, c.if-state-j-gt-MOST_DEGREE.false))),
+    )
 
 pub returns : goal.returns
 returns c =
