@@ -2,6 +2,7 @@
 // `over::replay_vector`.
 // Knows: crate definitions' Replay.
 // A step is crate runs'.
+#![tactic(auto)]
 pub mod log;
 pub mod over;
 pub mod picks;
