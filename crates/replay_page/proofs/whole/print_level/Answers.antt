@@ -86,3 +86,8 @@ returns c =
           p.ensures.0,
       omega (arith, p.ensures.1),
     )
+
+pub lift_below-below-requires : goal.lift_below-below-requires
+lift_below-below-requires c =
+    let P = c.requires in
+    (P.0, P.1, omega arith, omega arith, P.3)
