@@ -1,6 +1,6 @@
 -- A2 for the definitions' comparison.
 use mathlib.Core.Path.{◌≡◌, refl, sym, ap, ◌∙◌, subst}
-use mathlib.Core.Logic.{◌⊎◌, inl, inr, ⊎_elim, ◌↔◌}
+use mathlib.Core.Logic.{inl, inr, ⊎_elim}
 use mathlib.Core.List.{List, [], ◌∷◌}
 use Prim.Native.Nat.{ℕ, zero, suc}
 use native.Mathlib.Omega.{arith}
@@ -8,8 +8,8 @@ use lib.Dec.{T}
 use lib.ListN.{length}
 use Rattle.definitions.specs.Limits.{Limits, document_01}
 use Rattle.definitions.specs.Lists.{between}
-use Rattle.definitions.specs.Monomial.{Exponents, Monomial, Term, Vector, Level, product, vector_of}
-use Rattle.definitions.specs.Order.{Comparison, greater, equal, smaller, or_at_tie, numbers, exponents_by, image_by, image, compare_over}
+use Rattle.definitions.specs.Monomial.{Exponents, Monomial, Vector, Level, vector_of}
+use Rattle.definitions.specs.Order.{Comparison, greater, equal, smaller, numbers, exponents_by, image_by, image, compare_over}
 use Rattle.definitions.specs.State.{State, sound?, up_to}
 use Rattle.laws.proofs.Tests.{between_low, between_high}
 use Rattle.laws.proofs.Members.{All, all_inside}

@@ -1,6 +1,5 @@
 -- What a sound state gives for comparing: eight exponents in every leading term, a code from 1 to 3, and leading terms above the others.
-use mathlib.Core.Path.{◌≡◌, refl, sym, ap, subst}
-use mathlib.Core.Bool.{Bool}
+use mathlib.Core.Path.{◌≡◌, refl, sym, subst}
 use mathlib.Core.List.{List, [], ◌∷◌}
 use Prim.Native.Nat.{ℕ, zero, suc, ◌-◌}
 use native.Mathlib.Omega.{arith}
@@ -8,7 +7,7 @@ use lib.Dec.{T}
 use lib.ListN.{length, drop}
 use Rattle.definitions.specs.Limits.{Limits}
 use Rattle.definitions.specs.Lists.{◌and◌, every, between}
-use Rattle.definitions.specs.Monomial.{Exponents, Monomial, Term, Vector, Level}
+use Rattle.definitions.specs.Monomial.{Term, Vector, Level}
 use Rattle.definitions.specs.Order.{compare_over}
 use Rattle.definitions.specs.Vectors.{strictly_descending?}
 use Rattle.definitions.specs.Problem.{Parameters}

@@ -1,7 +1,7 @@
 -- Small limits and small files where a slip on 13, 14 or 15 shows, by computation.
 use mathlib.Core.Path.{◌≡◌, refl}
 use mathlib.Core.Bool.{true}
-use mathlib.Core.Option.{none, some}
+use mathlib.Core.Option.{some}
 use mathlib.Core.List.{List, [], ◌∷◌}
 use Rattle.definitions.specs.Limits.{document_01}
 use Rattle.definitions.specs.Monomial.{Level}

@@ -3,7 +3,6 @@ use mathlib.Core.Path.{◌≡◌, refl}
 use mathlib.Core.Bool.{true, false}
 use mathlib.Core.Option.{some}
 use mathlib.Core.List.{List, [], ◌∷◌}
-use Prim.Native.Nat.{ℕ}
 use Prim.Native.String.{String}
 use Rattle.definitions.specs.Limits.{Limits, document_01}
 use Rattle.definitions.specs.Monomial.{Vector}

@@ -1,5 +1,5 @@
 -- "A7. Minimal Betti numbers."
-use Rattle.std.specs.Prelude.{Bool, true, false, List, [], ◌∷◌, reverse, ℕ, zero, suc, ◌+◌, ◌-◌, eqb, length, get_or}
+use Rattle.std.specs.Prelude.{true, false, List, [], ◌∷◌, reverse, ℕ, zero, suc, ◌+◌, ◌-◌, eqb, length, get_or}
 use Rattle.std.proofs.Math.Option.{Option}
 use Rattle.definitions.specs.Limits.{Limits}
 use Rattle.definitions.specs.Lists.{map, from, empty?}
@@ -10,7 +10,7 @@ use Rattle.definitions.specs.State.{State}
 use Rattle.definitions.specs.Program.{lifted, program}
 use Rattle.definitions.specs.Pages.{page}
 use Rattle.definitions.specs.Betti.{homogeneous, column_degrees, rows_in_use, all_rows, betti_count}
-use Rattle.definitions.specs.Rank.{Row, Matrix, rank}
+use Rattle.definitions.specs.Rank.{Matrix, rank}
 use Rattle.definitions.specs.Places.{row_shift}
 
 -- ## Constants

@@ -1,5 +1,5 @@
 -- A page of numbers by row and column, in lines of 72 bytes (request A1): a label of 6, columns 0 to 10 of 6 each.
-use Rattle.std.specs.Prelude.{true, false, List, [], ◌∷◌, ◌++◌, ℕ, ◌+◌, ◌-◌, ltb, eqb, length, replicate}
+use Rattle.std.specs.Prelude.{true, false, List, [], ◌∷◌, ◌++◌, ℕ, ◌-◌, ltb, eqb, length, replicate}
 use Rattle.definitions.specs.Lists.{map, from, sum}
 use Rattle.definitions.specs.Problem.{Bytes, newline}
 use Rattle.definitions.specs.Sheet.{decimal}

@@ -1,5 +1,5 @@
 -- "Rank is defined as the largest number of independent rows, without reference to elimination." (request A7)
-use Rattle.std.specs.Prelude.{Bool, true, false, not, ◌||◌, List, [], ◌∷◌, ◌++◌, ℕ, zero, suc, max, eqb, length, get_or}
+use Rattle.std.specs.Prelude.{Bool, not, ◌||◌, List, [], ◌∷◌, ◌++◌, ℕ, zero, suc, max, eqb, length, get_or}
 use Rattle.definitions.specs.Lists.{every, those, map, from}
 use Rattle.definitions.specs.Field.{plus, times}
 

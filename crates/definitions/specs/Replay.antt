@@ -4,7 +4,7 @@ use Rattle.std.proofs.Math.Option.{Option, none, some}
 use Rattle.definitions.specs.Limits.{Limits}
 use Rattle.definitions.specs.Lists.{between, empty?}
 use Rattle.definitions.specs.Monomial.{Monomial, Vector, no_term, same_monomial?}
-use Rattle.definitions.specs.Result.{Result, done, refused, unfinished, unless_refused, at_level, ◌>>=◌}
+use Rattle.definitions.specs.Result.{Result, done, refused, unless_refused, at_level, ◌>>=◌}
 use Rattle.definitions.specs.Vectors.{descending}
 use Rattle.definitions.specs.Stage.{Stage, highest, stage_over}
 use Rattle.definitions.specs.Run.{Run, Step, on, end, start, hybrid_strategy, by_pick}

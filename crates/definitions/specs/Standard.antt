@@ -1,5 +1,5 @@
 -- What A13's theorem counts: "the number of monomials of that degree, components' degrees included, that no leading monomial of the basis divides"
-use Rattle.std.specs.Prelude.{Bool, true, false, not, List, [], ◌∷◌, ◌++◌, ℕ, zero, suc, ◌-◌, leb, length, replicate}
+use Rattle.std.specs.Prelude.{true, false, not, List, [], ◌∷◌, ◌++◌, ℕ, zero, suc, ◌-◌, leb, replicate}
 use Rattle.definitions.specs.Lists.{any, those, map, from}
 use Rattle.definitions.specs.Monomial.{Exponents, Monomial, Level, divides_monomial?, leading_monomials}
 use Rattle.definitions.specs.Problem.{Parameters}

@@ -7,7 +7,7 @@ use native.Mathlib.Omega.{arith}
 use lib.Dec.{T}
 use lib.ListN.{length, get_or, drop}
 use Rattle.definitions.specs.Limits.{Limits, document_01}
-use Rattle.definitions.specs.Lists.{◌and◌, every, between}
+use Rattle.definitions.specs.Lists.{every, between}
 use Rattle.definitions.specs.Monomial.{Monomial, Vector, Level, degree, leading, vector_of}
 use Rattle.definitions.specs.Stage.{highest}
 use Rattle.definitions.specs.Problem.{Parameters}

@@ -31,7 +31,7 @@ use Rattle.laws.proofs.Tests.{between_low, between_shown}
 use Rattle.demands.specs.Notions.{coefficient, Leads, Divided}
 use Rattle.demands.specs.Exact.{ShowsWhy}
 use Rattle.demands.proofs.Results.{Ends, gives, refuses, open_yet, ends_turn, ends_refusals, Refusal, limit, nine, refusal_map}
-use Rattle.demands.proofs.Levels.{Mono, TVec, TLevel, mono, monos, monos_length, vec, flat, flat_length, head, lm, Has}
+use Rattle.demands.proofs.Levels.{Mono, TVec, TLevel, mono, monos, monos_length, vec, flat, flat_length, lm, Has}
 use Rattle.demands.proofs.Setting.{Setting, S, L, F, red}
 use Rattle.demands.proofs.Soundness.{Deep, Within, SoundMono, AllSound, leading_within}
 use Rattle.demands.proofs.Sums.{canonical_good}

@@ -7,7 +7,6 @@ use Prim.Native.Nat.{ℕ, zero, suc, ◌<◌, ◌≤◌}
 use native.Mathlib.Omega.{arith}
 use lib.Dec.{T}
 use lib.ListN.{length, get_or}
-use Rattle.theory.specs.Laws.{Level}
 use Rattle.theory.specs.Vec.{All, mapB, times, ψ}
 use Rattle.theory.specs.Orders.{ExpM}
 use Rattle.theory.specs.Induced

@@ -35,7 +35,7 @@ use Rattle.demands.proofs.Setting.{Setting}
 use Rattle.demands.proofs.Soundness.{tlevel, tlevels, Deep, Within, AllSound, components, leading_within, LevelsRight, levels_right}
 use Rattle.demands.proofs.Frames.{EightEach}
 use Rattle.demands.proofs.Runs.{AllIn}
-use Rattle.demands.proofs.Reckoned.{vector, vector_bound}
+use Rattle.demands.proofs.Reckoned.{vector_bound}
 use Rattle.demands.proofs.Stages.{Written, written, term_real}
 use Rattle.demands.proofs.Bases.{here, gröbner_in, gröbner_out}
 use Rattle.demands.proofs.LeadingModule.{leading_module}

@@ -7,7 +7,6 @@ use mathlib.Core.WellFounded.{recursion}
 use Prim.Native.Nat.{ℕ, zero, suc, ◌<◌}
 use lib.Dec.{T}
 use lib.ListN.{length, get_or}
-use Rattle.theory.specs.Laws.{Level}
 use Rattle.theory.specs.Vec.{Same, scale, mapB, lin, All, times}
 use Rattle.theory.specs.Reckon.{Reducer, turned, lift_as, lift_eq, reckon}
 use Rattle.theory.specs.Canon.{Canonical, canon}

@@ -15,7 +15,6 @@ use Rattle.theory.proofs.Lift.{up_lower}
 use Rattle.theory.proofs.Trees.{tree_step}
 use Rattle.theory.proofs.Canon.{canonical_is}
 use Rattle.definitions.specs.Limits.{Limits}
-use Rattle.definitions.specs.Lists.{rest}
 use Rattle.definitions.specs.Field
 use Rattle.definitions.specs.Monomial.{Term, Vector, fits?, same_monomial?}
 use Rattle.definitions.specs.Reducer.{Answer}

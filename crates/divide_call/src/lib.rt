@@ -2,6 +2,8 @@
 // Exists for: `divide`.
 // Knows: crate definitions' Layout.
 // A call asks for nothing: a buffer that is too short is 16, words that hold no state are 11. The state is only read.
+#![tactic(auto)]
+
 ghost use Rattle.std.specs.Prelude.{◌≡◌, ℕ, ◌+◌, ◌*◌, ◌≤◌, T, length};
 ghost use Rattle.std.proofs.Math.Option.{some};
 ghost use Rattle.definitions.specs.Layout.{rows, rows_of, padded, divide_left};

@@ -3,6 +3,7 @@
 // Knows: crate definitions' Field.
 // All products are formed in u32.
 #![tactic(auto)]
+
 ghost use Rattle.std.specs.Prelude.{◌≡◌, ◌<◌};
 ghost use Rattle.definitions.specs.Limits.{document_01};
 ghost use Rattle.definitions.specs.Field.{plus, times as times_definition, minus, inverse as inverse_definition, prime?};

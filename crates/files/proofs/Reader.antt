@@ -13,7 +13,6 @@ use Rattle.definitions.specs.Result.{Result, done, refused, unfinished, unless_r
 use Rattle.definitions.specs.Problem.{Bytes, Parameters, Head, lines, first_line, head, problem}
 use Rattle.definitions.specs.Written.{end_line}
 use Rattle.files.specs.Files.{Given, elements_lines, file_of, weights_of, WellFormed, WellFormedFile, Wide, Roomy, FirstBadLine}
-use Rattle.files.specs.Answers
 use Rattle.files.specs.Answers.{RefusedRight, too_long, at_line, Answered, Head-read, ReaderRight}
 use Rattle.files.proofs.Heads.{lines_read, problem_sized, head_read}
 use Rattle.files.proofs.Taken.{lines_taken, file_taken, head_of_file, file_head}

@@ -1,5 +1,5 @@
 -- The sheet of any file.
-use mathlib.Core.Path.{◌≡◌, refl, sym, ap, ◌∙◌}
+use mathlib.Core.Path.{◌≡◌, refl, ap, ◌∙◌}
 use mathlib.Core.Option.{Option, some}
 use mathlib.Core.List.{[], ◌∷◌, append-nil}
 use Prim.Native.Nat.{ℕ}
@@ -8,7 +8,7 @@ use Rattle.definitions.specs.Monomial.{Level}
 use Rattle.definitions.specs.Result.{Result, done, refused, unfinished, ◌>>=◌}
 use Rattle.definitions.specs.Problem.{Bytes, Parameters, problem}
 use Rattle.definitions.specs.Calls.{accepted}
-use Rattle.definitions.specs.Sheet.{printed, letter_X, x_lines, variables_of, sheet, sheet_of}
+use Rattle.definitions.specs.Sheet.{printed, letter_X, x_lines, variables_of, sheet_of}
 use Rattle.files.specs.Files.{Wide, Roomy}
 use Rattle.files.specs.Answers.{Answered, SheetRight, of_elements, of_refusal}
 use Rattle.files.proofs.Reader.{reader_right}

@@ -4,7 +4,7 @@ use Rattle.std.specs.Prelude.{◌≡◌, Bool, false, ◌⊎◌, List, [], ◌�
 use Rattle.std.proofs.Math.Option.{none, some}
 use Rattle.definitions.specs.Limits.{Limits}
 use Rattle.definitions.specs.Lists.{last}
-use Rattle.definitions.specs.Monomial.{Term, Vector, Level}
+use Rattle.definitions.specs.Monomial.{Term, Level}
 use Rattle.definitions.specs.Order.{greater, compare_over}
 use Rattle.definitions.specs.Problem.{Bytes, Line, Parameters, letter_R, letter_D, letter_G, letter_T, letter_E, lines, last_term}
 use Rattle.definitions.specs.Places.{most_degree, most_weight}

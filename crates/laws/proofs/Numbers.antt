@@ -21,7 +21,7 @@ use Rattle.definitions.specs.Run
 use Rattle.definitions.specs.Run.{Strategy, Step, on, end, dropped?, unless_dropped, if_fits, multiple, add_products, start, reduced, without_reducer}
 use Rattle.definitions.specs.Run.{by_answer, by_pick, continued, runs, run, hybrid_strategy, division_strategy, accepting_strategy}
 use Rattle.definitions.specs.Tree.{Cache, Sum, cached, held_to, add_result, LiftTerm, LiftList, if_product_fits, lift_list, open_subtree, or_open}
-use Rattle.definitions.specs.Tree.{lift_by, lift_term, if_vector_product_fits, lift_vector, tree}
+use Rattle.definitions.specs.Tree.{lift_by, lift_term, if_vector_product_fits, lift_vector}
 use Rattle.definitions.specs.Lifting.{Lifting, by_division, by_hybrid, by_tree, lift_one, Lifted, add_vector, lift_all, if_few, limited_frame, lift_level}
 use Rattle.definitions.specs.Lifting.{at_frame_term, accept_from, accept}
 use Rattle.definitions.specs.Problem.{Bytes, Line, Parameters, shaped, letter_R, letter_T, letter_E, prime_in_range?, in_ranges?, parameters_of, r_line}

@@ -14,7 +14,6 @@ use Rattle.definitions.specs.Monomial.{Exponents, Vector, Level, fits?, same_exp
 use Rattle.definitions.specs.Problem.{Parameters}
 use Rattle.definitions.specs.State.{State, empty, sound?, levels_sound?, vector_sound?, term_sound?, terms_of}
 use Rattle.definitions.specs.Degrees.{degrees_of, carried}
-use Rattle.definitions.specs.Layout
 use Rattle.definitions.specs.Layout.{
   Words,
   rows,

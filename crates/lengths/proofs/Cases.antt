@@ -1,15 +1,15 @@
 -- Closed cases of request A10: what it supposes can be met, n + 1 can not be made n, "none divides another" is needed, and codes 2 and 3 do not do.
 use mathlib.Core.Path.{◌≡◌, refl, ap}
 use mathlib.Core.List.{List, [], ◌∷◌}
-use Prim.Native.Nat.{ℕ, zero, suc, ◌<◌}
+use Prim.Native.Nat.{ℕ, zero, suc}
 use native.Mathlib.Omega.{arith}
 use lib.Dec.{T}
 use lib.ListN.{length}
 use Rattle.definitions.specs.Lists.{every}
-use Rattle.definitions.specs.Monomial.{Monomial, divides_monomial?}
+use Rattle.definitions.specs.Monomial.{Monomial}
 use Rattle.definitions.specs.Order.{smaller, lexicographic}
 use Rattle.definitions.specs.Frame.{frame}
-use Rattle.lengths.specs.Notions.{in_variables?, at, Sorted, Apart, Prepared, frame_terms}
+use Rattle.lengths.specs.Notions.{in_variables?, Sorted, Apart, Prepared, frame_terms}
 
 -- x^a y^b z^c in component i
 abbrev mono : ℕ → ℕ → ℕ → ℕ → Monomial

@@ -8,7 +8,7 @@ use native.Mathlib.Omega.{arith}
 use lib.Dec.{T, eqb, eqb→eq}
 use lib.ListN.{length, take, drop}
 use Rattle.definitions.specs.Lists.{any, every}
-use Rattle.definitions.specs.Monomial.{Exponents, Monomial, Level, quotient, lcm, divides?, divides_monomial?, leading, leading_monomials}
+use Rattle.definitions.specs.Monomial.{Exponents, Monomial, Level, quotient, lcm, divides?, divides_monomial?, leading_monomials}
 use Rattle.definitions.specs.Order.{smaller, lexicographic}
 use Rattle.definitions.specs.Frame.{into_ascending, generators, properly_divides?, minimal, frame_of, frame_from, frame}
 use Rattle.laws.proofs.Tests.{and_left, and_right}

@@ -3,6 +3,7 @@
 // Knows: crate definitions' Lifting over a state's words, within limits that may be smaller than document 01's.
 // By the tree: crate ways.
 #![tactic(auto)]
+
 pub mod all_levels;
 pub mod by_runs;
 pub mod storing;

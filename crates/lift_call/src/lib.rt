@@ -2,6 +2,8 @@
 // Exists for: `lift`.
 // Knows: crate definitions' Layout; ways::any_way lifts and stores the level.
 // A call asks for nothing: a buffer that is too short is 16, words that hold no state are 11.
+#![tactic(auto)]
+
 ghost use Rattle.std.specs.Prelude.{◌≡◌, ℕ, ◌≤◌, length};
 ghost use Rattle.std.proofs.Math.Option.{some};
 ghost use Rattle.definitions.specs.Limits.{document_01};

@@ -1,6 +1,6 @@
 -- When 9, 13 and 14 come in a run, that nothing stands past a limit there, and where acceptance is refused.
 use mathlib.Core.Path.{◌≡◌, refl, sym, ap, ◌∙◌, subst}
-use mathlib.Core.Logic.{◌⊎◌, inl, inr}
+use mathlib.Core.Logic.{inl, inr}
 use mathlib.Core.Bool.{Bool, true, false}
 use mathlib.Core.Option.{Option, none, some}
 use mathlib.Core.List.{List, [], ◌∷◌, ◌++◌, append_assoc}
@@ -8,13 +8,13 @@ use Prim.Native.Nat.{ℕ, zero, suc, ◌+◌, ◌<◌, ◌≤◌}
 use native.Mathlib.Omega.{arith}
 use lib.Dec.{T, leb, ltb, eqb, leb→le, le→leb, ltb→lt, lt→ltb}
 use lib.ListN.{length, get_or, take, drop, length-append}
-use Rattle.definitions.specs.Lists.{◌and◌, every, without}
+use Rattle.definitions.specs.Lists.{without}
 use Rattle.definitions.specs.Field.{minus, plus}
 use Rattle.definitions.specs.Limits.{Limits}
 use Rattle.definitions.specs.Monomial.{Exponents, Monomial, Term, Vector, Level, no_term, fits?, vector_of, leading_monomials, same_monomial?}
 use Rattle.definitions.specs.Frame.{frame}
 use Rattle.definitions.specs.Reducer.{Answer, reducer, lower_order, answer}
-use Rattle.definitions.specs.Result.{Result, done, refused, unfinished, refusal, ◌>>=◌}
+use Rattle.definitions.specs.Result.{Result, done, refused, unfinished, ◌>>=◌}
 use Rattle.definitions.specs.Vectors.{descending, unless_zero, behind, combined, appended, or_last, store}
 use Rattle.definitions.specs.Stage.{Reduction, Stage, stage_over}
 use Rattle.definitions.specs.Run.{Run, Strategy, Step, on, end, dropped?, unless_dropped, if_fits, multiple, add_term, add_products, start, reduced}

@@ -17,13 +17,13 @@ use Rattle.definitions.specs.Order.{compare_over}
 use Rattle.definitions.specs.Vectors.{insert, descending}
 use Rattle.definitions.specs.Stage.{Stage, highest, stage_over}
 use Rattle.definitions.specs.Run.{multiple}
-use Rattle.definitions.specs.Tree.{Cache, cached, used, Subtree, Sum, finish_by, finish, held_to, add_result, add_subtree, LiftTerm, LiftList}
+use Rattle.definitions.specs.Tree.{Cache, cached, used, Subtree, Sum, finish_by, finish, held_to, add_result, add_subtree, LiftTerm}
 use Rattle.definitions.specs.Tree.{if_product_fits, lift_list, open_subtree, or_open, lift_by, lift_term, if_vector_product_fits, lift_vector}
 use Rattle.definitions.specs.Frame.{frame}
 use Rattle.definitions.specs.Reckoning.{scaled, liftings, lifted_by, lifted_to, reckoned_vector, each, reckoned_level}
 use Rattle.limits_met.specs.Limits.{All, Fits}
-use Rattle.limits_met.specs.Trees.{Open, Handed, Work, unfinished_terms, own, Within, work, hand, with_sum, with_left, add_handed, subtree}
-use Rattle.limits_met.specs.Trees.{found_or_opened, take_product, finish_subtree, finished, product_of, next_product, next_by, next, taken_by, taken}
+use Rattle.limits_met.specs.Trees.{Open, Handed, Work, unfinished_terms, own, Within, work, hand, with_sum, with_left, subtree}
+use Rattle.limits_met.specs.Trees.{found_or_opened, take_product, finish_subtree, product_of, next_product, next_by, next, taken_by, taken}
 use Rattle.limits_met.specs.Trees.{Fitting, ComesTo, ends, thirteen, fourteen, goes_on, frame_work, TreeComes, ShallowBy, NeverOpened, Shallow}
 use Rattle.limits_met.specs.Trees.{ShallowFrame, tree_by}
 use Rattle.limits_met.proofs.Runs.{fits_says, fits_shows}

@@ -14,7 +14,7 @@ use Rattle.definitions.specs.Tree.{Cache, cached, Sum, grow, LiftTerm, lift_prod
 use Rattle.definitions.specs.Lifting.{Lifting, by_division, by_hybrid, by_tree, Lifted, with_vector, limited_frame, lift_all, lift_level, accept}
 use Rattle.definitions.specs.Reckoning.{reckoned_vector}
 use Rattle.limits_met.specs.Limits.{All, Fits, Comes, RefusedRun, RunComes, RefusedAccepting}
-use Rattle.limits_met.specs.Trees.{Work, Within, ComesTo, TreeComes, ShallowFrame, tree_by}
+use Rattle.limits_met.specs.Trees.{Work, ComesTo, TreeComes, ShallowFrame, tree_by}
 
 -- ## A level
 

@@ -2,6 +2,7 @@
 // `reading::begin`: a file read and its basis accepted, or the lines of the refusal.
 // Knows: crate definitions' Sheet.
 #![tactic(auto)]
+
 pub mod printing;
 pub mod reading;
 pub mod whole;

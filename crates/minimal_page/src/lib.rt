@@ -2,6 +2,8 @@
 // Exists for: `whole::print`.
 // Knows: crate definitions' Minimal, crate ranks' theorem that marks count ranks.
 // Marks are crate constants', counts crate columns', lines crate pages'.
+#![tactic(auto)]
+
 pub mod numbers;
 pub mod page;
 pub mod whole;

@@ -3,6 +3,7 @@
 // Knows: crate definitions' Monomial and Packed.
 // Sums and differences are formed in lanes of sixteen bits: the bytes of x2, x4, x6, x8, and, shifted down, those of x1, x3, x5, x7.
 #![tactic(auto)]
+
 ghost use Rattle.std.specs.Prelude.{◌≡◌, ◌+◌, ◌%◌, ◌<◌, ◌≤◌, true};
 ghost use Rattle.definitions.specs.Monomial.{
   divides?,

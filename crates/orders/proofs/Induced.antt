@@ -11,7 +11,7 @@ use Rattle.definitions.specs.Limits.{Limits}
 use Rattle.definitions.specs.Lists.{every}
 use Rattle.definitions.specs.Problem.{Parameters}
 use Rattle.definitions.specs.State.{levels_sound?, vector_sound?, term_sound?}
-use Rattle.definitions.specs.Monomial.{Exponents, Monomial, Term, Vector, Level, product, leading, vector_of}
+use Rattle.definitions.specs.Monomial.{Exponents, Monomial, Term, Vector, Level, product, vector_of}
 use Rattle.definitions.specs.Order.{Comparison, greater, equal, smaller, or_at_tie, numbers, exponents_by, image_by, image, compare_over}
 use Rattle.laws.proofs.Tests.{and_left, and_right, between_low}
 use Rattle.laws.proofs.Sound.{term_says, vector_says, basis_says, level_says}

@@ -3,6 +3,7 @@
 // Knows: crate definitions' Pascal.
 // The table is the definition's, by computation.
 #![tactic(auto)]
+
 ghost use Rattle.std.specs.Prelude.{◌≡◌, ◌≤◌, ◌<◌};
 ghost use Rattle.definitions.specs.Pascal.{entry as entry_definition, monomials as monomials_definition};
 ghost use Rattle.definitions.specs.Places.{exponents_length, hilbert_degrees, triangle_rows};

@@ -1,9 +1,9 @@
 -- A3 for the definitions' search.
 use mathlib.Core.Path.{◌≡◌, refl, sym, ap, ◌∙◌, subst}
 use mathlib.Core.Logic.{◌⊎◌, inl, inr, ⊎_elim}
-use mathlib.Core.Option.{Option, none, some, some-injective}
+use mathlib.Core.Option.{some, some-injective}
 use mathlib.Core.List.{List, [], ◌∷◌, ◌++◌}
-use Prim.Native.Nat.{ℕ, zero, suc, ◌+◌}
+use Prim.Native.Nat.{ℕ, suc}
 use native.Mathlib.Omega.{arith}
 use lib.Dec.{T, eqb, eqb→eq}
 use lib.ListN.{length, get_or}
@@ -12,7 +12,7 @@ use Rattle.definitions.specs.Lists.{every}
 use Rattle.definitions.specs.Monomial.{Monomial, Term, Vector, Level, no_term}
 use Rattle.definitions.specs.Order.{Comparison, greater, equal, smaller, or_at_tie, numbers, image, compare_over}
 use Rattle.definitions.specs.Run.{Best, better, greatest_from, greatest}
-use Rattle.definitions.specs.State.{State, sound?, up_to}
+use Rattle.definitions.specs.State.{up_to}
 use Rattle.laws.proofs.Members.{All, every_all, all_map}
 use Rattle.comparing.specs.Above.{Above, Member, GreatestOf}
 use Rattle.comparing.specs.Comparing.{Eight, AnswersExactly}

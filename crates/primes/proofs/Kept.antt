@@ -19,7 +19,7 @@ use Rattle.definitions.specs.Problem.{Bytes, Parameters, problem}
 use Rattle.definitions.specs.State.{State, has_level?, up_to, term_sound?, vector_sound?, levels_sound?, sound?}
 use Rattle.definitions.specs.Calls.{Reply, refuse, settled, read, lift, fetch, eleven?, lifts?, fetches?, read_reply, lift_reply, fetch_reply}
 use Rattle.definitions.specs.Sheet.{if_more, level_then, levels_from, variables_of, sheet_of, sheet}
-use Rattle.definitions.specs.Layout.{Words, meant, Way, division, hybrid, tree, lifting_by, state_words, work_words, out_words, long_enough?, state_after}
+use Rattle.definitions.specs.Layout.{Words, meant, Way, division, hybrid, tree, lifting_by, state_words, out_words, long_enough?, state_after}
 use Rattle.definitions.specs.Layout.{rows_after, cache_after}
 use Rattle.definitions.specs.Layout.{Read, read_left, read_call, Lift, lift_left, lift_call, Fetch, fetch_left, fetch_call, Lent, read_with, lift_with}
 use Rattle.definitions.specs.Layout.{fetch_with, Left}

@@ -11,7 +11,7 @@ use Rattle.definitions.specs.Lists.{rest}
 use Rattle.definitions.specs.Field.{minus}
 use Rattle.definitions.specs.Monomial.{Exponents, Monomial, Term, Vector, Level, fits?, vector_of}
 use Rattle.definitions.specs.Reducer.{Answer, reducer, lower_order, answer}
-use Rattle.definitions.specs.Result.{Result, done, at_level, refusal, ◌>>=◌}
+use Rattle.definitions.specs.Result.{done, at_level, refusal, ◌>>=◌}
 use Rattle.definitions.specs.Stage.{Stage, highest}
 use Rattle.definitions.specs.Run.{multiple, hybrid_strategy, division_strategy, accepting_strategy}
 use Rattle.definitions.specs.Tree.{Cache, Sum, LiftTerm, LiftList, cached, finish, add_result, add_subtree, if_product_fits, lift_list, open_subtree, or_open}

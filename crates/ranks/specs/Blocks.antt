@@ -2,7 +2,6 @@
 use Rattle.std.specs.Prelude.{true, false, List, [], ◌∷◌, ℕ, zero, suc, eqb, length, get_or, replicate}
 use Rattle.definitions.specs.Lists.{sum}
 use Rattle.definitions.specs.Monomial.{Vector, Level}
-use Rattle.definitions.specs.Problem.{Parameters}
 use Rattle.definitions.specs.State.{State}
 use Rattle.definitions.specs.Rank.{Row, Matrix}
 use Rattle.definitions.specs.Minimal.{constant, of_degree, vectors_at}

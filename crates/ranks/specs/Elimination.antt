@@ -1,6 +1,6 @@
 -- Elimination in the order in which a loop over the rows does it: a row that is zero is passed over; the first column of any other is cleared in all rows
 -- after it. No row changes its place, and each is marked by whether it was zero.
-use Rattle.std.specs.Prelude.{Bool, true, false, List, [], ◌∷◌, ℕ, zero, suc, ◌%◌, eqb, length, get_or}
+use Rattle.std.specs.Prelude.{true, false, List, [], ◌∷◌, ℕ, zero, suc, ◌%◌, eqb, length, get_or}
 use Rattle.std.proofs.Math.Option.{Option, none, some}
 use Rattle.definitions.specs.Lists.{map, choose}
 use Rattle.definitions.specs.Field.{plus, times, minus, inverse}

@@ -3,7 +3,6 @@ use Rattle.std.specs.Prelude.{◌≡◌, List, [], ℕ, suc, ◌+◌, ◌≤◌,
 use Rattle.definitions.specs.Lists.{sum}
 use Rattle.definitions.specs.Field.{prime?}
 use Rattle.definitions.specs.Monomial.{Level}
-use Rattle.definitions.specs.Problem.{Parameters}
 use Rattle.definitions.specs.State.{State}
 use Rattle.definitions.specs.Rank.{Matrix, rank}
 use Rattle.definitions.specs.Minimal.{of_degree, vectors_at, constants, rank_entering, rank_leaving}

@@ -3,6 +3,7 @@
 // Knows: crate definitions' Layout.
 // A call asks for nothing: a buffer that is too short is 16.
 #![tactic(auto)]
+
 ghost use Rattle.std.specs.Prelude.{◌≡◌, ℕ, ◌≤◌, T, length};
 ghost use Rattle.std.proofs.Math.Option.{some};
 ghost use Rattle.definitions.specs.Limits.{document_01};

@@ -2,5 +2,6 @@
 // `tables::fill_spans`, `tables::fill_images`: the search and the orders read them.
 // Knows: crate definitions' Reducer, crate orders' Levels.
 #![tactic(auto)]
+
 pub mod search;
 pub mod tables;

@@ -2,6 +2,7 @@
 // the working value. `frame_terms` has what all frame terms of a level come to, for crates above.
 // Knows: crate definitions' Run and Lifting.
 #![tactic(auto)]
+
 pub mod frame_terms;
 pub mod reduction;
 pub mod run;

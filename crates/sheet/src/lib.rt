@@ -3,6 +3,7 @@
 // Knows: crate definitions' Sheet; listing::whole prints it.
 // What it tests first and leaves at its end is crate lending's.
 #![tactic(auto)]
+
 ghost use Rattle.std.specs.Prelude.{◌≡◌, ℕ};
 ghost use Rattle.definitions.specs.Limits.{document_01};
 ghost use Rattle.definitions.specs.Sheet.{sheet as sheet_definition};

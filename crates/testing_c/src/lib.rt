@@ -102,5 +102,7 @@ pub extern "C" fn lifts_level(
         ≡ called_level (bounds_by working vector tree room) state.now work.old out.old cache.old level
         (coded_way way pick) n)) × Counted result count.new used.new out.new }
 {
-    within_limits::lifts_level(out, work, cache, state, level, way, pick, working, vector, tree, room, count, used)
+    within_limits::lifts_level(
+        out, work, cache, state, level, way, pick, working, vector, tree, room, count, used,
+    )
 }

@@ -2,5 +2,6 @@
 // `sums::store`, or into a descending one, `sums::insert`.
 // Knows: crate definitions' Vectors and the rows of its Layout.
 #![tactic(auto)]
+
 pub mod sums;
 pub mod terms;

@@ -4,6 +4,7 @@
 // `numbers`, `word_numbers` and `long_numbers` hold each of them to the definitions' one.
 // `parameters` has the four numbers of a problem.
 #![tactic(auto)]
+
 ghost use Rattle.std.specs.Prelude.{◌≡◌, ◌∷◌, [], ◌+◌, ◌≤◌, ◌<◌, length};
 ghost use Rattle.definitions.specs.Layout.{long_at};
 ghost use Rattle.definitions.specs.Lists.{between as between_definition};

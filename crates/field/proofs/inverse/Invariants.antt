@@ -1,10 +1,6 @@
-use native.Mathlib.Omega.{arith}
-use mathlib.Core.Path.{◌≡◌, sym, ◌∙◌}
-use Prim.Native.Nat.{◌-◌, ◌*◌, ◌<◌}
-use native.Mathlib.Nat.{mod-lt, div-le_self}
-use Prim.Native.Nat.{◌/◌}
+use mathlib.Core.Path.{◌≡◌}
+use Prim.Native.Nat.{◌<◌}
 use Rattle.definitions.specs.Field.{times, inverse_by, inverse}
-use Rattle.field.proofs.Inverses.{inverse_start, inverse_on, inverse_end}
 use Rattle.field.proofs.inverse.Given as goal
 
 abbrev pub invariant-loop-x : goal.invariant-loop-x

@@ -1,8 +1,8 @@
 use native.Mathlib.Omega.{arith}
-use Prim.Native.Nat.{◌-◌, ◌≤◌}
+use Prim.Native.Nat.{◌≤◌}
 use native.Mathlib.Nat.{mul-le-mul}
-use Rattle.field.proofs.Primes.{Clear, clear_two, clear_more, prime_true, prime_false, small_false}
-use Rattle.field.proofs.Primes.{Clear, clear_two, clear_more, prime_true, prime_false, small_false, root_small}
+use Rattle.field.proofs.Primes.{clear_two, clear_more, prime_true, prime_false, small_false}
+use Rattle.field.proofs.Primes.{clear_two, clear_more, prime_true, prime_false, small_false, root_small}
 use Rattle.field.proofs.is_prime.Goals as goal
 
 pub returns-then-p-lt2 : goal.returns-then-p-lt2

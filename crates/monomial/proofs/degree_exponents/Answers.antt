@@ -1,4 +1,4 @@
-use Rattle.std.proofs.Common.{◌<◌, sym, ap, ◌∙◌, subst, arith, rules}
+use Rattle.std.proofs.Common.{◌<◌, sym, ap, ◌∙◌, subst, arith}
 use Rattle.laws.proofs.Packing.{bytes_of}
 use Rattle.monomial.specs.Values.{lane_sum}
 use Rattle.monomial.proofs.Bytewise.{degree_packed, degree_room}

@@ -1,4 +1,4 @@
-use Rattle.std.proofs.Common.{◌+◌, ◌-◌, ◌/◌, ◌≤◌, sym, subst, arith, rules}
+use Rattle.std.proofs.Common.{◌+◌, ◌-◌, ◌/◌, ◌≤◌, sym, subst, arith}
 use lib.Bits.{bit_and, and_le_r}
 use Rattle.monomial.specs.Values.{lane_bytes, lane_marks}
 use Rattle.laws.proofs.Packing.{bytes_of}

@@ -1,4 +1,4 @@
-use Rattle.std.proofs.Common.{arith, rules}
+use Rattle.std.proofs.Common.{arith}
 use Rattle.laws.proofs.Packing.{bytes_of}
 use Rattle.monomial.proofs.Raising.{lcm_word}
 use Rattle.monomial.proofs.lcm_exponents.Goals as goal

@@ -1,4 +1,4 @@
-use Rattle.std.proofs.Common.{arith, rules}
+use Rattle.std.proofs.Common.{arith}
 use Rattle.monomial.proofs.Bytewise.{packed_bytes}
 use Rattle.monomial.proofs.packed.Goals as goal
 

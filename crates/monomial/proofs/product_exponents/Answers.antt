@@ -1,4 +1,4 @@
-use Rattle.std.proofs.Common.{arith, rules}
+use Rattle.std.proofs.Common.{arith}
 use Rattle.laws.proofs.Packing.{bytes_of}
 use Rattle.monomial.proofs.Forming.{product_lanes}
 use Rattle.monomial.proofs.product_exponents.Goals as goal

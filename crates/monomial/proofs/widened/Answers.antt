@@ -1,4 +1,4 @@
-use Rattle.std.proofs.Common.{arith, rules}
+use Rattle.std.proofs.Common.{arith}
 use Rattle.laws.proofs.Packing.{bytes_of}
 use Rattle.monomial.proofs.Bytewise.{widened_packed}
 use Rattle.monomial.proofs.widened.Goals as goal

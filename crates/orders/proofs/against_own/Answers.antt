@@ -1,4 +1,3 @@
-use borrow.Author.Rules.{rules}
 use mathlib.Core.Path.{◌∙◌}
 use Rattle.orders.specs.Images.{key_of, compare_keys}
 use Rattle.orders.proofs.against_own.Goals as goal

@@ -1,4 +1,3 @@
-use borrow.Author.Rules.{rules}
 use mathlib.Core.Path.{◌≡◌, sym, ◌∙◌}
 use Rattle.definitions.specs.Order.{numbers, degrees, lexicographic, last_differing}
 use Rattle.orders.specs.Images.{comparison_of}

@@ -1,4 +1,3 @@
-use borrow.Author.Rules.{rules}
 use mathlib.Core.Path.{refl, sym, ◌∙◌}
 use Rattle.definitions.specs.Monomial.{degree}
 use Rattle.definitions.specs.Packed.{unpack}

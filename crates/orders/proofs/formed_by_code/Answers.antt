@@ -1,4 +1,3 @@
-use borrow.Author.Rules.{rules}
 use mathlib.Core.Path.{sym, ◌∙◌}
 use Rattle.orders.specs.Images.{places_by}
 use Rattle.orders.proofs.Comparing.{first_decides, second_decides}

@@ -1,8 +1,8 @@
 use native.Mathlib.Omega.{arith}
 use mathlib.Core.Path.{◌≡◌, sym}
-use Prim.Native.Nat.{◌+◌, ◌-◌, ◌≤◌}
-use lib.ListN.{length, get_or}
-use Rattle.orders.proofs.Comparing.{EqualFrom, last_differing_equal, last_differing_greater, last_differing_smaller, equal_from_less}
+use Prim.Native.Nat.{◌+◌, ◌-◌}
+use lib.ListN.{get_or}
+use Rattle.orders.proofs.Comparing.{last_differing_equal, last_differing_greater, last_differing_smaller, equal_from_less}
 use Rattle.orders.proofs.last_differing.Goals as goal
 
 pub loop-j-init : goal.loop-j-init

@@ -1,8 +1,7 @@
-use native.Mathlib.Omega.{arith}
-use mathlib.Core.Path.{◌≡◌, sym}
-use Prim.Native.Nat.{◌+◌, ◌-◌, ◌≤◌}
-use lib.ListN.{length, get_or}
-use Rattle.orders.proofs.Comparing.{EqualFrom, last_differing_equal, last_differing_greater, last_differing_smaller, equal_from_less}
+use mathlib.Core.Path.{◌≡◌}
+use Prim.Native.Nat.{◌≤◌}
+use lib.ListN.{length}
+use Rattle.orders.proofs.Comparing.{EqualFrom}
 use Rattle.orders.proofs.last_differing.Given as goal
 
 abbrev pub invariant-loop-j : goal.invariant-loop-j

@@ -1,8 +1,6 @@
 use native.Mathlib.Omega.{arith}
 use mathlib.Core.Path.{◌≡◌, refl, sym, ◌∙◌}
-use Prim.Native.Nat.{◌-◌, ◌≤◌}
-use lib.ListN.{length, drop, get_or}
-use Rattle.definitions.specs.Order.{lexicographic}
+use lib.ListN.{get_or}
 use Rattle.orders.proofs.Comparing.{lexicographic_greater, lexicographic_smaller, lexicographic_on, lexicographic_end}
 use Rattle.orders.proofs.lexicographic.Goals as goal
 

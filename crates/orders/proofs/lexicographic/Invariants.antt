@@ -1,9 +1,7 @@
-use native.Mathlib.Omega.{arith}
-use mathlib.Core.Path.{◌≡◌, refl, sym, ◌∙◌}
+use mathlib.Core.Path.{◌≡◌}
 use Prim.Native.Nat.{◌-◌, ◌≤◌}
-use lib.ListN.{length, drop, get_or}
+use lib.ListN.{length, drop}
 use Rattle.definitions.specs.Order.{lexicographic}
-use Rattle.orders.proofs.Comparing.{lexicographic_greater, lexicographic_smaller, lexicographic_on, lexicographic_end}
 use Rattle.orders.proofs.lexicographic.Given as goal
 
 abbrev pub invariant-loop-j : goal.invariant-loop-j

@@ -1,4 +1,3 @@
-use borrow.Author.Rules.{rules}
 use native.Mathlib.Omega.{arith}
 use Rattle.laws.proofs.Packing.{degree_small}
 use Rattle.orders.proofs.own_total.Goals as goal

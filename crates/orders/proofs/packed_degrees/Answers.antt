@@ -1,4 +1,3 @@
-use borrow.Author.Rules.{rules}
 use mathlib.Core.Path.{sym, ◌∙◌}
 use Rattle.definitions.specs.Order.{numbers}
 use Rattle.definitions.specs.Monomial.{degree}

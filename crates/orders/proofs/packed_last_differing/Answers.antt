@@ -2,7 +2,6 @@ use native.Mathlib.Omega.{arith}
 use mathlib.Core.Path.{◌∙◌}
 use Rattle.laws.proofs.Packing.{bytes_of}
 use Rattle.orders.proofs.PackedOrder.{last_differing_packed}
-use borrow.Author.Rules.{rules}
 use Rattle.orders.proofs.packed_last_differing.Goals as goal
 
 pub returns : goal.returns

@@ -2,7 +2,6 @@ use native.Mathlib.Omega.{arith}
 use mathlib.Core.Path.{◌∙◌}
 use Rattle.laws.proofs.Packing.{bytes_of}
 use Rattle.orders.proofs.PackedOrder.{lexicographic_packed}
-use borrow.Author.Rules.{rules}
 use Rattle.orders.proofs.packed_lexicographic.Goals as goal
 
 pub returns : goal.returns

@@ -1,8 +1,6 @@
-use borrow.Author.Rules.{rules}
 use native.Mathlib.Omega.{arith}
 use mathlib.Core.Path.{◌≡◌, sym, ◌∙◌}
 use Prim.Native.Nat.{ℕ, ◌<◌, ◌≤◌}
-use mathlib.Core.Logic.{⊎_elim}
 use Rattle.definitions.specs.Packed.{unpack}
 use Rattle.orders.proofs.CodeParts.{places_first, places_last}
 use Rattle.orders.proofs.packed_places.Goals as goal

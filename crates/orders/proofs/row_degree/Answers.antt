@@ -1,10 +1,9 @@
-use borrow.Author.Rules.{rules}
 use native.Mathlib.Omega.{arith}
 use mathlib.Core.Path.{◌≡◌, sym, ap, ◌∙◌, subst}
 use Prim.Native.Nat.{◌+◌, ◌-◌, ◌*◌}
 use Rattle.definitions.specs.Monomial.{degree}
 use Rattle.definitions.specs.Places.{image_length}
-use Rattle.orders.specs.Images.{Key, Bounded}
+use Rattle.orders.specs.Images.{Bounded}
 use Rattle.orders.proofs.RowImages.{row_key_at_0, row_key_beyond, row_key_inside}
 use Rattle.orders.proofs.row_degree.Goals as goal
 

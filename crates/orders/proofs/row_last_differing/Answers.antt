@@ -1,11 +1,10 @@
 use native.Mathlib.Omega.{arith}
 use mathlib.Core.Path.{◌≡◌, sym, ◌∙◌}
-use Prim.Native.Nat.{◌+◌, ◌-◌, ◌<◌, ◌≤◌}
-use lib.ListN.{length, get_or}
-use Rattle.definitions.specs.Packed.{long_bound}
+use Prim.Native.Nat.{◌+◌, ◌-◌}
+use lib.ListN.{get_or}
 use Rattle.orders.specs.Images.{row_image}
-use Rattle.orders.proofs.Comparing.{EqualFrom, last_differing_equal, last_differing_greater, last_differing_smaller, equal_from_less}
-use Rattle.orders.proofs.RowImages.{length_image, Behind, behind_start, behind_image, behind_on}
+use Rattle.orders.proofs.Comparing.{last_differing_equal, last_differing_greater, last_differing_smaller, equal_from_less}
+use Rattle.orders.proofs.RowImages.{length_image, behind_start, behind_image, behind_on}
 use Rattle.orders.proofs.row_last_differing.Goals as goal
 
 pub loop-j-init : goal.loop-j-init

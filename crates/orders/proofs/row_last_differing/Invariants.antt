@@ -1,11 +1,10 @@
-use native.Mathlib.Omega.{arith}
-use mathlib.Core.Path.{◌≡◌, sym, ◌∙◌}
-use Prim.Native.Nat.{◌+◌, ◌-◌, ◌<◌, ◌≤◌}
-use lib.ListN.{length, get_or}
+use mathlib.Core.Path.{◌≡◌}
+use Prim.Native.Nat.{◌<◌, ◌≤◌}
+use lib.ListN.{length}
 use Rattle.definitions.specs.Packed.{long_bound}
 use Rattle.orders.specs.Images.{row_image}
-use Rattle.orders.proofs.Comparing.{EqualFrom, last_differing_equal, last_differing_greater, last_differing_smaller, equal_from_less}
-use Rattle.orders.proofs.RowImages.{length_image, Behind, behind_start, behind_image, behind_on}
+use Rattle.orders.proofs.Comparing.{EqualFrom}
+use Rattle.orders.proofs.RowImages.{Behind}
 use Rattle.orders.proofs.row_last_differing.Given as goal
 
 abbrev pub invariant-loop-j : goal.invariant-loop-j

@@ -1,12 +1,10 @@
-use native.Mathlib.Omega.{arith}
-use mathlib.Core.Path.{◌≡◌, refl, sym, ◌∙◌}
+use mathlib.Core.Path.{◌≡◌}
 use Prim.Native.Nat.{◌-◌, ◌<◌, ◌≤◌}
-use lib.ListN.{length, drop, get_or}
+use lib.ListN.{length, drop}
 use Rattle.definitions.specs.Order.{lexicographic}
 use Rattle.definitions.specs.Packed.{long_bound}
 use Rattle.orders.specs.Images.{row_image}
-use Rattle.orders.proofs.Comparing.{lexicographic_greater, lexicographic_smaller, lexicographic_on, lexicographic_end}
-use Rattle.orders.proofs.RowImages.{length_image, Ahead, ahead_start, ahead_image, ahead_on}
+use Rattle.orders.proofs.RowImages.{Ahead}
 use Rattle.orders.proofs.row_lexicographic.Given as goal
 
 abbrev pub invariant-loop-j : goal.invariant-loop-j

@@ -1,19 +1,15 @@
-use borrow.Author.Rules.{rules}
 use native.Mathlib.Omega.{arith}
 use mathlib.Core.Path.{◌≡◌, refl, sym, ◌∙◌, subst}
-use Prim.Native.Nat.{◌+◌, ◌-◌, ◌<◌, ◌≤◌}
+use Prim.Native.Nat.{◌+◌, ◌<◌}
 use Rattle.definitions.specs.Monomial.{product}
 use Rattle.definitions.specs.Packed.{unpack}
 use Rattle.laws.proofs.Packing.{unpack_long, unpack_at}
-use Rattle.lists.specs.Filling.{Filled, filled_more, filled_list}
+use Rattle.lists.specs.Filling.{filled_more, filled_list}
 use Rattle.monomial.proofs.Places.{getD_product, length_product}
 use Rattle.orders.specs.Images.{exponents_raw}
 use Rattle.orders.proofs.Comparing.{getD_raw}
 use native.Mathlib.Nat.{not-suc-le-zero}
 use lib.ListN.{length, get_or, length-set}
-use Rattle.orders.proofs.shifted.Reads as reads
-use Rattle.orders.proofs.shifted.Lts as lts
-use Rattle.monomial.proofs.widened.Reads as widened_reads
 use Rattle.orders.proofs.shifted.Goals as goal
 
 -- src/lib.rt:235:5

@@ -1,19 +1,10 @@
-use borrow.Author.Rules.{rules}
-use native.Mathlib.Omega.{arith}
-use mathlib.Core.Path.{◌≡◌, refl, sym, ◌∙◌, subst}
-use Prim.Native.Nat.{◌+◌, ◌-◌, ◌<◌, ◌≤◌}
+use mathlib.Core.Path.{◌≡◌}
+use Prim.Native.Nat.{◌-◌, ◌≤◌}
 use Rattle.definitions.specs.Monomial.{product}
 use Rattle.definitions.specs.Packed.{unpack}
-use Rattle.laws.proofs.Packing.{unpack_long, unpack_at}
-use Rattle.lists.specs.Filling.{Filled, filled_more, filled_list}
-use Rattle.monomial.proofs.Places.{getD_product, length_product}
+use Rattle.lists.specs.Filling.{Filled}
 use Rattle.orders.specs.Images.{exponents_raw}
-use Rattle.orders.proofs.Comparing.{getD_raw}
-use native.Mathlib.Nat.{not-suc-le-zero}
-use lib.ListN.{length, get_or, length-set}
-use Rattle.orders.proofs.shifted.Reads as reads
-use Rattle.orders.proofs.shifted.Lts as lts
-use Rattle.monomial.proofs.widened.Reads as widened_reads
+use lib.ListN.{length, get_or}
 use Rattle.orders.proofs.shifted.Given as goal
 
 abbrev pub invariant-loop-j : goal.invariant-loop-j

@@ -2,7 +2,6 @@ use Prim.Native.Nat.{ℕ, ◌/◌, ◌%◌, ◌<◌}
 use native.Mathlib.Omega.{arith}
 use Rattle.laws.proofs.Packing.{bytes_of}
 use Rattle.orders.proofs.PackedOrder.{swapped_packed, swap_room}
-use borrow.Author.Rules.{rules}
 use Rattle.orders.proofs.swapped.Goals as goal
 
 pub overflow_add-result-3 : goal.overflow_add-result-3

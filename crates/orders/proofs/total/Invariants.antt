@@ -1,9 +1,7 @@
-use native.Mathlib.Omega.{arith}
-use mathlib.Core.Path.{◌≡◌, sym, ap, ◌∙◌}
+use mathlib.Core.Path.{◌≡◌}
 use Prim.Native.Nat.{◌+◌, ◌-◌, ◌*◌, ◌≤◌}
 use lib.ListN.{length, drop}
 use Rattle.definitions.specs.Monomial.{degree}
-use Rattle.monomial.proofs.Scans.{degree_on, degree_end}
 use Rattle.orders.proofs.total.Given as goal
 
 abbrev pub invariant-loop-j : goal.invariant-loop-j

@@ -139,8 +139,7 @@ returns-in-Refused c =
     let test =
     c.loop-n-test in
     let some-rows : 0 < length (rows l.value 0 l.n) = omega (arith, test.true, length_rows l.value 0 l.n) in
-    let picked = some_greatest order (rows l.value 0 l.n) some-rows in
-    (
+    let picked = some_greatest order (rows l.value 0 l.n) some-rows in (
       λ above. reached_refused (stage_of g a.level.now a.tables.now above)
           (division_of a.value.now a.start a.quotients.now 0 a.remainder.now 0) d c.in-Refused.x (l.invariant.7 above)
           picked.0 picked.1

@@ -19,8 +19,7 @@ use Rattle.dividing.proofs.steps.Stepping.{step_at}
 use Rattle.dividing.proofs.steps.one_step.Goals as goal
 
 pub pick-i-requires : goal.pick-i-requires
-pick-i-requires c =
-    (
+pick-i-requires c = (
   omega arith,
   omega (
     arith,

@@ -49,8 +49,7 @@ returns-in-Refused-add_multiple c =
     let g = a.g in
     let t = c.add_multiple in
     let k = c.in-Rows.k in
-    let turned = c.negative-d in
-    (
+    let turned = c.negative-d in (
       λ above w. products_refused (stage_of g a.level.now a.tables.now above)
           (division_of a.value.now a.n a.quotients.now a.v w a.r) a.j a.c (unpack a.q)
           (rows s.new.s 0 k) c.in-Refused-add_multiple.x
@@ -65,8 +64,7 @@ pub returns-in-Refused : goal.returns-in-Refused
 returns-in-Refused c =
     let a =
     c.args in
-    let s = c.store_term in
-    (
+    let s = c.store_term in (
       λ above w. record_refused (stage_of a.g a.level.now a.tables.now above)
           (division_of a.value.now a.n a.quotients.now a.v w a.r) a.j a.c (unpack a.q) c.in-Refused.x
           (sym (ap (λ y. added_of y s.new.s) c.in-Refused.is) ∙ s.ensures.0),

@@ -8,12 +8,12 @@ use Rattle.level.proofs.by_runs.ground_of.Goals as goal
 pub overflow_add-result : goal.overflow_add-result
 overflow_add-result c =
     omega (
-  arith,
-  c.components_of-c.ensures,
-  components_few c.args.state.now c.requires.long
-      c.requires.holds c.args.j
-      c.requires.has,
-)
+      arith,
+      c.components_of-c.ensures,
+      components_few c.args.state.now c.requires.long
+          c.requires.holds c.args.j
+          c.requires.has,
+    )
 
 pub returns : goal.returns
 returns c =

@@ -22,8 +22,7 @@ use lib.Dec.{leb}
 use Rattle.level.proofs.by_runs.lift_with.Goals as goal
 
 pub form-requires : goal.form-requires
-form-requires c =
-    (
+form-requires c = (
   omega arith,
   omega (
     arith,

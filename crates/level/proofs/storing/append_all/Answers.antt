@@ -12,8 +12,7 @@ use Rattle.definitions.specs.Places.{most_rows, row_length, ends_length}
 use Rattle.level.proofs.storing.append_all.Goals as goal
 
 pub loop-i-init : goal.loop-i-init
-loop-i-init c =
-    (
+loop-i-init c = (
   (omega arith, refl, grown_none c.args.state.now c.args.k c.requires.2),
   omega arith,
   refl,
@@ -22,10 +21,10 @@ loop-i-init c =
 pub bounds-out-i : goal.bounds-out-i
 bounds-out-i c =
     omega (
-  arith,
-  c.requires.3.few,
-  c.requires.3.long,
-)
+      arith,
+      c.requires.3.few,
+      c.requires.3.long,
+    )
 
 pub overflow_mul-start : goal.overflow_mul-start
 overflow_mul-start c = omega (arith, c.loop-i.invariant.1)
@@ -42,18 +41,18 @@ slice_bounds-append-count c = omega (arith, c.loop-i.invariant.1, c.requires.3.l
 pub slice_bounds-append-start : goal.slice_bounds-append-start
 slice_bounds-append-start c =
     omega (
-  arith,
-  c.loop-i.invariant.1,
-  c.requires.3.long,
-)
+      arith,
+      c.loop-i.invariant.1,
+      c.requires.3.long,
+    )
 
 pub slice_bounds-append-end : goal.slice_bounds-append-end
 slice_bounds-append-end c =
     omega (
-  arith,
-  c.loop-i.invariant.1,
-  c.requires.3.long,
-)
+      arith,
+      c.loop-i.invariant.1,
+      c.requires.3.long,
+    )
 
 pub overflow_sub-end : goal.overflow_sub-end
 overflow_sub-end c =

@@ -17,10 +17,10 @@ vector_lines-a-requires c =
 pub pair_line-requires : goal.pair_line-requires
 pair_line-requires c =
     omega (
-  arith,
-  c.requires.4,
-  c.vector_lines-a.ensures.1,
-)
+      arith,
+      c.requires.4,
+      c.vector_lines-a.ensures.1,
+    )
 
 pub returns : goal.returns
 returns c =

@@ -31,8 +31,7 @@ pub row-t-requires : goal.row-t-requires
 row-t-requires c = omega (arith, c.requires.2, c.loop-i.invariant.1)
 
 pub s_line-a-requires : goal.s_line-a-requires
-s_line-a-requires c =
-    (
+s_line-a-requires c = (
   c.requires.0,
   omega (
     arith,

@@ -12,23 +12,22 @@ word-a-requires c = omega (arith, c.requires.1)
 pub word-b-requires : goal.word-b-requires
 word-b-requires c =
     omega (
-  arith,
-  c.requires.1,
-  c.word-a.ensures.1,
-)
+      arith,
+      c.requires.1,
+      c.word-a.ensures.1,
+    )
 
 pub exponents-requires : goal.exponents-requires
-exponents-requires c =
-    (
-      c.requires.0,
-      omega (
-        arith,
-        c.requires.0,
-        c.requires.1,
-        c.word-a.ensures.1,
-        c.word-b.ensures.1,
-      ),
-    )
+exponents-requires c = (
+  c.requires.0,
+  omega (
+    arith,
+    c.requires.0,
+    c.requires.1,
+    c.word-a.ensures.1,
+    c.word-b.ensures.1,
+  ),
+)
 
 pub returns : goal.returns
 returns c =

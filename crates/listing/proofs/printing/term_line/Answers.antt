@@ -13,8 +13,7 @@ pub byte-a-requires : goal.byte-a-requires
 byte-a-requires c = omega (arith, c.requires.1)
 
 pub term-b-requires : goal.term-b-requires
-term-b-requires c =
-    (
+term-b-requires c = (
   c.requires.0,
   omega (arith, c.requires.1, c.byte-a.ensures.ends),
 )

@@ -23,8 +23,7 @@ pub row-t-requires : goal.row-t-requires
 row-t-requires c = omega (arith, c.requires.1, c.loop-i.invariant.0)
 
 pub term_line-a-requires : goal.term_line-a-requires
-term_line-a-requires c =
-    (
+term_line-a-requires c = (
   c.requires.0,
   omega (
     arith,

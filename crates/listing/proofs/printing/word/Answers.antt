@@ -8,8 +8,7 @@ pub field-requires : goal.field-requires
 field-requires c = omega (arith, c.requires, few_digits 4 c.args.v (omega arith))
 
 pub returns : goal.returns
-returns c =
-    (
+returns c = (
   c.field.ensures,
   omega (
     arith,

@@ -23,8 +23,7 @@ returns-in-Accepted c =
 pub returns-in-Refused : goal.returns-in-Refused
 returns-in-Refused c =
     let a = c.args in
-    let b = c.begin in
-    (
+    let b = c.begin in (
       refused_sheet a.file.now b.new.state a.out.now b.new.out b.result b.ensures c.in-Refused.length c.in-Refused.is,
       omega (arith, (begun_stops a.file.now b.new.state a.out.now b.new.out b.result b.ensures c.in-Refused.length c.in-Refused.is).fits),
     )

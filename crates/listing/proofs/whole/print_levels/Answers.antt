@@ -15,8 +15,7 @@ pub bounds-state-4 : goal.bounds-state-4
 bounds-state-4 c = omega (arith, c.requires.0.long)
 
 pub loop-k-init : goal.loop-k-init
-loop-k-init c =
-    (
+loop-k-init c = (
   omega arith,
   omega (arith, c.place-height.ensures.0, c.requires.0.has),
   nothing c.args.out.now 0,

@@ -1,4 +1,3 @@
-use Rattle.std.proofs.Common.{rules}
 use Rattle.definitions.specs.Packed.{unpack}
 use Rattle.definitions.specs.Monomial.{divides?}
 use Rattle.monomial.proofs.Scans.{components_differ, components_equal}

@@ -1,4 +1,3 @@
-use Rattle.std.proofs.Common.{rules}
 use Rattle.monomial.proofs.Monomial.lcm.Goals as goal
 
 pub returns : goal.returns

@@ -1,4 +1,4 @@
-use Rattle.std.proofs.Common.{sym, ap, ◌∙◌, rules}
+use Rattle.std.proofs.Common.{sym, ap, ◌∙◌}
 use Rattle.definitions.specs.Monomial.{divides?, quotient}
 use Rattle.definitions.specs.Packed.{unpack}
 use Rattle.laws.proofs.Packing.{unpack_long}

@@ -9,8 +9,7 @@ use Rattle.definitions.specs.Run.{dropped?, unless_dropped}
 use Rattle.runs.proofs.reduction.add_fitting.Goals as goal
 
 pub search-found-requires : goal.search-found-requires
-search-found-requires c =
-    (
+search-found-requires c = (
   c.requires.0.heads_fit,
   c.requires.0.spans_fit,
   c.requires.0.spanned,

@@ -4,8 +4,7 @@ use Rattle.runs.proofs.reduction.Families.{first_later}
 use Rattle.runs.proofs.reduction.first_of.Goals as goal
 
 pub returns : goal.returns
-returns c =
-    (
+returns c = (
   c.place.ensures.0 ∙ first_later c.args.ends.now c.args.j
       c.requires.0 c.if-j-eq1.false,
   c.place.ensures.1,

@@ -20,8 +20,7 @@ returns-in-Rows c =
     )
 
 pub returns-in-Full : goal.returns-in-Full
-returns-in-Full c =
-    (
+returns-in-Full c = (
   sym (ap (λ y. stored_as y c.store.new.s) c.in-Full.is)
       ∙ c.store.ensures,
   tt,

@@ -13,23 +13,21 @@ pub overflow_cast-component : goal.overflow_cast-component
 overflow_cast-component c = omega (arith, c.requires.0.few)
 
 pub store_term-requires : goal.store_term-requires
-store_term-requires c =
-    (
+store_term-requires c = (
   c.requires.0.prime,
   omega arith,
   c.requires.2.vector_fits,
 )
 
 pub add_multiple-requires : goal.add_multiple-requires
-add_multiple-requires c =
-    (
-      c.requires.0,
-      c.requires.1,
-      omega arith,
-      c.requires.2.value_fits,
-      omega arith,
-      omega arith,
-    )
+add_multiple-requires c = (
+  c.requires.0,
+  c.requires.1,
+  omega arith,
+  c.requires.2.value_fits,
+  omega arith,
+  omega arith,
+)
 
 pub returns-in-Rows-add_multiple : goal.returns-in-Rows-add_multiple
 returns-in-Rows-add_multiple c =

@@ -14,8 +14,7 @@ use Rattle.definitions.specs.Layout.{rows}
 use Rattle.runs.proofs.run.run.Goals as goal
 
 pub started-requires : goal.started-requires
-started-requires c =
-    (
+started-requires c = (
   c.requires.0,
   c.requires.1,
   c.requires.4.value_fits,

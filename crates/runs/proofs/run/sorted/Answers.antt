@@ -9,37 +9,35 @@ use Rattle.runs.proofs.run.Sorting.{sorted_rows}
 use Rattle.runs.proofs.run.sorted.Goals as goal
 
 pub sort_in_place-k-requires : goal.sort_in_place-k-requires
-sort_in_place-k-requires c =
-    (
-      c.requires.0.prime,
-      omega (
-        arith,
-        c.requires.3.vector_fits,
-        subst (Ended c.args.g) c.in-Finished.is c.requires.4,
-      ),
-      c.requires.2.fits,
-      c.requires.2.tabled,
-    )
+sort_in_place-k-requires c = (
+  c.requires.0.prime,
+  omega (
+    arith,
+    c.requires.3.vector_fits,
+    subst (Ended c.args.g) c.in-Finished.is c.requires.4,
+  ),
+  c.requires.2.fits,
+  c.requires.2.tabled,
+)
 
 pub sort-k-requires : goal.sort-k-requires
-sort-k-requires c =
-    (
-      c.requires.0.prime,
-      omega (
-        arith,
-        c.requires.3.value_fits,
-        subst (Ended c.args.g) c.in-Stopped.is
-            c.requires.4,
-      ),
-      omega (
-        arith,
-        c.requires.3.left_fits,
-        subst (Ended c.args.g) c.in-Stopped.is
-            c.requires.4,
-      ),
-      c.requires.1.fits,
-      c.requires.1.tabled,
-    )
+sort-k-requires c = (
+  c.requires.0.prime,
+  omega (
+    arith,
+    c.requires.3.value_fits,
+    subst (Ended c.args.g) c.in-Stopped.is
+        c.requires.4,
+  ),
+  omega (
+    arith,
+    c.requires.3.left_fits,
+    subst (Ended c.args.g) c.in-Stopped.is
+        c.requires.4,
+  ),
+  c.requires.1.fits,
+  c.requires.1.tabled,
+)
 
 pub returns-in-Finished : goal.returns-in-Finished
 returns-in-Finished c =
@@ -47,8 +45,7 @@ returns-in-Finished c =
     let g = a.g in
     let order = order_of g a.tables.now in
     let above = table_order g.code (table_of g.r (above_in a.tables.now)) in
-    let s = c.sort_in_place-k in
-    (
+    let s = c.sort_in_place-k in (
       ap done s.ensures ∙ sym (ap (λ y. ended_of order above g.p y a.value.now a.vector.now) c.in-Finished.is),
       omega (
         arith,

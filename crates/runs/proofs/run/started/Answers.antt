@@ -9,8 +9,7 @@ use Rattle.runs.specs.reduction.Grounds.{reduction_of, family_of, ends_in}
 use Rattle.runs.proofs.run.started.Goals as goal
 
 pub add_multiple-requires : goal.add_multiple-requires
-add_multiple-requires c =
-    (
+add_multiple-requires c = (
   c.requires.0,
   c.requires.1,
   omega arith,

@@ -24,14 +24,14 @@ use Rattle.runs.proofs.run.steps.Goals as goal
 pub loop-n-init : goal.loop-n-init
 loop-n-init c =
     let a = c.args in (
-  omega arith,
-  omega arith,
-  refl,
-  refl,
-  c.requires.7,
-  λ above. reached_start (stage_of a.g a.level.now a.tables.now above) (strategy_of a.g a.tables.now a.w)
-      (run_of a.value.now a.start a.vector.now a.first),
-)
+      omega arith,
+      omega arith,
+      refl,
+      refl,
+      c.requires.7,
+      λ above. reached_start (stage_of a.g a.level.now a.tables.now above) (strategy_of a.g a.tables.now a.w)
+          (run_of a.value.now a.start a.vector.now a.first),
+    )
 
 pub one_step-requires : goal.one_step-requires
 one_step-requires c =

@@ -19,20 +19,20 @@ use Rattle.sweeping.proofs.growing.expand_all.Goals as goal
 pub loop-x-init : goal.loop-x-init
 loop-x-init c =
     let a = c.args in let r = c.requires.2 in (
-  omega arith,
-  c.requires.3,
-  omega arith,
-  omega arith,
-  r.few_nodes,
-  r.few_edges,
-  refl,
-  refl,
-  refl,
-  refl,
-  same_refl a.many a.first a.nodes.now a.edges.now,
-  λ v. spans_refl a.start v a.spans.now,
-  c.requires.5,
-)
+      omega arith,
+      c.requires.3,
+      omega arith,
+      omega arith,
+      r.few_nodes,
+      r.few_edges,
+      refl,
+      refl,
+      refl,
+      refl,
+      same_refl a.many a.first a.nodes.now a.edges.now,
+      λ v. spans_refl a.start v a.spans.now,
+      c.requires.5,
+    )
 
 pub expand_node-requires : goal.expand_node-requires
 expand_node-requires c =
@@ -61,12 +61,12 @@ put_span-requires c =
 pub returns-in-Over : goal.returns-in-Over
 returns-in-Over c =
     let a = c.args in let l = c.loop-x in let w = c.expand_node in (
-  same_again a.many l.n a.first l.e a.nodes.now a.edges.now l.nodes l.edges w.new.nodes w.new.edges l.invariant.2 l.invariant.3
-      l.invariant.10 w.ensures.0,
-  l.invariant.11,
-  tt,
-  tt,
-)
+      same_again a.many l.n a.first l.e a.nodes.now a.edges.now l.nodes l.edges w.new.nodes w.new.edges l.invariant.2 l.invariant.3
+          l.invariant.10 w.ensures.0,
+      l.invariant.11,
+      tt,
+      tt,
+    )
 
 pub loop-x-preserved : goal.loop-x-preserved
 loop-x-preserved c =
@@ -98,9 +98,9 @@ loop-x-preserved c =
 pub returns : goal.returns
 returns c =
     let a = c.args in let l = c.loop-x in (
-  l.invariant.10,
-  l.invariant.11,
-  growing_all (ground_stage a.g a.level.now a.tables.now) a.drops (a.g.components - 1) l.n l.x l.e l.nodes l.spans l.edges
-      (omega arith) l.invariant.12,
-  (l.invariant.2, l.invariant.4, l.invariant.3, l.invariant.5),
-)
+      l.invariant.10,
+      l.invariant.11,
+      growing_all (ground_stage a.g a.level.now a.tables.now) a.drops (a.g.components - 1) l.n l.x l.e l.nodes l.spans l.edges
+          (omega arith) l.invariant.12,
+      (l.invariant.2, l.invariant.4, l.invariant.3, l.invariant.5),
+    )

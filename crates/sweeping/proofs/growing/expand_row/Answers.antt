@@ -48,8 +48,7 @@ returns-then-left_out c =
     )
 
 pub lead-requires : goal.lead-requires
-lead-requires c =
-    (
+lead-requires c = (
   c.requires.0,
   c.requires.1,
   sym c.left_out.ensures ∙ c.if-left_out.false,

@@ -88,75 +88,75 @@ one-requires c =
 pub overflow_add-i : goal.overflow_add-i
 overflow_add-i c =
     omega (
-  arith,
-  c.requires.7.few,
-  c.loop-i-test.true,
-)
+      arith,
+      c.requires.7.few,
+      c.loop-i-test.true,
+    )
 
 pub shape_of-value-in-Refused : goal.shape_of-value-in-Refused
 shape_of-value-in-Refused c =
     omega (
-  arith,
-  c.one.auto.value,
-  c.loop-i.invariant.1,
-)
+      arith,
+      c.one.auto.value,
+      c.loop-i.invariant.1,
+    )
 
 pub shape_of-vector-in-Refused : goal.shape_of-vector-in-Refused
 shape_of-vector-in-Refused c =
     omega (
-  arith,
-  c.one.auto.vector,
-  c.loop-i.invariant.2,
-)
+      arith,
+      c.one.auto.vector,
+      c.loop-i.invariant.2,
+    )
 
 pub shape_of-nodes-in-Refused : goal.shape_of-nodes-in-Refused
 shape_of-nodes-in-Refused c =
     omega (
-  arith,
-  c.renew-b.auto.nodes,
-  c.loop-i.invariant.5,
-)
+      arith,
+      c.renew-b.auto.nodes,
+      c.loop-i.invariant.5,
+    )
 
 pub shape_of-edges-in-Refused : goal.shape_of-edges-in-Refused
 shape_of-edges-in-Refused c =
     omega (
-  arith,
-  c.renew-b.auto.edges,
-  c.loop-i.invariant.6,
-)
+      arith,
+      c.renew-b.auto.edges,
+      c.loop-i.invariant.6,
+    )
 
 pub shape_of-spans-in-Refused : goal.shape_of-spans-in-Refused
 shape_of-spans-in-Refused c =
     omega (
-  arith,
-  c.renew-b.auto.spans,
-  c.loop-i.invariant.7,
-)
+      arith,
+      c.renew-b.auto.spans,
+      c.loop-i.invariant.7,
+    )
 
 pub shape_of-order-in-Refused : goal.shape_of-order-in-Refused
 shape_of-order-in-Refused c =
     omega (
-  arith,
-  c.renew-b.auto.order,
-  c.loop-i.invariant.8,
-)
+      arith,
+      c.renew-b.auto.order,
+      c.loop-i.invariant.8,
+    )
 
 pub shape_of-sums-in-Refused : goal.shape_of-sums-in-Refused
 shape_of-sums-in-Refused c =
     omega (
-  arith,
-  c.renew-b.auto.keys,
-  c.one.auto.sums,
-  c.loop-i.invariant.9,
-)
+      arith,
+      c.renew-b.auto.keys,
+      c.one.auto.sums,
+      c.loop-i.invariant.9,
+    )
 
 pub shape_of-other-in-Refused : goal.shape_of-other-in-Refused
 shape_of-other-in-Refused c =
     omega (
-  arith,
-  c.renew-b.auto.other,
-  c.loop-i.invariant.10,
-)
+      arith,
+      c.renew-b.auto.other,
+      c.loop-i.invariant.10,
+    )
 
 pub returns-in-Refused : goal.returns-in-Refused
 returns-in-Refused c =
@@ -174,75 +174,75 @@ returns-in-Refused c =
 pub overflow_add-result : goal.overflow_add-result
 overflow_add-result c =
     omega (
-  arith,
-  c.requires.7.few,
-  c.loop-i-test.true,
-)
+      arith,
+      c.requires.7.few,
+      c.loop-i-test.true,
+    )
 
 pub shape_of-value-in-Stopped : goal.shape_of-value-in-Stopped
 shape_of-value-in-Stopped c =
     omega (
-  arith,
-  c.one.auto.value,
-  c.loop-i.invariant.1,
-)
+      arith,
+      c.one.auto.value,
+      c.loop-i.invariant.1,
+    )
 
 pub shape_of-vector-in-Stopped : goal.shape_of-vector-in-Stopped
 shape_of-vector-in-Stopped c =
     omega (
-  arith,
-  c.one.auto.vector,
-  c.loop-i.invariant.2,
-)
+      arith,
+      c.one.auto.vector,
+      c.loop-i.invariant.2,
+    )
 
 pub shape_of-nodes-in-Stopped : goal.shape_of-nodes-in-Stopped
 shape_of-nodes-in-Stopped c =
     omega (
-  arith,
-  c.renew-b.auto.nodes,
-  c.loop-i.invariant.5,
-)
+      arith,
+      c.renew-b.auto.nodes,
+      c.loop-i.invariant.5,
+    )
 
 pub shape_of-edges-in-Stopped : goal.shape_of-edges-in-Stopped
 shape_of-edges-in-Stopped c =
     omega (
-  arith,
-  c.renew-b.auto.edges,
-  c.loop-i.invariant.6,
-)
+      arith,
+      c.renew-b.auto.edges,
+      c.loop-i.invariant.6,
+    )
 
 pub shape_of-spans-in-Stopped : goal.shape_of-spans-in-Stopped
 shape_of-spans-in-Stopped c =
     omega (
-  arith,
-  c.renew-b.auto.spans,
-  c.loop-i.invariant.7,
-)
+      arith,
+      c.renew-b.auto.spans,
+      c.loop-i.invariant.7,
+    )
 
 pub shape_of-order-in-Stopped : goal.shape_of-order-in-Stopped
 shape_of-order-in-Stopped c =
     omega (
-  arith,
-  c.renew-b.auto.order,
-  c.loop-i.invariant.8,
-)
+      arith,
+      c.renew-b.auto.order,
+      c.loop-i.invariant.8,
+    )
 
 pub shape_of-sums-in-Stopped : goal.shape_of-sums-in-Stopped
 shape_of-sums-in-Stopped c =
     omega (
-  arith,
-  c.renew-b.auto.keys,
-  c.one.auto.sums,
-  c.loop-i.invariant.9,
-)
+      arith,
+      c.renew-b.auto.keys,
+      c.one.auto.sums,
+      c.loop-i.invariant.9,
+    )
 
 pub shape_of-other-in-Stopped : goal.shape_of-other-in-Stopped
 shape_of-other-in-Stopped c =
     omega (
-  arith,
-  c.renew-b.auto.other,
-  c.loop-i.invariant.10,
-)
+      arith,
+      c.renew-b.auto.other,
+      c.loop-i.invariant.10,
+    )
 
 pub returns-in-Stopped : goal.returns-in-Stopped
 returns-in-Stopped c =
@@ -261,17 +261,17 @@ returns-in-Stopped c =
 pub overflow_add-i-in-loop-i : goal.overflow_add-i-in-loop-i
 overflow_add-i-in-loop-i c =
     omega (
-  arith,
-  c.requires.7.few,
-  c.loop-i-test.true,
-)
+      arith,
+      c.requires.7.few,
+      c.loop-i-test.true,
+    )
 
 pub loop-i-smaller : goal.loop-i-smaller
 loop-i-smaller c =
     omega (
-  arith,
-  c.loop-i-test.true,
-)
+      arith,
+      c.loop-i-test.true,
+    )
 
 pub loop-i-preserved : goal.loop-i-preserved
 loop-i-preserved c =

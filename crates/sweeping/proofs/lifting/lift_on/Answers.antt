@@ -71,71 +71,71 @@ renew-b-requires c =
 pub shape_of-out-then-left : goal.shape_of-out-then-left
 shape_of-out-then-left c =
     omega (
-  arith,
-  c.loop-i.invariant.2,
-)
+      arith,
+      c.loop-i.invariant.2,
+    )
 
 pub shape_of-value-then-left : goal.shape_of-value-then-left
 shape_of-value-then-left c =
     omega (
-  arith,
-  c.loop-i.invariant.3,
-)
+      arith,
+      c.loop-i.invariant.3,
+    )
 
 pub shape_of-vector-then-left : goal.shape_of-vector-then-left
 shape_of-vector-then-left c =
     omega (
-  arith,
-  c.loop-i.invariant.4,
-)
+      arith,
+      c.loop-i.invariant.4,
+    )
 
 pub shape_of-nodes-then-left : goal.shape_of-nodes-then-left
 shape_of-nodes-then-left c =
     omega (
-  arith,
-  c.renew-b.auto.nodes,
-  c.loop-i.invariant.8,
-)
+      arith,
+      c.renew-b.auto.nodes,
+      c.loop-i.invariant.8,
+    )
 
 pub shape_of-edges-then-left : goal.shape_of-edges-then-left
 shape_of-edges-then-left c =
     omega (
-  arith,
-  c.renew-b.auto.edges,
-  c.loop-i.invariant.9,
-)
+      arith,
+      c.renew-b.auto.edges,
+      c.loop-i.invariant.9,
+    )
 
 pub shape_of-spans-then-left : goal.shape_of-spans-then-left
 shape_of-spans-then-left c =
     omega (
-  arith,
-  c.renew-b.auto.spans,
-  c.loop-i.invariant.10,
-)
+      arith,
+      c.renew-b.auto.spans,
+      c.loop-i.invariant.10,
+    )
 
 pub shape_of-order-then-left : goal.shape_of-order-then-left
 shape_of-order-then-left c =
     omega (
-  arith,
-  c.renew-b.auto.order,
-  c.loop-i.invariant.11,
-)
+      arith,
+      c.renew-b.auto.order,
+      c.loop-i.invariant.11,
+    )
 
 pub shape_of-sums-then-left : goal.shape_of-sums-then-left
 shape_of-sums-then-left c =
     omega (
-  arith,
-  c.renew-b.auto.keys,
-  c.loop-i.invariant.12,
-)
+      arith,
+      c.renew-b.auto.keys,
+      c.loop-i.invariant.12,
+    )
 
 pub shape_of-other-then-left : goal.shape_of-other-then-left
 shape_of-other-then-left c =
     omega (
-  arith,
-  c.renew-b.auto.other,
-  c.loop-i.invariant.13,
-)
+      arith,
+      c.renew-b.auto.other,
+      c.loop-i.invariant.13,
+    )
 
 pub returns-then-left : goal.returns-then-left
 returns-then-left c =
@@ -193,75 +193,75 @@ keep-requires c =
 pub shape_of-out-in-Refused : goal.shape_of-out-in-Refused
 shape_of-out-in-Refused c =
     omega (
-  arith,
-  c.keep.auto.out,
-  c.loop-i.invariant.2,
-)
+      arith,
+      c.keep.auto.out,
+      c.loop-i.invariant.2,
+    )
 
 pub shape_of-value-in-Refused : goal.shape_of-value-in-Refused
 shape_of-value-in-Refused c =
     omega (
-  arith,
-  c.one-x.auto.value,
-  c.loop-i.invariant.3,
-)
+      arith,
+      c.one-x.auto.value,
+      c.loop-i.invariant.3,
+    )
 
 pub shape_of-vector-in-Refused : goal.shape_of-vector-in-Refused
 shape_of-vector-in-Refused c =
     omega (
-  arith,
-  c.one-x.auto.vector,
-  c.loop-i.invariant.4,
-)
+      arith,
+      c.one-x.auto.vector,
+      c.loop-i.invariant.4,
+    )
 
 pub shape_of-nodes-in-Refused : goal.shape_of-nodes-in-Refused
 shape_of-nodes-in-Refused c =
     omega (
-  arith,
-  c.renew-b.auto.nodes,
-  c.loop-i.invariant.8,
-)
+      arith,
+      c.renew-b.auto.nodes,
+      c.loop-i.invariant.8,
+    )
 
 pub shape_of-edges-in-Refused : goal.shape_of-edges-in-Refused
 shape_of-edges-in-Refused c =
     omega (
-  arith,
-  c.renew-b.auto.edges,
-  c.loop-i.invariant.9,
-)
+      arith,
+      c.renew-b.auto.edges,
+      c.loop-i.invariant.9,
+    )
 
 pub shape_of-spans-in-Refused : goal.shape_of-spans-in-Refused
 shape_of-spans-in-Refused c =
     omega (
-  arith,
-  c.renew-b.auto.spans,
-  c.loop-i.invariant.10,
-)
+      arith,
+      c.renew-b.auto.spans,
+      c.loop-i.invariant.10,
+    )
 
 pub shape_of-order-in-Refused : goal.shape_of-order-in-Refused
 shape_of-order-in-Refused c =
     omega (
-  arith,
-  c.renew-b.auto.order,
-  c.loop-i.invariant.11,
-)
+      arith,
+      c.renew-b.auto.order,
+      c.loop-i.invariant.11,
+    )
 
 pub shape_of-sums-in-Refused : goal.shape_of-sums-in-Refused
 shape_of-sums-in-Refused c =
     omega (
-  arith,
-  c.renew-b.auto.keys,
-  c.one-x.auto.sums,
-  c.loop-i.invariant.12,
-)
+      arith,
+      c.renew-b.auto.keys,
+      c.one-x.auto.sums,
+      c.loop-i.invariant.12,
+    )
 
 pub shape_of-other-in-Refused : goal.shape_of-other-in-Refused
 shape_of-other-in-Refused c =
     omega (
-  arith,
-  c.renew-b.auto.other,
-  c.loop-i.invariant.13,
-)
+      arith,
+      c.renew-b.auto.other,
+      c.loop-i.invariant.13,
+    )
 
 pub returns-in-Refused : goal.returns-in-Refused
 returns-in-Refused c =
@@ -283,75 +283,75 @@ returns-in-Refused c =
 pub shape_of-out-in-Stopped : goal.shape_of-out-in-Stopped
 shape_of-out-in-Stopped c =
     omega (
-  arith,
-  c.keep.auto.out,
-  c.loop-i.invariant.2,
-)
+      arith,
+      c.keep.auto.out,
+      c.loop-i.invariant.2,
+    )
 
 pub shape_of-value-in-Stopped : goal.shape_of-value-in-Stopped
 shape_of-value-in-Stopped c =
     omega (
-  arith,
-  c.one-x.auto.value,
-  c.loop-i.invariant.3,
-)
+      arith,
+      c.one-x.auto.value,
+      c.loop-i.invariant.3,
+    )
 
 pub shape_of-vector-in-Stopped : goal.shape_of-vector-in-Stopped
 shape_of-vector-in-Stopped c =
     omega (
-  arith,
-  c.one-x.auto.vector,
-  c.loop-i.invariant.4,
-)
+      arith,
+      c.one-x.auto.vector,
+      c.loop-i.invariant.4,
+    )
 
 pub shape_of-nodes-in-Stopped : goal.shape_of-nodes-in-Stopped
 shape_of-nodes-in-Stopped c =
     omega (
-  arith,
-  c.renew-b.auto.nodes,
-  c.loop-i.invariant.8,
-)
+      arith,
+      c.renew-b.auto.nodes,
+      c.loop-i.invariant.8,
+    )
 
 pub shape_of-edges-in-Stopped : goal.shape_of-edges-in-Stopped
 shape_of-edges-in-Stopped c =
     omega (
-  arith,
-  c.renew-b.auto.edges,
-  c.loop-i.invariant.9,
-)
+      arith,
+      c.renew-b.auto.edges,
+      c.loop-i.invariant.9,
+    )
 
 pub shape_of-spans-in-Stopped : goal.shape_of-spans-in-Stopped
 shape_of-spans-in-Stopped c =
     omega (
-  arith,
-  c.renew-b.auto.spans,
-  c.loop-i.invariant.10,
-)
+      arith,
+      c.renew-b.auto.spans,
+      c.loop-i.invariant.10,
+    )
 
 pub shape_of-order-in-Stopped : goal.shape_of-order-in-Stopped
 shape_of-order-in-Stopped c =
     omega (
-  arith,
-  c.renew-b.auto.order,
-  c.loop-i.invariant.11,
-)
+      arith,
+      c.renew-b.auto.order,
+      c.loop-i.invariant.11,
+    )
 
 pub shape_of-sums-in-Stopped : goal.shape_of-sums-in-Stopped
 shape_of-sums-in-Stopped c =
     omega (
-  arith,
-  c.renew-b.auto.keys,
-  c.one-x.auto.sums,
-  c.loop-i.invariant.12,
-)
+      arith,
+      c.renew-b.auto.keys,
+      c.one-x.auto.sums,
+      c.loop-i.invariant.12,
+    )
 
 pub shape_of-other-in-Stopped : goal.shape_of-other-in-Stopped
 shape_of-other-in-Stopped c =
     omega (
-  arith,
-  c.renew-b.auto.other,
-  c.loop-i.invariant.13,
-)
+      arith,
+      c.renew-b.auto.other,
+      c.loop-i.invariant.13,
+    )
 
 pub returns-in-Stopped : goal.returns-in-Stopped
 returns-in-Stopped c =
@@ -373,17 +373,17 @@ returns-in-Stopped c =
 pub overflow_add-i : goal.overflow_add-i
 overflow_add-i c =
     omega (
-  arith,
-  c.requires.7.few,
-  c.loop-i-test.true,
-)
+      arith,
+      c.requires.7.few,
+      c.loop-i-test.true,
+    )
 
 pub loop-i-smaller : goal.loop-i-smaller
 loop-i-smaller c =
     omega (
-  arith,
-  c.loop-i-test.true,
-)
+      arith,
+      c.loop-i-test.true,
+    )
 
 pub loop-i-preserved : goal.loop-i-preserved
 loop-i-preserved c =

@@ -23,10 +23,10 @@ use Rattle.sweeping.proofs.lifting.one.Goals as goal
 pub row-t-requires : goal.row-t-requires
 row-t-requires c =
     omega (
-  arith,
-  c.requires.7.fits,
-  c.requires.8,
-)
+      arith,
+      c.requires.7.fits,
+      c.requires.8,
+    )
 
 pub pass-k-requires : goal.pass-k-requires
 pass-k-requires c =

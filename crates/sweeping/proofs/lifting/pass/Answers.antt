@@ -14,10 +14,10 @@ use Rattle.sweeping.proofs.lifting.pass.Goals as goal
 pub slice_bounds-sweep-end : goal.slice_bounds-sweep-end
 slice_bounds-sweep-end c =
     omega (
-  arith,
-  (c.requires.0 c.if-serves.true).order_there,
-  c.requires.2,
-)
+      arith,
+      (c.requires.0 c.if-serves.true).order_there,
+      c.requires.2,
+    )
 
 pub sweep-x-requires : goal.sweep-x-requires
 sweep-x-requires c =

@@ -65,26 +65,26 @@ reach-requires c =
 pub shape_of-nodes-in-Over : goal.shape_of-nodes-in-Over
 shape_of-nodes-in-Over c =
     omega (
-  arith,
-  c.reach.auto.nodes,
-  c.loop-v.invariant.2,
-)
+      arith,
+      c.reach.auto.nodes,
+      c.loop-v.invariant.2,
+    )
 
 pub shape_of-edges-in-Over : goal.shape_of-edges-in-Over
 shape_of-edges-in-Over c =
     omega (
-  arith,
-  c.reach.auto.edges,
-  c.loop-v.invariant.3,
-)
+      arith,
+      c.reach.auto.edges,
+      c.loop-v.invariant.3,
+    )
 
 pub shape_of-spans-in-Over : goal.shape_of-spans-in-Over
 shape_of-spans-in-Over c =
     omega (
-  arith,
-  c.reach.auto.spans,
-  c.loop-v.invariant.4,
-)
+      arith,
+      c.reach.auto.spans,
+      c.loop-v.invariant.4,
+    )
 
 pub returns-in-Over : goal.returns-in-Over
 returns-in-Over c =
@@ -104,10 +104,10 @@ returns-in-Over c =
 pub overflow_add-v : goal.overflow_add-v
 overflow_add-v c =
     omega (
-  arith,
-  c.requires.2.few,
-  c.loop-v-test.true,
-)
+      arith,
+      c.requires.2.few,
+      c.loop-v-test.true,
+    )
 
 pub loop-v-smaller : goal.loop-v-smaller
 loop-v-smaller c = let t = c.loop-v-test.true in omega (arith, t)

@@ -15,14 +15,14 @@ loop-i-init c = (omega arith, refl, λ j h. absurd (omega (arith, h)))
 pub loop-i-preserved : goal.loop-i-preserved
 loop-i-preserved c =
     let l = c.loop-i in (
-  omega arith,
-  omega (arith, length-set l.sums l.i 0),
-  λ j h. set_zero l.sums l.i j (λ k. l.invariant.2 j k) (omega (arith, h)),
-)
+      omega arith,
+      omega (arith, length-set l.sums l.i 0),
+      λ j h. set_zero l.sums l.i j (λ k. l.invariant.2 j k) (omega (arith, h)),
+    )
 
 pub returns : goal.returns
 returns c =
     let l = c.loop-i in record {
-  enough = omega arith;
-  zero_all = λ j. all_zero l.sums j (λ k. l.invariant.2 j (omega (arith, k)));
-}
+      enough = omega arith;
+      zero_all = λ j. all_zero l.sums j (λ k. l.invariant.2 j (omega (arith, k)));
+    }

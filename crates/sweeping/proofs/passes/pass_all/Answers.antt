@@ -93,9 +93,9 @@ loop-x-preserved c =
 pub returns : goal.returns
 returns c =
     let a = c.args in let l = c.loop-x in (
-  sym (l.invariant.4 ∙ ap (λ v. rows l.vector 0 l.k ++ v) (places_end a.p a.n a.nodes.now a.spans.now a.words.now a.order.now l.x
-      l.sums (omega arith)) ∙ append-nil (rows l.vector 0 l.k)),
-  sym (l.invariant.5 ∙ ap (λ b. l.settled and b) (settled_end a.p a.n a.nodes.now a.spans.now a.words.now a.order.now l.x l.sums
-      (omega arith)) ∙ and_true l.settled),
-  omega arith,
-)
+      sym (l.invariant.4 ∙ ap (λ v. rows l.vector 0 l.k ++ v) (places_end a.p a.n a.nodes.now a.spans.now a.words.now a.order.now l.x
+          l.sums (omega arith)) ∙ append-nil (rows l.vector 0 l.k)),
+      sym (l.invariant.5 ∙ ap (λ b. l.settled and b) (settled_end a.p a.n a.nodes.now a.spans.now a.words.now a.order.now l.x l.sums
+          (omega arith)) ∙ and_true l.settled),
+      omega arith,
+    )

@@ -65,6 +65,6 @@ loop-k-preserved c =
 pub returns : goal.returns
 returns c =
     let l = c.loop-k in let a = c.args in (
-  sym (l.invariant.3 ∙ spread_end a.c a.words.now l.k a.b l.sums (omega arith)),
-  λ r h. holds_less r ((a.b - l.k) + r) l.sums (omega arith) (l.invariant.5 r h),
-)
+      sym (l.invariant.3 ∙ spread_end a.c a.words.now l.k a.b l.sums (omega arith)),
+      λ r h. holds_less r ((a.b - l.k) + r) l.sums (omega arith) (l.invariant.5 r h),
+    )

@@ -15,19 +15,19 @@ use Rattle.sweeping.proofs.passes.sweep.Goals as goal
 pub vector_of-r-requires : goal.vector_of-r-requires
 vector_of-r-requires c =
     let q = c.requires in (
-  q.2,
-  q.3,
-  record {
-    sums_fit = q.4;
-    order_fits = q.5;
-    nodes_fit = q.6;
-    spans_fit = omega (arith, q.3, q.9);
-    passable = q.0;
-  },
-  q.1,
-  omega (arith, q.8, q.9),
-  q.7,
-)
+      q.2,
+      q.3,
+      record {
+        sums_fit = q.4;
+        order_fits = q.5;
+        nodes_fit = q.6;
+        spans_fit = omega (arith, q.3, q.9);
+        passable = q.0;
+      },
+      q.1,
+      omega (arith, q.8, q.9),
+      q.7,
+    )
 
 pub returns-then-settled : goal.returns-then-settled
 returns-then-settled c =

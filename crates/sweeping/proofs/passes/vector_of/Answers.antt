@@ -23,24 +23,24 @@ use Rattle.sweeping.proofs.passes.vector_of.Goals as goal
 pub start-requires : goal.start-requires
 start-requires c =
     let a = c.args in (
-  c.requires.4,
-  onward_more a.n (length a.sums.now) (first_root a.spans.now a.v) (roots_end a.spans.now a.v) a.words.now c.requires.2.sums_fit c.requires.3,
-)
+      c.requires.4,
+      onward_more a.n (length a.sums.now) (first_root a.spans.now a.v) (roots_end a.spans.now a.v) a.words.now c.requires.2.sums_fit c.requires.3,
+    )
 
 pub pass_all-requires : goal.pass_all-requires
 pass_all-requires c =
     let r = c.requires.2 in let x = c.start in (
-  c.requires.0,
-  record {
-    sums_fit = omega (arith, x.auto.sums, r.sums_fit);
-    order_fits = r.order_fits;
-    nodes_fit = r.nodes_fit;
-    spans_fit = r.spans_fit;
-    passable = r.passable;
-  },
-  omega (arith, c.put.auto.s, c.requires.5),
-  holds_less (c.args.n * most_degree) (most_nodes * most_degree) x.new.sums (omega (arith, c.requires.1)) x.ensures.room,
-)
+      c.requires.0,
+      record {
+        sums_fit = omega (arith, x.auto.sums, r.sums_fit);
+        order_fits = r.order_fits;
+        nodes_fit = r.nodes_fit;
+        spans_fit = r.spans_fit;
+        passable = r.passable;
+      },
+      omega (arith, c.put.auto.s, c.requires.5),
+      holds_less (c.args.n * most_degree) (most_nodes * most_degree) x.new.sums (omega (arith, c.requires.1)) x.ensures.room,
+    )
 
 pub returns : goal.returns
 returns c =

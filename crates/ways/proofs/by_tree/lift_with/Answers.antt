@@ -24,8 +24,7 @@ use Rattle.level.proofs.by_runs.OverGround.{leading_at, too_many, few_enough, wh
 use Rattle.ways.proofs.by_tree.lift_with.Goals as goal
 
 pub form-requires : goal.form-requires
-form-requires c =
-    (
+form-requires c = (
   omega arith,
   omega (
     arith,

@@ -1,4 +1,3 @@
-use borrow.Author.Rules.{rules}
 use mathlib.Core.Path.{sym, ◌∙◌}
 use Rattle.definitions.specs.Lists.{◌and◌, between}
 use Rattle.definitions.specs.Places.{most_components}
