@@ -2,6 +2,7 @@
 // `brought::v_lines`; the lines of a division, `page::print_lines`.
 // Knows: crate definitions' Membership.
 // The division is crate dividing's.
+#![tactic(auto)]
 pub mod brought;
 pub mod page;
 pub mod whole;
