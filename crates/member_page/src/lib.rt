@@ -3,6 +3,7 @@
 // Knows: crate definitions' Membership.
 // The division is crate dividing's.
 #![tactic(auto)]
+
 pub mod brought;
 pub mod page;
 pub mod whole;

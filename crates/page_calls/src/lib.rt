@@ -3,6 +3,8 @@
 // Knows: crate definitions' Betti, Minimal, Bidegrees, Hilbert, Membership, Completing and Replay; module whole of betti_page, minimal_page, bidegree_page,
 // hilbert_page, member_page, completing and replay_page prints them.
 // What they test first and leave at their end is crate lending's.
+#![tactic(auto)]
+
 ghost use Rattle.std.specs.Prelude.{◌≡◌, ℕ};
 ghost use Rattle.definitions.specs.Limits.{document_01};
 ghost use Rattle.definitions.specs.Betti.{betti as betti_definition};

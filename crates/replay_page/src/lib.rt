@@ -2,5 +2,6 @@
 // Knows: crate definitions' Replay.
 // The log is crate replaying's.
 #![tactic(auto)]
+
 pub mod levels;
 pub mod whole;

@@ -3,6 +3,7 @@
 // Knows: crate definitions' Replay.
 // A step is crate runs'.
 #![tactic(auto)]
+
 pub mod log;
 pub mod over;
 pub mod picks;

@@ -45,8 +45,7 @@ print_division-requires c =
     let input = a.input.now in
     let said = q-there.ensures in
     let is = brought_is s asked.0 asked.1 input (parameters_of q-there.result) said.0 said.1 said.2 said.3 a.end
-    (lines-there.result + 1) asked.2 (ap (λ k. k + 1) lines-there.ensures.0) in
-    (
+    (lines-there.result + 1) asked.2 (ap (λ k. k + 1) lines-there.ensures.0) in (
       asked.0,
       asked.1,
       omega (arith, asked.5),

@@ -1,0 +1,24 @@
+use borrow.Author.Rules.{rules}
+use Rattle.definitions.specs.Limits.{document_01}
+use Rattle.definitions.specs.Hilbert.{hilbert}
+use Rattle.definitions.specs.Places.{hilbert_length}
+use Rattle.lending.proofs.Called.{long_enough_says, short_call, whole_call}
+use Rattle.page_calls.proofs.hilbert.Goals as goal
+
+pub print-many-requires : goal.print-many-requires
+print-many-requires c = long_enough_says hilbert_length _ _ _ c.long_enough.ensures c.if-long_enough.true
+
+pub returns-then-long_enough : goal.returns-then-long_enough
+returns-then-long_enough c =
+    let a = c.args in
+    let R = c.print-many in
+    let P = R.ensures.0 in
+    whole_call hilbert_length (hilbert document_01) a.file.now a.state.now a.work.now a.out.now
+    c.long_enough.ensures c.if-long_enough.true P.bound P.gives
+    P.printed R.auto.state R.auto.work R.auto.out c.finish.ensures
+
+pub returns : goal.returns
+returns c =
+    let a = c.args in
+    short_call hilbert_length (hilbert document_01) a.file.now a.state.now a.work.now a.out.now c.long_enough.ensures
+    c.if-long_enough.false c.too_short.ensures

@@ -1,0 +1,24 @@
+use borrow.Author.Rules.{rules}
+use Rattle.definitions.specs.Limits.{document_01}
+use Rattle.definitions.specs.Replay.{replay}
+use Rattle.definitions.specs.Places.{replay_length}
+use Rattle.lending.proofs.Called.{long_enough_says, short_call, whole_call}
+use Rattle.page_calls.proofs.replay.Goals as goal
+
+pub print-written-requires : goal.print-written-requires
+print-written-requires c = long_enough_says replay_length _ _ _ c.long_enough.ensures c.if-long_enough.true
+
+pub returns-then-long_enough : goal.returns-then-long_enough
+returns-then-long_enough c =
+    let a = c.args in
+    let R = c.print-written in
+    let P = R.ensures.0 in
+    whole_call replay_length (replay document_01) a.input.now a.state.now a.work.now a.out.now
+    c.long_enough.ensures c.if-long_enough.true P.bound P.gives
+    P.printed R.auto.state R.auto.work R.auto.out c.finish.ensures
+
+pub returns : goal.returns
+returns c =
+    let a = c.args in
+    short_call replay_length (replay document_01) a.input.now a.state.now a.work.now a.out.now c.long_enough.ensures
+    c.if-long_enough.false c.too_short.ensures
