@@ -15,7 +15,7 @@ ghost use Rattle.programs.specs.Streams.{IsPrefixLen};
 fn answer(file: &[u8], state: &mut [u16], work: &mut [u16], out: &mut [u8]) -> usize
     requires { (state_length ≤ length state.old) × (value_length ≤ length work.old) × (hilbert_length ≤ length out.old) }
     ensures prefix_len { IsPrefixLen result out.new }
-    ensures by_index { (n : ℕ) × (some (take result out.new) ≡ hilbert_definition document_01 n file.now) }
+    ensures printed { (n : ℕ) × (some (take result out.new) ≡ hilbert_definition document_01 n file.now) }
 {
     let r = page_calls::hilbert(file, state, work, out);
     r.length

@@ -6,10 +6,12 @@ use Rattle.betti_numbers.proofs.answer.Goals as goal
 
 pub returns-clause-prefix_len : goal.returns-clause-prefix_len
 returns-clause-prefix_len c =
-    (printed_in_front c.args.state.now c.args.work.now c.args.out.now _ _ _ _ _ page_length (betti document_01) c.args.file.now c.requires.0 c.requires.1
-    c.requires.2 c.betti-r.ensures).0
+    let a = c.args in
+    (printed_in_front a.state.now a.work.now a.out.now _ _ _ _ _ page_length (betti document_01) a.file.now c.requires.0 c.requires.1 c.requires.2
+    c.betti-r.ensures).0
 
-pub returns-clause-by_index : goal.returns-clause-by_index
-returns-clause-by_index c =
-    (printed_in_front c.args.state.now c.args.work.now c.args.out.now _ _ _ _ _ page_length (betti document_01) c.args.file.now c.requires.0 c.requires.1
-    c.requires.2 c.betti-r.ensures).1
+pub returns-clause-printed : goal.returns-clause-printed
+returns-clause-printed c =
+    let a = c.args in
+    (printed_in_front a.state.now a.work.now a.out.now _ _ _ _ _ page_length (betti document_01) a.file.now c.requires.0 c.requires.1 c.requires.2
+    c.betti-r.ensures).1
