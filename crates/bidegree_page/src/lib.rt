@@ -2,5 +2,6 @@
 // Knows: crate definitions' Bidegrees.
 // Keys are crate columns', bytes crate pages'.
 #![tactic(auto)]
+
 pub mod page;
 pub mod whole;
