@@ -39,4 +39,5 @@ pub mod Stored
 pub mod Demand3
 pub mod PrintedFile
 pub mod Idle
+pub mod SomeRun
 pub mod TooEarly

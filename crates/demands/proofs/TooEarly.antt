@@ -23,11 +23,10 @@ use Rattle.definitions.proofs.Instances.{xy, f₁, g₁}
 use Rattle.laws.proofs.Steady.{steady_once}
 use Rattle.laws.proofs.Bound.{read_steady}
 use Rattle.demands.specs.Demands
-use Rattle.demands.specs.Demands.{sensible?, level_of, FetchRight, ReadForm, accepted_as, RefusedReading, ill_formed, not_accepted, no_basis}
-use Rattle.demands.specs.Demands.{limit_met, LiftForm, lifted_as}
+use Rattle.demands.specs.Demands.{sensible?, level_of, FetchRight, ReadForm, accepted_as, LiftForm, lifted_as}
 use Rattle.demands.specs.Demands.{FetchForm, fetched_as}
-use Rattle.demands.proofs.Demand2.{demand_2_of_document_01}
 use Rattle.demands.proofs.Demand3.{demand_3}
+use Rattle.demands.proofs.SomeRun.{run_of}
 use Rattle.demands.proofs.PrintedFile.{printed_file, q₁, X₁, is_read}
 
 -- limits so small that the checker can spell a state
@@ -128,13 +127,6 @@ same_reading file n x d t bound number place value e =
     ∙ steady_once finished? (λ n. read document_01 n file) (read_steady document_01 file) n bound (subst (λ y. T (finished? y)) (sym d) t)
     (subst (λ y. T (finished? y)) (sym e) tt)
     ∙ e
-
--- a refused reading is some run's
-run_of : (file : Bytes) (number place : ℕ) (value : Vector) → RefusedReading document_01 file number place value
-    → (bound : ℕ) × (read document_01 bound file ≡ refused number place value)
-run_of file number place value (ill_formed r) = (0, demand_2_of_document_01.ill_formed 0 file number place r)
-run_of file number place value (not_accepted (no_basis bound w d t s)) = (bound, d)
-run_of file number place value (not_accepted (limit_met bound w d l)) = (bound, d)
 
 never_short : (b : Bool) → T b → T (not b) → ⊥
 never_short true l t = t
