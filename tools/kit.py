@@ -96,6 +96,9 @@ def tree_hash(root=ROOT):
 
 
 def at_once(memory):
-    """How many runs that take so many bytes each: as many as there are processors, and memory for."""
+    """How many runs that take so many bytes each: as many as there are processors, and memory for; or what RT_JOBS says, as with rt."""
+    given = os.environ.get("RT_JOBS", "")
+    if given.isdigit() and int(given):
+        return int(given)
     free = re.search(r"^MemAvailable: *(\d+) kB", text_of("/proc/meminfo"), re.M)
     return max(1, min(len(os.sched_getaffinity(0)), int(free.group(1)) * 1024 // memory if free else 1))
