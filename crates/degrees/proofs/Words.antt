@@ -92,10 +92,11 @@ module _ (lim : Limits) (s : Words) (k v : ℕ) (h : HasVector (decode lim s).le
       → lift_call lim n level way s work cache ≡ some (11, 0, s, work, cache)
   wrong_lifting n level way work cache t =
       let by = lifting_by lim way work cache in
+      let eleven : lift_call lim n level way s work cache ≡ some (11, 0, s, work, cache) =
       ap (λ X. lift_reply lim n X (long_enough? lim way s work) level by then λ a. some (lift_left lim s work cache a)) wrong_empty
       ∙ ap (λ b. lift_reply lim n empty b level by then λ a. some (lift_left lim s work cache a)) (true_is (long_enough? lim way s work) t)
       ∙ ap (λ b. choose b (some (refuse 11 empty)) (choose (not (lifts? lim level by)) (some (refuse 12 empty)) (settled (lift lim n empty level by)))
-      then λ a. some (lift_left lim s work cache a)) (empty_eleven lim level (level - 1))
+      then λ a. some (lift_left lim s work cache a)) (empty_eleven lim level (level - 1)) in eleven
 
   pub wrong_fetching : (level vector : ℕ) (out : Words) → T (out_long_enough? lim s out) → fetch_call lim level vector s out ≡ (11, 0, out)
   wrong_fetching level vector out t =
