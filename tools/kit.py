@@ -78,7 +78,7 @@ class Crates(dict):
         for one in self.below(crate):
             found += ["-L", "dependency=" + os.path.dirname(one.rlib)]
         found += logic() + ["--jobs", "1"]
-        for one in [crate] + self.below(crate):
+        for one in [crate] + (self.below(crate) if crate.is_program or crate.is_static else []):
             found += ["--links", one.name + "="]
         return found
 
