@@ -2,7 +2,7 @@
 # SPDX-License-Identifier: MIT OR Apache-2.0
 """Brings this repository's own names to the spelling of today's Rattle: words in snake case, types in camel case.
 
-usage: tools/respell.py [FOLDER]     once, on a tree that /opt/rattle/port/port.py has turned; FOLDER is its top, the current one without it
+usage: tools/respell.py [FOLDER]     once, on a tree that the kit's port.py has turned; FOLDER is its top, the current one without it
 
 A name is turned where one of the repository's .antt files outside a function's Proof.antt declares it: `row-length` becomes `row_length`, and
 `Gröbner-basis` `GröbnerBasis`. It is turned in .antt files, in the clauses of .rt files, and between backquotes of comments. What a file brings in from a
