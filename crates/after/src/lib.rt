@@ -4,36 +4,22 @@
 // The bytes are looked at one by one; what the lines say is crate reader's.
 #![tactic(auto)]
 
-ghost use Rattle.std.specs.Prelude.{◌≡◌, true, ◌+◌, ◌≤◌, eqb, length, drop};
-ghost use Rattle.definitions.specs.Lists.{◌and◌};
-ghost use Rattle.definitions.specs.Problem.{lines, letter_E};
+ghost use Rattle.std.specs.Prelude.{◌≡◌, true, ◌+◌, ◌≤◌, length, drop};
+ghost use Rattle.definitions.specs.Problem.{lines};
 ghost use Rattle.definitions.specs.After.{before_e as before_e_definition, line_length, file_end as file_end_definition};
-
-// Whether a line beginning with E begins with this byte.
-fn e_line(begins: bool, b: u8) -> bool
-    ensures { result ≡ (begins and eqb b letter_E) }
-{
-    if begins {
-        return b == b'E';
-    }
-    false
-}
 
 // How many bytes stand before the first line beginning with E, all of them where there is none.
 pub fn before_e(input: &[u8]) -> usize
     ensures { (result ≡ before_e_definition true input.now) × (result ≤ length input.now) }
 {
     let mut begins = true;
-    let mut i: usize = 0;
-    while i < input.len() {
-        let b = input[i];
-        if e_line(begins, b) {
+    for i in 0..input.len() {
+        if begins && input[i] == b'E' {
             return i;
         }
-        begins = b == 10;
-        i += 1;
+        begins = input[i] == b'\n';
     }
-    i
+    input.len()
 }
 
 // Behind the line that stands at a position.
@@ -41,14 +27,12 @@ pub fn behind_line(input: &[u8], at: usize) -> usize
     requires { at ≤ length input.now }
     ensures { (result ≡ at + line_length (drop at input.now)) × (result ≤ length input.now) }
 {
-    let mut i = at;
-    while i < input.len() {
-        if input[i] == 10 {
+    for i in at..input.len() {
+        if input[i] == b'\n' {
             return i + 1;
         }
-        i += 1;
     }
-    i
+    input.len()
 }
 
 // Where the problem file ends: behind the first line beginning with E.
@@ -63,11 +47,12 @@ pub fn file_end(input: &[u8]) -> usize
 pub fn lines_in(file: &[u8]) -> usize
     ensures { (result ≡ length (lines file.now)) × (result ≤ length file.now) }
 {
-    let mut at: usize = 0;
-    let mut k: usize = 0;
+    let mut at = 0;
+    let mut count = 0;
+    // A while: the position jumps by a line.
     while at < file.len() {
         at = behind_line(file, at);
-        k += 1;
+        count += 1;
     }
-    k
+    count
 }

@@ -20,11 +20,8 @@ fn print_rows(out: &mut [u8], state: &[u16], low: usize, high: usize) -> usize
         × (result ≡ (suc high - low) * page_line_length) }
 {
     let mut at: usize = 0;
-    let mut r = low;
-    while r <= high {
-        let counts = counting::row_counts(state, r);
-        at = lines::row_line(out, at, r, counts);
-        r += 1;
+    for r in low..high + 1 {
+        at = lines::row_line(out, at, r, counting::row_counts(state, r));
     }
     at
 }
@@ -35,9 +32,6 @@ pub fn print_page(out: &mut [u8], state: &[u16]) -> usize
     ensures { Printed out.old out.new 0 result (betti_page (decode document_01 state.now)) × (result ≤ page_length) }
 {
     let rows = counting::rows_in_use(state);
-    let low = rows.low;
-    let high = rows.high;
-    let at = print_rows(out, state, low, high);
-    let totals = counting::totals(state);
-    lines::total_line(out, at, totals)
+    let at = print_rows(out, state, rows.low, rows.high);
+    lines::total_line(out, at, counting::totals(state))
 }

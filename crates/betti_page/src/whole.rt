@@ -12,20 +12,18 @@ ghost use Rattle.listing.specs.whole.Paged.{LiftedPrints, AcceptedPrints};
 use crate::page;
 use columns::mixed;
 use level::all_levels;
-use listing::reading::Begun;
 use listing::{printing, reading};
+use words::refusals::{Refusal, Refused};
 
 // "Levels are lifted as for the sheet."
 fn print_lifted(out: &mut [u8], state: &mut [u16], work: &mut [u16]) -> usize
     requires { Base state.old 0 × (value_length ≤ length work.old) × (page_length ≤ length out.old) }
     ensures { LiftedPrints betti_page state.old out.old out.new result × (result ≤ page_length) }
 {
-    let e = all_levels::lift_levels(state, work);
-    let number = e.number;
-    if number == 0 {
-        return page::print_page(out, state);
+    match all_levels::lift_levels(state, work) {
+        Ok(()) => page::print_page(out, state),
+        Err(refused) => printing::x_line(out, 0, refused),
     }
-    printing::pair_line(out, 0, 88, number, e.place)
 }
 
 // "17, with the first such element as place, when some element has terms of two degrees, tested after acceptance."
@@ -33,11 +31,13 @@ fn print_accepted(out: &mut [u8], state: &mut [u16], work: &mut [u16]) -> usize
     requires { Base state.old 0 × (get_or state.old 4 0 ≡ 1) × (value_length ≤ length work.old) × (page_length ≤ length out.old) }
     ensures { AcceptedPrints (betti_of document_01) state.old out.old out.new result × (result ≤ page_length) }
 {
-    let place = mixed::first_mixed(state);
-    if place == 0 {
-        return print_lifted(out, state, work);
+    match mixed::first_mixed(state) {
+        None => print_lifted(out, state, work),
+        Some(place) => {
+            let refusal = Refusal::Degree;
+            printing::x_line(out, 0, Refused { refusal, place })
+        }
     }
-    printing::pair_line(out, 0, 88, 17, place)
 }
 
 // The Betti page of a file, in front of out.
@@ -46,7 +46,7 @@ pub fn print(file: &[u8], state: &mut [u16], work: &mut [u16], out: &mut [u8]) -
     ensures { Prints (λ n. betti_definition document_01 n file.now) out.old out.new 0 result × (result ≤ page_length) }
 {
     match reading::begin(file, state, work, out) {
-        Begun::Accepted => print_accepted(out, state, work),
-        Begun::Refused(length) => length,
+        Ok(()) => print_accepted(out, state, work),
+        Err(length) => length,
     }
 }

@@ -14,9 +14,9 @@ ghost use Rattle.columns.specs.weights.Keys.{weights_of};
 use crate::page;
 use columns::mixed;
 use level::all_levels;
-use listing::reading::Begun;
 use listing::{printing, reading};
 use reader::problem;
+use words::refusals::{Refusal, Refused};
 
 // Levels are lifted as for the sheet.
 fn print_lifted(
@@ -28,12 +28,10 @@ fn print_lifted(
     requires { Base state.old 0 × (value_length ≤ length work.old) × (bidegrees_length ≤ length out.old) × T (fits? most_weight ws) }
     ensures { LiftedPrints (bidegree_lines (weights_of (get_or state.old 1 0) ws)) state.old out.old out.new result × (result ≤ bidegrees_length) }
 {
-    let e = all_levels::lift_levels(state, work);
-    let number = e.number;
-    if number == 0 {
-        return page::print_lines(out, state, ws);
+    match all_levels::lift_levels(state, work) {
+        Ok(()) => page::print_lines(out, state, ws),
+        Err(refused) => printing::x_line(out, 0, refused),
     }
-    printing::pair_line(out, 0, 88, number, e.place)
 }
 
 // 25 "here instead of 17, its place the first such element, when some element has terms of two bidegrees, after acceptance."
@@ -48,11 +46,13 @@ fn print_accepted(
     ensures { AcceptedPrints (λ n. bidegrees_of document_01 n (weights_of (get_or state.old 1 0) ws)) state.old
         out.old out.new result × (result ≤ bidegrees_length) }
 {
-    let place = mixed::first_mixed_by(state, ws);
-    if place == 0 {
-        return print_lifted(out, state, work, ws);
+    match mixed::first_mixed_by(state, ws) {
+        None => print_lifted(out, state, work, ws),
+        Some(place) => {
+            let refusal = Refusal::Bidegree;
+            printing::x_line(out, 0, Refused { refusal, place })
+        }
     }
-    printing::pair_line(out, 0, 88, 25, place)
 }
 
 // The lines of bidegrees of a file, in front of out. The weights are read from the file once more: no state holds them.
@@ -62,10 +62,10 @@ pub fn print(file: &[u8], state: &mut [u16], work: &mut [u16], out: &mut [u8]) -
         × (result ≤ bidegrees_length) }
 {
     match reading::begin(file, state, work, out) {
-        Begun::Accepted => {
+        Ok(()) => {
             let ws = problem::weights(file);
             print_accepted(out, state, work, ws)
         }
-        Begun::Refused(length) => length,
+        Err(length) => length,
     }
 }

@@ -28,14 +28,5 @@ fn out_bytes() -> [u8; words::BIDEGREES_LENGTH]
 }
 
 fn main(rt: HostRuntime) {
-    let mut file = programs::file_bytes();
-    let mut state = programs::state_words();
-    let mut work = programs::work_words();
-    let mut out = out_bytes();
-    let input = programs::read(rt, &mut file);
-    if input.more == 0 {
-        let n = input.length;
-        let length = answer(&file[..n], &mut state, &mut work, &mut out);
-        programs::write(rt, &out[..length]);
-    }
+    programs::run(rt, &mut programs::file_bytes(), &mut out_bytes(), answer)
 }

@@ -17,8 +17,7 @@ use Rattle.definitions.specs.Tree.{held_to, grow, add_result}
 use Rattle.definitions.specs.Layout.{Words, row_at, rows}
 use Rattle.laws.proofs.Rows.{length_rows, rows_same, rows_first}
 use Rattle.vectors.specs.sums.Places.{stored_as, inserted_within}
-use Rattle.vectors.specs.declared.sums.Stored.{Stored}
-use Rattle.vectors.specs.declared.sums.Stored.TheVariants.{Rows, Full}
+use Rattle.std.specs.Prelude.{Option, Some, None}
 use Rattle.cache.specs.Area.{Leaves, grown_of, Room}
 
 -- ## One term
@@ -48,16 +47,16 @@ module _ (order : Monomial → Monomial → Comparison) (p a top : ℕ) (t : Ter
   grow_is = ap (λ b. held_to b (insert order p t v)) (same_room a (length (insert order p t v)) top under)
 
   -- the part's rows stand from row a on
-  pub grown_in : (part z : Words) (x : Stored) → ((k : ℕ) → k < top - a → row_at z (a + k) ≡ row_at part k) → stored_as x part
+  pub grown_in : (part z : Words) (x : Option ℕ) → ((k : ℕ) → k < top - a → row_at z (a + k) ≡ row_at part k) → stored_as x part
       ≡ inserted_within order p (top - a) t v
       → (grown_of a x z ≡ grow order p top a t v) × Room a top x
-  grown_in part z (Rows n) same e =
+  grown_in part z (Some n) same e =
       let h : length (rows part 0 n) ≤ top - a = subst (AtMost (top - a)) (sym e) (held_at_most (top - a) (insert order p t v)) in
       let l : n ≤ top - a = omega (arith, length_rows part 0 n) in
       let g : rows z a n ≡ rows part 0 n = rows_same part z 0 a n (λ k m. let y : k ≡ 0 + k = omega arith in same k (omega arith)
       ∙ ap (row_at part) y) in
       (ap done g ∙ e ∙ grow_is, omega arith)
-  grown_in part z Full same e = (e ∙ grow_is, tt)
+  grown_in part z None same e = (e ∙ grow_is, tt)
 
 -- ## A result, one term after the other
 
@@ -72,12 +71,6 @@ module _ (order : Monomial → Monomial → Comparison) (p top a c : ℕ) (s : W
   abbrev pub adding_from : ℕ → Vector → Result Vector
   adding_from i v = add_result order p top a c (rows s (from + i) (len - i)) v
 
-  pub adding_start : (v : Vector) → add_result order p top a c (rows s from len) v ≡ adding_from 0 v
-  adding_start v =
-      let e : from ≡ from + 0 = omega arith in
-      let f : len ≡ len - 0 = omega arith in
-      λ i. add_result order p top a c (rows s (e i) (f i)) v
-
   adding_first : (i : ℕ) (v : Vector) → i < len
       → adding_from i v ≡ (grow order p top a (times p c (row_at s (from + i)).0, (row_at s (from + i)).1) v >>= λ w. adding_from (i + 1) w)
   adding_first i v h =
@@ -88,15 +81,15 @@ module _ (order : Monomial → Monomial → Comparison) (p top a c : ℕ) (s : W
       ∙ ap (λ k. grow order p top a (times p c (row_at s (from + i)).0, (row_at s (from + i)).1) v
       >>= λ w. add_result order p top a c (rows s k (len - (i + 1))) w) f
 
-  module _ (i : ℕ) (v : Vector) (inside : i < len) (u : Term) (x : Stored) (z : Words)
+  module _ (i : ℕ) (v : Vector) (inside : i < len) (u : Term) (x : Option ℕ) (z : Words)
       (term : u ≡ (times p c (row_at s (from + i)).0, (row_at s (from + i)).1)) (gives : grown_of a x z ≡ grow order p top a u v) where
     after : adding_from i v ≡ (grown_of a x z >>= λ w. adding_from (i + 1) w)
     after = adding_first i v inside ∙ ap (λ y. y >>= λ w. adding_from (i + 1) w) (ap (λ y. grow order p top a y v) (sym term) ∙ sym gives)
 
-    pub adding_on : (k : ℕ) → x ≡ Rows k → adding_from i v ≡ adding_from (i + 1) (rows z a k)
+    pub adding_on : (k : ℕ) → x ≡ Some k → adding_from i v ≡ adding_from (i + 1) (rows z a k)
     adding_on k e = after ∙ ap (λ y. grown_of a y z >>= λ w. adding_from (i + 1) w) e
 
-    pub adding_stops : x ≡ Full → adding_from i v ≡ refusal 14
+    pub adding_stops : x ≡ None → adding_from i v ≡ refusal 14
     adding_stops e = after ∙ ap (λ y. grown_of a y z >>= λ w. adding_from (i + 1) w) e
 
   pub adding_ends : (i : ℕ) (v : Vector) → len ≤ i → adding_from i v ≡ done v
@@ -108,7 +101,3 @@ module _ (order : Monomial → Monomial → Comparison) (p top a c : ℕ) (s : W
 pub held_row : (b : Bool) (c s z : Words) (top i : ℕ) → Leaves top s z → (b ≡ false → top ≤ i) → row_at (choose b c z) i ≡ row_at (choose b c s) i
 held_row true c s z top i l h = refl
 held_row false c s z top i l h = l i (h refl)
-
-pub held_length : (b : Bool) (c s z : Words) → length z ≡ length s → length (choose b c z) ≡ length (choose b c s)
-held_length true c s z e = refl
-held_length false c s z e = e

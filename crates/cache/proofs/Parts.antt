@@ -1,17 +1,17 @@
 -- Rows of a part of a slice, and of a slice after a part of it was written.
-use mathlib.Core.Path.{◌≡◌, sym, ap, ◌∙◌}
+use mathlib.Core.Path.{◌≡◌, ap, ◌∙◌}
 use mathlib.Core.List.{◌++◌}
 use Prim.Native.Nat.{ℕ, ◌+◌, ◌-◌, ◌*◌, ◌<◌, ◌≤◌}
 use native.Mathlib.Omega.{arith}
-use native.Mathlib.Decide.{ℕ_discrete}
-use lib.ListN.{length, take, drop, get_or, set, length-drop, get_or-append}
-use lib.Seq.{paste, get_or-set_same, get_or-set_other, get_or-append-add, get_or-take, get_or-drop, length-take-le}
+use lib.ListN.{length, take, drop, get_or, length-drop, get_or-append}
+use lib.Seq.{paste, get_or-append-add, get_or-take, get_or-drop, length-take-le}
 use Rattle.definitions.specs.Layout.{Words, row_at, rows}
 use Rattle.laws.proofs.Rows.{rows_same}
 use Rattle.definitions.specs.Places.{row_length}
 use Rattle.vectors.proofs.terms.Moving.{getD_paste_in, getD_paste_below}
 use Rattle.vectors.proofs.terms.Stored.{same_row}
-use Rattle.cache.specs.Area.{Keeps, Leaves, Copied, WordsKept, WordsMoved}
+use Rattle.cache.specs.Area.{Keeps, Leaves, Copied}
+use Rattle.std.specs.List.{CopiedTo, SameBelow}
 
 -- ## A part that is read
 
@@ -83,38 +83,17 @@ pub pasted_below : (d s : Words) (u n : ℕ) → u * row_length ≤ length d →
 pasted_below d s u n h k m = same_row d (paste d (u * row_length) s (n * row_length)) k k
     (λ j q. getD_paste_below d (u * row_length) s (n * row_length) (k * row_length + j) 0 h (omega arith))
 
--- ## Words moved up
+-- ## Rows moved within a slice
 
-pub moved_rows : (s z : Words) (a n b : ℕ) → WordsMoved (a * row_length) s (n * row_length) (b * row_length) z → Copied a s n b z
+pub moved_rows : (s z : Words) (a n b : ℕ) → CopiedTo s z (a * row_length) (b * row_length) ((a + n) * row_length - a * row_length) → Copied a s n b z
 moved_rows s z a n b w k h =
     same_row s z (a + k) (b + k) λ j l.
-    let e : (b + k) * row_length + j ≡ b * row_length + (k * row_length + j) = omega arith in
-    let f : a * row_length + (k * row_length + j) ≡ (a + k) * row_length + j = omega arith in
-    ap (λ x. get_or z x 0) e ∙ w (k * row_length + j) (omega arith) ∙ ap (λ x. get_or s x 0) f
+    let f : a * row_length + ((b + k) * row_length + j - b * row_length) ≡ (a + k) * row_length + j = omega arith in
+    w ((b + k) * row_length + j) 0 (omega arith) (omega arith) ∙ ap (λ x. get_or s x 0) f
 
-pub kept_rows : (s z : Words) (a b : ℕ) → a ≤ b → WordsKept (b * row_length) s z → Keeps a s z
-kept_rows s z a b h w k l = same_row s z k k (λ j m. w (k * row_length + j) (omega arith))
+pub kept_rows : (s z : Words) (a b : ℕ) → a ≤ b → SameBelow s z (b * row_length) → Keeps a s z
+kept_rows s z a b h w k l = same_row s z k k (λ j m. w (k * row_length + j) 0 (omega arith))
 
 -- the rows of a sum that is kept
 pub rows_kept : (s z : Words) (a n b : ℕ) → a + n ≤ b → Keeps b s z → rows z a n ≡ rows s a n
 rows_kept s z a n b h w = rows_same s z a a n (λ k l. w (a + k) (omega arith))
-
--- the words from k to n have been moved, those below are as they were
-abbrev pub MovedFrom : ℕ → Words → ℕ → ℕ → ℕ → Words → Type 0
-MovedFrom a s k n b z = (j : ℕ) → k ≤ j → j < n → get_or z (b + j) 0 ≡ get_or s (a + j) 0
-
-module _ (a b k n : ℕ) (s z : Words) (some_left : 0 < k) (last : k ≤ n) (up : a ≤ b) (room : b + n ≤ length z) (kept : WordsKept (b + k) s z) where
-  abbrev next : Words
-  next = set z (b + (k - 1)) (get_or z (a + (k - 1)) 0)
-
-  pub kept_again : WordsKept (b + (k - 1)) s next
-  kept_again j h = get_or-set_other z (b + (k - 1)) j (get_or z (a + (k - 1)) 0) 0 (λ e. omega (arith, e)) ∙ kept j (omega arith)
-
-  pub moved_again : MovedFrom a s k n b z → MovedFrom a s (k - 1) n b next
-  moved_again moved j h l = go (ℕ_discrete j (k - 1))
-    where
-      go : Dec (j ≡ k - 1) → get_or next (b + j) 0 ≡ get_or s (a + j) 0
-      go (yes e) = ap (λ x. get_or next (b + x) 0) e ∙ get_or-set_same z (b + (k - 1)) (get_or z (a + (k - 1)) 0) 0 (omega arith)
-          ∙ kept (a + (k - 1)) (omega arith) ∙ ap (λ x. get_or s (a + x) 0) (sym e)
-      go (no ne) = let o : j ≡ k - 1 → ⊥ = ne in get_or-set_other z (b + (k - 1)) (b + j) (get_or z (a + (k - 1)) 0) 0 (λ e. o (omega (arith, e)))
-          ∙ moved j (omega arith) l

@@ -4,7 +4,7 @@
 // An entry of the cache is its rows, then a row with its monomial and, for a coefficient, their number.
 #![tactic(auto)]
 
-ghost use Rattle.std.specs.Prelude.{◌≡◌, ◌+◌, ◌-◌, ◌*◌, ◌≤◌, ◌<◌, length, take, drop};
+ghost use Rattle.std.specs.Prelude.{◌≡◌, ◌+◌, ◌-◌, ◌*◌, ◌≤◌, ◌<◌, length, take, drop, Ok};
 ghost use Rattle.definitions.specs.Lists.{choose};
 ghost use Rattle.definitions.specs.Layout.{rows};
 ghost use Rattle.definitions.specs.Tree.{cached, finish, grow, add_result};
@@ -13,66 +13,36 @@ ghost use Rattle.definitions.specs.Places.{row_length, image_length};
 ghost use Rattle.monomial.specs.Values.{monomial_of};
 ghost use Rattle.orders.specs.Images.{table_of, table_order, Tabled};
 ghost use Rattle.vectors.specs.terms.Rows.{term_of};
-ghost use Rattle.cache.specs.Area.{Keeps, Leaves, WordsKept, WordsMoved, Apart, grown_of, Room};
+ghost use Rattle.cache.specs.Area.{Keeps, Leaves, Apart, grown_of, Room};
 ghost use Rattle.cache.specs.Entries.{cache_of, entry_of, Inside, subtree_of, Sized};
 
 use monomial::Monomial;
-use vectors::sums::Stored;
 use vectors::terms::Term;
 use vectors::{sums, terms};
 
-// Where an entry's rows stand in the cache, and how many they are.
-#[derive(Clone, Copy)]
-pub enum Entry {
-    Rows(usize, usize),
-    Nowhere,
-}
-
-// A finished subtree: its rows in the cache, from a row on; or how many rows wait at the work area's end. The cache's rows come last. Or a refusal's
-// number.
+// A finished subtree: its rows in the cache, from a row on; or how many rows wait at the work area's end. The cache's rows come last.
 #[derive(Clone, Copy)]
 pub enum Subtree {
     Cached(usize, usize, usize),
     Waiting(usize, usize),
-    Refused(u16),
 }
 
-fn less(y: usize, x: usize) -> usize
-    ensures { result ≡ y - x }
-{
-    if x < y {
-        return y - x;
-    }
-    0
-}
-
-// The newest entry with the monomial, by a walk over the entries.
-pub fn look_up(cache: &[u16], used: usize, m: Monomial) -> Entry
+// Where the rows of the newest entry with the monomial stand, and how many they are, by a walk over the entries.
+pub fn look_up(cache: &[u16], used: usize, m: Monomial) -> Option<(usize, usize)>
     requires { used * row_length ≤ length cache.now }
     ensures { (entry_of cache.now result ≡ cached (monomial_of m) (cache_of used cache.now)) × Inside used result }
 {
     let mut k = used;
+    // A while: the position jumps by an entry.
     while 0 < k {
         let n = words::place(cache[(k - 1) * words::ROW_LENGTH]);
-        let from = less(k - 1, n);
+        let from = (k - 1).saturating_sub(n);
         if terms::same_row(cache, k - 1, m) {
-            return Entry::Rows(from, k - 1 - from);
+            return Some((from, k - 1 - from));
         }
         k = from;
     }
-    Entry::Nowhere
-}
-
-// n words from word a on go up to word b on, the last first.
-fn move_up(s: &mut [u16], a: usize, n: usize, b: usize)
-    requires { (a ≤ b) × (b + n ≤ length s.old) }
-    ensures { WordsKept b s.old s.new × WordsMoved a s.old n b s.new }
-{
-    let mut k = n;
-    while 0 < k {
-        k -= 1;
-        s[b + k] = s[a + k];
-    }
+    None
 }
 
 // A finished sum of n rows from row a on goes into the cache if it still fits, else to the end of the work area's limit.
@@ -88,8 +58,8 @@ pub fn keep(
 ) -> Subtree
     requires { (used ≤ room) × (room * row_length ≤ length cache.old) × (a + n ≤ limit) × (limit * row_length ≤ length work.old)
         × (limit < 65536) }
-    ensures { (subtree_of limit result cache.new work.new
-        ≡ done (finish room (monomial_of m) (rows work.old a n, cache_of used cache.old))) × Sized a limit room result
+    ensures { (subtree_of limit (Ok result) cache.new work.new
+        ≡ done (finish room (monomial_of m) (rows work.old a n, cache_of used cache.old))) × Sized a limit room (Ok result)
         × Keeps a work.old work.new }
 {
     if used + n < room {
@@ -109,10 +79,8 @@ pub fn keep(
         );
         return Subtree::Cached(used, n, used + n + 1);
     }
-    move_up(
-        work,
-        a * words::ROW_LENGTH,
-        n * words::ROW_LENGTH,
+    work.copy_within(
+        a * words::ROW_LENGTH..(a + n) * words::ROW_LENGTH,
         (limit - n) * words::ROW_LENGTH,
     );
     Subtree::Waiting(n, used)
@@ -129,11 +97,8 @@ pub fn held<'a>(
     requires { (from + n) * row_length ≤ length (choose in_cache cache.now work.now) }
     ensures { result.now ≡ take (n * row_length) (drop (from * row_length) (choose in_cache cache.now work.now)) }
 {
-    if in_cache {
-        &cache[from * words::ROW_LENGTH..(from + n) * words::ROW_LENGTH]
-    } else {
-        &work[from * words::ROW_LENGTH..(from + n) * words::ROW_LENGTH]
-    }
+    let area = if in_cache { cache } else { work };
+    &area[from * words::ROW_LENGTH..(from + n) * words::ROW_LENGTH]
 }
 
 // A term into the descending sum of n rows from row a on, which must end at row top.
@@ -147,7 +112,7 @@ fn insert_row(
     r: usize,
     p: u16,
     t: Term,
-) -> Stored
+) -> Option<usize>
     requires { (0 < p) × (a + n ≤ top) × (top * row_length ≤ length work.old) × (r * image_length ≤ length table.now) × Tabled r table.now }
     ensures { (grown_of a result work.new ≡ grow (table_order code (table_of r table.now)) p top a (term_of t)
         (rows work.old a n)) × Room a top result × Keeps a work.old work.new
@@ -180,7 +145,7 @@ pub fn add_part(
     table: &[u16],
     r: usize,
     p: u16,
-) -> Stored
+) -> Option<usize>
     requires { (0 < p) × (a + n ≤ top) × (top * row_length ≤ length work.old) × (r * image_length ≤ length table.now) × Tabled r table.now
         × ((from + len) * row_length ≤ length (choose in_cache cache.now work.old)) × Apart in_cache top from }
     ensures { (grown_of a result work.new ≡ add_result (table_order code (table_of r table.now)) p top a c
@@ -188,13 +153,11 @@ pub fn add_part(
         × Keeps a work.old work.new }
 {
     let mut k = n;
-    let mut i: usize = 0;
-    while i < len {
+    for i in 0..len {
         let part = held(cache, &work[..], in_cache, from, len);
         let u = terms::row(part, i);
         let b = field::times(c, u.coefficient, p);
-        let m = u.monomial;
-        let x = insert_row(
+        k = insert_row(
             work,
             a,
             k,
@@ -205,16 +168,11 @@ pub fn add_part(
             p,
             Term {
                 coefficient: b,
-                monomial: m,
+                monomial: u.monomial,
             },
-        );
-        let Stored::Rows(w) = x else {
-            return Stored::Full;
-        };
-        k = w;
-        i += 1;
+        )?;
     }
-    Stored::Rows(k)
+    Some(k)
 }
 
 // A subtree's rows, times c, into a sum of n rows in another slice, the greatest first.
@@ -229,19 +187,17 @@ pub fn add_rows(
     table: &[u16],
     r: usize,
     p: u16,
-) -> Stored
+) -> Option<usize>
     requires { (0 < p) × (n ≤ limit) × (limit * row_length ≤ length s.old) × (r * image_length ≤ length table.now) × Tabled r table.now
         × (len * row_length ≤ length part.now) }
     ensures { (grown_of 0 result s.new ≡ add_result (table_order code (table_of r table.now)) p limit 0 c
         (rows part.now 0 len) (rows s.old 0 n)) × Room 0 limit result }
 {
     let mut k = n;
-    let mut i: usize = 0;
-    while i < len {
+    for i in 0..len {
         let t = terms::row(part, i);
         let b = field::times(c, t.coefficient, p);
-        let m = t.monomial;
-        let x = insert_row(
+        k = insert_row(
             s,
             0,
             k,
@@ -252,14 +208,9 @@ pub fn add_rows(
             p,
             Term {
                 coefficient: b,
-                monomial: m,
+                monomial: t.monomial,
             },
-        );
-        let Stored::Rows(w) = x else {
-            return Stored::Full;
-        };
-        k = w;
-        i += 1;
+        )?;
     }
-    Stored::Rows(k)
+    Some(k)
 }

@@ -28,18 +28,15 @@ fn mixed(
     ensures { result ≡ mixed_definition (same_key? kw (take n d.now)) (rows level.now from (to - from)) }
 {
     let x = weights::key_at(level, from, d, n, kw);
-    let mut i = from + 1;
-    while i < to {
-        let y = weights::key_at(level, i, d, n, kw);
-        if x != y {
+    for i in from + 1..to {
+        if weights::key_at(level, i, d, n, kw) != x {
             return true;
         }
-        i += 1;
     }
     false
 }
 
-// The number of the first of r vectors that has two keys, 0 where none does.
+// The number of the first of r vectors that has two keys.
 fn first_among(
     level: &[u16],
     ends: &[u16],
@@ -47,28 +44,26 @@ fn first_among(
     d: &[u64],
     n: usize,
     kw: [u64; words::EXPONENTS_LENGTH],
-) -> usize
+) -> Option<usize>
     requires { (r ≤ most_vectors) × Cut r level.now ends.now × (n ≤ length d.now) × AtMost most_key_weight kw × AtMost most_keys (take n d.now) }
-    ensures { result ≡ place_of (first_definition (same_key? kw (take n d.now)) 1 (cut_level r level.now ends.now)) }
+    ensures { place_of result ≡ first_definition (same_key? kw (take n d.now)) 1 (cut_level r level.now ends.now) }
 {
     let mut from: usize = 0;
-    let mut j: usize = 0;
-    while j < r {
+    for j in 0..r {
         let to = words::place(ends[j]);
         if mixed(level, from, to, d, n, kw) {
-            return j + 1;
+            return Some(j + 1);
         }
         from = to;
-        j += 1;
     }
-    0
+    None
 }
 
 // .. of a state's level 0.
-fn first_by_keys(state: &[u16], kw: [u64; words::EXPONENTS_LENGTH]) -> usize
+fn first_by_keys(state: &[u16], kw: [u64; words::EXPONENTS_LENGTH]) -> Option<usize>
     requires { (state_length ≤ length state.now) × T (holds_state? document_01 state.now) × AtMost most_key_weight kw }
-    ensures { result ≡ place_of (first_definition (same_key? kw (key_degrees (degrees_at document_01 state.now))) 1
-        (level_at document_01 state.now 0)) }
+    ensures { place_of result ≡ first_definition (same_key? kw (key_degrees (degrees_at document_01 state.now))) 1
+        (level_at document_01 state.now 0) }
 {
     let mut d = [0u64; words::MOST_VECTORS];
     let n = weights::component_keys(&mut d, state);
@@ -83,21 +78,20 @@ fn first_by_keys(state: &[u16], kw: [u64; words::EXPONENTS_LENGTH]) -> usize
     )
 }
 
-// 17: "the first such element" with terms of two degrees, 0 where there is none.
-pub fn first_mixed(state: &[u16]) -> usize
+// 17: "the first such element" with terms of two degrees.
+pub fn first_mixed(state: &[u16]) -> Option<usize>
     requires { (state_length ≤ length state.now) × T (holds_state? document_01 state.now) }
-    ensures { result ≡ place_of (first_definition (same_degree? (degrees_at document_01 state.now)) 1 (level_at document_01 state.now 0)) }
+    ensures { place_of result ≡ first_definition (same_degree? (degrees_at document_01 state.now)) 1 (level_at document_01 state.now 0) }
 {
     first_by_keys(state, [words::SECOND_BASE; words::EXPONENTS_LENGTH])
 }
 
 // 25: .. of two bidegrees, by the weights a1,b1,..,an,bn.
-pub fn first_mixed_by(state: &[u16], ws: [u16; words::WEIGHTS_LENGTH]) -> usize
+pub fn first_mixed_by(state: &[u16], ws: [u16; words::WEIGHTS_LENGTH]) -> Option<usize>
     requires { (state_length ≤ length state.now) × T (holds_state? document_01 state.now) × T (fits? most_weight ws) }
-    ensures { result ≡ place_of (first_definition (same_bidegrees? (weights_of (get_or state.now 1 0) ws)
-        (degrees_at document_01 state.now)) 1 (level_at document_01 state.now 0)) }
+    ensures { place_of result ≡ first_definition (same_bidegrees? (weights_of (get_or state.now 1 0) ws)
+        (degrees_at document_01 state.now)) 1 (level_at document_01 state.now 0) }
 {
     let n = words::place(state[1]);
-    let kw = weights::key_weights(ws, n);
-    first_by_keys(state, kw)
+    first_by_keys(state, weights::key_weights(ws, n))
 }

@@ -1,7 +1,7 @@
 // The Hilbert function of a state (A13): the alternating sum over its columns.
 // Knows: crate definitions' Hilbert, with document 01's limits.
 // Each generator of a column counts the monomials of the degree left; crate pascal has their number.
-ghost use Rattle.std.specs.Prelude.{◌≡◌, ◌*◌, ◌≤◌, ◌<◌, T, length, take};
+ghost use Rattle.std.specs.Prelude.{◌≡◌, ◌*◌, ◌≤◌, ◌<◌, T, length};
 ghost use Rattle.definitions.specs.Limits.{document_01};
 ghost use Rattle.definitions.specs.Layout.{holds_state?};
 ghost use Rattle.definitions.specs.Hilbert.{
@@ -10,10 +10,10 @@ ghost use Rattle.definitions.specs.Hilbert.{
   both_sums as both_sums_definition,
   hilbert_value as hilbert_value_definition,
 };
-ghost use Rattle.definitions.specs.Places.{exponents_length, most_vectors, page_columns, state_length, hilbert_degrees};
+ghost use Rattle.definitions.specs.Places.{exponents_length, most_vectors, state_length, hilbert_degrees};
 ghost use Rattle.standard_monomials.specs.Table.{most_monomials};
 ghost use Rattle.standard_monomials.specs.Hilbert.{sum_bound};
-ghost use Rattle.columns.specs.counting.Columns.{columns_of, column_of};
+ghost use Rattle.columns.specs.counting.Columns.{columns_of};
 
 use crate::counting;
 
@@ -36,29 +36,16 @@ fn left_over(n: usize, d: usize, g: u16) -> u64
     pascal::monomials(n, d - own)
 }
 
-// What a column counts, by the first `count` degrees.
-pub fn column_value(ds: &[u16], count: usize, n: usize, d: usize) -> u64
-    requires { (1 ≤ n) × (n ≤ exponents_length) × (d < hilbert_degrees) × (count ≤ length ds.now) × (count ≤ most_vectors) }
-    ensures { (result ≡ column_value_definition n d (take count ds.now)) × (result ≤ most_vectors * most_monomials) }
+// What a column counts, by its degrees.
+pub fn column_value(ds: &[u16], n: usize, d: usize) -> u64
+    requires { (1 ≤ n) × (n ≤ exponents_length) × (d < hilbert_degrees) × (length ds.now ≤ most_vectors) }
+    ensures { (result ≡ column_value_definition n d ds.now) × (result ≤ most_vectors * most_monomials) }
 {
     let mut sum: u64 = 0;
-    let mut i: usize = 0;
-    while i < count {
-        sum += left_over(n, d, ds[i]);
-        i += 1;
+    for g in ds {
+        sum += left_over(n, d, *g);
     }
     sum
-}
-
-// .. column c of a state.
-fn value_of(state: &[u16], c: usize, n: usize, d: usize) -> u64
-    requires { (state_length ≤ length state.now) × T (holds_state? document_01 state.now) × (c < page_columns)
-        × (1 ≤ n) × (n ≤ exponents_length) × (d < hilbert_degrees) }
-    ensures { (result ≡ column_value_definition n d (column_of state.now c)) × (result ≤ most_vectors * most_monomials) }
-{
-    let count = counting::column_length(state, c);
-    let start = counting::column_start(c);
-    column_value(&state[start..], count, n, d)
 }
 
 // The two sums, from the last column on: what was even is odd behind one column more.
@@ -70,26 +57,20 @@ fn both_sums(state: &[u16], n: usize, d: usize) -> Sums
 {
     let mut even: u64 = 0;
     let mut odd: u64 = 0;
-    let mut c = words::PAGE_COLUMNS;
-    while 0 < c {
-        c -= 1;
-        let sum = value_of(state, c, n, d) + odd;
+    for c in (0..words::PAGE_COLUMNS).rev() {
+        let sum = column_value(counting::column(state, c), n, d) + odd;
         odd = even;
         even = sum;
     }
     Sums { even, odd }
 }
 
-// "the alternating sum over the columns, column 0 positive": in degree d.
+// "the alternating sum over the columns, column 0 positive": in degree d. It is never negative, by the theorem on the levels of a file.
 pub fn hilbert_value(state: &[u16], n: usize, d: usize) -> u64
     requires { (state_length ≤ length state.now) × T (holds_state? document_01 state.now)
         × (1 ≤ n) × (n ≤ exponents_length) × (d < hilbert_degrees) }
     ensures { (result ≡ hilbert_value_definition n (columns_of state.now) d) × (result < sum_bound) }
 {
     let s = both_sums(state, n, d);
-    if s.odd <= s.even {
-        return s.even - s.odd;
-    }
-    // never, by the theorem on the levels of a file
-    0
+    s.even.saturating_sub(s.odd)
 }

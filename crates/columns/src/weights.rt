@@ -26,16 +26,10 @@ use vectors::terms;
 
 // ## A monomial
 
-fn wide(x: u16) -> u64
-    ensures { (result ≡ x) × (result < 65536) }
-{
-    x as u64
-}
-
 fn pair_key(a: u16, b: u16) -> u64
     ensures { result ≡ key (a, b) }
 {
-    wide(a) * words::SECOND_BASE + wide(b)
+    u64::from(a) * words::SECOND_BASE + u64::from(b)
 }
 
 // The key of variable j's weights, zero past n.
@@ -55,10 +49,8 @@ pub fn key_weights(ws: [u16; words::WEIGHTS_LENGTH], n: usize) -> [u64; words::E
     ensures { (result ≡ key_weights_definition n ws) × AtMost most_key_weight result }
 {
     let mut r = [0u64; words::EXPONENTS_LENGTH];
-    let mut j = 0;
-    while j < words::EXPONENTS_LENGTH {
+    for j in 0..words::EXPONENTS_LENGTH {
         r[j] = weight_key(ws, n, j);
-        j += 1;
     }
     r
 }
@@ -69,10 +61,8 @@ fn key_of(kw: [u64; words::EXPONENTS_LENGTH], e: [u16; words::EXPONENTS_LENGTH])
     ensures { (result ≡ weighted kw e) × (result ≤ most_key) }
 {
     let mut sum: u64 = 0;
-    let mut j = 0;
-    while j < words::EXPONENTS_LENGTH {
-        sum += kw[j] * wide(e[j]);
-        j += 1;
+    for j in 0..words::EXPONENTS_LENGTH {
+        sum += kw[j] * u64::from(e[j]);
     }
     sum
 }
@@ -84,10 +74,7 @@ fn component_key(below: &[u64], n: usize, c: usize) -> u64
     requires { n ≤ length below.now }
     ensures { result ≡ component_degree (take n below.now) c }
 {
-    if c == 0 {
-        return 0;
-    }
-    if n < c {
+    if c == 0 || n < c {
         return 0;
     }
     below[c - 1]
@@ -105,12 +92,9 @@ pub fn key_at(
         × AtMost most_keys (take n below.now) }
     ensures { result ≡ degree_weighted kw (take n below.now) (row_at level.now i).1 }
 {
-    let t = terms::row(level, i);
-    let m = t.monomial;
-    let e = monomial::widened(m.exponents);
-    let w = key_of(kw, e);
-    let c = words::place(m.component);
-    w + component_key(below, n, c)
+    let m = terms::row(level, i).monomial;
+    let w = key_of(kw, monomial::widened(m.exponents));
+    w + component_key(below, n, words::place(m.component))
 }
 
 // ## Columns
@@ -121,10 +105,8 @@ pub fn component_keys(keys: &mut [u64], state: &[u16]) -> usize
     ensures { Components state.now result keys.new }
 {
     let s = words::place(state[3]);
-    let mut j: usize = 0;
-    while j < s {
-        keys[j] = wide(state[words::DEGREES_START + j]) * words::SECOND_BASE;
-        j += 1;
+    for j in 0..s {
+        keys[j] = u64::from(state[words::DEGREES_START + j]) * words::SECOND_BASE;
     }
     s
 }
@@ -144,22 +126,9 @@ fn fill_keys(
     ensures { Weighed kw (take n below.now) level.now ends.now r next.new }
 {
     let mut from: usize = 0;
-    let mut j: usize = 0;
-    while j < r {
+    for j in 0..r {
         next[j] = key_at(level, from, below, n, kw);
         from = words::place(ends[j]);
-        j += 1;
-    }
-}
-
-fn copy_keys(to: &mut [u64], from: &[u64], r: usize)
-    requires { (r ≤ length to.old) × (r ≤ length from.now) }
-    ensures { take r to.new ≡ take r from.now }
-{
-    let mut j: usize = 0;
-    while j < r {
-        to[j] = from[j];
-        j += 1;
     }
 }
 
@@ -180,6 +149,6 @@ pub fn raise(
     let start = words::ROWS_START + k * words::LEVEL_LENGTH;
     let ends = words::ENDS_START + k * words::COUNTS_LENGTH;
     fill_keys(&mut next, &state[start..], &state[ends..], r, keys, n, kw);
-    copy_keys(keys, &next, r);
+    keys[..r].copy_from_slice(&next[..r]);
     r
 }

@@ -26,38 +26,14 @@ use crate::lines;
 use pages::bytes;
 use state::{soundness, writing};
 use vectors::terms;
-
-// The file with an element more has so many bytes; or a refusal's number and place.
-#[derive(Clone, Copy)]
-pub enum Added {
-    Grown(usize),
-    Refused(u16, usize),
-}
-
-fn narrow(k: usize) -> u16
-    requires { k < 65536 }
-    ensures { result ≡ k }
-{
-    k as u16
-}
-
-// The first less the second, 0 where that is more.
-pub fn less(a: usize, b: usize) -> usize
-    ensures { (result ≡ a - b) × (result ≤ a) }
-{
-    if a < b {
-        return 0;
-    }
-    a - b
-}
+use words::refusals::{Refusal, Refused};
 
 // Where the E line begins in a file of this size with so many T lines.
 fn front(size: usize, count: usize) -> usize
     requires { count ≤ most_rows }
     ensures { (result ≡ size - length (printed letter_E (count ∷ []))) × (result ≤ size) }
 {
-    let w = bytes::width(count);
-    less(size, w + 3)
+    size.saturating_sub(bytes::width(count) + 3)
 }
 
 // What makes the value in the work area monic.
@@ -109,23 +85,35 @@ fn write(
 
 // "1 at line 0 for a result too long for a problem file, 8 for a 2,049th T line": the result stands in front and ends here, with so many T lines; up to `at`
 // it is as it was given, with `count` T lines.
-fn test(out: &[u8], at: usize, end: usize, count: usize, total: usize) -> Added
+fn test(out: &[u8], at: usize, end: usize, count: usize, total: usize) -> Result<usize, Refused>
     requires { (at ≤ end) × (end ≤ length out.now) × (at ≤ file_length) }
     ensures { (added_of result out.now ≡ tests_at (heads_in out.now at count) total (take end out.now)) × Short result }
 {
     if words::FILE_LENGTH < end {
-        return Added::Refused(1, 0);
+        return Err(Refused {
+            refusal: Refusal::Shape,
+            place: 0,
+        });
     }
     if words::MOST_ROWS < total {
-        let k = lines::lines_in(out, at);
-        let h = less(k, count);
-        return Added::Refused(8, h + words::MOST_ROWS + 1);
+        let heads = lines::lines_in(out, at).saturating_sub(count);
+        return Err(Refused {
+            refusal: Refusal::Lines,
+            place: heads + words::MOST_ROWS + 1,
+        });
     }
-    Added::Grown(end)
+    Ok(end)
 }
 
-// "adds the value shown, made monic, as the last element": the file in front has this size, the work area holds the value's m rows.
-pub fn add(out: &mut [u8], size: usize, state: &[u16], work: &[u16], m: usize) -> Added
+// "adds the value shown, made monic, as the last element": the file in front has this size, the work area holds the value's m rows. The size of the file
+// with an element more.
+pub fn add(
+    out: &mut [u8],
+    size: usize,
+    state: &[u16],
+    work: &[u16],
+    m: usize,
+) -> Result<usize, Refused>
     requires { Base state.now 0 × (size ≤ file_length) × (value_length ≤ length work.now) × (m ≤ most_terms)
         × (completed_length ≤ length out.old) }
     ensures { (added_of result out.new ≡ added_over state.now (take size out.old) (rows work.now 0 m))
@@ -134,12 +122,14 @@ pub fn add(out: &mut [u8], size: usize, state: &[u16], work: &[u16], m: usize) -
     let r = soundness::count_of(state, 0);
     let most = words::place(words::MOST_ELEMENTS);
     if most <= r {
-        return Added::Refused(19, r + 1);
+        return Err(Refused {
+            refusal: Refusal::Elements,
+            place: r + 1,
+        });
     }
     let count = writing::end_of(state, 0, r);
     let at = front(size, count);
-    let element = narrow(r + 1);
-    let total = narrow(count + m);
-    let end = write(out, at, state, work, m, element, total);
-    test(out, at, end, count, count + m)
+    let total = count + m;
+    let end = write(out, at, state, work, m, (r + 1) as u16, total as u16);
+    test(out, at, end, count, total)
 }

@@ -2,7 +2,7 @@
 // Knows: crate definitions' Written.
 // Each function that prints answers where its bytes end.
 ghost use Rattle.std.specs.Prelude.{◌≡◌, [], ◌∷◌, ◌+◌, ◌*◌, ◌≤◌, ◌<◌, eqb, length, take};
-ghost use Rattle.definitions.specs.Lists.{count as count_definition, choose};
+ghost use Rattle.definitions.specs.Lists.{count as count_definition};
 ghost use Rattle.definitions.specs.Field.{times as times_definition};
 ghost use Rattle.definitions.specs.Problem.{newline, letter_T, letter_E};
 ghost use Rattle.definitions.specs.Reckoning.{scaled};
@@ -24,10 +24,10 @@ fn t_line(out: &mut [u8], at: usize, t: Term, n: usize, element: u16) -> usize
     ensures { Printed out.old out.new at result (printed letter_T (element ∷ term_fields n (term_of t)))
         × (result ≤ at + t_line_length) }
 {
-    let a = bytes::byte(out, at, 84);
+    let a = bytes::byte(out, at, b'T');
     let b = printing::word(out, a, element);
     let c = printing::term(out, b, t, n);
-    bytes::byte(out, c, 10)
+    bytes::byte(out, c, b'\n')
 }
 
 // A term times a number.
@@ -35,11 +35,9 @@ fn multiplied(t: Term, c: u16, p: u16) -> Term
     requires { 0 < p }
     ensures { term_of result ≡ (times_definition p c t.coefficient, (term_of t).1) }
 {
-    let monomial = t.monomial;
-    let coefficient = field::times(c, t.coefficient, p);
     Term {
-        coefficient,
-        monomial,
+        coefficient: field::times(c, t.coefficient, p),
+        monomial: t.monomial,
     }
 }
 
@@ -59,12 +57,10 @@ pub fn element_lines(
         × (result ≤ at + m * t_line_length) }
 {
     let mut a = at;
-    let mut i = 0;
-    while i < m {
+    for i in 0..m {
         let t = terms::row(s, i);
         let u = multiplied(t, c, p);
         a = t_line(out, a, u, n, element);
-        i += 1;
     }
     a
 }
@@ -74,19 +70,9 @@ pub fn end_line(out: &mut [u8], at: usize, count: u16) -> usize
     requires { at + end_line_length ≤ length out.old }
     ensures { Printed out.old out.new at result (printed letter_E (count ∷ [])) × (result ≤ at + end_line_length) }
 {
-    let a = bytes::byte(out, at, 69);
+    let a = bytes::byte(out, at, b'E');
     let b = printing::word(out, a, count);
-    bytes::byte(out, b, 10)
-}
-
-// 1 for byte 10, 0 for any other.
-fn ends(b: u8) -> usize
-    ensures { (result ≡ choose (eqb b newline) 1 0) × (result ≤ 1) }
-{
-    if b == 10 {
-        return 1;
-    }
-    0
+    bytes::byte(out, b, b'\n')
 }
 
 // How many lines end in the first n bytes.
@@ -95,10 +81,8 @@ pub fn lines_in(file: &[u8], n: usize) -> usize
     ensures { (result ≡ count_definition (λ b. eqb b newline) (take n file.now)) × (result ≤ n) }
 {
     let mut k: usize = 0;
-    let mut i: usize = 0;
-    while i < n {
-        k += ends(file[i]);
-        i += 1;
+    for i in 0..n {
+        k += usize::from(file[i] == b'\n');
     }
     k
 }

@@ -21,10 +21,17 @@ fn mark_level(state: &[u16], k: usize, marks: &mut [u16])
         (columns_of state.now) (suc k)) (length (column_of state.now (suc k))) }
 {
     let mut m = [0u16; words::MATRIX_LENGTH];
-    let b = counting::column_length(state, k);
-    let a = counting::column_length(state, k + 1);
-    filling::fill_level(&mut m, state, k, a, b);
-    elimination::mark_rows(&mut m, marks, (k + 1) * words::MOST_VECTORS, a, b, state[0]);
+    let below = counting::column(state, k);
+    let own = counting::column(state, k + 1);
+    filling::fill_level(&mut m, state, k, own, below);
+    elimination::mark_rows(
+        &mut m,
+        marks,
+        (k + 1) * words::MOST_VECTORS,
+        own.len(),
+        below.len(),
+        state[0],
+    );
 }
 
 // Of all columns, over zeros: none is marked of column 0, nor of a column that is not there.
@@ -33,9 +40,7 @@ pub fn mark_columns(state: &[u16], marks: &mut [u16])
     ensures { Marked state.now marks.new × (length marks.new ≡ marks_length) }
 {
     let levels = words::place(state[4]);
-    let mut k: usize = 0;
-    while k < levels {
+    for k in 0..levels {
         mark_level(state, k, marks);
-        k += 1;
     }
 }

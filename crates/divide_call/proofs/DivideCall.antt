@@ -1,13 +1,13 @@
 -- Dividing a lent vector, test by test.
-use mathlib.Core.Path.{◌≡◌, refl, sym, ap, ◌∙◌, subst}
+use mathlib.Core.Path.{◌≡◌, refl, sym, ap, ◌∙◌}
 use mathlib.Core.Bool.{Bool, true, false, not}
 use mathlib.Core.Option.{Option, none, some}
 use mathlib.Core.List.{[], ◌∷◌, ◌++◌}
-use Prim.Native.Nat.{ℕ, ◌+◌, ◌-◌, ◌*◌, ◌/◌, ◌≤◌, ◌<◌}
+use Prim.Native.Nat.{ℕ, ◌-◌, ◌*◌, ◌/◌, ◌≤◌, ◌<◌}
 use native.Mathlib.Omega.{arith}
 use borrow.Author.Tests.{le-leb, lt-leb}
 use lib.Dec.{T, leb}
-use lib.ListN.{length, get_or, take, drop, replicate}
+use lib.ListN.{length, get_or, take, replicate}
 use lib.Seq.{length-take-le}
 use Rattle.definitions.specs.Limits.{document_01}
 use Rattle.definitions.specs.Lists.{◌and◌, choose}
@@ -24,7 +24,6 @@ use Rattle.laws.proofs.Rows.{length_rows}
 use Rattle.words.specs.Slices.{SixteenBits}
 use Rattle.vectors.specs.terms.Rows.{cleared}
 use Rattle.ending.specs.Good.{good?}
-use Rattle.members.specs.Members.{Bringable}
 use Rattle.members.proofs.Lent.{lent_brings, basis_sound}
 use Rattle.members.proofs.Right.{vector_good}
 use Rattle.state.specs.soundness.Places.{parameters_at}
@@ -32,9 +31,7 @@ use Rattle.state.specs.soundness.Holding.{bounds_of}
 use Rattle.state.proofs.preparing.Complete.{up_to_is, meant_is, holds_sound}
 use Rattle.state.proofs.writing.Spelled.{rows_back}
 use Rattle.level.specs.by_runs.Stages.{Base}
-use Rattle.dividing.specs.declared.steps.Divided.{Divided}
-use Rattle.dividing.specs.declared.steps.Divided.TheVariants.{Done, Refused}
-use Rattle.dividing.specs.over.Parts.{parts_as, divided_over}
+use Rattle.dividing.specs.over.Parts.{divided_over}
 use Rattle.divide_call.specs.Rows.{first_bad, taken_by}
 use Rattle.divide_call.proofs.RowByRow.{rows_lent}
 

@@ -1,5 +1,5 @@
 -- The rows tested one by one are the definitions' terms tested one by one.
-use mathlib.Core.Path.{◌≡◌, refl, sym, ap, ◌∙◌, subst}
+use mathlib.Core.Path.{◌≡◌, refl, sym, ap, ◌∙◌}
 use mathlib.Core.Bool.{Bool, true, false}
 use mathlib.Core.Option.{Option, none, some}
 use mathlib.Core.List.{List, [], ◌∷◌, ◌++◌}
@@ -7,7 +7,10 @@ use Prim.Native.Nat.{ℕ, zero, suc, ◌+◌, ◌-◌, ◌<◌, ◌≤◌}
 use native.Mathlib.Omega.{arith}
 use borrow.Author.Tests.{lt-ltb, le-ltb}
 use lib.Dec.{ltb}
-use lib.ListN.{length}
+use Rattle.std.specs.Ordering.{is_gt}
+use Rattle.std.specs.declared.cmp.Ordering.{Ordering}
+use Rattle.std.specs.declared.cmp.Ordering.TheVariants.{Less, Equal, Greater}
+use Rattle.orders.specs.Images.{comparison_of}
 use Rattle.definitions.specs.Limits.{document_01}
 use Rattle.definitions.specs.Lists.{◌and◌, last}
 use Rattle.definitions.specs.Order.{Comparison, compare_over, greater?}
@@ -48,6 +51,11 @@ module _ (b : Bounds) (code : ℕ) (s : Words) where
 
 pub first_below : (code : ℕ) (s : Words) (i : ℕ) → i ≡ 0 → true ≡ row_below? code s i
 first_below code s i e = ap (row_below? code s) (sym e)
+
+pub greater_same : (x : Ordering) → is_gt x ≡ greater? (comparison_of x)
+greater_same Less = refl
+greater_same Equal = refl
+greater_same Greater = refl
 
 -- by what comparing said
 pub below_by : (code : ℕ) (s : Words) (i : ℕ) (x : Comparison) → 1 ≤ i → x ≡ compare_over code [] (row_at s (i - 1)).1 (row_at s i).1

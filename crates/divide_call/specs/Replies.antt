@@ -1,6 +1,6 @@
 -- What the call returns and leaves, as the definitions' call says it.
 use Rattle.std.specs.Prelude.{◌≡◌, ℕ}
-use Rattle.std.proofs.Math.Option.{Option, some}
+use Rattle.std.proofs.Math.Option.{some}
 use Rattle.definitions.specs.Limits.{document_01}
 use Rattle.definitions.specs.Layout.{Words, Divide, divide_call}
 use Rattle.fetch_call.specs.declared.Reply.{Reply}

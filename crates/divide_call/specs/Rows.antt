@@ -1,5 +1,5 @@
 -- The rows of a lent vector in the direction in which the code runs: each tested, and compared with the one before.
-use Rattle.std.specs.Prelude.{Bool, true, false, [], ℕ, zero, suc, ltb}
+use Rattle.std.specs.Prelude.{Bool, true, false, [], ℕ, zero, suc, ltb, Result as CodeResult, Ok, Err}
 use Rattle.std.proofs.Math.Option.{Option, none, some}
 use Rattle.definitions.specs.Lists.{◌and◌}
 use Rattle.definitions.specs.Monomial.{Vector}
@@ -9,8 +9,6 @@ use Rattle.definitions.specs.Layout.{Words, row_at}
 use Rattle.definitions.specs.Places.{most_terms}
 use Rattle.state.specs.declared.soundness.Bounds.{Bounds}
 use Rattle.state.specs.soundness.Holding.{row_holds?}
-use Rattle.divide_call.specs.declared.Taken.{Taken}
-use Rattle.divide_call.specs.declared.Taken.TheVariants.{All, Bad}
 
 -- row i is below the row before it
 abbrev pub row_below? : ℕ → Words → ℕ → Bool
@@ -30,9 +28,9 @@ abbrev pub first_bad : Bounds → ℕ → Words → ℕ → ℕ → Option ℕ
 first_bad b code s i zero = none
 first_bad b code s i (suc n) = bad_by (row_fits? b code s i) i (first_bad b code s (suc i) n)
 
-abbrev pub bad_of : Taken → Option ℕ
-bad_of All = none
-bad_of (Bad place) = some place
+abbrev pub bad_of : CodeResult (Unit {0}) ℕ → Option ℕ
+bad_of (Ok u) = none
+bad_of (Err place) = some place
 
 -- all of v, or 23
 abbrev pub taken_by : Option ℕ → Vector → Result Vector

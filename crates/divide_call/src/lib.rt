@@ -18,17 +18,10 @@ use dividing::over;
 use dividing::steps::Divided;
 use fetch_call::Reply;
 use level::by_runs;
-use orders::Comparison;
 use state::soundness;
 use state::soundness::Bounds;
 use vectors::terms;
-
-// Whether all rows are taken, or the number of the first bad one.
-#[derive(Clone, Copy)]
-pub enum Taken {
-    All,
-    Bad(usize),
-}
+use words::refusals::Refusal;
 
 // ## The rows
 
@@ -41,39 +34,27 @@ fn row_below(vector: &[u16], i: usize, code: u16) -> bool
     }
     let t = terms::row(vector, i - 1);
     let u = terms::row(vector, i);
-    match orders::compare(code, t.monomial, u.monomial) {
-        Comparison::Greater => true,
-        Comparison::Equal => false,
-        Comparison::Smaller => false,
-    }
+    orders::compare(code, t.monomial, u.monomial).is_gt()
 }
 
 fn row_fits(vector: &[u16], i: usize, b: Bounds, code: u16) -> bool
     requires { i * row_length + row_length ≤ length vector.now }
     ensures { result ≡ row_fits? b code vector.now i }
 {
-    if words::MOST_TERMS <= i {
-        return false;
-    }
-    if soundness::row_holds(vector, i, b) {
-        return row_below(vector, i, code);
-    }
-    false
+    i < words::MOST_TERMS && soundness::row_holds(vector, i, b) && row_below(vector, i, code)
 }
 
-// The first n rows, one by one.
-fn rows_taken(vector: &[u16], n: usize, b: Bounds, code: u16) -> Taken
+// The first n rows, one by one: the number of the first bad one, counted from 1.
+fn rows_taken(vector: &[u16], n: usize, b: Bounds, code: u16) -> Result<(), usize>
     requires { n * row_length ≤ length vector.now }
     ensures { bad_of result ≡ first_bad b code vector.now 0 n }
 {
-    let mut i: usize = 0;
-    while i < n {
-        if soundness::fails(row_fits(vector, i, b, code)) {
-            return Taken::Bad(i + 1);
+    for i in 0..n {
+        if !row_fits(vector, i, b, code) {
+            return Err(i + 1);
         }
-        i += 1;
     }
-    Taken::All
+    Ok(())
 }
 
 // ## The division
@@ -85,7 +66,7 @@ fn divide_rows(
     n: usize,
     quotients: &mut [u16],
     remainder: &mut [u16],
-) -> Divided
+) -> Result<Divided, Refusal>
     requires { Base state.now 0 × (n ≤ most_terms) × (n * row_length ≤ length vector.now) × (vector_length ≤ length quotients.old)
         × (value_length ≤ length remainder.old) × T (good? (rows vector.now 0 n)) }
     ensures { ((k : ℕ) × (parts_as result quotients.new remainder.new
@@ -106,24 +87,27 @@ fn zero_behind(out: &mut [u16], n: usize)
 }
 
 // What a division leaves in the two buffers.
-fn settle(quotients: &mut [u16], remainder: &mut [u16], x: Divided) -> Reply
+fn settle(quotients: &mut [u16], remainder: &mut [u16], x: Result<Divided, Refusal>) -> Reply
     requires { (vector_length ≤ length quotients.old) × (value_length ≤ length remainder.old) × Few x }
     ensures { some (divide_reply result quotients.new remainder.new)
         ≡ divide_left quotients.old remainder.old (parts_as x quotients.old remainder.old) }
 {
     match x {
-        Divided::Done(v, r) => {
-            zero_behind(quotients, v);
-            zero_behind(remainder, r);
+        Ok(d) => {
+            zero_behind(quotients, d.quotients);
+            zero_behind(remainder, d.remainder);
             Reply {
                 number: 0,
                 place: 0,
             }
         }
-        Divided::Refused(number) => {
+        Err(refusal) => {
             terms::clear(quotients, 0);
             terms::clear(remainder, 0);
-            Reply { number, place: 0 }
+            Reply {
+                number: refusal.number(),
+                place: 0,
+            }
         }
     }
 }
@@ -143,17 +127,16 @@ fn divide_sound(
 {
     let n = vector.len() / words::ROW_LENGTH;
     let b = soundness::row_bounds(state[0], state[1], state[3]);
-    match rows_taken(vector, n, b, state[2]) {
-        Taken::All => {
-            let x = divide_rows(state, vector, n, quotients, remainder);
-            settle(quotients, remainder, x)
-        }
-        Taken::Bad(place) => {
-            terms::clear(quotients, 0);
-            terms::clear(remainder, 0);
-            Reply { number: 23, place }
-        }
+    if let Err(place) = rows_taken(vector, n, b, state[2]) {
+        terms::clear(quotients, 0);
+        terms::clear(remainder, 0);
+        return Reply {
+            number: Refusal::VectorLine.number(),
+            place,
+        };
     }
+    let x = divide_rows(state, vector, n, quotients, remainder);
+    settle(quotients, remainder, x)
 }
 
 // The vector divided by the elements of the state.
@@ -161,29 +144,20 @@ pub fn divide(state: &[u16], vector: &[u16], quotients: &mut [u16], remainder: &
     ensures { DividesAs result state.now vector.now quotients.old remainder.old quotients.new
         remainder.new }
 {
-    if state.len() < words::STATE_LENGTH {
+    if state.len() < words::STATE_LENGTH
+        || quotients.len() < words::VECTOR_LENGTH
+        || remainder.len() < words::VALUE_LENGTH
+    {
         return Reply {
-            number: 16,
+            number: Refusal::Buffer.number(),
             place: 0,
         };
     }
-    if quotients.len() < words::VECTOR_LENGTH {
+    if !soundness::sound(state) {
         return Reply {
-            number: 16,
+            number: Refusal::State.number(),
             place: 0,
         };
     }
-    if remainder.len() < words::VALUE_LENGTH {
-        return Reply {
-            number: 16,
-            place: 0,
-        };
-    }
-    if soundness::sound(state) {
-        return divide_sound(state, vector, quotients, remainder);
-    }
-    Reply {
-        number: 11,
-        place: 0,
-    }
+    divide_sound(state, vector, quotients, remainder)
 }

@@ -1,7 +1,7 @@
 // A vector divided by the elements of a sound state.
 // Knows: crate definitions' Membership over a state's words.
 // The tables are an array of these functions' own frames, made once a call.
-ghost use Rattle.std.specs.Prelude.{◌≡◌, ℕ, ◌*◌, ◌≤◌, T, length};
+ghost use Rattle.std.specs.Prelude.{◌≡◌, ℕ, ◌*◌, ◌≤◌, T, length, Ok};
 ghost use Rattle.definitions.specs.Layout.{Words, rows};
 ghost use Rattle.definitions.specs.Places.{most_terms, row_length, value_length, vector_length};
 ghost use Rattle.ending.specs.Good.{good?};
@@ -17,26 +17,25 @@ use crate::steps::Divided;
 use level::by_runs;
 use runs::reduction::Ground;
 use vectors::sums;
+use words::refusals::Refusal;
 
 // The quotients descending, in their own place.
 fn sorted(quotients: &mut [u16], x: Divided, tables: &[u16], g: Ground) -> Divided
-    requires { Tables g tables.now × Images g.r (above_in tables.now) × (g.vector * row_length ≤ length quotients.old) × Left g x }
-    ensures { ((w : Words) → parts_as result quotients.new w ≡ sorted_parts
-        (table_order g.code (table_of g.r (above_in tables.now))) g.p (divided_as x quotients.old w)) × Left g result }
+    requires { Tables g tables.now × Images g.r (above_in tables.now) × (g.vector * row_length ≤ length quotients.old) × Left g (Ok x) }
+    ensures { ((w : Words) → parts_as (Ok result) quotients.new w ≡ sorted_parts
+        (table_order g.code (table_of g.r (above_in tables.now))) g.p (divided_as (Ok x) quotients.old w)) × Left g (Ok result) }
 {
-    match x {
-        Divided::Done(v, r) => {
-            let k = sums::sort_in_place(
-                quotients,
-                v,
-                g.code,
-                &tables[words::TABLES_ABOVE..],
-                g.r,
-                g.p,
-            );
-            Divided::Done(k, r)
-        }
-        Divided::Refused(number) => Divided::Refused(number),
+    let k = sums::sort_in_place(
+        quotients,
+        x.quotients,
+        g.code,
+        &tables[words::TABLES_ABOVE..],
+        g.r,
+        g.p,
+    );
+    Divided {
+        quotients: k,
+        remainder: x.remainder,
     }
 }
 
@@ -48,7 +47,7 @@ fn divide_with(
     remainder: &mut [u16],
     state: &[u16],
     tables: &[u16],
-) -> Divided
+) -> Result<Divided, Refusal>
     requires { Base state.now 0 × TablesAt state.now 0 tables.now × (value_length ≤ length value.old)
         × (vector_length ≤ length quotients.old) × (value_length ≤ length remainder.old) × (n ≤ most_terms) × T (good? (rows value.old 0 n)) }
     ensures { ((k : ℕ) × (parts_as result quotients.new remainder.new
@@ -63,8 +62,8 @@ fn divide_with(
         &state[words::ROWS_START..],
         tables,
         g,
-    );
-    sorted(quotients, x, tables, g)
+    )?;
+    Ok(sorted(quotients, x, tables, g))
 }
 
 // The first n rows of value divided by the elements of a state: the quotients descending, the remainder.
@@ -74,7 +73,7 @@ pub fn divide_vector(
     quotients: &mut [u16],
     remainder: &mut [u16],
     state: &[u16],
-) -> Divided
+) -> Result<Divided, Refusal>
     requires { Base state.now 0 × (value_length ≤ length value.old) × (vector_length ≤ length quotients.old)
         × (value_length ≤ length remainder.old) × (n ≤ most_terms) × T (good? (rows value.old 0 n)) }
     ensures { ((k : ℕ) × (parts_as result quotients.new remainder.new

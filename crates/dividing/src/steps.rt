@@ -18,27 +18,20 @@ ghost use Rattle.runs.specs.run.Stages.{order_of, stage_of, Images};
 ghost use Rattle.dividing.specs.steps.Divisions.{division_of, step_as, Room, stepped, divided_as, Rooms, Left};
 
 use monomial::Monomial;
-use reducers::search::Answer;
 use runs::reduction;
-use runs::reduction::{Added, Ground};
+use runs::reduction::Ground;
 use vectors::terms;
 use vectors::terms::Term;
+use words::refusals::Refusal;
 
-// The rows of value, quotients and remainder after a step; a refusal's number.
+// How many rows quotients and remainder have.
 #[derive(Clone, Copy)]
-pub enum Step {
-    On(usize, usize, usize),
-    Refused(u16),
+pub struct Divided {
+    pub quotients: usize,
+    pub remainder: usize,
 }
 
-// The rows of quotients and remainder; a refusal's number.
-#[derive(Clone, Copy)]
-pub enum Divided {
-    Done(usize, usize),
-    Refused(u16),
-}
-
-// The multiple c·q·f_j into the quotients, then taken away from the value.
+// The multiple c·q·f_j into the quotients, then taken away from the value: the rows of value, quotients and remainder.
 fn taken_away(
     value: &mut [u16],
     n: usize,
@@ -51,7 +44,7 @@ fn taken_away(
     j: usize,
     c: u16,
     q: u64,
-) -> Step
+) -> Result<(usize, usize, usize), Refusal>
     requires { Tables g tables.now × Family g level.now (ends_in tables.now) × (g.working * row_length ≤ length value.old)
         × (g.vector * row_length ≤ length quotients.old) × (n ≤ g.working) × (v ≤ g.vector) × (r ≤ g.working) × (1 ≤ j) × (j ≤ g.r) }
     ensures { ((above : definition.Monomial → definition.Monomial → Comparison) (w : Words)
@@ -59,27 +52,20 @@ fn taken_away(
         ≡ divided_definition (stage_of g level.now tables.now above)
         (division_of value.old n quotients.old v w r) j c (unpack q)) × Room g result }
 {
-    let component = j as u16;
     let t = Term {
         coefficient: c,
         monomial: Monomial {
             exponents: q,
-            component,
+            component: j as u16,
         },
     };
-    match reduction::store_term(quotients, v, g.vector, g.p, t) {
-        Added::Rows(k) => {
-            let d = field::negative(c, g.p);
-            match reduction::add_multiple(value, n, level, tables, j, d, q, g, false) {
-                Added::Rows(m) => Step::On(m, k, r),
-                Added::Refused(x) => Step::Refused(x),
-            }
-        }
-        Added::Refused(x) => Step::Refused(x),
-    }
+    let k = reduction::store_term(quotients, v, g.vector, g.p, t)?;
+    let d = field::negative(c, g.p);
+    let m = reduction::add_multiple(value, n, level, tables, j, d, q, g, false)?;
+    Ok((m, k, r))
 }
 
-// The term at place i goes from the value to the remainder: 14 where that is full.
+// The term at place i goes from the value to the remainder, if that has room.
 fn moved(
     value: &mut [u16],
     n: usize,
@@ -89,7 +75,7 @@ fn moved(
     g: Ground,
     i: usize,
     t: Term,
-) -> Step
+) -> Result<(usize, usize, usize), Refusal>
     requires { (i < n) × (n ≤ g.working) × (v ≤ g.vector) × (r ≤ g.working) × (g.working * row_length ≤ length value.old)
         × (g.working * row_length ≤ length remainder.old) }
     ensures { ((S : Stage) → S.reduction.limits.working ≡ g.working → (w : Words)
@@ -97,11 +83,11 @@ fn moved(
         ≡ moved_definition S (division_of value.old n w v remainder.old r) i (term_of t)) × Room g result }
 {
     if r == g.working {
-        return Step::Refused(14);
+        return Err(Refusal::Terms);
     }
     terms::put(remainder, r, t);
     terms::remove(value, n, i);
-    Step::On(n - 1, v, r + 1)
+    Ok((n - 1, v, r + 1))
 }
 
 // One step; the value is not empty.
@@ -115,7 +101,7 @@ fn one_step(
     level: &[u16],
     tables: &[u16],
     g: Ground,
-) -> Step
+) -> Result<(usize, usize, usize), Refusal>
     requires { Tables g tables.now × Family g level.now (ends_in tables.now) × Images g.images (below_in tables.now)
         × Rooms g value.old quotients.old remainder.old × (0 < n) × (n ≤ g.working) × (v ≤ g.vector) × (r ≤ g.working) }
     ensures { ((above : definition.Monomial → definition.Monomial → Comparison)
@@ -126,13 +112,22 @@ fn one_step(
 {
     let i = reduction::pick(value, n, 1, tables, g);
     let t = terms::row(value, i);
-    let found = reduction::reducer_of(tables, g, t);
-    let answer = found.answer;
-    let Answer::Reducer(j, c) = answer else {
+    let Some(x) = reduction::reducer_of(tables, g, t) else {
         return moved(value, n, v, remainder, r, g, i, t);
     };
-    let q = found.quotient;
-    taken_away(value, n, quotients, v, r, level, tables, g, j, c, q)
+    taken_away(
+        value,
+        n,
+        quotients,
+        v,
+        r,
+        level,
+        tables,
+        g,
+        x.number,
+        x.coefficient,
+        x.quotient,
+    )
 }
 
 // Steps until nothing is left to be divided.
@@ -144,7 +139,7 @@ pub fn divide(
     level: &[u16],
     tables: &[u16],
     g: Ground,
-) -> Divided
+) -> Result<Divided, Refusal>
     requires { Tables g tables.now × Family g level.now (ends_in tables.now) × Images g.images (below_in tables.now)
         × Rooms g value.old quotients.old remainder.old × (start ≤ g.working) × (1 ≤ g.vector)
         × Well (stage_of g level.now tables.now (order_of g tables.now)) × T (good? (rows value.old 0 start)) }
@@ -156,15 +151,12 @@ pub fn divide(
     let mut n = start;
     let mut v: usize = 0;
     let mut r: usize = 0;
+    // A while: a step leaves any number of rows.
     while 0 < n {
-        match one_step(value, n, quotients, v, remainder, r, level, tables, g) {
-            Step::On(x, y, z) => {
-                n = x;
-                v = y;
-                r = z;
-            }
-            Step::Refused(x) => return Divided::Refused(x),
-        }
+        (n, v, r) = one_step(value, n, quotients, v, remainder, r, level, tables, g)?;
     }
-    Divided::Done(v, r)
+    Ok(Divided {
+        quotients: v,
+        remainder: r,
+    })
 }

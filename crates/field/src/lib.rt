@@ -14,10 +14,7 @@ pub fn sum(a: u16, b: u16, p: u16) -> u16
     requires { 0 < p }
     ensures { result ≡ plus p a b }
 {
-    let x = a as u32;
-    let y = b as u32;
-    let q = p as u32;
-    ((x + y) % q) as u16
+    ((u32::from(a) + u32::from(b)) % u32::from(p)) as u16
 }
 
 // The product modulo p.
@@ -25,10 +22,7 @@ pub fn times(a: u16, b: u16, p: u16) -> u16
     requires { 0 < p }
     ensures { result ≡ times_definition p a b }
 {
-    let x = a as u32;
-    let y = b as u32;
-    let q = p as u32;
-    ((x * y) % q) as u16
+    (u32::from(a) * u32::from(b) % u32::from(p)) as u16
 }
 
 // What gives 0 with a.
@@ -46,6 +40,7 @@ pub fn inverse(a: u16, p: u16) -> u16
 {
     let mut r: u16 = 1;
     let mut x = a % p;
+    // A while: x falls to the rest of a division.
     while 1 < x {
         r = times(r, p - p / x, p);
         x = p % x;
@@ -60,8 +55,9 @@ pub fn is_prime(p: u16) -> bool
     if p < 2 {
         return false;
     }
-    let q = p as u32;
+    let q = u32::from(p);
     let mut d: u32 = 2;
+    // A while: it ends at the square root.
     while d * d <= q {
         if q % d == 0 {
             return false;

@@ -1,5 +1,5 @@
 -- Generators and frame terms as rows, and the code's answers as the definitions' ones.
-use Rattle.std.specs.Prelude.{Bool, not, List, [], ◌∷◌, ◌++◌, map, ℕ, zero, suc, ◌≤◌, leb, eqb, length, get_or}
+use Rattle.std.specs.Prelude.{Option, Some, None, Bool, not, List, [], ◌∷◌, ◌++◌, map, ℕ, zero, suc, ◌≤◌, leb, eqb, length, get_or}
 use Rattle.definitions.specs.Lists.{any, those, choose}
 use Rattle.definitions.specs.Monomial.{Exponents, Monomial, Term, Vector, quotient, lcm, no_term}
 use Rattle.definitions.specs.Order.{greater, equal, smaller, exponents_by}
@@ -7,10 +7,6 @@ use Rattle.definitions.specs.Result.{Result, done, refusal}
 use Rattle.definitions.specs.Frame.{into_ascending, properly_divides?}
 use Rattle.definitions.specs.Layout.{Words, rows, row_at}
 use Rattle.vectors.specs.terms.Rows.{let_in}
-use Rattle.vectors.specs.declared.sums.Stored.{Stored}
-use Rattle.vectors.specs.declared.sums.Stored.TheVariants.{Rows, Full}
-use Rattle.frame.specs.declared.Spot.{Spot}
-use Rattle.frame.specs.declared.Spot.TheVariants.{Same, Before}
 
 abbrev pub exponents_of : Vector → List Exponents
 exponents_of v = map (λ t. t.1.0) v
@@ -20,19 +16,19 @@ monomials_of v = map (λ t. t.1) v
 
 -- ## One generator
 
--- where a generator belongs in an ascending list, counted from i
-abbrev pub spot_from : ℕ → Exponents → List Exponents → ℕ → Spot
-spot_from code g [] i = Before i
-spot_from code g (h ∷ l) i = elim (exponents_by code g h) [ greater ↦ spot_from code g l (suc i) | equal ↦ Same | smaller ↦ Before i ]
+-- the place before which a generator belongs in an ascending list, counted from i; none where an equal one is there
+abbrev pub spot_from : ℕ → Exponents → List Exponents → ℕ → Option ℕ
+spot_from code g [] i = Some i
+spot_from code g (h ∷ l) i = elim (exponents_by code g h) [ greater ↦ spot_from code g l (suc i) | equal ↦ None | smaller ↦ Some i ]
 
 -- a spot among n rows
-abbrev pub Inside : ℕ → Spot → Type 0
-Inside n Same = Unit {0}
-Inside n (Before i) = i ≤ n
+abbrev pub Inside : ℕ → Option ℕ → Type 0
+Inside n None = Unit {0}
+Inside n (Some i) = i ≤ n
 
-abbrev pub put_at : Spot → Term → Vector → Vector
-put_at Same t v = v
-put_at (Before i) t v = let_in i t v
+abbrev pub put_at : Option ℕ → Term → Vector → Vector
+put_at None t v = v
+put_at (Some i) t v = let_in i t v
 
 abbrev pub taken_in : ℕ → Term → Vector → Vector
 taken_in code t v = put_at (spot_from code t.1.0 (exponents_of v) 0) t v
@@ -80,14 +76,14 @@ within limit v w = choose (leb (length (v ++ w)) limit) (done (v ++ w)) (refusal
 abbrev pub kept_one : ℕ → Vector → Vector → ℕ → Result Vector
 kept_one limit v w i = within limit v (those (minimal_in w) (get_or w i no_term ∷ []))
 
-abbrev pub kept_of : Stored → Words → Result Vector
-kept_of (Rows n) d = done (rows d 0 n)
-kept_of Full d = refusal 15
+abbrev pub kept_of : Option ℕ → Words → Result Vector
+kept_of (Some n) d = done (rows d 0 n)
+kept_of None d = refusal 15
 
-abbrev pub framed_of : Stored → Words → Result (List Monomial)
-framed_of (Rows n) d = done (monomials_of (rows d 0 n))
-framed_of Full d = refusal 15
+abbrev pub framed_of : Option ℕ → Words → Result (List Monomial)
+framed_of (Some n) d = done (monomials_of (rows d 0 n))
+framed_of None d = refusal 15
 
-abbrev pub few : ℕ → Stored → Type 0
-few limit (Rows n) = n ≤ limit
-few limit Full = Unit {0}
+abbrev pub few : ℕ → Option ℕ → Type 0
+few limit (Some n) = n ≤ limit
+few limit None = Unit {0}

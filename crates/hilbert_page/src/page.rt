@@ -12,19 +12,6 @@ ghost use Rattle.hilbert_page.specs.page.Lines.{line_of};
 use columns::values;
 use listing::printing;
 
-fn narrow(d: usize) -> u16
-    requires { d < 65536 }
-    ensures { result ≡ d }
-{
-    d as u16
-}
-
-fn shown(v: u64) -> usize
-    ensures { result ≡ v }
-{
-    v as usize
-}
-
 // `H,degree,value`
 fn print_line(out: &mut [u8], at: usize, state: &[u16], n: usize, d: usize) -> usize
     requires { (state_length ≤ length state.now) × T (holds_state? document_01 state.now) × (n ≡ get_or state.now 1 0)
@@ -32,7 +19,7 @@ fn print_line(out: &mut [u8], at: usize, state: &[u16], n: usize, d: usize) -> u
     ensures { Printed out.old out.new at result (line_of state.now d) × (result ≤ at + pair_line_length) }
 {
     let value = values::hilbert_value(state, n, d);
-    printing::pair_line(out, at, 72, narrow(d), shown(value))
+    printing::pair_line(out, at, b'H', d as u16, value as usize)
 }
 
 // "For degrees 0 to 32"
@@ -43,10 +30,8 @@ pub fn print_lines(out: &mut [u8], state: &[u16]) -> usize
 {
     let n = words::place(state[1]);
     let mut at: usize = 0;
-    let mut d: usize = 0;
-    while d < words::HILBERT_DEGREES {
+    for d in 0..words::HILBERT_DEGREES {
         at = print_line(out, at, state, n, d);
-        d += 1;
     }
     at
 }

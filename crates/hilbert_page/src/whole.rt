@@ -11,7 +11,6 @@ ghost use Rattle.listing.specs.whole.Paged.{LiftedPrints};
 
 use crate::page;
 use level::all_levels;
-use listing::reading::Begun;
 use listing::{printing, reading};
 
 // Levels are lifted as for the sheet.
@@ -19,12 +18,10 @@ fn print_lifted(out: &mut [u8], state: &mut [u16], work: &mut [u16]) -> usize
     requires { Base state.old 0 × (value_length ≤ length work.old) × (hilbert_length ≤ length out.old) }
     ensures { LiftedPrints hilbert_lines state.old out.old out.new result × (result ≤ hilbert_length) }
 {
-    let e = all_levels::lift_levels(state, work);
-    let number = e.number;
-    if number == 0 {
-        return page::print_lines(out, state);
+    match all_levels::lift_levels(state, work) {
+        Ok(()) => page::print_lines(out, state),
+        Err(refused) => printing::x_line(out, 0, refused),
     }
-    printing::pair_line(out, 0, 88, number, e.place)
 }
 
 // The Hilbert function of a file, in front of out.
@@ -34,7 +31,7 @@ pub fn print(file: &[u8], state: &mut [u16], work: &mut [u16], out: &mut [u8]) -
         × (result ≤ hilbert_length) }
 {
     match reading::begin(file, state, work, out) {
-        Begun::Accepted => print_lifted(out, state, work),
-        Begun::Refused(length) => length,
+        Ok(()) => print_lifted(out, state, work),
+        Err(length) => length,
     }
 }

@@ -1,7 +1,7 @@
 // All levels of an accepted basis, as the sheet and other programs lift them; one level lifted and stored.
 // Knows: crate definitions' Calls, through by_runs and level::storing.
 // The state is sound, so that nothing is tested again and nothing is zeroed between levels.
-ghost use Rattle.std.specs.Prelude.{◌≡◌, [], ◌*◌, ◌≤◌, length};
+ghost use Rattle.std.specs.Prelude.{◌≡◌, [], ◌*◌, ◌≤◌, length, Ok};
 ghost use Rattle.level.specs.by_runs.Stages.{Base, leveled_of};
 ghost use Rattle.level.specs.all_levels.Level.{
   Liftable,
@@ -22,28 +22,19 @@ use crate::by_runs::Leveled;
 use crate::{by_runs, storing};
 use runs::run::Strategy;
 use state::soundness;
+use words::refusals::{Refusal, Refused};
 
-// The refusal that ended the levels and its place; 0 and 0 where there was none.
-#[derive(Clone, Copy)]
-pub struct Ended {
-    pub number: u16,
-    pub place: usize,
-}
-
-// What lifting gave: a level is stored as level k, a refusal's number is handed on and changes nothing.
-pub fn store(state: &mut [u16], k: usize, x: Leveled, out: &[u16]) -> u16
+// What lifting gave is stored as level k.
+pub fn store(state: &mut [u16], k: usize, x: Leveled, out: &[u16]) -> Result<(), Refusal>
     requires { Liftable state.old k × Settles state.old k x out.now }
-    ensures { told result state.new ≡ stored state.old (state_over state.old k (leveled_of x out.now [])) }
+    ensures { told result state.new ≡ stored state.old (state_over state.old k (leveled_of (Ok x) out.now [])) }
 {
-    match x {
-        Leveled::Vectors(n, _used) => {
-            storing::store_level(state, k, n, out);
-            0
-        }
-        Leveled::Refused(number) => number,
+    let Leveled::Vectors(n, _used) = x else {
         // Lifting never stops at a value without a reducer: the proof shows that this is not reached.
-        Leveled::Stopped(_n) => 9,
-    }
+        return Err(Refusal::NoReducer);
+    };
+    storing::store_level(state, k, n, out);
+    Ok(())
 }
 
 // Level k by division or hybrid, with room for so many terms in a working value; out is for the level while it is made.
@@ -54,33 +45,30 @@ pub fn lift_level(
     k: usize,
     w: Strategy,
     working: usize,
-) -> u16
+) -> Result<(), Refusal>
     requires { Liftable state.old k × (working * row_length ≤ length work.old) × Chosen w working × (lifted_length ≤ length out.old) }
     ensures { LiftedBy state.old k (way_by w working) result state.new }
 {
     let b = by_runs::with_working(working);
-    let x = by_runs::lift_level(out, work, state, k - 1, w, b);
+    let x = by_runs::lift_level(out, work, state, k - 1, w, b)?;
     store(state, k, x, out)
 }
 
 // The same without zeroing: unused places stay as they are.
-fn keep(state: &mut [u16], k: usize, x: Leveled, out: &[u16]) -> u16
+fn keep(state: &mut [u16], k: usize, x: Leveled, out: &[u16]) -> Result<(), Refusal>
     requires { Liftable state.old k × Settles state.old k x out.now }
     ensures { KeptAs state.old k x out.now result state.new }
 {
-    match x {
-        Leveled::Vectors(n, _used) => {
-            storing::add_level(state, k, n, out);
-            0
-        }
-        Leveled::Refused(number) => number,
+    let Leveled::Vectors(n, _used) = x else {
         // not reached, as above
-        Leveled::Stopped(_n) => 9,
-    }
+        return Err(Refusal::NoReducer);
+    };
+    storing::add_level(state, k, n, out);
+    Ok(())
 }
 
 // Level k by hybrid with pick code 2.
-pub fn lift_next(state: &mut [u16], work: &mut [u16], k: usize) -> u16
+pub fn lift_next(state: &mut [u16], work: &mut [u16], k: usize) -> Result<(), Refusal>
     requires { Liftable state.old k × (value_length ≤ length work.old) }
     ensures { LiftedNext state.old k result state.new }
 {
@@ -91,32 +79,22 @@ pub fn lift_next(state: &mut [u16], work: &mut [u16], k: usize) -> u16
         pick: 2,
         stops: false,
     };
-    let x = by_runs::lift_level(&mut out, work, state, k - 1, w, b);
+    let x = by_runs::lift_level(&mut out, work, state, k - 1, w, b)?;
     keep(state, k, x, &out)
 }
 
 // "Levels 1 on, hybrid, pick code 2, until a count is 0 or level 9 is printed"; where one is refused, those below it stay.
-pub fn lift_levels(state: &mut [u16], work: &mut [u16]) -> Ended
+pub fn lift_levels(state: &mut [u16], work: &mut [u16]) -> Result<(), Refused>
     requires { Base state.old 0 × (value_length ≤ length work.old) }
     ensures { Reached state.old result state.new × Base state.new 0 }
 {
-    let mut k: usize = 1;
-    while k < words::ALL_LEVELS {
-        let number = lift_next(state, work, k);
-        if 0 < number {
-            return Ended { number, place: k };
+    for k in 1..words::ALL_LEVELS {
+        if let Err(refusal) = lift_next(state, work, k) {
+            return Err(Refused { refusal, place: k });
         }
-        let count = soundness::count_of(state, k);
-        if count == 0 {
-            return Ended {
-                number: 0,
-                place: 0,
-            };
+        if soundness::count_of(state, k) == 0 {
+            return Ok(());
         }
-        k += 1;
     }
-    Ended {
-        number: 0,
-        place: 0,
-    }
+    Ok(())
 }

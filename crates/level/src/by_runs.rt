@@ -1,7 +1,7 @@
 // A complete level of a state made ready, and what stands over it lifted or divided.
 // Knows: crate definitions' Lifting over a state's words, within limits that may be smaller than document 01's.
 // Tables and frame are arrays of these functions' own frames, made once a call.
-ghost use Rattle.std.specs.Prelude.{◌≡◌, false, ℕ, ◌+◌, ◌*◌, ◌≤◌, length, drop};
+ghost use Rattle.std.specs.Prelude.{◌≡◌, false, ℕ, ◌+◌, ◌*◌, ◌≤◌, length, drop, Ok};
 ghost use Rattle.definitions.specs.Monomial.{Vector};
 ghost use Rattle.definitions.specs.Lifting.{accept_from};
 ghost use Rattle.definitions.specs.Layout.{Words, rows, rows_of, padded};
@@ -37,8 +37,8 @@ use runs::reduction::Ground;
 use runs::run::Strategy;
 use state::{preparing, soundness, writing};
 use sweeping::lifting;
-use vectors::sums::Stored;
 use vectors::terms;
+use words::refusals::{Refusal, Refused};
 
 // The limits of a lifting, in terms: a working value's, a vector's, the tree's work area's, a level's.
 #[derive(Clone, Copy)]
@@ -68,11 +68,10 @@ pub fn usual() -> Bounds
     with_working(words::MOST_TERMS)
 }
 
-// How many vectors and rows they have; a refusal's number; a value without a reducer, which lifting does not meet.
+// How many vectors and rows they have; a value without a reducer, which lifting does not meet.
 #[derive(Clone, Copy)]
 pub enum Leveled {
     Vectors(usize, usize),
-    Refused(u16),
     Stopped(usize),
 }
 
@@ -145,7 +144,7 @@ fn lift_frame(
     tables: &[u16],
     w: Strategy,
     b: Bounds,
-) -> Lifted
+) -> Result<Lifted, Refusal>
     requires { Base state.now j × TablesAt state.now j tables.now × FramedBy state.now j count frame.now
         × (lifted_length ≤ length out.old) × (b.working * row_length ≤ length work.old) × Within b × (w.stops ≡ false) }
     ensures { lifted_over b state.now j w count frame.now result out.new }
@@ -175,7 +174,7 @@ fn lift_with(
     tables: &[u16],
     w: Strategy,
     b: Bounds,
-) -> Leveled
+) -> Result<Leveled, Refusal>
     requires { Base state.now j × TablesAt state.now j tables.now × (lifted_length ≤ length out.old) × (b.working * row_length ≤ length work.old)
         × Within b × (w.stops ≡ false) }
     ensures { ((n : ℕ) × (v : Words) × (leveled_of result out.new v ≡ lift_over b state.now j w n))
@@ -185,13 +184,12 @@ fn lift_with(
     let mut gens = [0u16; words::HEADS_LENGTH];
     let r = soundness::count_of(state, j);
     // numbered by code 1, the lexicographic order, whatever the file's (A10)
-    match frame::form(&mut framed, words::MOST_VECTORS, &mut gens, tables, r, 1) {
-        Stored::Full => Leveled::Refused(15),
-        Stored::Rows(n) => match lift_frame(out, work, state, j, &framed, n, tables, w, b) {
-            Lifted::Rows(used) => Leveled::Vectors(n, used),
-            Lifted::Refused(x) => Leveled::Refused(x),
-            Lifted::Stopped(x) => Leveled::Stopped(x),
-        },
+    let Some(n) = frame::form(&mut framed, words::MOST_VECTORS, &mut gens, tables, r, 1) else {
+        return Err(Refusal::Level);
+    };
+    match lift_frame(out, work, state, j, &framed, n, tables, w, b)? {
+        Lifted::Rows(used) => Ok(Leveled::Vectors(n, used)),
+        Lifted::Stopped(x) => Ok(Leveled::Stopped(x)),
     }
 }
 
@@ -203,7 +201,7 @@ pub fn lift_level(
     j: usize,
     w: Strategy,
     b: Bounds,
-) -> Leveled
+) -> Result<Leveled, Refusal>
     requires { Base state.now j × (lifted_length ≤ length out.old) × (b.working * row_length ≤ length work.old) × Within b
         × (w.stops ≡ false) }
     ensures { ((n : ℕ) × (v : Words) × (leveled_of result out.new v ≡ lift_over b state.now j w n))
@@ -224,17 +222,12 @@ pub fn show(work: &mut [u16], vector: &[u16], n: usize)
 }
 
 // A value without a reducer, shown in the work area.
-fn settle(work: &mut [u16], vector: &[u16], x: Accepted) -> Accepted
+fn settle(work: &mut [u16], vector: &[u16], x: Accepted)
     requires { LeftIn x vector.now work.old }
-    ensures { (result ≡ x) × Shown result (value_in x vector.now) work.new }
+    ensures { Shown (Ok x) (value_in x vector.now) work.new }
 {
-    match x {
-        Accepted::Yes => Accepted::Yes,
-        Accepted::Refused(number, place) => Accepted::Refused(number, place),
-        Accepted::Stopped(i, n) => {
-            show(work, vector, n);
-            Accepted::Stopped(i, n)
-        }
+    if let Accepted::Stopped(_place, n) = x {
+        show(work, vector, n);
     }
 }
 
@@ -246,7 +239,7 @@ fn accept_frame(
     from: usize,
     count: usize,
     tables: &[u16],
-) -> Accepted
+) -> Result<Accepted, Refused>
     requires { Base state.now 0 × TablesAt state.now 0 tables.now × FramedBy state.now 0 count frame.now
         × (value_length ≤ length work.old) }
     ensures { (n : ℕ) × (v : Vector) × (accepted_with result v ≡ accept_from (stage_at usual state.now 0) n (from + 1)
@@ -263,12 +256,18 @@ fn accept_frame(
         &state[words::ROWS_START..],
         tables,
         g,
-    );
-    settle(work, &vector, x)
+    )?;
+    settle(work, &vector, x);
+    Ok(x)
 }
 
 // The frame over level 0, then the division of its terms.
-fn accept_with(work: &mut [u16], state: &[u16], from: usize, tables: &[u16]) -> Accepted
+fn accept_with(
+    work: &mut [u16],
+    state: &[u16],
+    from: usize,
+    tables: &[u16],
+) -> Result<Accepted, Refused>
     requires { Base state.now 0 × TablesAt state.now 0 tables.now × (value_length ≤ length work.old) }
     ensures { (n : ℕ) × (v : Vector) × (accepted_with result v ≡ accepted_behind state.now from n) × Shown result v work.new }
 {
@@ -276,14 +275,17 @@ fn accept_with(work: &mut [u16], state: &[u16], from: usize, tables: &[u16]) -> 
     let mut gens = [0u16; words::HEADS_LENGTH];
     let r = soundness::count_of(state, 0);
     // numbered by code 1, the lexicographic order, whatever the file's (A10)
-    match frame::form(&mut framed, words::MOST_VECTORS, &mut gens, tables, r, 1) {
-        Stored::Full => Accepted::Refused(15, 0),
-        Stored::Rows(n) => accept_frame(work, state, &framed, from, n, tables),
-    }
+    let Some(n) = frame::form(&mut framed, words::MOST_VECTORS, &mut gens, tables, r, 1) else {
+        return Err(Refused {
+            refusal: Refusal::Level,
+            place: 0,
+        });
+    };
+    accept_frame(work, state, &framed, from, n, tables)
 }
 
 // Acceptance of level 0 by division, where the first `from` frame terms are known to divide to zero.
-pub fn accept_behind(work: &mut [u16], state: &[u16], from: usize) -> Accepted
+pub fn accept_behind(work: &mut [u16], state: &[u16], from: usize) -> Result<Accepted, Refused>
     requires { Base state.now 0 × (value_length ≤ length work.old) }
     ensures { (n : ℕ) × (v : Vector) × (accepted_with result v ≡ accepted_behind state.now from n) × Shown result v work.new }
 {
@@ -293,7 +295,7 @@ pub fn accept_behind(work: &mut [u16], state: &[u16], from: usize) -> Accepted
 }
 
 // Acceptance of level 0 by division.
-pub fn accept_level(work: &mut [u16], state: &[u16]) -> Accepted
+pub fn accept_level(work: &mut [u16], state: &[u16]) -> Result<Accepted, Refused>
     requires { Base state.now 0 × (value_length ≤ length work.old) }
     ensures { (n : ℕ) × (v : Vector) × (accepted_with result v ≡ accepted_over state.now n) × Shown result v work.new }
 {

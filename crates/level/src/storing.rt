@@ -17,13 +17,11 @@ fn append_all(state: &mut [u16], k: usize, count: usize, out: &[u16])
     ensures { Appended state.old state.new k count out.now }
 {
     let mut used: usize = 0;
-    let mut i: usize = 0;
-    while i < count {
+    for i in 0..count {
         let end = words::place(out[i]);
         let start = words::ENDS_LENGTH + used * words::ROW_LENGTH;
         writing::append(state, k, i, used, &out[start..], end - used);
         used = end;
-        i += 1;
     }
 }
 
@@ -32,10 +30,8 @@ fn complete(state: &mut [u16], k: usize, count: usize)
     requires { (state_length ≤ length state.old) × (k < all_levels) × (count ≤ most_vectors) }
     ensures { state.new ≡ set (set state.old (count_offset k) count) 4 (k + 1) }
 {
-    let r = count as u16;
-    let h = (k + 1) as u16;
-    state[words::HEADER_LENGTH + k * words::COUNTS_LENGTH] = r;
-    state[4] = h;
+    state[words::HEADER_LENGTH + k * words::COUNTS_LENGTH] = count as u16;
+    state[4] = (k + 1) as u16;
 }
 
 // Level k of the state is what the slice holds, and carries its degrees; those above are dropped. Unused places stay as they are.

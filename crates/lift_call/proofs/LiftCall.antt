@@ -3,7 +3,7 @@ use mathlib.Core.Path.{◌≡◌, refl, sym, ap, ◌∙◌, subst}
 use mathlib.Core.Bool.{Bool, true, false, not, ◌||◌}
 use mathlib.Core.Option.{Option, some}
 use mathlib.Core.List.{◌∷◌}
-use Prim.Native.Nat.{ℕ, suc, ◌-◌, ◌≤◌, ◌<◌}
+use Prim.Native.Nat.{ℕ, ◌-◌, ◌≤◌, ◌<◌}
 use native.Mathlib.Omega.{arith}
 use native.Mathlib.Nat.{not-suc-le-zero}
 use borrow.Author.Tests.{le-leb, lt-leb, lt-ltb, le-ltb, leb-true, leb-false, ne_eqb}
@@ -23,11 +23,12 @@ use Rattle.demands.proofs.Lifts.{LiftedTo, one_more, limit_met, still_lifting, l
 use Rattle.vectors.specs.terms.Rows.{cleared}
 use Rattle.state.proofs.writing.AppendLoop.{cleared_empties}
 use Rattle.state.proofs.preparing.Complete.{meant_is, length_levels, holds_sound}
-use Rattle.level.specs.by_runs.Stages.{Base}
 use Rattle.level.specs.all_levels.Level.{Liftable, stored, told, LiftedBy}
 use Rattle.level.proofs.all_levels.Lifting.{emptied}
 use Rattle.read_call.proofs.ReadCall.{zeroed}
-use Rattle.lift_call.specs.Lifts.{own_pick?, complete_number, left_by}
+use Rattle.std.specs.Prelude.{Result as CodeResult, Ok, Err}
+use Rattle.words.specs.declared.refusals.Refusal.{Refusal}
+use Rattle.lift_call.specs.Lifts.{own_pick?, complete_number, number_in, left_by}
 
 -- ## What is settled
 
@@ -40,6 +41,10 @@ module _ (number k : ℕ) (s w z : Words) where
 
   pub emptied_reply : (number ≡ 0 → ⊥) → ◌≡◌ {A = Lift} (number, k, cleared s 0, cleared w 0, cleared z 0) (left_by number k s w z)
   emptied_reply m = sym (ap by_test (ne_eqb number 0 m))
+
+told_is : (r : CodeResult (Unit {0}) Refusal) (t : Words) → ◌≡◌ {A = ℕ × Words} (told r t) (number_in r, t)
+told_is (Ok u) t = refl
+told_is (Err e) t = refl
 
 -- ## The call, test by test
 
@@ -127,17 +132,17 @@ module _ (s w z : Words) (k : ℕ) (way : Way) where
           after_tests e n = in_state n true true true inside has_it (own_pick_is way w z ∙ sym e)
 
           -- the level lifted, stored and settled
-          pub left_is : true ≡ own_pick? way → (number : ℕ) (t w' z' : Words) → LiftedBy s k (lifting_by document_01 way w z) number t → length w' ≡ length w
+          pub left_is : true ≡ own_pick? way → (r : CodeResult (Unit {0}) Refusal) (t w' z' : Words) → LiftedBy s k (lifting_by document_01 way w z) r t → length w' ≡ length w
               → length z' ≡ length z
-              → Called (left_by number k t w' z')
-          left_is e number t w' z' (n, p, f) lw lz = (
+              → Called (left_by (number_in r) k t w' z')
+          left_is e r t w' z' (n, p, f) lw lz = (
             n,
-            go (lifted_to document_01 tt X (holds_sound s holds) k (lifting_by document_01 way w z) n) p f
+            go (lifted_to document_01 tt X (holds_sound s holds) k (lifting_by document_01 way w z) n) (sym (told_is r t) ∙ p) f
                 ∙ after_tests e n,
           )
             where
-              go : {x : Result State} → LiftedTo document_01 X k x → told number t ≡ stored s x → T (finished? x)
-                  → ◌≡◌ {A = Option Lift} (some (left_by number k t w' z')) (settled x then λ a. some (lift_left document_01 s w z a))
+              go : {x : Result State} → LiftedTo document_01 X k x → ◌≡◌ {A = ℕ × Words} (number_in r, t) (stored s x) → T (finished? x)
+                  → ◌≡◌ {A = Option Lift} (some (left_by (number_in r) k t w' z')) (settled x then λ a. some (lift_left document_01 s w z a))
               go (one_more g r) q f =
                   (λ i. some (left_by (q i).0 k (q i).1 w' z'))
                   ∙ (λ i. some (

@@ -3,7 +3,7 @@
 // Each function answers where its bytes end.
 ghost use Rattle.std.specs.Prelude.{[], ◌∷◌, ◌+◌, ◌-◌, ◌*◌, ◌≤◌, ◌<◌, length, take};
 ghost use Rattle.definitions.specs.Problem.{comma};
-ghost use Rattle.definitions.specs.Sheet.{decimal, printed, term_fields, letter_S, s_lines, vector_lines, level_lines, w_lines};
+ghost use Rattle.definitions.specs.Sheet.{decimal, printed, term_fields, letter_S, letter_X, s_lines, vector_lines, level_lines, w_lines};
 ghost use Rattle.definitions.specs.Layout.{rows};
 ghost use Rattle.definitions.specs.Places.{
   most_vectors,
@@ -14,6 +14,7 @@ ghost use Rattle.definitions.specs.Places.{
   s_lines_length,
   level_lines_length,
 };
+ghost use Rattle.words.specs.refusals.Numbers.{number_of};
 ghost use Rattle.vectors.specs.terms.Rows.{term_of};
 ghost use Rattle.reducers.specs.tables.Cuts.{Cut, cut_level};
 ghost use Rattle.pages.specs.bytes.Printing.{Printed};
@@ -22,13 +23,14 @@ ghost use Rattle.listing.specs.printing.Lines.{listed, term_lines, Short};
 use pages::bytes;
 use vectors::terms;
 use vectors::terms::Term;
+use words::refusals::Refused;
 
 // A comma and a number.
 pub fn field(out: &mut [u8], at: usize, v: usize) -> usize
     requires { at + 1 + length (decimal v) ≤ length out.old }
     ensures { Printed out.old out.new at result (comma ∷ decimal v) }
 {
-    let a = bytes::byte(out, at, 44);
+    let a = bytes::byte(out, at, b',');
     bytes::number(out, a, v)
 }
 
@@ -37,8 +39,7 @@ pub fn word(out: &mut [u8], at: usize, v: u16) -> usize
     requires { at + 6 ≤ length out.old }
     ensures { Printed out.old out.new at result (comma ∷ decimal v) × (result ≤ at + 6) }
 {
-    let x = v as usize;
-    field(out, at, x)
+    field(out, at, usize::from(v))
 }
 
 // The first n exponents.
@@ -47,10 +48,8 @@ fn exponents(out: &mut [u8], at: usize, e: [u16; words::EXPONENTS_LENGTH], n: us
     ensures { Printed out.old out.new at result (listed (take n e)) × (result ≤ at + n * 6) }
 {
     let mut a = at;
-    let mut j = 0;
-    while j < n {
+    for j in 0..n {
         a = word(out, a, e[j]);
-        j += 1;
     }
     a
 }
@@ -73,11 +72,11 @@ fn s_line(out: &mut [u8], at: usize, t: Term, n: usize, k: u16, v: u16) -> usize
     ensures { Printed out.old out.new at result (printed letter_S (k ∷ v ∷ term_fields n (term_of t)))
         × (result ≤ at + s_line_length) }
 {
-    let a = bytes::byte(out, at, 83);
+    let a = bytes::byte(out, at, b'S');
     let b = word(out, a, k);
     let c = word(out, b, v);
     let d = term(out, c, t, n);
-    bytes::byte(out, d, 10)
+    bytes::byte(out, d, b'\n')
 }
 
 // A letter and a term: `W,coefficient,component,e1,..,en`
@@ -87,10 +86,10 @@ fn term_line(out: &mut [u8], at: usize, letter: u8, t: Term, n: usize) -> usize
 {
     let a = bytes::byte(out, at, letter);
     let b = term(out, a, t, n);
-    bytes::byte(out, b, 10)
+    bytes::byte(out, b, b'\n')
 }
 
-// A letter and two numbers: `Z,level,count` or `X,number,place`.
+// A letter and two numbers, as in `Z,level,count`.
 pub fn pair_line(out: &mut [u8], at: usize, letter: u8, x: u16, y: usize) -> usize
     requires { at + pair_line_length ≤ length out.old }
     ensures { Printed out.old out.new at result (printed letter (x ∷ y ∷ [])) × (result ≤ at + pair_line_length) }
@@ -98,7 +97,16 @@ pub fn pair_line(out: &mut [u8], at: usize, letter: u8, x: u16, y: usize) -> usi
     let a = bytes::byte(out, at, letter);
     let b = word(out, a, x);
     let c = field(out, b, y);
-    bytes::byte(out, c, 10)
+    bytes::byte(out, c, b'\n')
+}
+
+// `X,number,place`
+pub fn x_line(out: &mut [u8], at: usize, refused: Refused) -> usize
+    requires { at + pair_line_length ≤ length out.old }
+    ensures { Printed out.old out.new at result (printed letter_X (number_of refused.refusal ∷ refused.place ∷ []))
+        × (result ≤ at + pair_line_length) }
+{
+    pair_line(out, at, b'X', refused.refusal.number(), refused.place)
 }
 
 // The lines of the rows from row `from` up to row `to`: vector v of level k.
@@ -117,11 +125,9 @@ pub fn s_lines(
         × (result ≤ at + (to - from) * s_line_length) }
 {
     let mut a = at;
-    let mut i = from;
-    while i < to {
+    for i in from..to {
         let t = terms::row(level, i);
         a = s_line(out, a, t, n, k, v);
-        i += 1;
     }
     a
 }
@@ -144,13 +150,11 @@ fn vector_lines(
     let mut a = at;
     let mut start: usize = 0;
     let mut v: u16 = 1;
-    let mut j = 0;
-    while j < count {
+    for j in 0..count {
         let end = words::place(ends[j]);
         a = s_lines(out, a, level, start, end, n, k, v);
         start = end;
         v += 1;
-        j += 1;
     }
     a
 }
@@ -171,7 +175,7 @@ pub fn level_lines(
         × (result ≤ at + level_lines_length) }
 {
     let a = vector_lines(out, at, level, ends, count, n, k);
-    pair_line(out, a, 90, k, count)
+    pair_line(out, a, b'Z', k, count)
 }
 
 // The lines of the first m rows, with this letter.
@@ -181,11 +185,9 @@ pub fn term_lines(out: &mut [u8], at: usize, letter: u8, s: &[u16], m: usize, n:
         × (result ≤ at + m * w_line_length) }
 {
     let mut a = at;
-    let mut i = 0;
-    while i < m {
+    for i in 0..m {
         let t = terms::row(s, i);
         a = term_line(out, a, letter, t, n);
-        i += 1;
     }
     a
 }
@@ -195,5 +197,5 @@ pub fn w_lines(out: &mut [u8], at: usize, s: &[u16], m: usize, n: usize) -> usiz
     requires { (n ≤ 8) × (m * row_length ≤ length s.now) × (at + m * w_line_length ≤ length out.old) }
     ensures { Printed out.old out.new at result (w_lines n (rows s.now 0 m)) × (result ≤ at + m * w_line_length) }
 {
-    term_lines(out, at, 87, s, m, n)
+    term_lines(out, at, b'W', s, m, n)
 }

@@ -10,45 +10,36 @@ use crate::printing;
 use level::by_runs;
 use reader::problem;
 use runs::frame_terms::Accepted;
+use words::refusals::{Refusal, Refused};
 
-// Accepted, or refused in so many bytes.
-#[derive(Clone, Copy)]
-pub enum Begun {
-    Accepted,
-    Refused(usize),
-}
-
-// A file that was read: accepted or refused.
-fn accept(out: &mut [u8], state: &[u16], work: &mut [u16]) -> Begun
+// A file that was read: accepted, or refused in so many bytes.
+fn accept(out: &mut [u8], state: &[u16], work: &mut [u16]) -> Result<(), usize>
     requires { Base state.now 0 × (value_length ≤ length work.old) × (pair_line_length + most_terms * w_line_length ≤ length out.old) }
     ensures { AcceptedAs result state.now out.old out.new }
 {
     match by_runs::accept_level(work, state) {
-        Accepted::Yes => Begun::Accepted,
-        Accepted::Refused(number, place) => {
-            let r = printing::pair_line(out, 0, 88, number, place);
-            Begun::Refused(r)
-        }
-        Accepted::Stopped(place, m) => {
+        Ok(Accepted::Yes) => Ok(()),
+        Ok(Accepted::Stopped(place, m)) => {
             let n = words::place(state[1]);
-            let a = printing::pair_line(out, 0, 88, 9, place);
-            let r = printing::w_lines(out, a, work, m, n);
-            Begun::Refused(r)
+            let refused = Refused {
+                refusal: Refusal::NoReducer,
+                place,
+            };
+            let a = printing::x_line(out, 0, refused);
+            Err(printing::w_lines(out, a, work, m, n))
         }
+        Err(refused) => Err(printing::x_line(out, 0, refused)),
     }
 }
 
-// A file's basis, accepted in the state; or "`X,number,place`", and after X,9 the value, in front of out.
-pub fn begin(file: &[u8], state: &mut [u16], work: &mut [u16], out: &mut [u8]) -> Begun
+// A file's basis, accepted in the state; or so many bytes in front of out are "`X,number,place`", and after X,9 the value.
+pub fn begin(file: &[u8], state: &mut [u16], work: &mut [u16], out: &mut [u8]) -> Result<(), usize>
     requires { (state_length ≤ length state.old) × (value_length ≤ length work.old)
         × (pair_line_length + most_terms * w_line_length ≤ length out.old) }
     ensures { BegunAs result file.now state.new out.old out.new }
 {
-    let r = problem::read(file, state);
-    let number = r.number;
-    if number == 0 {
-        return accept(out, state, work);
+    if let Err(refused) = problem::read(file, state) {
+        return Err(printing::x_line(out, 0, refused));
     }
-    let n = printing::pair_line(out, 0, 88, number, r.place);
-    Begun::Refused(n)
+    accept(out, state, work)
 }

@@ -9,17 +9,9 @@ ghost use Rattle.level.specs.by_runs.Stages.{Base};
 ghost use Rattle.pages.specs.bytes.Printing.{Printed};
 ghost use Rattle.listing.specs.whole.Listed.{Prints, lines_of, all_lines_of, levels_sheet};
 
-use crate::reading::Begun;
 use crate::{printing, reading};
 use level::all_levels;
 use state::soundness;
-
-fn narrow(k: usize) -> u16
-    requires { k < 65536 }
-    ensures { result ≡ k }
-{
-    k as u16
-}
 
 // Level k of a state.
 fn print_level(out: &mut [u8], at: usize, state: &[u16], k: usize) -> usize
@@ -30,8 +22,7 @@ fn print_level(out: &mut [u8], at: usize, state: &[u16], k: usize) -> usize
     let n = words::place(state[1]);
     let start = words::ROWS_START + k * words::LEVEL_LENGTH;
     let ends = words::ENDS_START + k * words::COUNTS_LENGTH;
-    let l = narrow(k);
-    printing::level_lines(out, at, &state[start..], &state[ends..], count, n, l)
+    printing::level_lines(out, at, &state[start..], &state[ends..], count, n, k as u16)
 }
 
 // The levels of a state from level 1 on.
@@ -41,10 +32,8 @@ fn print_levels(out: &mut [u8], state: &[u16]) -> usize
 {
     let height = words::place(state[4]);
     let mut at: usize = 0;
-    let mut k: usize = 1;
-    while k < height {
+    for k in 1..height {
         at = print_level(out, at, state, k);
-        k += 1;
     }
     at
 }
@@ -54,13 +43,12 @@ fn print_lifted(out: &mut [u8], state: &mut [u16], work: &mut [u16]) -> usize
     requires { Base state.old 0 × (get_or state.old 4 0 ≡ 1) × (value_length ≤ length work.old) × (sheet_length ≤ length out.old) }
     ensures { Prints (λ n. levels_sheet n state.old) out.old out.new 0 result × (result ≤ sheet_length) }
 {
-    let e = all_levels::lift_levels(state, work);
-    let number = e.number;
+    let lifted = all_levels::lift_levels(state, work);
     let at = print_levels(out, state);
-    if number == 0 {
-        return at;
+    match lifted {
+        Ok(()) => at,
+        Err(refused) => printing::x_line(out, at, refused),
     }
-    printing::pair_line(out, at, 88, number, e.place)
 }
 
 // The sheet of a file, in front of out.
@@ -69,7 +57,7 @@ pub fn print(file: &[u8], state: &mut [u16], work: &mut [u16], out: &mut [u8]) -
     ensures { Prints (λ n. sheet_definition document_01 n file.now) out.old out.new 0 result × (result ≤ sheet_length) }
 {
     match reading::begin(file, state, work, out) {
-        Begun::Accepted => print_lifted(out, state, work),
-        Begun::Refused(length) => length,
+        Ok(()) => print_lifted(out, state, work),
+        Err(length) => length,
     }
 }

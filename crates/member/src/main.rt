@@ -35,14 +35,5 @@ fn out_bytes() -> [u8; words::MEMBER_LENGTH]
 }
 
 fn main(rt: HostRuntime) {
-    let mut input = input_bytes();
-    let mut state = programs::state_words();
-    let mut work = programs::work_words();
-    let mut out = out_bytes();
-    let read = programs::read(rt, &mut input);
-    if read.more == 0 {
-        let n = read.length;
-        let length = answer(&input[..n], &mut state, &mut work, &mut out);
-        programs::write(rt, &out[..length]);
-    }
+    programs::run(rt, &mut input_bytes(), &mut out_bytes(), answer)
 }

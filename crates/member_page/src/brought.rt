@@ -10,17 +10,10 @@ ghost use Rattle.words.specs.parameters.Values.{parameters_of};
 ghost use Rattle.reader.specs.fields.Scanning.{line_as};
 ghost use Rattle.member_page.specs.brought.Lines.{fits?, v_first, brought_as, Few};
 
-use reader::fields::{End as LineEnd, Line};
+use reader::fields::Line;
 use reader::{fields, lines};
 use vectors::terms;
 use words::parameters::Parameters;
-
-// The terms that the lines brought, or the number of the first bad line.
-#[derive(Clone, Copy)]
-pub enum Brought {
-    Terms(usize),
-    Bad(usize),
-}
 
 // The numbers of a V line as those of a T line, where the element stands first.
 fn with_element(v: [u16; 16]) -> [u16; 16]
@@ -36,49 +29,35 @@ fn with_element(v: [u16; 16]) -> [u16; 16]
 fn fits(q: Parameters, count: usize, before: [u16; 16], w: [u16; 16]) -> bool
     ensures { result ≡ fits? (parameters_of q) count before w }
 {
-    if words::MOST_TERMS <= count {
-        return false;
-    }
-    if lines::term_in_range(q, w) {
-        if count == 0 {
-            return true;
-        }
-        let code = q.code;
-        return lines::above(code, before, w);
-    }
-    false
+    count < words::MOST_TERMS
+        && lines::term_in_range(q, w)
+        && (count == 0 || lines::above(q.code, before, w))
 }
 
 // The V line at a position, after so many terms; its numbers as those of a T line.
-fn v_line(file: &[u8], at: usize, q: Parameters, count: usize, before: [u16; 16]) -> Line
+fn v_line(file: &[u8], at: usize, q: Parameters, count: usize, before: [u16; 16]) -> Option<Line>
     requires { q.n ≤ 8 }
     ensures { line_as result file.now ≡ v_first (parameters_of q) count before (drop at file.now) }
 {
-    let n = lines::size_of(q.n);
-    let line = fields::line_at(file, at, b'V', 2 + n);
-    let v = line.numbers;
-    let w = with_element(v);
-    let end = line.end;
-    let LineEnd::Behind(next) = end else {
-        return Line {
-            end: LineEnd::Misshapen,
-            numbers: w,
-        };
-    };
-    if fits(q, count, before, w) {
-        return Line {
-            end: LineEnd::Behind(next),
-            numbers: w,
-        };
+    let line = fields::line_at(file, at, b'V', 2 + usize::from(q.n))?;
+    let numbers = with_element(line.numbers);
+    if !fits(q, count, before, numbers) {
+        return None;
     }
-    Line {
-        end: LineEnd::Misshapen,
-        numbers: w,
-    }
+    Some(Line {
+        next: line.next,
+        numbers,
+    })
 }
 
-// The V lines from a position to the end, the first with this number, into rows.
-pub fn v_lines(file: &[u8], from: usize, first: usize, q: Parameters, value: &mut [u16]) -> Brought
+// The V lines from a position to the end, the first with this number, into rows: how many terms they bring, or the number of the first bad line.
+pub fn v_lines(
+    file: &[u8],
+    from: usize,
+    first: usize,
+    q: Parameters,
+    value: &mut [u16],
+) -> Result<usize, usize>
     requires { (q.n ≤ 8) × (first ≤ read_length) × (value_length ≤ length value.old) }
     ensures { (brought_as result value.new
         ≡ v_lines_definition document_01 (parameters_of q) first [] (lines_definition (drop from file.now))) × Few result }
@@ -86,18 +65,14 @@ pub fn v_lines(file: &[u8], from: usize, first: usize, q: Parameters, value: &mu
     let mut at = from;
     let mut count: usize = 0;
     let mut before = [0u16; 16];
+    // A while: the position jumps by a line.
     while at < file.len() {
-        let line = v_line(file, at, q, count, before);
-        let w = line.numbers;
-        let end = line.end;
-        let LineEnd::Behind(next) = end else {
-            return Brought::Bad(first + count);
-        };
-        let t = lines::term_said(w);
+        let line = v_line(file, at, q, count, before).ok_or(first + count)?;
+        let t = lines::term_said(line.numbers);
         terms::put(value, count, t);
-        before = w;
-        at = next;
+        before = line.numbers;
+        at = line.next;
         count += 1;
     }
-    Brought::Terms(count)
+    Ok(count)
 }

@@ -1,35 +1,25 @@
 // The lines of a division: quotients, remainder, whether the vector is a member.
 // Knows: crate definitions' Membership.
 // Quotients and remainder are rows of lent slices, as they are to be printed.
-ghost use Rattle.std.specs.Prelude.{◌≡◌, [], ◌∷◌, ◌+◌, ◌*◌, ◌≤◌, eqb, length};
+ghost use Rattle.std.specs.Prelude.{◌≡◌, [], ◌∷◌, ◌+◌, ◌*◌, ◌≤◌, length};
 ghost use Rattle.definitions.specs.Sheet.{printed};
 ghost use Rattle.definitions.specs.Layout.{rows};
 ghost use Rattle.definitions.specs.Membership.{letter_M, c_lines as c_lines_definition};
 ghost use Rattle.definitions.specs.Places.{most_terms, row_length, w_line_length, m_line_length, member_length};
 ghost use Rattle.pages.specs.bytes.Printing.{Printed};
-ghost use Rattle.member_page.specs.page.Lines.{one_by, lines_of};
+ghost use Rattle.member_page.specs.page.Lines.{lines_of};
 
 use listing::printing;
 use pages::bytes;
-
-// 1 where there is no remainder.
-fn one_by(r: usize) -> usize
-    ensures { (result ≡ one_by (eqb r 0)) × (result ≤ 1) }
-{
-    if r == 0 {
-        return 1;
-    }
-    0
-}
 
 // `M,1` or `M,0`
 fn m_line(out: &mut [u8], at: usize, x: usize) -> usize
     requires { (x ≤ 1) × (at + m_line_length ≤ length out.old) }
     ensures { Printed out.old out.new at result (printed letter_M (x ∷ [])) × (result ≤ at + m_line_length) }
 {
-    let a = bytes::byte(out, at, 77);
+    let a = bytes::byte(out, at, b'M');
     let b = printing::field(out, a, x);
-    bytes::byte(out, b, 10)
+    bytes::byte(out, b, b'\n')
 }
 
 // "`C,coefficient,element,e1,..,en` for each quotient term"
@@ -38,7 +28,7 @@ fn c_lines(out: &mut [u8], at: usize, s: &[u16], m: usize, n: usize) -> usize
     ensures { Printed out.old out.new at result (c_lines_definition n (rows s.now 0 m))
         × (result ≤ at + m * w_line_length) }
 {
-    printing::term_lines(out, at, 67, s, m, n)
+    printing::term_lines(out, at, b'C', s, m, n)
 }
 
 // The lines of v rows of quotients and r rows of remainder, with n exponents.
@@ -57,5 +47,5 @@ pub fn print_lines(
 {
     let a = c_lines(out, 0, quotients, v, n);
     let b = printing::w_lines(out, a, remainder, r, n);
-    m_line(out, b, one_by(r))
+    m_line(out, b, usize::from(r == 0))
 }

@@ -13,13 +13,11 @@ ghost use Rattle.listing.specs.whole.Listed.{Prints};
 ghost use Rattle.listing.specs.whole.Paged.{AcceptedPrints};
 ghost use Rattle.member_page.specs.whole.Printing.{VectorPrints};
 
-use crate::brought::Brought;
 use crate::{brought, page};
 use dividing::over;
-use dividing::steps::Divided;
-use listing::reading::Begun;
 use listing::{printing, reading};
 use words::parameters::Parameters;
+use words::refusals::{Refusal, Refused};
 
 // The parameters that a state holds.
 fn parameters_in(state: &[u16]) -> Parameters
@@ -44,11 +42,12 @@ fn print_division(out: &mut [u8], state: &[u16], work: &mut [u16], n: usize) -> 
     let mut quotients = [0u16; words::VECTOR_LENGTH];
     let mut remainder = [0u16; words::VALUE_LENGTH];
     match over::divide_vector(work, n, &mut quotients, &mut remainder, state) {
-        Divided::Done(v, r) => {
+        Ok(divided) => {
             let m = words::place(state[1]);
+            let (v, r) = (divided.quotients, divided.remainder);
             page::print_lines(out, &quotients, v, &remainder, r, m)
         }
-        Divided::Refused(x) => printing::pair_line(out, 0, 88, x, 0),
+        Err(refusal) => printing::x_line(out, 0, Refused { refusal, place: 0 }),
     }
 }
 
@@ -62,8 +61,14 @@ fn print_vector(input: &[u8], end: usize, state: &[u16], work: &mut [u16], out: 
     let q = parameters_in(state);
     let first = after::lines_in(&input[..end]) + 1;
     match brought::v_lines(input, end, first, q, work) {
-        Brought::Terms(n) => print_division(out, state, work, n),
-        Brought::Bad(place) => printing::pair_line(out, 0, 88, 23, place),
+        Ok(n) => print_division(out, state, work, n),
+        Err(place) => {
+            let refused = Refused {
+                refusal: Refusal::VectorLine,
+                place,
+            };
+            printing::x_line(out, 0, refused)
+        }
     }
 }
 
@@ -74,7 +79,7 @@ pub fn print(input: &[u8], state: &mut [u16], work: &mut [u16], out: &mut [u8]) 
 {
     let end = after::file_end(input);
     match reading::begin(&input[..end], state, work, out) {
-        Begun::Accepted => print_vector(input, end, state, work, out),
-        Begun::Refused(length) => length,
+        Ok(()) => print_vector(input, end, state, work, out),
+        Err(length) => length,
     }
 }

@@ -22,14 +22,10 @@ fn answer(file: &[u8], state: &mut [u16], work: &mut [u16], out: &mut [u8]) -> u
 }
 
 fn main(rt: HostRuntime) {
-    let mut file = programs::file_bytes();
-    let mut state = programs::state_words();
-    let mut work = programs::work_words();
-    let mut out = programs::page_bytes();
-    let input = programs::read(rt, &mut file);
-    if input.more == 0 {
-        let n = input.length;
-        let length = answer(&file[..n], &mut state, &mut work, &mut out);
-        programs::write(rt, &out[..length]);
-    }
+    programs::run(
+        rt,
+        &mut programs::file_bytes(),
+        &mut programs::page_bytes(),
+        answer,
+    )
 }

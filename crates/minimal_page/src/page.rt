@@ -22,13 +22,12 @@ fn print_lines(out: &mut [u8], state: &[u16], marks: &[u16], low: usize, high: u
 {
     let mut totals = [0u16; words::PAGE_COLUMNS];
     let mut at: usize = 0;
-    let mut r = low;
-    while r <= high {
+    for r in low..high + 1 {
         let row = numbers::row_numbers(state, marks, r);
         at = lines::row_line(out, at, r, row);
+        // By a name of its own: a call's result is not laid in an array that the call takes.
         let sums = numbers::added(totals, row);
         totals = sums;
-        r += 1;
     }
     lines::total_line(out, at, totals)
 }
@@ -41,7 +40,5 @@ pub fn print_page(out: &mut [u8], state: &[u16]) -> usize
     let mut marks = [0u16; words::MARKS_LENGTH];
     marking::mark_columns(state, &mut marks);
     let rows = counting::rows_in_use(state);
-    let low = rows.low;
-    let high = rows.high;
-    print_lines(out, state, &marks, low, high)
+    print_lines(out, state, &marks, rows.low, rows.high)
 }

@@ -14,8 +14,8 @@ ghost use Rattle.minimal_page.specs.whole.Tested.{page_of, lifted_page};
 use crate::page;
 use columns::{counting, mixed};
 use level::all_levels;
-use listing::reading::Begun;
 use listing::{printing, reading};
+use words::refusals::{Refusal, Refused};
 
 // "20 (place 9) when level 9 is not empty, tested after all lifting": its vectors are the last column.
 fn print_tested(out: &mut [u8], state: &[u16]) -> usize
@@ -26,7 +26,9 @@ fn print_tested(out: &mut [u8], state: &[u16]) -> usize
     if count == 0 {
         return page::print_page(out, state);
     }
-    printing::pair_line(out, 0, 88, 20, words::MOST_LEVELS)
+    let refusal = Refusal::LevelNine;
+    let place = words::MOST_LEVELS;
+    printing::x_line(out, 0, Refused { refusal, place })
 }
 
 // Levels are lifted as for the sheet.
@@ -34,12 +36,10 @@ fn print_lifted(out: &mut [u8], state: &mut [u16], work: &mut [u16]) -> usize
     requires { Base state.old 0 × (value_length ≤ length work.old) × (page_length ≤ length out.old) }
     ensures { AcceptedPrints lifted_page state.old out.old out.new result × (result ≤ page_length) }
 {
-    let e = all_levels::lift_levels(state, work);
-    let number = e.number;
-    if number == 0 {
-        return print_tested(out, state);
+    match all_levels::lift_levels(state, work) {
+        Ok(()) => print_tested(out, state),
+        Err(refused) => printing::x_line(out, 0, refused),
     }
-    printing::pair_line(out, 0, 88, number, e.place)
 }
 
 // "17 applies as before."
@@ -47,11 +47,13 @@ fn print_accepted(out: &mut [u8], state: &mut [u16], work: &mut [u16]) -> usize
     requires { Base state.old 0 × (get_or state.old 4 0 ≡ 1) × (value_length ≤ length work.old) × (page_length ≤ length out.old) }
     ensures { AcceptedPrints (minimal_of document_01) state.old out.old out.new result × (result ≤ page_length) }
 {
-    let place = mixed::first_mixed(state);
-    if place == 0 {
-        return print_lifted(out, state, work);
+    match mixed::first_mixed(state) {
+        None => print_lifted(out, state, work),
+        Some(place) => {
+            let refusal = Refusal::Degree;
+            printing::x_line(out, 0, Refused { refusal, place })
+        }
     }
-    printing::pair_line(out, 0, 88, 17, place)
 }
 
 // The minimal Betti numbers of a file, in front of out.
@@ -61,7 +63,7 @@ pub fn print(file: &[u8], state: &mut [u16], work: &mut [u16], out: &mut [u8]) -
         × (result ≤ page_length) }
 {
     match reading::begin(file, state, work, out) {
-        Begun::Accepted => print_accepted(out, state, work),
-        Begun::Refused(length) => length,
+        Ok(()) => print_accepted(out, state, work),
+        Err(length) => length,
     }
 }

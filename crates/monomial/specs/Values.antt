@@ -1,13 +1,12 @@
 -- The code's values as the definitions' ones.
 use Rattle.std.proofs.Math.Option.{Option, none, some}
-use Rattle.std.specs.Prelude.{ℕ, ◌+◌, ◌/◌, ◌%◌, slice_index}
+use Rattle.std.specs.Prelude.{Option as CodeOption, Some, None, ℕ, ◌+◌, ◌/◌, ◌%◌, slice_index}
 use Rattle.definitions.specs.Lists.{choose}
 use Rattle.definitions.specs.Monomial as definition
 use Rattle.definitions.specs.Monomial.{Exponents, product, fits?}
 use Rattle.definitions.specs.Packed.{four, unpack}
 use Rattle.definitions.specs.Places.{most_exponent}
 use Rattle.monomial.specs.declared.Monomial.{Monomial}
-use Rattle.monomial.specs.declared.Product.{Product}
 
 abbrev pub monomial_of : Monomial → definition.Monomial
 monomial_of m = (unpack m.exponents, m.component)
@@ -20,8 +19,9 @@ unit = (definition.unit, 0)
 abbrev pub formed : Exponents → definition.Monomial → Option definition.Monomial
 formed q m = choose (fits? most_exponent (product q m.0)) (some (product q m.0, m.1)) none
 
-abbrev pub product_of : Product → Option definition.Monomial
-product_of x = choose x.fits (some (monomial_of x.monomial)) none
+abbrev pub product_of : CodeOption Monomial → Option definition.Monomial
+product_of (Some m) = some (monomial_of m)
+product_of None = none
 
 -- ## Lanes
 

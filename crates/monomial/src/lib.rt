@@ -26,13 +26,6 @@ pub struct Monomial {
     pub component: u16,
 }
 
-// A product that may have an exponent above 255: then it does not fit, and its exponents say nothing.
-#[derive(Clone, Copy)]
-pub struct Product {
-    pub fits: bool,
-    pub monomial: Monomial,
-}
-
 // The lower byte of each lane, and the bit above it.
 const LOW: u64 = 0x00ff_00ff_00ff_00ff;
 
@@ -110,41 +103,18 @@ fn uncarried(q: u64, e: u64, s: u64) -> bool
     requires { s ≡ (q + e) % long_bound }
     ensures { result ≡ fits? most_exponent (product_definition (unpack q) (unpack e)) }
 {
-    if s < q {
-        return false;
-    }
-    (q ^ e ^ s) & CARRIES == 0
-}
-
-// The product's exponents; where one is above 255 the product does not fit.
-fn product_exponents(q: u64, e: u64, component: u16) -> Product
-    ensures { product_of result ≡ formed (unpack q) (unpack e, component) }
-{
-    let s = std::num::wrapping_add_u64(q, e);
-    let fits = uncarried(q, e, s);
-    Product {
-        fits,
-        monomial: Monomial {
-            exponents: s,
-            component,
-        },
-    }
+    q <= s && (q ^ e ^ s) & CARRIES == 0
 }
 
 // ## Made and taken apart
-
-fn wide(x: u8) -> u64
-    ensures { (result ≡ x) × (result < 256) }
-{
-    x as u64
-}
 
 // Eight exponents as they are read, x1's first.
 pub fn packed(e: [u8; words::EXPONENTS_LENGTH]) -> u64
     ensures { unpack result ≡ e }
 {
-    let h = (wide(e[0]) * 256 + wide(e[1])) * 65536 + (wide(e[2]) * 256 + wide(e[3]));
-    let l = (wide(e[4]) * 256 + wide(e[5])) * 65536 + (wide(e[6]) * 256 + wide(e[7]));
+    let [x1, x2, x3, x4, x5, x6, x7, x8] = e;
+    let h = (u64::from(x1) * 256 + u64::from(x2)) * 65536 + (u64::from(x3) * 256 + u64::from(x4));
+    let l = (u64::from(x5) * 256 + u64::from(x6)) * 65536 + (u64::from(x7) * 256 + u64::from(x8));
     h * 0x0001_0000_0000 + l
 }
 
@@ -179,23 +149,13 @@ impl Monomial {
     pub fn divides(self, other: Monomial) -> bool
         ensures { result ≡ divides_monomial? (monomial_of self) (monomial_of other) }
     {
-        let a = self.component;
-        let b = other.component;
-        if a != b {
-            return false;
-        }
-        divides_exponents(self.exponents, other.exponents)
+        self.component == other.component && divides_exponents(self.exponents, other.exponents)
     }
 
     pub fn same(self, other: Monomial) -> bool
         ensures { result ≡ same_monomial? (monomial_of self) (monomial_of other) }
     {
-        let a = self.component;
-        let b = other.component;
-        if a != b {
-            return false;
-        }
-        same_exponents(self.exponents, other.exponents)
+        self.component == other.component && same_exponents(self.exponents, other.exponents)
     }
 
     // self / other; where an exponent of other is larger, 0 is left. By the lcm, which other divides.
@@ -209,11 +169,9 @@ impl Monomial {
     pub fn lcm(self, other: Monomial) -> Monomial
         ensures { monomial_of result ≡ (lcm_definition (monomial_of self).0 (monomial_of other).0, self.component) }
     {
-        let e = lcm_exponents(self.exponents, other.exponents);
-        let component = self.component;
         Monomial {
-            exponents: e,
-            component,
+            exponents: lcm_exponents(self.exponents, other.exponents),
+            component: self.component,
         }
     }
 
@@ -223,9 +181,18 @@ impl Monomial {
         degree_exponents(self.exponents)
     }
 
-    pub fn product(self, q: u64) -> Product
+    // None where an exponent would be above 255.
+    pub fn product(self, q: u64) -> Option<Monomial>
         ensures { product_of result ≡ formed (unpack q) (monomial_of self) }
     {
-        product_exponents(q, self.exponents, self.component)
+        let e = self.exponents;
+        let s = q.wrapping_add(e);
+        if !uncarried(q, e, s) {
+            return None;
+        }
+        Some(Monomial {
+            exponents: s,
+            component: self.component,
+        })
     }
 }

@@ -27,33 +27,34 @@ use Rattle.monomial.specs.Values.{monomial_of}
 use Rattle.monomial.specs.declared.Monomial.{Monomial}
 use Rattle.orders.specs.Images.{comparison_of, Key, compare_keys, key}
 use Rattle.orders.specs.Levels.{images}
-use Rattle.orders.specs.declared.Comparison.{Comparison}
-use Rattle.orders.specs.declared.Comparison.TheVariants.{Greater, Equal, Smaller}
+use Rattle.std.specs.declared.cmp.Ordering.{Ordering}
+use Rattle.std.specs.declared.cmp.Ordering.TheVariants.{Less, Equal, Greater}
+use Rattle.std.specs.Ordering.{ordering_reverse}
 use Rattle.orders.proofs.Induced.{AllLed, no_levels, one_level, table_order_is, sound_led}
 
--- Greater exactly where A holds, Equal exactly where B does, Smaller exactly where C does
-pub record Tells (A B C : Type 0) (r : Comparison) : Type 0 where
+-- Greater exactly where A holds, Equal exactly where B does, Less exactly where C does
+pub record Tells (A B C : Type 0) (r : Ordering) : Type 0 where
   pub when_greater : (r ≡ Greater) ↔ A
   pub when_equal : (r ≡ Equal) ↔ B
-  pub when_smaller : (r ≡ Smaller) ↔ C
+  pub when_smaller : (r ≡ Less) ↔ C
 
-answer_of : definition_order.Comparison → Comparison
+answer_of : definition_order.Comparison → Ordering
 answer_of greater = Greater
 answer_of equal = Equal
-answer_of smaller = Smaller
+answer_of smaller = Less
 
-answered : (r : Comparison) → answer_of (comparison_of r) ≡ r
+answered : (r : Ordering) → answer_of (comparison_of r) ≡ r
 unfolding answer_of
 answered Greater = refl
 answered Equal = refl
-answered Smaller = refl
+answered Less = refl
 
 -- an answer is told by the definition's
-told_by : (r : Comparison) (c : definition_order.Comparison) → comparison_of r ≡ c → r ≡ answer_of c
+told_by : (r : Ordering) (c : definition_order.Comparison) → comparison_of r ≡ c → r ≡ answer_of c
 told_by r c e = sym (answered r) ∙ ap answer_of e
 
 module _ {A B C : Type 0} where
-  tells : (r : Comparison) (c : definition_order.Comparison) → comparison_of r ≡ c → Exactly A B C c → Tells A B C r
+  tells : (r : Ordering) (c : definition_order.Comparison) → comparison_of r ≡ c → Exactly A B C c → Tells A B C r
   unfolding answer_of
   tells r c e x = record {
     when_greater = (λ q. x.when_greater.0 (sym e ∙ ap comparison_of q), λ a. told_by r greater (e ∙ x.when_greater.1 a));
@@ -63,7 +64,7 @@ module _ {A B C : Type 0} where
 
 -- ## compare, on level 0
 
-pub compare_tells : (code : ℕ) → T (between 1 code 3) → (a b : Monomial) → (r : Comparison) → comparison_of r
+pub compare_tells : (code : ℕ) → T (between 1 code 3) → (a b : Monomial) → (r : Ordering) → comparison_of r
     ≡ compare_over code [] (monomial_of a) (monomial_of b)
     → Tells (Above code [] (monomial_of a) (monomial_of b)) (monomial_of a ≡ monomial_of b) (Above code [] (monomial_of b) (monomial_of a)) r
 compare_tells code t a b r e =
@@ -72,7 +73,7 @@ compare_tells code t a b r e =
 
 -- ## by_code and compare_exponents
 
-pub exponents_tell : (code : ℕ) → T (between 1 code 3) → (x y : Exponents) → length x ≡ length y → (r : Comparison) → comparison_of r
+pub exponents_tell : (code : ℕ) → T (between 1 code 3) → (x y : Exponents) → length x ≡ length y → (r : Ordering) → comparison_of r
     ≡ exponents_by code x y
     → Tells (ExponentsAbove code x y) (x ≡ y) (ExponentsAbove code y x) r
 exponents_tell code t x y l r e = tells r (exponents_by code x y) e (exponents_exactly code t x y l)
@@ -85,7 +86,7 @@ led_dropped (suc n) ls no_levels = no_levels
 led_dropped (suc n) ls (one_level {f} {below} h hs) = led_dropped n below hs
 
 module _ (lim : Limits) (X : State) (s : T (sound? lim X)) (k : ℕ) where
-  pub images_tell : (m m' : definition.Monomial) → Eight m → Eight m' → (r : Comparison)
+  pub images_tell : (m m' : definition.Monomial) → Eight m → Eight m' → (r : Ordering)
       → comparison_of r ≡ compare_keys X.parameters.code (key (images (up_to X k)) m) (key (images (up_to X k)) m')
       → Tells (Above X.parameters.code (up_to X k) m m') (m ≡ m') (Above X.parameters.code (up_to X k) m' m) r
   images_tell m m' h h' r e =
@@ -129,30 +130,24 @@ keys_swap code a b =
     (exponents_swap code a.0 b.0)
     (tie_turns (numbers a.1.0 b.1.0) (numbers a.1.1 b.1.1) (numbers_turn a.1.0 b.1.0) (numbers_turn a.1.1 b.1.1))
 
--- the code's answers
-abbrev pub swapped_answer : Comparison → Comparison
-swapped_answer Greater = Smaller
-swapped_answer Equal = Equal
-swapped_answer Smaller = Greater
-
-answers_swap : (r r' : Comparison) (c c' : definition_order.Comparison) → comparison_of r ≡ c → comparison_of r' ≡ c' → c' ≡ turned c → r'
-    ≡ swapped_answer r
+answers_swap : (r r' : Ordering) (c c' : definition_order.Comparison) → comparison_of r ≡ c → comparison_of r' ≡ c' → c' ≡ turned c → r'
+    ≡ ordering_reverse r
 unfolding answer_of
 answers_swap r r' c c' e e' t = told_by r' (turned c) (e' ∙ t) ∙ ap (λ d. answer_of (turned d)) (sym e) ∙ go r
   where
-    go : (r : Comparison) → answer_of (turned (comparison_of r)) ≡ swapped_answer r
+    go : (r : Ordering) → answer_of (turned (comparison_of r)) ≡ ordering_reverse r
     go Greater = refl
     go Equal = refl
-    go Smaller = refl
+    go Less = refl
 
 -- compare, of any two monomials
-pub compare_swaps : (code : ℕ) (a b : definition.Monomial) (r r' : Comparison)
-    → comparison_of r ≡ compare_over code [] a b → comparison_of r' ≡ compare_over code [] b a → r' ≡ swapped_answer r
+pub compare_swaps : (code : ℕ) (a b : definition.Monomial) (r r' : Ordering)
+    → comparison_of r ≡ compare_over code [] a b → comparison_of r' ≡ compare_over code [] b a → r' ≡ ordering_reverse r
 compare_swaps code a b r r' e e' =
     answers_swap r r' (compare_over code [] a b) (compare_over code [] b a) e e'
     (tie_turns (exponents_by code a.0 b.0) (numbers a.1 b.1) (exponents_swap code a.0 b.0) (numbers_turn a.1 b.1))
 
 -- compare_images and against_row, of any two images
-pub images_swap : (code : ℕ) (a b : Key) (r r' : Comparison)
-    → comparison_of r ≡ compare_keys code a b → comparison_of r' ≡ compare_keys code b a → r' ≡ swapped_answer r
+pub images_swap : (code : ℕ) (a b : Key) (r r' : Ordering)
+    → comparison_of r ≡ compare_keys code a b → comparison_of r' ≡ compare_keys code b a → r' ≡ ordering_reverse r
 images_swap code a b r r' e e' = answers_swap r r' (compare_keys code a b) (compare_keys code b a) e e' (keys_swap code a b)

@@ -1,5 +1,5 @@
 -- The code's comparisons as the definitions' ones; images on level 0 and the table that gives them.
-use Rattle.std.specs.Prelude.{Bool, true, false, List, [], ◌∷◌, ◌++◌, ℕ, zero, suc, ◌+◌, ◌*◌, ◌<◌, ◌≤◌, eqb, get_or}
+use Rattle.std.specs.Prelude.{List, [], ◌∷◌, ◌++◌, ℕ, zero, suc, ◌+◌, ◌*◌, ◌<◌, ◌≤◌, eqb, get_or}
 use Rattle.std.proofs.Math.Option.{Option, none, some}
 use Rattle.std.proofs.Math.ListN.{get_elem?}
 use Rattle.definitions.specs.Lists.{choose}
@@ -9,20 +9,14 @@ use Rattle.definitions.specs.Order.{greater, equal, smaller, or_at_tie, numbers,
 use Rattle.definitions.specs.Packed.{unpack}
 use Rattle.definitions.specs.Layout.{Words}
 use Rattle.definitions.specs.Places.{most_image, image_length, rank_offset, exponents_offset}
-use Rattle.orders.specs.declared.Comparison.{Comparison}
-use Rattle.orders.specs.declared.Comparison.TheVariants.{Greater, Equal, Smaller}
+use Rattle.std.specs.declared.cmp.Ordering.{Ordering}
+use Rattle.std.specs.declared.cmp.Ordering.TheVariants.{Less, Equal, Greater}
 use Rattle.orders.specs.declared.Image.{Image}
 
-abbrev pub comparison_of : Comparison → definition.Comparison
+abbrev pub comparison_of : Ordering → definition.Comparison
 comparison_of Greater = greater
 comparison_of Equal = equal
-comparison_of Smaller = smaller
-
--- not a tie
-abbrev pub decided? : definition.Comparison → Bool
-decided? greater = true
-decided? equal = false
-decided? smaller = true
+comparison_of Less = smaller
 
 -- ## Keys
 

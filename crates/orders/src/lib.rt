@@ -7,7 +7,6 @@
 ghost use Rattle.std.specs.Prelude.{◌≡◌, [], reverse, ◌+◌, ◌*◌, ◌≤◌, ◌<◌, length, get_or};
 ghost use Rattle.definitions.specs.Monomial.{degree, product};
 ghost use Rattle.definitions.specs.Order.{
-  numbers as numbers_definition,
   lexicographic as lexicographic_definition,
   last_differing as last_differing_definition,
   exponents_by,
@@ -19,7 +18,6 @@ ghost use Rattle.definitions.specs.Places.{most_image, row_length, image_length,
 ghost use Rattle.monomial.specs.Values.{monomial_of};
 ghost use Rattle.orders.specs.Images.{
   comparison_of,
-  decided?,
   exponents_raw,
   table_of,
   Bounded,
@@ -33,13 +31,7 @@ ghost use Rattle.orders.specs.Images.{
 };
 
 use monomial::Monomial;
-
-#[derive(Clone, Copy)]
-pub enum Comparison {
-    Greater,
-    Equal,
-    Smaller,
-}
+use std::cmp::Ordering;
 
 // The image of a module monomial on level 0; the rank of its component's image decides ties, then its own component.
 #[derive(Clone, Copy)]
@@ -49,73 +41,37 @@ pub struct Image {
     pub component: u16,
 }
 
-fn numbers(x: u32, y: u32) -> Comparison
-    ensures { comparison_of result ≡ numbers_definition x y }
-{
-    if y < x {
-        return Comparison::Greater;
-    }
-    if x < y {
-        return Comparison::Smaller;
-    }
-    Comparison::Equal
-}
-
-// Not a tie.
-fn decided(c: Comparison) -> bool
-    ensures { result ≡ decided? (comparison_of c) }
-{
-    match c {
-        Comparison::Greater => true,
-        Comparison::Equal => false,
-        Comparison::Smaller => true,
-    }
-}
-
-fn lexicographic(x: [u16; words::EXPONENTS_LENGTH], y: [u16; words::EXPONENTS_LENGTH]) -> Comparison
+fn lexicographic(x: [u16; words::EXPONENTS_LENGTH], y: [u16; words::EXPONENTS_LENGTH]) -> Ordering
     ensures { comparison_of result ≡ lexicographic_definition x y }
 {
-    let mut j = 0;
-    while j < words::EXPONENTS_LENGTH {
-        if y[j] < x[j] {
-            return Comparison::Greater;
+    for j in 0..words::EXPONENTS_LENGTH {
+        let d = x[j].cmp(&y[j]);
+        if d.is_ne() {
+            return d;
         }
-        if x[j] < y[j] {
-            return Comparison::Smaller;
-        }
-        j += 1;
     }
-    Comparison::Equal
+    Ordering::Equal
 }
 
 // From the last exponent down; the smaller one is greater.
-fn last_differing(
-    x: [u16; words::EXPONENTS_LENGTH],
-    y: [u16; words::EXPONENTS_LENGTH],
-) -> Comparison
+fn last_differing(x: [u16; words::EXPONENTS_LENGTH], y: [u16; words::EXPONENTS_LENGTH]) -> Ordering
     ensures { comparison_of result ≡ last_differing_definition x y }
 {
-    let mut j = words::EXPONENTS_LENGTH;
-    while 0 < j {
-        j -= 1;
-        if x[j] < y[j] {
-            return Comparison::Greater;
-        }
-        if y[j] < x[j] {
-            return Comparison::Smaller;
+    for j in (0..words::EXPONENTS_LENGTH).rev() {
+        let d = y[j].cmp(&x[j]);
+        if d.is_ne() {
+            return d;
         }
     }
-    Comparison::Equal
+    Ordering::Equal
 }
 
 pub fn total(x: [u16; words::EXPONENTS_LENGTH]) -> u32
     ensures { result ≡ degree x }
 {
     let mut d: u32 = 0;
-    let mut j = 0;
-    while j < words::EXPONENTS_LENGTH {
-        d += words::wider(x[j]);
-        j += 1;
+    for j in 0..words::EXPONENTS_LENGTH {
+        d += u32::from(x[j]);
     }
     d
 }
@@ -125,21 +81,21 @@ pub fn by_code(
     code: u16,
     x: [u16; words::EXPONENTS_LENGTH],
     y: [u16; words::EXPONENTS_LENGTH],
-) -> Comparison
+) -> Ordering
     ensures { comparison_of result ≡ exponents_by code x y }
 {
     match code {
         1 => lexicographic(x, y),
         2 => {
-            let d = numbers(total(x), total(y));
-            if decided(d) {
+            let d = total(x).cmp(&total(y));
+            if d.is_ne() {
                 return d;
             }
             lexicographic(x, y)
         }
         _ => {
-            let d = numbers(total(x), total(y));
-            if decided(d) {
+            let d = total(x).cmp(&total(y));
+            if d.is_ne() {
                 return d;
             }
             last_differing(x, y)
@@ -148,25 +104,6 @@ pub fn by_code(
 }
 
 // ## Exponents in one number
-
-fn long_numbers(x: u64, y: u64) -> Comparison
-    ensures { comparison_of result ≡ numbers_definition x y }
-{
-    if y < x {
-        return Comparison::Greater;
-    }
-    if x == y {
-        return Comparison::Equal;
-    }
-    Comparison::Smaller
-}
-
-// The larger number is the larger one lexicographically: x1 is its top byte.
-fn packed_lexicographic(x: u64, y: u64) -> Comparison
-    ensures { comparison_of result ≡ lexicographic_definition (unpack x) (unpack y) }
-{
-    long_numbers(x, y)
-}
 
 // The bytes in the other direction: x8 is the top byte then.
 fn swapped(x: u64) -> u64
@@ -179,51 +116,46 @@ fn swapped(x: u64) -> u64
     (a + b) + (c + d)
 }
 
-fn packed_last_differing(x: u64, y: u64) -> Comparison
-    ensures { comparison_of result ≡ last_differing_definition (unpack x) (unpack y) }
-{
-    long_numbers(swapped(y), swapped(x))
-}
-
 // What the degrees decide, where the order code looks at them.
-fn packed_degrees(code: u16, x: u64, y: u64) -> Comparison
+fn packed_degrees(code: u16, x: u64, y: u64) -> Ordering
     ensures { comparison_of result ≡ degrees_by code (degree (unpack x)) (degree (unpack y)) }
 {
     match code {
-        1 => Comparison::Equal,
-        _ => long_numbers(monomial::degree_exponents(x), monomial::degree_exponents(y)),
+        1 => Ordering::Equal,
+        _ => monomial::degree_exponents(x).cmp(&monomial::degree_exponents(y)),
     }
 }
 
-fn packed_places(code: u16, x: u64, y: u64) -> Comparison
+// The larger number is the larger one lexicographically: x1 is its top byte.
+fn packed_places(code: u16, x: u64, y: u64) -> Ordering
     ensures { comparison_of result ≡ places_by code (unpack x) (unpack y) }
 {
     match code {
-        1 | 2 => packed_lexicographic(x, y),
-        _ => packed_last_differing(x, y),
+        1 | 2 => x.cmp(&y),
+        _ => swapped(y).cmp(&swapped(x)),
     }
 }
 
 // The order code decides. In two parts, each called at one place only, so that they become part of the loop around them.
-pub fn compare_exponents(code: u16, x: u64, y: u64) -> Comparison
+pub fn compare_exponents(code: u16, x: u64, y: u64) -> Ordering
     ensures { comparison_of result ≡ exponents_by code (unpack x) (unpack y) }
 {
     let d = packed_degrees(code, x, y);
-    if decided(d) {
+    if d.is_ne() {
         return d;
     }
     packed_places(code, x, y)
 }
 
 // On level 0: exponents first, then the larger component.
-pub fn compare(code: u16, a: Monomial, b: Monomial) -> Comparison
+pub fn compare(code: u16, a: Monomial, b: Monomial) -> Ordering
     ensures { comparison_of result ≡ compare_over code [] (monomial_of a) (monomial_of b) }
 {
     let d = compare_exponents(code, a.exponents, b.exponents);
-    if decided(d) {
+    if d.is_ne() {
         return d;
     }
-    numbers(words::wider(a.component), words::wider(b.component))
+    a.component.cmp(&b.component)
 }
 
 // ## Images
@@ -235,69 +167,64 @@ fn shifted(e: u64, table: &[u16], at: usize) -> [u16; words::EXPONENTS_LENGTH]
 {
     let x = monomial::widened(e);
     let mut w = [0u16; words::EXPONENTS_LENGTH];
-    let mut j = 0;
-    while j < words::EXPONENTS_LENGTH {
+    for j in 0..words::EXPONENTS_LENGTH {
         w[j] = x[j] + table[at + j];
-        j += 1;
     }
     w
 }
 
-// The image of a monomial through a table with a row for each component: its image's rank and exponents.
+// The image where the table lacks the component: the monomial itself.
+fn own_image(e: u64, component: u16) -> Image
+    ensures { key_of result ≡ (unpack e, (0, component)) }
+{
+    Image {
+        exponents: monomial::widened(e),
+        rank: 0,
+        component,
+    }
+}
+
+// The image of a monomial through a table with a row for each component: its image's rank and exponents. Two tests one after the other: joined by `||` they
+// make the loops around them slower by half.
 pub fn image_of(table: &[u16], r: usize, m: Monomial) -> Image
     requires { (r * image_length ≤ length table.now) × Tabled r table.now }
     ensures { key_of result ≡ key (table_of r table.now) (monomial_of m) }
 {
     let component = m.component;
-    let i = component as usize;
+    let i = usize::from(component);
     let e = m.exponents;
     if i == 0 {
-        return Image {
-            exponents: monomial::widened(e),
-            rank: 0,
-            component,
-        };
+        return own_image(e, component);
     }
     if r < i {
-        return Image {
-            exponents: monomial::widened(e),
-            rank: 0,
-            component,
-        };
+        return own_image(e, component);
     }
     let at = i * words::IMAGE_LENGTH - words::IMAGE_LENGTH;
-    let w = shifted(e, table, at + words::EXPONENTS_OFFSET);
     Image {
-        exponents: w,
+        exponents: shifted(e, table, at + words::EXPONENTS_OFFSET),
         rank: table[at + words::RANK_OFFSET],
         component,
     }
 }
 
-pub fn compare_images(code: u16, a: Image, b: Image) -> Comparison
+pub fn compare_images(code: u16, a: Image, b: Image) -> Ordering
     ensures { comparison_of result ≡ compare_keys code (key_of a) (key_of b) }
 {
-    let x = a.exponents;
-    let y = b.exponents;
-    let d = by_code(code, x, y);
-    if decided(d) {
+    let d = by_code(code, a.exponents, b.exponents);
+    if d.is_ne() {
         return d;
     }
-    let t = numbers(words::wider(a.rank), words::wider(b.rank));
-    if decided(t) {
-        return t;
-    }
-    numbers(words::wider(a.component), words::wider(b.component))
+    a.rank.cmp(&b.rank).then(a.component.cmp(&b.component))
 }
 
 // ## An image against another, when the first's total degree is known
 
-fn formed_degrees(code: u16, d: u32, y: [u16; words::EXPONENTS_LENGTH]) -> Comparison
+fn formed_degrees(code: u16, d: u32, y: [u16; words::EXPONENTS_LENGTH]) -> Ordering
     ensures { comparison_of result ≡ degrees_by code d (degree y) }
 {
     match code {
-        1 => Comparison::Equal,
-        _ => numbers(d, total(y)),
+        1 => Ordering::Equal,
+        _ => d.cmp(&total(y)),
     }
 }
 
@@ -305,7 +232,7 @@ fn formed_places(
     code: u16,
     x: [u16; words::EXPONENTS_LENGTH],
     y: [u16; words::EXPONENTS_LENGTH],
-) -> Comparison
+) -> Ordering
     ensures { comparison_of result ≡ places_by code x y }
 {
     match code {
@@ -319,33 +246,27 @@ fn formed_by_code(
     x: [u16; words::EXPONENTS_LENGTH],
     d: u32,
     y: [u16; words::EXPONENTS_LENGTH],
-) -> Comparison
+) -> Ordering
     requires { d ≡ degree x }
     ensures { comparison_of result ≡ exponents_by code x y }
 {
     let c = formed_degrees(code, d, y);
-    if decided(c) {
+    if c.is_ne() {
         return c;
     }
     formed_places(code, x, y)
 }
 
 // An image with its total degree against another.
-pub fn against_image(code: u16, a: Image, d: u32, b: Image) -> Comparison
+pub fn against_image(code: u16, a: Image, d: u32, b: Image) -> Ordering
     requires { d ≡ degree a.exponents }
     ensures { comparison_of result ≡ compare_keys code (key_of a) (key_of b) }
 {
-    let x = a.exponents;
-    let y = b.exponents;
-    let c = formed_by_code(code, x, d, y);
-    if decided(c) {
+    let c = formed_by_code(code, a.exponents, d, b.exponents);
+    if c.is_ne() {
         return c;
     }
-    let t = numbers(words::wider(a.rank), words::wider(b.rank));
-    if decided(t) {
-        return t;
-    }
-    numbers(words::wider(a.component), words::wider(b.component))
+    a.rank.cmp(&b.rank).then(a.component.cmp(&b.component))
 }
 
 // ## The image of a row
@@ -379,24 +300,20 @@ fn row_lexicographic(
     e: u64,
     table: &[u16],
     to: usize,
-) -> Comparison
+) -> Ordering
     requires { (to + 8 ≤ length table.now) × Bounded table.now to }
     ensures { comparison_of result ≡ lexicographic_definition x (row_image e table.now to) }
 {
     let mut f = e;
-    let mut j = 0;
-    while j < words::EXPONENTS_LENGTH {
+    for j in 0..words::EXPONENTS_LENGTH {
         let y = joined(f / 0x0100_0000_0000_0000, table[to + j]);
-        if y < x[j] {
-            return Comparison::Greater;
-        }
-        if x[j] < y {
-            return Comparison::Smaller;
+        let d = x[j].cmp(&y);
+        if d.is_ne() {
+            return d;
         }
         f = f % 0x0100_0000_0000_0000 * 256;
-        j += 1;
     }
-    Comparison::Equal
+    Ordering::Equal
 }
 
 // .. and down.
@@ -405,24 +322,20 @@ fn row_last_differing(
     e: u64,
     table: &[u16],
     to: usize,
-) -> Comparison
+) -> Ordering
     requires { (to + 8 ≤ length table.now) × Bounded table.now to }
     ensures { comparison_of result ≡ last_differing_definition x (row_image e table.now to) }
 {
     let mut f = e;
-    let mut j = words::EXPONENTS_LENGTH;
-    while 0 < j {
-        j -= 1;
-        let z = joined(f % 256, table[to + j]);
-        if x[j] < z {
-            return Comparison::Greater;
-        }
-        if z < x[j] {
-            return Comparison::Smaller;
+    for j in (0..words::EXPONENTS_LENGTH).rev() {
+        let y = joined(f % 256, table[to + j]);
+        let d = y.cmp(&x[j]);
+        if d.is_ne() {
+            return d;
         }
         f = f / 256;
     }
-    Comparison::Equal
+    Ordering::Equal
 }
 
 // In lanes of sixteen bits.
@@ -447,25 +360,22 @@ pub fn row_degree(s: &[u16], i: usize, table: &[u16], r: usize) -> u32
     ensures { result ≡ degree (key (table_of r table.now) (row_at s.now i).1).0 }
 {
     let at = i * words::ROW_LENGTH;
-    let c = words::place(s[at + words::COMPONENT_OFFSET]);
+    let c = usize::from(s[at + words::COMPONENT_OFFSET]);
     let e = words::long(s, at + words::EXPONENTS_OFFSET);
-    if c == 0 {
-        return own_total(e);
-    }
-    if r < c {
+    if c == 0 || r < c {
         return own_total(e);
     }
     let to = c * words::IMAGE_LENGTH - words::IMAGE_LENGTH;
     row_total(e, table, to + words::EXPONENTS_OFFSET)
 }
 
-fn row_degrees(code: u16, total: u32, e: u64, table: &[u16], to: usize) -> Comparison
+fn row_degrees(code: u16, total: u32, e: u64, table: &[u16], to: usize) -> Ordering
     requires { (to + 8 ≤ length table.now) × Bounded table.now to }
     ensures { comparison_of result ≡ degrees_by code total (degree (row_image e table.now to)) }
 {
     match code {
-        1 => Comparison::Equal,
-        _ => numbers(total, row_total(e, table, to)),
+        1 => Ordering::Equal,
+        _ => total.cmp(&row_total(e, table, to)),
     }
 }
 
@@ -476,7 +386,7 @@ fn row_places(
     e: u64,
     table: &[u16],
     to: usize,
-) -> Comparison
+) -> Ordering
     requires { (to + 8 ≤ length table.now) × Bounded table.now to }
     ensures { comparison_of result ≡ places_by code x (row_image e table.now to) }
 {
@@ -493,12 +403,12 @@ fn row_by_code(
     e: u64,
     table: &[u16],
     to: usize,
-) -> Comparison
+) -> Ordering
     requires { (to + 8 ≤ length table.now) × Bounded table.now to × (total ≡ degree x) }
     ensures { comparison_of result ≡ exponents_by code x (row_image e table.now to) }
 {
     let d = row_degrees(code, total, e, table, to);
-    if decided(d) {
+    if d.is_ne() {
         return d;
     }
     row_places(code, x, e, table, to)
@@ -513,39 +423,35 @@ fn against_tabled(
     component: u16,
     table: &[u16],
     to: usize,
-) -> Comparison
+) -> Ordering
     requires { (to + image_length ≤ length table.now) × Bounded table.now (to + exponents_offset) × (total ≡ degree a.exponents) }
     ensures { comparison_of result ≡ compare_keys code (key_of a) (
       row_image e table.now (to + exponents_offset),
       (get_or table.now (to + rank_offset) 0, component),
     ) }
 {
-    let x = a.exponents;
-    let d = row_by_code(code, x, total, e, table, to + words::EXPONENTS_OFFSET);
-    if decided(d) {
+    let d = row_by_code(
+        code,
+        a.exponents,
+        total,
+        e,
+        table,
+        to + words::EXPONENTS_OFFSET,
+    );
+    if d.is_ne() {
         return d;
     }
-    let t = numbers(
-        words::wider(a.rank),
-        words::wider(table[to + words::RANK_OFFSET]),
-    );
-    if decided(t) {
-        return t;
-    }
-    numbers(words::wider(a.component), words::wider(component))
+    a.rank
+        .cmp(&table[to + words::RANK_OFFSET])
+        .then(a.component.cmp(&component))
 }
 
 // Where the table lacks the component: the row's image is the row itself. By `compare_images`: called here too, `against_image` would no longer become part
 // of the loop around it.
-fn against_own(code: u16, a: Image, e: u64, component: u16) -> Comparison
+fn against_own(code: u16, a: Image, e: u64, component: u16) -> Ordering
     ensures { comparison_of result ≡ compare_keys code (key_of a) (unpack e, (0, component)) }
 {
-    let b = Image {
-        exponents: monomial::widened(e),
-        rank: 0,
-        component,
-    };
-    compare_images(code, a, b)
+    compare_images(code, a, own_image(e, component))
 }
 
 // An image with its total degree against the image of row i.
@@ -557,19 +463,16 @@ pub fn against_row(
     i: usize,
     table: &[u16],
     r: usize,
-) -> Comparison
+) -> Ordering
     requires { (i * row_length + row_length ≤ length s.now) × (r * image_length ≤ length table.now) × Tabled r table.now
         × (total ≡ degree a.exponents) }
     ensures { comparison_of result ≡ compare_keys code (key_of a) (key (table_of r table.now) (row_at s.now i).1) }
 {
     let at = i * words::ROW_LENGTH;
     let component = s[at + words::COMPONENT_OFFSET];
-    let c = words::place(component);
+    let c = usize::from(component);
     let e = words::long(s, at + words::EXPONENTS_OFFSET);
-    if c == 0 {
-        return against_own(code, a, e, component);
-    }
-    if r < c {
+    if c == 0 || r < c {
         return against_own(code, a, e, component);
     }
     against_tabled(

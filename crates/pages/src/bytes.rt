@@ -17,8 +17,7 @@ fn digit(x: usize) -> u8
     requires { x < 10 }
     ensures { result ≡ 48 + x }
 {
-    let d = x as u8;
-    48 + d
+    b'0' + x as u8
 }
 
 // A number in base ten, without leading zeros.
@@ -27,12 +26,10 @@ pub fn number(out: &mut [u8], at: usize, v: usize) -> usize
     ensures { Printed out.old out.new at result (decimal v) }
 {
     if v < 10 {
-        let d = digit(v);
-        return byte(out, at, d);
+        return byte(out, at, digit(v));
     }
     let i = number(out, at, v / 10);
-    let d = digit(v % 10);
-    byte(out, i, d)
+    byte(out, i, digit(v % 10))
 }
 
 // How many digits a number has.
@@ -40,9 +37,10 @@ pub fn width(v: usize) -> usize
     ensures { result ≡ length (decimal v) }
 {
     let mut x = v;
-    let mut w: usize = 1;
+    let mut w = 1;
+    // A while: the value falls to a tenth.
     while 10 <= x {
-        x = x / 10;
+        x /= 10;
         w += 1;
     }
     w
@@ -53,10 +51,8 @@ pub fn spaces(out: &mut [u8], at: usize, n: usize) -> usize
     ensures { Printed out.old out.new at result (replicate n 32) }
 {
     let mut a = at;
-    let mut i: usize = 0;
-    while i < n {
-        a = byte(out, a, 32);
-        i += 1;
+    for _i in 0..n {
+        a = byte(out, a, b' ');
     }
     a
 }

@@ -22,9 +22,9 @@ pub fn cell(out: &mut [u8], at: usize, v: u16) -> usize
 {
     if v == 0 {
         let a = bytes::spaces(out, at, words::CELL_LENGTH - 1);
-        return bytes::byte(out, a, 45);
+        return bytes::byte(out, a, b'-');
     }
-    let x = v as usize;
+    let x = usize::from(v);
     let w = bytes::width(x);
     let a = bytes::spaces(out, at, words::CELL_LENGTH - w);
     bytes::number(out, a, x)
@@ -36,12 +36,10 @@ fn cells(out: &mut [u8], at: usize, counts: [u16; words::PAGE_COLUMNS]) -> usize
     ensures { Printed out.old out.new at result (cells_definition counts) × (result ≡ at + page_columns * cell_length + 1) }
 {
     let mut a = at;
-    let mut c = 0;
-    while c < words::PAGE_COLUMNS {
-        a = cell(out, a, counts[c]);
-        c += 1;
+    for count in &counts {
+        a = cell(out, a, *count);
     }
-    bytes::byte(out, a, 10)
+    bytes::byte(out, a, b'\n')
 }
 
 // The label of row y.
@@ -52,7 +50,7 @@ fn label(out: &mut [u8], at: usize, y: usize) -> usize
     let w = bytes::width(y);
     let a = bytes::spaces(out, at, words::CELL_LENGTH - 1 - w);
     let b = bytes::number(out, a, y);
-    bytes::byte(out, b, 58)
+    bytes::byte(out, b, b':')
 }
 
 // The label of row −y.
@@ -62,9 +60,9 @@ fn negative_label(out: &mut [u8], at: usize, y: usize) -> usize
 {
     let w = bytes::width(y);
     let a = bytes::spaces(out, at, words::CELL_LENGTH - 2 - w);
-    let b = bytes::byte(out, a, 45);
+    let b = bytes::byte(out, a, b'-');
     let c = bytes::number(out, b, y);
-    bytes::byte(out, c, 58)
+    bytes::byte(out, c, b':')
 }
 
 // "labelled by its number and a colon": row r, counted from −10.
@@ -89,15 +87,13 @@ pub fn row_line(out: &mut [u8], at: usize, r: usize, counts: [u16; words::PAGE_C
 }
 
 // Six bytes.
-fn text(out: &mut [u8], at: usize, t: [u8; words::CELL_LENGTH]) -> usize
+fn text(out: &mut [u8], at: usize, t: &[u8; words::CELL_LENGTH]) -> usize
     requires { at + cell_length ≤ length out.old }
-    ensures { Printed out.old out.new at result t × (result ≡ at + cell_length) }
+    ensures { Printed out.old out.new at result t.now × (result ≡ at + cell_length) }
 {
     let mut a = at;
-    let mut i = 0;
-    while i < words::CELL_LENGTH {
-        a = bytes::byte(out, a, t[i]);
-        i += 1;
+    for x in t {
+        a = bytes::byte(out, a, *x);
     }
     a
 }
@@ -108,6 +104,6 @@ pub fn total_line(out: &mut [u8], at: usize, counts: [u16; words::PAGE_COLUMNS])
     ensures { Printed out.old out.new at result (total_label_definition ++ cells_definition counts)
         × (result ≡ at + page_line_length) }
 {
-    let a = text(out, at, [b' ', b't', b'o', b't', b'a', b'l']);
+    let a = text(out, at, b" total");
     cells(out, a, counts)
 }

@@ -1,5 +1,5 @@
 // What every program does: standard input to its end, buffers of its own, standard output.
-// Exists for: `read`, `write`; `file_bytes`, `state_words`, `work_words`, `page_bytes`.
+// Exists for: `run`, `read`, `write`; `file_bytes`, `state_words`, `work_words`, `page_bytes`.
 // Knows: std's streams.
 // A call that a signal interrupts before it moves a byte counts as one that failed.
 // What a program answers is its own.
@@ -62,6 +62,26 @@ pub fn read(rt: HostRuntime, file: &mut [u8]) -> Input
         write_all(&mut rt.stderr(), b"not read\n");
     }
     Input { length, more }
+}
+
+// A program's whole run: standard input into `input`, what `answer` puts in front of `out` to standard output; nothing where the input could not be read.
+pub fn run<F: FnOnce(&[u8], &mut [u16], &mut [u16], &mut [u8]) -> usize>(
+    rt: HostRuntime,
+    input: &mut [u8],
+    out: &mut [u8],
+    answer: F,
+)
+    requires callable { (i : _) (s : _) (w : _) (o : _) → state_length ≤ length s.now → value_length ≤ length w.now → length o.now ≡ length out.old
+        → F.pre answer i s w o }
+    requires in_front { (i : _) (s : _) (w : _) (o : _) (r : _) (s' : _) (w' : _) (o' : _) → F.post answer i s w o r s' w' o' → IsPrefixLen r o'.now }
+{
+    let mut state = state_words();
+    let mut work = work_words();
+    let read = read(rt, input);
+    if read.more == 0 {
+        let length = answer(&input[..read.length], &mut state, &mut work, out);
+        write(rt, &out[..length]);
+    }
 }
 
 // All of this to standard output; where a write fails, that is told on standard error.

@@ -4,7 +4,6 @@ use mathlib.Core.Bool.{Bool, true, not}
 use mathlib.Core.Option.{Option, some}
 use mathlib.Core.List.{[]}
 use Prim.Native.Nat.{ℕ, ◌≤◌, ◌<◌}
-use native.Mathlib.Omega.{arith}
 use borrow.Author.Tests.{le-leb, lt-leb}
 use lib.Dec.{T, leb}
 use lib.ListN.{length}
@@ -23,28 +22,32 @@ use Rattle.files.proofs.Reader.{document_reader}
 use Rattle.vectors.specs.terms.Rows.{cleared}
 use Rattle.state.proofs.writing.AppendLoop.{cleared_empties}
 use Rattle.reader.specs.problem.Reading.{read_as, words_read}
+use Rattle.std.proofs.Common.{Result as CodeResult, Ok, Err}
 use Rattle.runs.specs.declared.frame_terms.Accepted.{Accepted}
-use Rattle.runs.specs.declared.frame_terms.Accepted.TheVariants.{Yes, Refused, Stopped}
+use Rattle.runs.specs.declared.frame_terms.Accepted.TheVariants.{Yes, Stopped}
+use Rattle.words.specs.declared.refusals.Refused.{Refused}
+use Rattle.fetch_call.specs.declared.Reply.{Reply}
+use Rattle.fetch_call.specs.Replies.{settled_of}
 use Rattle.level.specs.by_runs.Stages.{accepted_over, accepted_with}
 use Rattle.level.proofs.all_levels.Basis.{length_is, accepted_is}
-use Rattle.read_call.specs.Replies.{settled_words, accepted_words}
+use Rattle.read_call.specs.Replies.{read_reply, read_said, settled_words, accepted_words}
 
 -- ## Acceptance
 
 pub zeroed : (area : ℕ) (w : Words) → length w ≡ area → cleared w 0 ≡ padded area (rows_of [])
 zeroed area w e = ap (λ a. padded a []) e
 
-accepted_finished : (x : Accepted) (v : Vector) → T (finished? (accepted_with x v))
-accepted_finished Yes v = tt
-accepted_finished (Refused number place) v = tt
-accepted_finished (Stopped i n) v = tt
+accepted_finished : (x : CodeResult Accepted Refused) (v : Vector) → T (finished? (accepted_with x v))
+accepted_finished (Ok Yes) v = tt
+accepted_finished (Ok (Stopped i n)) v = tt
+accepted_finished (Err e) v = tt
 
 module _ (s : Words) (long : state_length ≤ length s) (whole : s ≡ encode document_01 (length s) (decode document_01 s)) (area : ℕ) (n : ℕ)
     (v : Vector) where
   abbrev goes_on : Result (Unit {0}) → Read
   goes_on r = settled_words (length s) area (r >>= λ u. done (decode document_01 s))
 
-  pub accept_over : (x : Accepted) → accepted_with x v ≡ accepted_over s n → T (finished? (accepted_over s n))
+  pub accept_over : (x : CodeResult Accepted Refused) → accepted_with x v ≡ accepted_over s n → T (finished? (accepted_over s n))
   accept_over x e = subst (λ r. T (finished? r)) e (accepted_finished x v)
 
   pub accept_yes : (w : Words) → length w ≡ area → done tt ≡ accepted_over s n → ◌≡◌ {A = Read} (0, 0, s, cleared w 0) (accepted_words n s area)
@@ -101,6 +104,11 @@ module _ (size area : ℕ) (big : state_length ≤ size) (file : Bytes) (number 
       go unfinished p b q = absurd (Some-number (ap (λ t. t.0) q))
 
 -- ## The call
+
+pub read_replied : (r : CodeResult (Unit {0}) Refused) (p : Reply) (s w : Words) → ◌≡◌ {A = ℕ × ℕ} (p.number, p.place) (settled_of r)
+    → read_reply p s w ≡ read_said r s w
+read_replied (Ok u) p s w e = λ i. ((e i).0, (e i).1, s, w)
+read_replied (Err x) p s w e = λ i. ((e i).0, (e i).1, s, w)
 
 module _ (file : Bytes) (s w : Words) where
   abbrev by_length : ℕ → Bool → Bool → Option Read

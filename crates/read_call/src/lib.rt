@@ -12,58 +12,54 @@ ghost use Rattle.definitions.specs.Calls.{read as read_definition};
 ghost use Rattle.definitions.specs.Layout.{encode, decode, read_call};
 ghost use Rattle.definitions.specs.Places.{state_length, value_length};
 ghost use Rattle.level.specs.by_runs.Stages.{Base, accepted_over};
-ghost use Rattle.read_call.specs.Replies.{read_reply, settled_words, accepted_words};
+ghost use Rattle.read_call.specs.Replies.{read_reply, read_said, settled_words, accepted_words};
 
 use fetch_call::Reply;
 use level::by_runs;
 use reader::problem;
 use runs::frame_terms::Accepted;
 use vectors::terms;
+use words::refusals::{Refusal, Refused};
 
 // The basis that was just read, accepted or refused.
-fn accept(state: &mut [u16], work: &mut [u16]) -> Reply
+fn accept(state: &mut [u16], work: &mut [u16]) -> Result<(), Refused>
     requires { Base state.old 0 × (state.old ≡ encode document_01 (length state.old) (decode document_01 state.old))
         × (value_length ≤ length work.old) }
-    ensures { (n : ℕ) × (read_reply result state.new work.new
+    ensures { (n : ℕ) × (read_said result state.new work.new
         ≡ accepted_words n state.old (length work.old)) × T (finished? (accepted_over state.old n)) }
 {
     match by_runs::accept_level(work, state) {
-        Accepted::Yes => {
+        Ok(Accepted::Yes) => {
             terms::clear(work, 0);
-            Reply {
-                number: 0,
-                place: 0,
-            }
+            Ok(())
         }
-        Accepted::Refused(number, place) => {
+        Ok(Accepted::Stopped(place, _n)) => {
+            terms::clear(state, 0);
+            Err(Refused {
+                refusal: Refusal::NoReducer,
+                place,
+            })
+        }
+        Err(refused) => {
             terms::clear(state, 0);
             terms::clear(work, 0);
-            Reply { number, place }
-        }
-        Accepted::Stopped(place, _n) => {
-            terms::clear(state, 0);
-            Reply { number: 9, place }
+            Err(refused)
         }
     }
 }
 
 // Buffers long enough.
-fn read_file(file: &[u8], state: &mut [u16], work: &mut [u16]) -> Reply
+fn read_file(file: &[u8], state: &mut [u16], work: &mut [u16]) -> Result<(), Refused>
     requires { (state_length ≤ length state.old) × (value_length ≤ length work.old) }
-    ensures { (n : ℕ) × (read_reply result state.new work.new
+    ensures { (n : ℕ) × (read_said result state.new work.new
         ≡ settled_words (length state.old) (length work.old) (read_definition document_01 n file.now))
         × T (finished? (read_definition document_01 n file.now)) }
 {
-    let r = problem::read(file, state);
-    let number = r.number;
-    if number == 0 {
-        return accept(state, work);
+    if let Err(refused) = problem::read(file, state) {
+        terms::clear(work, 0);
+        return Err(refused);
     }
-    terms::clear(work, 0);
-    Reply {
-        number,
-        place: r.place,
-    }
+    accept(state, work)
 }
 
 // "read a file and accept or refuse its basis"
@@ -71,17 +67,11 @@ pub fn read(file: &[u8], state: &mut [u16], work: &mut [u16]) -> Reply
     ensures { (n : ℕ) × (some (read_reply result state.new work.new)
         ≡ read_call document_01 n file.now state.old work.old) }
 {
-    if state.len() < words::STATE_LENGTH {
-        return Reply {
-            number: 16,
+    if state.len() < words::STATE_LENGTH || work.len() < words::VALUE_LENGTH {
+        return Reply::of(Err(Refused {
+            refusal: Refusal::Buffer,
             place: 0,
-        };
+        }));
     }
-    if work.len() < words::VALUE_LENGTH {
-        return Reply {
-            number: 16,
-            place: 0,
-        };
-    }
-    read_file(file, state, work)
+    Reply::of(read_file(file, state, work))
 }

@@ -3,7 +3,8 @@
 // A position counts bytes from the file's start; `drop at file` is what is left of it.
 ghost use Rattle.std.specs.Prelude.{◌≡◌, ◌≤◌, ◌<◌, drop};
 ghost use Rattle.reader.specs.fields.Scanning.{
-  digit_or_ten,
+  digit_as,
+  digit_value,
   number_first,
   number_on,
   number_zero,
@@ -13,148 +14,94 @@ ghost use Rattle.reader.specs.fields.Scanning.{
   line_as,
   in_sixteen,
 };
-ghost use Rattle.reader.specs.declared.fields.End.TheVariants.{Misshapen};
 
-// A number and the position behind it.
-#[derive(Clone, Copy)]
-pub enum Field {
-    Number(u16, usize),
-    Wrong,
-}
-
-// The position behind a line that has the shape.
-#[derive(Clone, Copy)]
-pub enum End {
-    Behind(usize),
-    Misshapen,
-}
-
-// The numbers of such a line, zeros behind them.
+// The numbers of a line, zeros behind them, and the position behind it.
 #[derive(Clone, Copy)]
 pub struct Line {
-    pub end: End,
+    pub next: usize,
     pub numbers: [u16; 16],
 }
 
-// A digit's value, 10 for any other byte.
-fn digit(b: u8) -> u32
-    ensures { result ≡ digit_or_ten b }
+fn digit(b: u8) -> Option<u32>
+    ensures { digit_as result ≡ digit_value b }
 {
-    if b < 48 {
-        return 10;
+    match b {
+        b'0'..=b'9' => Some(u32::from(b - b'0')),
+        _ => None,
     }
-    if 57 < b {
-        return 10;
-    }
-    (b - 48) as u32
 }
 
-// The digits from a position on, after those so far gave a value; one above 65,535 ends it, however many digits follow.
-fn number_on(file: &[u8], from: usize, first: u32) -> Field
+// The digits from a position on, after those so far gave a value, and where they end; one above 65,535 ends it, however many digits follow.
+fn number_on(file: &[u8], from: usize, first: u32) -> Option<(u16, usize)>
     requires { first ≤ 65535 }
     ensures { field_as result file.now ≡ number_on 65535 first (drop from file.now) }
 {
     let mut value = first;
-    let mut at = from;
-    while at < file.len() {
-        let d = digit(file[at]);
-        if 9 < d {
-            return Field::Number(value as u16, at);
-        }
+    for at in from..file.len() {
+        let Some(d) = digit(file[at]) else {
+            return Some((value as u16, at));
+        };
         value = value * 10 + d;
         if 65535 < value {
-            return Field::Wrong;
+            return None;
         }
-        at += 1;
     }
-    Field::Number(value as u16, at)
+    Some((value as u16, file.len()))
 }
 
 // Behind the digit 0 no other may stand.
-fn number_zero(file: &[u8], at: usize) -> Field
+fn number_zero(file: &[u8], at: usize) -> Option<(u16, usize)>
     ensures { field_as result file.now ≡ number_zero (drop at file.now) }
 {
-    if file.len() <= at {
-        return Field::Number(0, at);
+    if at < file.len() && digit(file[at]).is_some() {
+        return None;
     }
-    let d = digit(file[at]);
-    if 9 < d {
-        return Field::Number(0, at);
-    }
-    Field::Wrong
+    Some((0, at))
 }
 
-// The number at a position.
-fn number(file: &[u8], at: usize) -> Field
+// The number at a position, and the position behind it.
+fn number(file: &[u8], at: usize) -> Option<(u16, usize)>
     ensures { field_as result file.now ≡ number_first 65535 (drop at file.now) }
 {
-    if file.len() <= at {
-        return Field::Wrong;
-    }
-    let d = digit(file[at]);
-    if 9 < d {
-        return Field::Wrong;
-    }
-    let next = at + 1;
+    let b = *file.get(at)?;
+    let d = digit(b)?;
     if d == 0 {
-        return number_zero(file, next);
+        return number_zero(file, at + 1);
     }
-    number_on(file, next, d)
-}
-
-fn misshapen() -> Line
-    ensures { result.end ≡ Misshapen }
-{
-    Line {
-        end: End::Misshapen,
-        numbers: [0; 16],
-    }
+    number_on(file, at + 1, d)
 }
 
 // Behind the letter: so many numbers, a comma before each, then byte 10.
-fn numbers(file: &[u8], from: usize, count: usize) -> Line
+fn numbers(file: &[u8], from: usize, count: usize) -> Option<Line>
     requires { count ≤ 16 }
     ensures { line_as result file.now ≡ in_sixteen (numbers_first 65535 count (drop from file.now)) }
 {
     let mut numbers = [0u16; 16];
     let mut at = from;
-    let mut i: usize = 0;
-    while i < count {
-        if file.len() <= at {
-            return misshapen();
+    for i in 0..count {
+        if file.len() <= at || file[at] != b',' {
+            return None;
         }
-        if file[at] != b',' {
-            return misshapen();
-        }
-        let Field::Number(v, next) = number(file, at + 1) else {
-            return misshapen();
-        };
+        let (v, next) = number(file, at + 1)?;
         numbers[i] = v;
         at = next;
-        i += 1;
     }
-    if file.len() <= at {
-        return misshapen();
+    if file.len() <= at || file[at] != b'\n' {
+        return None;
     }
-    if file[at] != 10 {
-        return misshapen();
-    }
-    Line {
-        end: End::Behind(at + 1),
+    Some(Line {
+        next: at + 1,
         numbers,
-    }
+    })
 }
 
-// The line at a position, held to a letter and a count of numbers.
-pub fn line_at(file: &[u8], at: usize, letter: u8, count: usize) -> Line
+// The line at a position, if it begins with this letter and so many numbers follow.
+pub fn line_at(file: &[u8], at: usize, letter: u8, count: usize) -> Option<Line>
     requires { (57 < letter) × (count ≤ 16) }
     ensures { line_as result file.now ≡ in_sixteen (shaped_first 65535 letter count (drop at file.now)) }
 {
-    if file.len() <= at {
-        return misshapen();
-    }
-    if file[at] != letter {
-        return misshapen();
+    if file.len() <= at || file[at] != letter {
+        return None;
     }
     numbers(file, at + 1, count)
 }

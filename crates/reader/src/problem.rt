@@ -38,23 +38,11 @@ ghost use Rattle.reader.specs.problem.Reading.{
 };
 
 use crate::lines;
-use crate::lines::{Opening, Step};
+use crate::lines::Taken;
 use reducers::tables;
 use vectors::terms;
 use words::parameters::Parameters;
-
-#[derive(Clone, Copy)]
-pub enum Outcome {
-    Done,
-    Refused(u16, usize),
-}
-
-// Number 0 and place 0, or a refusal.
-#[derive(Clone, Copy)]
-pub struct Reading {
-    pub number: u16,
-    pub place: usize,
-}
+use words::refusals::Refused;
 
 // The row of a line's term, behind so many.
 fn store_row(state: &mut [u16], count: usize, w: [u16; 16])
@@ -72,8 +60,7 @@ fn store(state: &mut [u16], count: usize, w: [u16; 16])
 {
     store_row(state, count, w);
     let element = w[0];
-    let e = lines::size_of(element);
-    state[words::HEADER_LENGTH + e] = (count + 1) as u16;
+    state[words::HEADER_LENGTH + usize::from(element)] = (count + 1) as u16;
     state[words::HEADER_LENGTH] = element;
 }
 
@@ -82,20 +69,22 @@ fn begin(state: &mut [u16], q: Parameters, d: [u16; words::DEGREES_LENGTH])
     requires { state_length ≤ length state.old }
     ensures { (state.new ≡ begun state.old (parameters_of q) d) × (length d ≡ most_components) }
 {
-    let p = q.p;
-    let n = q.n;
-    let code = q.code;
-    let s = q.s;
-    state[0] = p;
-    state[1] = n;
-    state[2] = code;
-    state[3] = s;
+    state[0] = q.p;
+    state[1] = q.n;
+    state[2] = q.code;
+    state[3] = q.s;
     state[4] = 1;
     terms::copy(state, words::DEGREES_START, &d, words::DEGREES_LENGTH);
 }
 
 // The lines behind the head, the first with this number, into a state with no element yet.
-fn body(file: &[u8], from: usize, first: usize, q: Parameters, state: &mut [u16]) -> Outcome
+fn body(
+    file: &[u8],
+    from: usize,
+    first: usize,
+    q: Parameters,
+    state: &mut [u16],
+) -> Result<(), Refused>
     requires { (q.n ≤ 8) × (first ≤ 4) × (state_length ≤ length state.old)
         × (state.old ≡ laid_level (parameters_of q) [] (drop degrees_start state.old)) }
     ensures { outcome_as result state.new
@@ -105,40 +94,33 @@ fn body(file: &[u8], from: usize, first: usize, q: Parameters, state: &mut [u16]
     let mut count: usize = 0;
     let mut elements: u16 = 0;
     let mut before = [0u16; 16];
-    loop {
-        let taken = lines::next_line(file, at, q, count + first, count, elements, before);
-        let w = taken.numbers;
-        let step = taken.step;
-        match step {
-            Step::Term(next) => {
-                store(state, count, w);
-                elements = w[0];
-                before = w;
-                at = next;
-                count += 1;
-            }
-            Step::End => return Outcome::Done,
-            Step::Refused(number, place) => return Outcome::Refused(number, place),
-        }
+    // A while: the position jumps by a line, and the line says whether it was the last.
+    while let Taken::Term(line) = lines::next_line(
+        file,
+        at,
+        q,
+        count + first,
+        count,
+        elements,
+        before,
+    )? {
+        store(state, count, line.numbers);
+        elements = line.numbers[0];
+        before = line.numbers;
+        at = line.next;
+        count += 1;
     }
+    Ok(())
 }
 
 // The file, into a state of zeros; what a refused one leaves there is to be zeroed.
-fn read_lines(file: &[u8], state: &mut [u16]) -> Outcome
+fn read_lines(file: &[u8], state: &mut [u16]) -> Result<(), Refused>
     requires { (state_length ≤ length state.old) × (state.old ≡ replicate (length state.old) 0) }
     ensures { outcome_as result state.new ≡ problem_words (length state.old) file.now }
 {
-    let head = lines::head_lines(file);
-    let q = head.parameters;
-    let d = head.degrees;
-    let opening = head.opening;
-    match opening {
-        Opening::At(next, first) => {
-            begin(state, q, d);
-            body(file, next, first, q, state)
-        }
-        Opening::Refused(number, place) => Outcome::Refused(number, place),
-    }
+    let head = lines::head_lines(file)?;
+    begin(state, head.parameters, head.degrees);
+    body(file, head.next, head.place, head.parameters, state)
 }
 
 // The degrees of the elements in a state.
@@ -171,36 +153,25 @@ fn carry(state: &mut [u16])
 
 // Reads a file. Read, not accepted: the state's words are those of its elements as level 0, which acceptance has still to divide; refused, they are
 // zeros.
-pub fn read(file: &[u8], state: &mut [u16]) -> Reading
+pub fn read(file: &[u8], state: &mut [u16]) -> Result<(), Refused>
     requires { state_length ≤ length state.old }
     ensures { answer_as result state.new ≡ read_as (length state.old) (problem_definition document_01 file.now) }
 {
     terms::clear(state, 0);
-    let outcome = read_lines(file, state);
-    match outcome {
-        Outcome::Done => {
-            carry(state);
-            Reading {
-                number: 0,
-                place: 0,
-            }
-        }
-        Outcome::Refused(number, place) => {
-            terms::clear(state, 0);
-            Reading { number, place }
-        }
+    if let Err(refused) = read_lines(file, state) {
+        terms::clear(state, 0);
+        return Err(refused);
     }
+    carry(state);
+    Ok(())
 }
 
 // The weights of a file's variables, two for each: no state holds them. Zeros where the head is refused.
 pub fn weights(file: &[u8]) -> [u16; words::WEIGHTS_LENGTH]
     ensures { (result ≡ head_weights (head document_01 file.now)) × (fits? most_weight result ≡ true) }
 {
-    let head = lines::head_lines(file);
-    let w = head.weights;
-    let opening = head.opening;
-    match opening {
-        Opening::At(_, _) => w,
-        Opening::Refused(_, _) => [0; words::WEIGHTS_LENGTH],
+    match lines::head_lines(file) {
+        Ok(head) => head.weights,
+        Err(_) => [0; words::WEIGHTS_LENGTH],
     }
 }

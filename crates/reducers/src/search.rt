@@ -26,16 +26,11 @@ use monomial::Monomial;
 use vectors::terms;
 use vectors::terms::Term;
 
-// The number of the element, from 1, and the coefficient of its multiple.
+// The number of an element, from 1, and the coefficient and the quotient of its multiple.
 #[derive(Clone, Copy)]
-pub enum Answer {
-    Reducer(usize, u16),
-    LowerOrder,
-}
-
-#[derive(Clone, Copy)]
-pub struct Found {
-    pub answer: Answer,
+pub struct Reducer {
+    pub number: usize,
+    pub coefficient: u16,
     pub quotient: u64,
 }
 
@@ -45,34 +40,25 @@ pub struct Span {
     pub to: usize,
 }
 
-#[derive(Clone, Copy)]
-pub struct Multiple {
-    pub fits: bool,
-    pub term: Term,
-}
-
 fn row_divides(heads: &[u16], i: usize, m: Monomial) -> bool
     requires { i * row_length + row_length ≤ length heads.now }
     ensures { result ≡ divides_monomial? (row_at heads.now i).1 (monomial_of m) }
 {
-    let t = terms::row(heads, i);
-    let n = t.monomial;
+    let n = terms::row(heads, i).monomial;
     n.divides(m)
 }
 
-// The first row that divides, of those from row `from` up to row `to`; `to` if there is none.
+// The first row that divides, of those from row `from` up to row `to`; the row behind them if there is none.
 fn first_in(heads: &[u16], from: usize, to: usize, m: Monomial) -> usize
     requires { to * row_length ≤ length heads.now }
     ensures { result ≡ first_from (λ j. divides_monomial? (row_at heads.now j).1 (monomial_of m)) (to - from) from }
 {
-    let mut i = from;
-    while i < to {
+    for i in from..to {
         if row_divides(heads, i, m) {
             return i;
         }
-        i += 1;
     }
-    i
+    from.max(to)
 }
 
 // The part of the table for a component: all of it if the spans have none.
@@ -80,13 +66,13 @@ fn span_for(spans: &[u16], k: usize, r: usize, component: u16) -> Span
     requires { k * 2 ≤ length spans.now }
     ensures { span_of result ≡ span_at k r spans.now component }
 {
-    let i = component as usize;
+    let i = usize::from(component);
     if k <= i {
         return Span { from: 0, to: r };
     }
     Span {
-        from: words::place(spans[i * 2]),
-        to: words::place(spans[i * 2 + 1]),
+        from: usize::from(spans[i * 2]),
+        to: usize::from(spans[i * 2 + 1]),
     }
 }
 
@@ -103,59 +89,52 @@ pub fn lowest(heads: &[u16], r: usize, spans: &[u16], k: usize, m: Monomial) -> 
     r
 }
 
-// The lowest element whose leading monomial divides, with its row's coefficient.
-pub fn search(heads: &[u16], r: usize, spans: &[u16], k: usize, m: Monomial) -> Answer
+// The number of the lowest element whose leading monomial divides, from 1, and its row's coefficient.
+pub fn search(heads: &[u16], r: usize, spans: &[u16], k: usize, m: Monomial) -> Option<(usize, u16)>
     requires { (r * row_length ≤ length heads.now) × (k * 2 ≤ length spans.now) × Spanned k r spans.now heads.now }
     ensures { result ≡ searched (rows heads.now 0 r) (monomial_of m) }
 {
     let j = lowest(heads, r, spans, k, m);
     if j == r {
-        return Answer::LowerOrder;
+        return None;
     }
-    Answer::Reducer(j + 1, heads[j * words::ROW_LENGTH])
+    Some((j + 1, heads[j * words::ROW_LENGTH]))
 }
 
-// The reducer rule.
-pub fn reducer_of(heads: &[u16], r: usize, spans: &[u16], k: usize, p: u16, t: Term) -> Found
+// The reducer rule: no reducer where the term is of lower order.
+pub fn reducer_of(
+    heads: &[u16],
+    r: usize,
+    spans: &[u16],
+    k: usize,
+    p: u16,
+    t: Term,
+) -> Option<Reducer>
     requires { (0 < p) × (r * row_length ≤ length heads.now) × (k * 2 ≤ length spans.now) × Spanned k r spans.now heads.now }
     ensures { answer_of result ≡ answer_definition p (rows heads.now 0 r) (term_of t) }
 {
     let m = t.monomial;
-    let found = search(heads, r, spans, k, m);
-    let Answer::Reducer(j, h) = found else {
-        let unit = Monomial::UNIT;
-        let e = unit.exponents;
-        return Found {
-            answer: Answer::LowerOrder,
-            quotient: e,
-        };
-    };
-    let u = terms::row(heads, j - 1);
-    let n = u.monomial;
-    let c = field::times(t.coefficient, h, p);
+    let (number, head) = search(heads, r, spans, k, m)?;
+    let n = terms::row(heads, number - 1).monomial;
+    let coefficient = field::times(t.coefficient, head, p);
     let quotient = m.quotient(n);
-    Found {
-        answer: Answer::Reducer(j, c),
+    Some(Reducer {
+        number,
+        coefficient,
         quotient,
-    }
+    })
 }
 
-// Row i times c and q, with 13's test.
-pub fn multiplied(s: &[u16], i: usize, c: u16, q: u64, p: u16) -> Multiple
+// Row i times c and q, or none where 13's test fails.
+pub fn multiplied(s: &[u16], i: usize, c: u16, q: u64, p: u16) -> Option<Term>
     requires { (0 < p) × (i * row_length + row_length ≤ length s.now) }
     ensures { multiple_of result ≡ formed_term (multiple_definition p c (unpack q) (row_at s.now i)) }
 {
     let t = terms::row(s, i);
-    let x = field::times(c, t.coefficient, p);
-    let m = t.monomial;
-    let y = m.product(q);
-    let fits = y.fits;
-    let n = y.monomial;
-    Multiple {
-        fits,
-        term: Term {
-            coefficient: x,
-            monomial: n,
-        },
-    }
+    let monomial = t.monomial.product(q)?;
+    let coefficient = field::times(c, t.coefficient, p);
+    Some(Term {
+        coefficient,
+        monomial,
+    })
 }

@@ -13,12 +13,10 @@ ghost use Rattle.listing.specs.whole.Listed.{Prints};
 ghost use Rattle.listing.specs.whole.Paged.{AcceptedPrints};
 
 use crate::levels;
-use listing::reading::Begun;
 use listing::{printing, reading};
 use reader::fields;
-use reader::fields::End as LineEnd;
-use replaying::log::Replayed;
 use replaying::over;
+use words::refusals::{Refusal, Refused};
 
 // Vector v of level k over a state with the levels below it, by the lines from a position on.
 fn print_vector(
@@ -48,11 +46,11 @@ fn print_vector(
         j,
         words::place(v),
     ) {
-        Replayed::Finished(u) => {
+        Ok(u) => {
             let n = words::place(state[1]);
             printing::s_lines(out, 0, &vector, 0, u, n, k, v)
         }
-        Replayed::Refused(number, there) => printing::pair_line(out, 0, 88, number, there),
+        Err(refused) => printing::x_line(out, 0, refused),
     }
 }
 
@@ -73,18 +71,17 @@ fn print_level(
         out.old out.new result × (result ≤ replay_length) }
 {
     let level = words::place(k);
-    if level == 0 {
-        return printing::pair_line(out, 0, 88, 12, place);
+    if level == 0 || words::MOST_LEVELS < level {
+        let refused = Refused {
+            refusal: Refusal::Index,
+            place,
+        };
+        return printing::x_line(out, 0, refused);
     }
-    if words::MOST_LEVELS < level {
-        return printing::pair_line(out, 0, 88, 12, place);
+    match levels::lift_below(state, work, level) {
+        Ok(()) => print_vector(out, input, from, place, state, work, k, v),
+        Err(refused) => printing::x_line(out, 0, refused),
     }
-    let below = levels::lift_below(state, work, level);
-    let number = below.number;
-    if number == 0 {
-        return print_vector(out, input, from, place, state, work, k, v);
-    }
-    printing::pair_line(out, 0, 88, number, below.place)
 }
 
 // The lines behind a file that was accepted, the first behind byte `end`.
@@ -95,15 +92,16 @@ fn print_log(input: &[u8], end: usize, state: &mut [u16], work: &mut [u16], out:
         × (result ≤ replay_length) }
 {
     let first = after::lines_in(&input[..end]) + 1;
-    let line = fields::line_at(input, end, b'L', 2);
-    let v = line.numbers;
-    let k = v[0];
-    let number = v[1];
-    let ended = line.end;
-    let LineEnd::Behind(next) = ended else {
-        return printing::pair_line(out, 0, 88, 21, first);
+    let Some(line) = fields::line_at(input, end, b'L', 2) else {
+        let refused = Refused {
+            refusal: Refusal::LogLine,
+            place: first,
+        };
+        return printing::x_line(out, 0, refused);
     };
-    print_level(out, input, next, first, state, work, k, number)
+    let k = line.numbers[0];
+    let v = line.numbers[1];
+    print_level(out, input, line.next, first, state, work, k, v)
 }
 
 // The lines of an input, in front of out.
@@ -113,7 +111,7 @@ pub fn print(input: &[u8], state: &mut [u16], work: &mut [u16], out: &mut [u8]) 
 {
     let end = after::file_end(input);
     match reading::begin(&input[..end], state, work, out) {
-        Begun::Accepted => print_log(input, end, state, work, out),
-        Begun::Refused(length) => length,
+        Ok(()) => print_log(input, end, state, work, out),
+        Err(length) => length,
     }
 }

@@ -14,26 +14,11 @@ ghost use Rattle.runs.specs.run.Stages.{stage_of, run_of, Rooms};
 ghost use Rattle.replaying.specs.log.Lines.{p_first, turn_as, Turned, replayed_as, Ended};
 
 use crate::picks;
-use crate::picks::Picked;
 use reader::fields;
-use reader::fields::End as LineEnd;
 use runs::reduction::Ground;
+use words::refusals::{Refusal, Refused};
 
-// Behind a line, the rows of value and vector; a refusal's number and place.
-#[derive(Clone, Copy)]
-enum Turn {
-    On(usize, usize, usize),
-    Refused(u16, usize),
-}
-
-// The rows of the vector, the value being zero; a refusal's number and place.
-#[derive(Clone, Copy)]
-pub enum Replayed {
-    Finished(usize),
-    Refused(u16, usize),
-}
-
-// The P line at a position, after so many picks: 21 first, then its pick.
+// The P line at a position, after so many picks: 21 first, then its pick. Where the line ends, and the rows of value and vector.
 fn replay_line(
     input: &[u8],
     at: usize,
@@ -48,29 +33,38 @@ fn replay_line(
     level: &[u16],
     tables: &[u16],
     g: Ground,
-) -> Turn
+) -> Result<(usize, usize, usize), Refused>
     requires { (n ≤ 8) × Tables g tables.now × Family g level.now (ends_in tables.now) × Rooms g value.old vector.old × (m ≤ g.working)
         × (u ≤ g.vector) }
     ensures { ((above : definition.Monomial → definition.Monomial → Comparison) → turn_as result input.now value.new vector.new
         ≡ p_first (stage_of g level.now tables.now above) n k place picks (run_of value.old m vector.old u)
         (drop at input.now)) × Turned g picks result }
 {
-    let line = fields::line_at(input, at, b'P', n + 1);
-    let v = line.numbers;
-    let end = line.end;
-    let LineEnd::Behind(next) = end else {
-        return Turn::Refused(21, place);
+    let refused = Refused {
+        refusal: Refusal::LogLine,
+        place,
     };
+    let line = fields::line_at(input, at, b'P', n + 1).ok_or(refused)?;
     if words::MOST_PICKS <= picks {
-        return Turn::Refused(21, place);
+        return Err(refused);
     }
-    match picks::replay_pick(value, m, vector, u, level, tables, g, v, n, k, place) {
-        Picked::On(a, b) => Turn::On(next, a, b),
-        Picked::Refused(number, there) => Turn::Refused(number, there),
-    }
+    let (a, b) = picks::replay_pick(
+        value,
+        m,
+        vector,
+        u,
+        level,
+        tables,
+        g,
+        line.numbers,
+        n,
+        k,
+        place,
+    )?;
+    Ok((line.next, a, b))
 }
 
-// The P lines from a position to the end, the first with this number: 22 where they end before the value is zero.
+// The P lines from a position to the end, the first with this number: the rows of the vector where the value is zero then, 22 where it is not.
 pub fn replay_lines(
     input: &[u8],
     from: usize,
@@ -84,7 +78,7 @@ pub fn replay_lines(
     level: &[u16],
     tables: &[u16],
     g: Ground,
-) -> Replayed
+) -> Result<usize, Refused>
     requires { (n ≤ 8) × (first ≤ read_length + 1) × Tables g tables.now × Family g level.now (ends_in tables.now) × Rooms g value.old vector.old
         × (start ≤ g.working) × (begun ≤ g.vector) }
     ensures { ((above : definition.Monomial → definition.Monomial → Comparison) → replayed_as above g.p result vector.new
@@ -95,8 +89,9 @@ pub fn replay_lines(
     let mut picks: usize = 0;
     let mut m = start;
     let mut u = begun;
+    // A while: the position jumps by a line.
     while at < input.len() {
-        match replay_line(
+        let (next, a, b) = replay_line(
             input,
             at,
             first + picks,
@@ -110,18 +105,17 @@ pub fn replay_lines(
             level,
             tables,
             g,
-        ) {
-            Turn::On(next, a, b) => {
-                at = next;
-                m = a;
-                u = b;
-            }
-            Turn::Refused(number, place) => return Replayed::Refused(number, place),
-        }
+        )?;
+        at = next;
+        m = a;
+        u = b;
         picks += 1;
     }
     if m == 0 {
-        return Replayed::Finished(u);
+        return Ok(u);
     }
-    Replayed::Refused(22, first + picks)
+    Err(Refused {
+        refusal: Refusal::Pick,
+        place: first + picks,
+    })
 }

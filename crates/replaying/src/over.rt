@@ -14,41 +14,18 @@ ghost use Rattle.state.specs.soundness.Places.{count_at};
 ghost use Rattle.runs.specs.reduction.Grounds.{ends_in, above_in, Tables, Family};
 ghost use Rattle.runs.specs.run.Stages.{stage_of, Images, Rooms};
 ghost use Rattle.level.specs.by_runs.Stages.{Base, TablesAt, usual, stage_at};
-ghost use Rattle.replaying.specs.log.Lines.{replayed_as, Ended};
+ghost use Rattle.replaying.specs.log.Lines.{Ended};
 ghost use Rattle.replaying.specs.over.Vectors.{vector_as, replay_term, Few};
 
 use crate::log;
-use crate::log::Replayed;
 use level::by_runs;
 use monomial::Monomial;
-use runs::reduction::{Added, Ground};
+use runs::reduction::Ground;
 use runs::run;
 use state::soundness;
-use vectors::sums::Stored;
 use vectors::terms::Term;
 use vectors::{sums, terms};
-
-// The vector descending, in its own place.
-fn sorted(vector: &mut [u16], x: Replayed, tables: &[u16], g: Ground) -> Replayed
-    requires { Tables g tables.now × Images g.r (above_in tables.now) × (g.vector * row_length ≤ length vector.old) × Ended g x }
-    ensures { (vector_as result vector.new ≡ replayed_as (table_order g.code (table_of g.r (above_in tables.now))) g.p x
-        vector.old) × Ended g result }
-{
-    match x {
-        Replayed::Finished(u) => {
-            let k = sums::sort_in_place(
-                vector,
-                u,
-                g.code,
-                &tables[words::TABLES_ABOVE..],
-                g.r,
-                g.p,
-            );
-            Replayed::Finished(k)
-        }
-        Replayed::Refused(number, place) => Replayed::Refused(number, place),
-    }
-}
+use words::refusals::{Refusal, Refused};
 
 // The frame term m of level k, by the P lines from a position on, the first with this number.
 fn replay_term(
@@ -63,7 +40,7 @@ fn replay_term(
     tables: &[u16],
     g: Ground,
     m: Monomial,
-) -> Replayed
+) -> Result<usize, Refused>
     requires { Tables g tables.now × Family g level.now (ends_in tables.now) × Images g.r (above_in tables.now)
         × Rooms g value.old vector.old × (1 ≤ g.vector) × (1 ≤ (monomial_of m).1) × ((monomial_of m).1 ≤ g.r) × (n ≤ 8) × (first ≤ read_length + 1) }
     ensures { (vector_as result vector.new ≡ replay_term (stage_of g level.now tables.now
@@ -71,18 +48,21 @@ fn replay_term(
         × Ended g result }
 {
     let s = match run::started(value, level, tables, g, true, m) {
-        Added::Rows(s) => s,
-        Added::Refused(number) => return Replayed::Refused(number, k),
+        Ok(s) => s,
+        Err(refusal) => return Err(Refused { refusal, place: k }),
     };
     let t = Term {
         coefficient: 1,
         monomial: m,
     };
     terms::put(vector, 0, t);
-    let x = log::replay_lines(
+    let u = log::replay_lines(
         input, from, first, n, k, value, s, vector, 1, level, tables, g,
-    );
-    sorted(vector, x, tables, g)
+    )?;
+    // descending, in its own place
+    let above = &tables[words::TABLES_ABOVE..];
+    let rows = sums::sort_in_place(vector, u, g.code, above, g.r, g.p);
+    Ok(rows)
 }
 
 // .. with the ground and the rows of a state's level j, for level j + 1.
@@ -96,7 +76,7 @@ fn replay_over(
     j: usize,
     tables: &[u16],
     m: Monomial,
-) -> Replayed
+) -> Result<usize, Refused>
     requires { Base state.now j × TablesAt state.now j tables.now × (value_length ≤ length value.old) × (vector_length ≤ length vector.old)
         × (1 ≤ (monomial_of m).1) × ((monomial_of m).1 ≤ count_at state.now j) × (first ≤ read_length + 1) }
     ensures { (vector_as result vector.new ≡ replay_term (stage_at usual state.now j) (get_or state.now 1 0) (j + 1) first
@@ -131,7 +111,7 @@ fn replay_with(
     j: usize,
     v: usize,
     tables: &[u16],
-) -> Replayed
+) -> Result<usize, Refused>
     requires { Base state.now j × TablesAt state.now j tables.now × (value_length ≤ length value.old) × (vector_length ≤ length vector.old)
         × (get_or state.now 4 0 ≡ j + 1) × (place ≤ read_length) }
     ensures { (vector_as result vector.new ≡ replayed_vector document_01 most_picks place (j + 1) v (lines (drop from input.now))
@@ -141,19 +121,30 @@ fn replay_with(
     let mut gens = [0u16; words::HEADS_LENGTH];
     let r = soundness::count_of(state, j);
     // numbered by code 1, the lexicographic order, whatever the file's (A10)
-    let count = match frame::form(&mut framed, words::MOST_VECTORS, &mut gens, tables, r, 1) {
-        Stored::Rows(n) => n,
-        Stored::Full => return Replayed::Refused(15, j + 1),
+    let Some(count) = frame::form(&mut framed, words::MOST_VECTORS, &mut gens, tables, r, 1) else {
+        return Err(Refused {
+            refusal: Refusal::Level,
+            place: j + 1,
+        });
     };
-    if v == 0 {
-        return Replayed::Refused(12, place);
-    }
-    if count < v {
-        return Replayed::Refused(12, place);
+    if v == 0 || count < v {
+        return Err(Refused {
+            refusal: Refusal::Index,
+            place,
+        });
     }
     let t = terms::row(&framed, v - 1);
-    let m = t.monomial;
-    replay_over(value, vector, input, from, place + 1, state, j, tables, m)
+    replay_over(
+        value,
+        vector,
+        input,
+        from,
+        place + 1,
+        state,
+        j,
+        tables,
+        t.monomial,
+    )
 }
 
 // Vector v of level j + 1 by the P lines from a position on; the L line before them has this number.
@@ -166,7 +157,7 @@ pub fn replay_vector(
     state: &[u16],
     j: usize,
     v: usize,
-) -> Replayed
+) -> Result<usize, Refused>
     requires { Base state.now j × (value_length ≤ length value.old) × (vector_length ≤ length vector.old) × (get_or state.now 4 0 ≡ j + 1)
         × (place ≤ read_length) }
     ensures { (vector_as result vector.new ≡ replayed_vector document_01 most_picks place (j + 1) v (lines (drop from input.now))

@@ -17,14 +17,7 @@ use runs::reduction::Ground;
 use runs::run;
 use runs::run::{Step, Strategy};
 use vectors::sums;
-use vectors::sums::Place;
-
-// The rows of value and vector after the step; a refusal's number and place.
-#[derive(Clone, Copy)]
-pub enum Picked {
-    On(usize, usize),
-    Refused(u16, usize),
-}
+use words::refusals::{Refusal, Refused};
 
 // The numbers of a P line as those of a T line, where the component stands before the exponents; coefficient 1.
 fn as_term(v: [u16; 16], n: usize) -> [u16; 16]
@@ -40,20 +33,20 @@ fn as_term(v: [u16; 16], n: usize) -> [u16; 16]
 }
 
 // Where the term that the numbers name stands. An exponent above 255 has none.
-fn place_of(value: &[u16], m: usize, v: [u16; 16], n: usize) -> Place
+fn place_of(value: &[u16], m: usize, v: [u16; 16], n: usize) -> Option<usize>
     requires { (n ≤ 8) × (m * row_length ≤ length value.now) }
     ensures { result ≡ seek (named n v) (rows value.now 0 m) 0 }
 {
     let w = as_term(v, n);
-    if lines::fits(lines::exponents(w)) {
-        let t = lines::term_said(w);
-        let x = t.monomial;
-        return sums::find(value, m, x);
+    if !lines::fits(lines::exponents(w)) {
+        return None;
     }
-    Place::Nowhere
+    let t = lines::term_said(w);
+    sums::find(value, m, t.monomial)
 }
 
-// The step at the term that the numbers name: 22 at the line where there is none, a refusal of the step with the level as its place.
+// The step at the term that the numbers name, and then the rows of value and vector: 22 at the line where there is none, a refusal of the step with the
+// level as its place.
 pub fn replay_pick(
     value: &mut [u16],
     m: usize,
@@ -66,25 +59,31 @@ pub fn replay_pick(
     n: usize,
     k: usize,
     place: usize,
-) -> Picked
+) -> Result<(usize, usize), Refused>
     requires { Tables g tables.now × Family g level.now (ends_in tables.now) × Rooms g value.old vector.old × (m ≤ g.working)
         × (u ≤ g.vector) × (n ≤ 8) }
     ensures { ((above : definition.Monomial → definition.Monomial → Comparison)
         → picked_as result value.new vector.new ≡ replayed (stage_of g level.now tables.now above) k place
         (run_of value.old m vector.old u) (place_from (named n v) 0 (rows value.old 0 m))) × Room g result }
 {
+    let Some(i) = place_of(value, m, v, n) else {
+        return Err(Refused {
+            refusal: Refusal::Pick,
+            place,
+        });
+    };
     let w = Strategy {
         drops: true,
         pick: 2,
         stops: false,
     };
-    match place_of(value, m, v, n) {
-        Place::At(i) => match run::step_at(value, m, vector, u, level, tables, g, w, i) {
-            Step::On(a, b) => Picked::On(a, b),
-            Step::Refused(number) => Picked::Refused(number, k),
-            // Lifting never stops at a value without a reducer: the proof shows that this is not reached.
-            Step::Stopped(_a) => Picked::Refused(9, k),
-        },
-        Place::Nowhere => Picked::Refused(22, place),
+    match run::step_at(value, m, vector, u, level, tables, g, w, i) {
+        Ok(Step::On(a, b)) => Ok((a, b)),
+        // Lifting never stops at a value without a reducer: the proof shows that this is not reached.
+        Ok(Step::Stopped(_a)) => Err(Refused {
+            refusal: Refusal::NoReducer,
+            place: k,
+        }),
+        Err(refusal) => Err(Refused { refusal, place: k }),
     }
 }

@@ -2,26 +2,23 @@
 // Knows: crate definitions' Lifting, through crate specs' Vectors.
 // The vectors lifted are kept in one lent slice: first the end of each vector's rows, from word 128 on the rows.
 
-// The rows that the vectors have with this one; a refusal's number; the rows of a value without a reducer.
+// The rows that the vectors have with this one; the rows of a value without a reducer.
 #[derive(Clone, Copy)]
 pub enum One {
     Used(usize),
-    Refused(u16),
     Stopped(usize),
 }
 
-// The rows of all vectors; a refusal's number; the rows of a value without a reducer.
+// The rows of all vectors; the rows of a value without a reducer.
 #[derive(Clone, Copy)]
 pub enum Lifted {
     Rows(usize),
-    Refused(u16),
     Stopped(usize),
 }
 
-// A refusal's number and place; the number of the frame term where division stopped, and the rows of the value there.
+// All divided to zero; the number of the frame term where division stopped, and the rows of the value there.
 #[derive(Clone, Copy)]
 pub enum Accepted {
     Yes,
-    Refused(u16, usize),
     Stopped(usize, usize),
 }

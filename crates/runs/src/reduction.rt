@@ -1,7 +1,7 @@
 // Products into a working value, the picks, and one step of a run.
 // Knows: crate definitions' Run.
 // The value and the vector are rows from row 0 of two lent slices; tables are lent beside them.
-ghost use Rattle.std.specs.Prelude.{◌≡◌, ◌+◌, ◌-◌, ◌*◌, ◌≤◌, ◌<◌, length, get_or};
+ghost use Rattle.std.specs.Prelude.{◌≡◌, ◌+◌, ◌-◌, ◌*◌, ◌≤◌, ◌<◌, true, length, get_or};
 ghost use Rattle.std.proofs.Math.Option.{some};
 ghost use Rattle.definitions.specs.Monomial.{vector_of};
 ghost use Rattle.definitions.specs.Vectors.{store};
@@ -10,6 +10,7 @@ ghost use Rattle.definitions.specs.Run.{add_term, unless_dropped, dropped?, add_
 ghost use Rattle.definitions.specs.Packed.{unpack};
 ghost use Rattle.definitions.specs.Layout.{row_at, rows};
 ghost use Rattle.definitions.specs.Places.{row_length, image_length, tables_ends, tables_below};
+ghost use Rattle.monomial.specs.Values.{monomial_of};
 ghost use Rattle.orders.specs.Images.{table_of, table_order, Tabled};
 ghost use Rattle.reducers.specs.search.Search.{answer_of};
 ghost use Rattle.vectors.specs.terms.Rows.{term_of};
@@ -26,12 +27,12 @@ ghost use Rattle.runs.specs.reduction.Grounds.{
 };
 
 use monomial::Monomial;
-use orders::Image;
-use reducers::search::{Answer, Found, Span};
+use reducers::search::{Reducer, Span};
 use reducers::{search, tables};
-use vectors::sums::{Running, Stored};
+use vectors::sums;
+use vectors::sums::Running;
 use vectors::terms::Term;
-use vectors::{sums, terms};
+use words::refusals::Refusal;
 
 // What a lifting reads beside the lent slices: p, the order code; how many rows the heads, the spans and the table of images below have; limits.
 #[derive(Clone, Copy)]
@@ -47,22 +48,21 @@ pub struct Ground {
     pub room: usize,
 }
 
-// The rows that a value has now, or a refusal's number.
-#[derive(Clone, Copy)]
-pub enum Added {
-    Rows(usize),
-    Refused(u16),
-}
-
-// A term into a sum in the order of arrival: 14 where it is full.
-pub fn store_term(s: &mut [u16], n: usize, limit: usize, p: u16, t: Term) -> Added
+// A term into a sum in the order of arrival: the rows that the sum has now, or a refusal where it is full.
+pub fn store_term(s: &mut [u16], n: usize, limit: usize, p: u16, t: Term) -> Result<usize, Refusal>
     requires { (0 < p) × (n ≤ limit) × (limit * row_length ≤ length s.old) }
     ensures { (added_of result s.new ≡ store limit p (term_of t) (rows s.old 0 n)) × Within limit result }
 {
-    match sums::store(s, n, limit, p, t) {
-        Stored::Rows(k) => Added::Rows(k),
-        Stored::Full => Added::Refused(14),
-    }
+    sums::store(s, n, limit, p, t).ok_or(Refusal::Terms)
+}
+
+// Whether no head of the table divides the monomial.
+fn is_lower_order(tables: &[u16], g: Ground, m: Monomial) -> bool
+    requires { Tables g tables.now }
+    ensures { result ≡ dropped? (reduction_of g tables.now) true (monomial_of m) }
+{
+    let spans = &tables[words::TABLES_SPANS..];
+    search::search(tables, g.r, spans, g.components, m).is_none()
 }
 
 // A product that fits, added to the value: one of lower order is dropped where such are.
@@ -73,23 +73,18 @@ fn add_fitting(
     tables: &[u16],
     g: Ground,
     drops: bool,
-) -> Added
+) -> Result<usize, Refusal>
     requires { Tables g tables.now × (n ≤ g.working) × (g.working * row_length ≤ length value.old) }
     ensures { (added_of result value.new ≡ unless_dropped (dropped? (reduction_of g tables.now) drops (term_of t).1)
         (reduction_of g tables.now) (term_of t) (rows value.old 0 n)) × Within g.working result }
 {
-    if drops {
-        let m = t.monomial;
-        let found = search::search(tables, g.r, &tables[words::TABLES_SPANS..], g.components, m);
-        let Answer::Reducer(_j, _h) = found else {
-            return Added::Rows(n);
-        };
-        return store_term(value, n, g.working, g.p, t);
+    if drops && is_lower_order(tables, g, t.monomial) {
+        return Ok(n);
     }
     store_term(value, n, g.working, g.p, t)
 }
 
-// The product of c·q and row i, added to the value: 13 before anything else.
+// The product of c·q and row i, added to the value: an exponent too large is refused before anything else.
 fn add_product(
     value: &mut [u16],
     n: usize,
@@ -100,19 +95,14 @@ fn add_product(
     tables: &[u16],
     g: Ground,
     drops: bool,
-) -> Added
+) -> Result<usize, Refusal>
     requires { Tables g tables.now × (n ≤ g.working) × (g.working * row_length ≤ length value.old)
         × (i * row_length + row_length ≤ length level.now) }
     ensures { (added_of result value.new ≡ add_term (reduction_of g tables.now) drops
         (multiple g.p c (unpack q) (row_at level.now i)) (rows value.old 0 n)) × Within g.working result }
 {
-    let x = search::multiplied(level, i, c, q, g.p);
-    let fits = x.fits;
-    let t = x.term;
-    if fits {
-        return add_fitting(value, n, t, tables, g, drops);
-    }
-    Added::Refused(13)
+    let t = search::multiplied(level, i, c, q, g.p).ok_or(Refusal::Exponent)?;
+    add_fitting(value, n, t, tables, g, drops)
 }
 
 // The products of c·q and the rows from row `from` up to row `to`, one by one.
@@ -127,23 +117,16 @@ pub fn add_all(
     tables: &[u16],
     g: Ground,
     drops: bool,
-) -> Added
+) -> Result<usize, Refusal>
     requires { Tables g tables.now × (n ≤ g.working) × (g.working * row_length ≤ length value.old) × (to * row_length ≤ length level.now) }
     ensures { (added_of result value.new ≡ add_products (reduction_of g tables.now) drops c (unpack q)
         (rows level.now from (to - from)) (rows value.old 0 n)) × Within g.working result }
 {
     let mut k = n;
-    let mut i = from;
-    while i < to {
-        match add_product(value, k, level, i, c, q, tables, g, drops) {
-            Added::Rows(x) => {
-                k = x;
-            }
-            Added::Refused(x) => return Added::Refused(x),
-        }
-        i += 1;
+    for i in from..to {
+        k = add_product(value, k, level, i, c, q, tables, g, drops)?;
     }
-    Added::Rows(k)
+    Ok(k)
 }
 
 fn first_of(ends: &[u16], j: usize) -> usize
@@ -179,7 +162,7 @@ pub fn add_multiple(
     q: u64,
     g: Ground,
     drops: bool,
-) -> Added
+) -> Result<usize, Refusal>
     requires { Tables g tables.now × Family g level.now (ends_in tables.now) × (n ≤ g.working) × (g.working * row_length ≤ length value.old)
         × (1 ≤ j) × (j ≤ g.r) }
     ensures { (added_of result value.new ≡ add_products (reduction_of g tables.now) drops c (unpack q)
@@ -198,19 +181,13 @@ pub fn greatest(value: &[u16], n: usize, code: u16, below: &[u16], images: usize
 {
     let image = tables::image_at(value, 0, below, images);
     let mut best = Running { row: 0, image };
-    let mut i: usize = 1;
-    while i < n {
-        let x = sums::walk(value, i, n, code, below, images, best.image);
-        let j = x.row;
-        if n <= j {
+    // A while: the position jumps to the next best.
+    while best.row + 1 < n {
+        let next = sums::walk(value, best.row + 1, n, code, below, images, best.image);
+        if n <= next.row {
             return best.row;
         }
-        let renewed = x.image;
-        best = Running {
-            row: j,
-            image: renewed,
-        };
-        i = j + 1;
+        best = next;
     }
     best.row
 }
@@ -230,7 +207,7 @@ pub fn pick(value: &[u16], n: usize, pick: u16, tables: &[u16], g: Ground) -> us
 }
 
 // The reducer of a term.
-pub fn reducer_of(tables: &[u16], g: Ground, t: Term) -> Found
+pub fn reducer_of(tables: &[u16], g: Ground, t: Term) -> Option<Reducer>
     requires { Tables g tables.now }
     ensures { answer_of result ≡ answer g.p (rows tables.now 0 g.r) (term_of t) }
 {

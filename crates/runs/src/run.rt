@@ -1,7 +1,7 @@
 // The run of one frame term by division or hybrid: a loop of steps, with no bound on them but the falling number of crate ending.
 // Knows: crate definitions' Run.
 // Value and vector are rows from row 0 of two lent slices.
-ghost use Rattle.std.specs.Prelude.{◌≡◌, [], ℕ, ◌*◌, ◌≤◌, ◌<◌, T, length};
+ghost use Rattle.std.specs.Prelude.{◌≡◌, [], ℕ, ◌*◌, ◌≤◌, ◌<◌, T, length, Ok};
 ghost use Rattle.std.proofs.Math.Option.{some};
 ghost use Rattle.definitions.specs.Monomial as definition;
 ghost use Rattle.definitions.specs.Order.{Comparison};
@@ -32,11 +32,11 @@ ghost use Rattle.runs.specs.run.Stages.{
 };
 
 use crate::reduction;
-use crate::reduction::{Added, Ground};
+use crate::reduction::Ground;
 use monomial::Monomial;
-use reducers::search::Answer;
 use vectors::terms::Term;
 use vectors::{sums, terms};
+use words::refusals::Refusal;
 
 // How a run goes: whether products of lower order are dropped, the pick code, whether a term without a reducer ends it.
 #[derive(Clone, Copy)]
@@ -46,19 +46,17 @@ pub struct Strategy {
     pub stops: bool,
 }
 
-// The rows of value and vector after a step; a refusal's number; the value's rows where its picked term has no reducer.
+// The rows of value and vector after a step; the value's rows where its picked term has no reducer.
 #[derive(Clone, Copy)]
 pub enum Step {
     On(usize, usize),
-    Refused(u16),
     Stopped(usize),
 }
 
-// The rows of the vector; a refusal's number; the rows of the value that has no reducer.
+// The rows of the vector; the rows of the value that has no reducer.
 #[derive(Clone, Copy)]
 pub enum Outcome {
     Finished(usize),
-    Refused(u16),
     Stopped(usize),
 }
 
@@ -75,30 +73,23 @@ fn reduced(
     j: usize,
     c: u16,
     q: u64,
-) -> Step
+) -> Result<Step, Refusal>
     requires { Tables g tables.now × Family g level.now (ends_in tables.now) × Rooms g value.old vector.old × (n ≤ g.working)
         × (v ≤ g.vector) × (1 ≤ j) × (j ≤ g.r) }
     ensures { ((order : definition.Monomial → definition.Monomial → Comparison) → step_of order g.p result value.new vector.new
         ≡ reduced_by (reduction_of g tables.now) (family_of g level.now (ends_in tables.now)) drops
         (run_of value.old n vector.old v) j c (unpack q)) × Room g result }
 {
-    let component = j as u16;
     let t = Term {
         coefficient: c,
         monomial: Monomial {
             exponents: q,
-            component,
+            component: j as u16,
         },
     };
-    match reduction::store_term(vector, v, g.vector, g.p, t) {
-        Added::Rows(k) => match reduction::add_multiple(
-            value, n, level, tables, j, c, q, g, drops,
-        ) {
-            Added::Rows(m) => Step::On(m, k),
-            Added::Refused(x) => Step::Refused(x),
-        },
-        Added::Refused(x) => Step::Refused(x),
-    }
+    let v = reduction::store_term(vector, v, g.vector, g.p, t)?;
+    let n = reduction::add_multiple(value, n, level, tables, j, c, q, g, drops)?;
+    Ok(Step::On(n, v))
 }
 
 // The picked term, at place i, has no reducer: the run stops, or drops it.
@@ -124,7 +115,7 @@ pub fn step_at(
     g: Ground,
     w: Strategy,
     i: usize,
-) -> Step
+) -> Result<Step, Refusal>
     requires { Tables g tables.now × Family g level.now (ends_in tables.now) × Rooms g value.old vector.old × (i < n) × (n ≤ g.working)
         × (v ≤ g.vector) }
     ensures { ((above : definition.Monomial → definition.Monomial → Comparison)
@@ -133,14 +124,13 @@ pub fn step_at(
         (run_of value.old n vector.old v) (some i)) × Room g result }
 {
     let t = terms::row(value, i);
-    let found = reduction::reducer_of(tables, g, t);
-    let answer = found.answer;
-    let Answer::Reducer(j, c) = answer else {
-        return without_reducer(value, n, v, i, w.stops);
+    let Some(x) = reduction::reducer_of(tables, g, t) else {
+        return Ok(without_reducer(value, n, v, i, w.stops));
     };
-    let q = found.quotient;
-    let d = field::negative(c, g.p);
-    reduced(value, n, vector, v, level, tables, g, w.drops, j, d, q)
+    let c = field::negative(x.coefficient, g.p);
+    reduced(
+        value, n, vector, v, level, tables, g, w.drops, x.number, c, x.quotient,
+    )
 }
 
 // One step; the value is not empty.
@@ -153,7 +143,7 @@ fn one_step(
     tables: &[u16],
     g: Ground,
     w: Strategy,
-) -> Step
+) -> Result<Step, Refusal>
     requires { Tables g tables.now × Family g level.now (ends_in tables.now) × Images g.images (below_in tables.now)
         × Rooms g value.old vector.old × (0 < n) × (n ≤ g.working) × (v ≤ g.vector) }
     ensures { ((above : definition.Monomial → definition.Monomial → Comparison)
@@ -175,7 +165,7 @@ fn steps(
     tables: &[u16],
     g: Ground,
     w: Strategy,
-) -> Outcome
+) -> Result<Outcome, Refusal>
     requires { Tables g tables.now × Family g level.now (ends_in tables.now) × Images g.images (below_in tables.now)
         × Rooms g value.old vector.old × (start ≤ g.working) × (first ≤ g.vector)
         × Well (stage_of g level.now tables.now (order_of g tables.now)) × T (good? (rows value.old 0 start)) }
@@ -186,26 +176,26 @@ fn steps(
 {
     let mut n = start;
     let mut v = first;
+    // A while: a value falls, and no bound on the steps is known.
     while 0 < n {
-        match one_step(value, n, vector, v, level, tables, g, w) {
+        match one_step(value, n, vector, v, level, tables, g, w)? {
             Step::On(x, y) => {
                 n = x;
                 v = y;
             }
-            Step::Refused(x) => return Outcome::Refused(x),
-            Step::Stopped(x) => return Outcome::Stopped(x),
+            Step::Stopped(x) => return Ok(Outcome::Stopped(x)),
         }
     }
-    Outcome::Finished(v)
+    Ok(Outcome::Finished(v))
 }
 
 // A finished vector descending, in its own place, since the value's may have less room; a value without a reducer descending, in the vector's.
 fn sorted(value: &mut [u16], vector: &mut [u16], x: Outcome, tables: &[u16], g: Ground) -> Outcome
     requires { Tables g tables.now × Images g.images (below_in tables.now) × Images g.r (above_in tables.now)
-        × Rooms g value.old vector.old × Ended g x }
-    ensures { (outcome_of result vector.new
-        ≡ ended_of (order_of g tables.now) (table_order g.code (table_of g.r (above_in tables.now))) g.p x
-        value.old vector.old) × Ended g result }
+        × Rooms g value.old vector.old × Ended g (Ok x) }
+    ensures { (outcome_of (Ok result) vector.new
+        ≡ ended_of (order_of g tables.now) (table_order g.code (table_of g.r (above_in tables.now))) g.p (Ok x)
+        value.old vector.old) × Ended g (Ok result) }
 {
     match x {
         Outcome::Finished(v) => {
@@ -219,7 +209,6 @@ fn sorted(value: &mut [u16], vector: &mut [u16], x: Outcome, tables: &[u16], g: 
             );
             Outcome::Finished(k)
         }
-        Outcome::Refused(number) => Outcome::Refused(number),
         Outcome::Stopped(n) => {
             let k = sums::sort(
                 vector,
@@ -243,15 +232,14 @@ pub fn started(
     g: Ground,
     drops: bool,
     m: Monomial,
-) -> Added
+) -> Result<usize, Refusal>
     requires { Tables g tables.now × Family g level.now (ends_in tables.now) × (g.working * row_length ≤ length value.old)
         × (1 ≤ (monomial_of m).1) × ((monomial_of m).1 ≤ g.r) }
     ensures { (added_of result value.new ≡ add_products (reduction_of g tables.now) drops 1 (monomial_of m).0
         (definition.vector_of (family_of g level.now (ends_in tables.now)) (monomial_of m).1) []) × Within g.working result }
 {
-    let q = m.exponents;
-    let i = m.component as usize;
-    reduction::add_multiple(value, 0, level, tables, i, 1, q, g, drops)
+    let i = usize::from(m.component);
+    reduction::add_multiple(value, 0, level, tables, i, 1, m.exponents, g, drops)
 }
 
 // The run of the frame term m.
@@ -263,7 +251,7 @@ pub fn run(
     g: Ground,
     w: Strategy,
     m: Monomial,
-) -> Outcome
+) -> Result<Outcome, Refusal>
     requires { Tables g tables.now × Family g level.now (ends_in tables.now) × Images g.images (below_in tables.now)
         × Images g.r (above_in tables.now) × Rooms g value.old vector.old × (1 ≤ g.vector)
         × Well (stage_of g level.now tables.now (order_of g tables.now)) × (1 ≤ (monomial_of m).1) × ((monomial_of m).1 ≤ g.r) }
@@ -272,15 +260,12 @@ pub fn run(
         (table_order g.code (table_of g.r (above_in tables.now)))) (strategy_of g tables.now w) k (monomial_of m)))
         × Ended g result }
 {
-    let n = match started(value, level, tables, g, w.drops, m) {
-        Added::Rows(n) => n,
-        Added::Refused(x) => return Outcome::Refused(x),
-    };
+    let n = started(value, level, tables, g, w.drops, m)?;
     let t = Term {
         coefficient: 1,
         monomial: m,
     };
     terms::put(vector, 0, t);
-    let x = steps(value, n, vector, 1, level, tables, g, w);
-    sorted(value, vector, x, tables, g)
+    let x = steps(value, n, vector, 1, level, tables, g, w)?;
+    Ok(sorted(value, vector, x, tables, g))
 }

@@ -25,19 +25,17 @@ fn degrees_fit(state: &[u16], s: usize) -> bool
     requires { (state_length ≤ length state.now) × (s ≤ most_components) }
     ensures { result ≡ fits? most_degree (take s (drop degrees_start state.now)) }
 {
-    let mut j: usize = 0;
-    while j < s {
+    for j in 0..s {
         if words::MOST_DEGREE < state[words::DEGREES_START + j] {
             return false;
         }
-        j += 1;
     }
     true
 }
 
-// Where the degrees of level k's components stand.
-fn under_start(k: usize) -> usize
-    requires { k < all_levels }
+// Where the degrees of level k's components stand: those of column k.
+pub fn under_start(k: usize) -> usize
+    requires { k ≤ all_levels }
     ensures { (result ≡ under_place k) × (result + most_vectors ≤ state_length) }
 {
     if k == 0 {
@@ -55,15 +53,11 @@ fn vectors_carry(level: &[u16], ends: &[u16], r: usize, below: &[u16], n: usize,
         (degrees_of (take n below.now) [] (cut_level r level.now ends.now)) }
 {
     let mut from: usize = 0;
-    let mut j: usize = 0;
-    while j < r {
-        let x = tables::degree_at(level, from, below, n);
-        let y = words::wider(d[j]);
-        if x != y {
+    for j in 0..r {
+        if tables::degree_at(level, from, below, n) != words::wider(d[j]) {
             return false;
         }
         from = words::place(ends[j]);
-        j += 1;
     }
     true
 }
@@ -95,12 +89,10 @@ fn levels_carry(state: &[u16], h: usize) -> bool
     requires { (state_length ≤ length state.now) × (h ≤ all_levels) × (get_or state.now 3 0 ≤ most_components) × T (levels_hold? state.now h) }
     ensures { result ≡ levels_carry? state.now h }
 {
-    let mut k: usize = 0;
-    while k < h {
-        if soundness::fails(level_carries(state, k)) {
+    for k in 0..h {
+        if !level_carries(state, k) {
             return false;
         }
-        k += 1;
     }
     true
 }
@@ -113,10 +105,7 @@ pub fn hold(state: &[u16], h: usize) -> bool
     ensures { result ≡ (fits? most_degree (degrees_at document_01 state.now) and levels_carry? state.now h) }
 {
     let s = words::place(state[3]);
-    if degrees_fit(state, s) {
-        return levels_carry(state, h);
-    }
-    false
+    degrees_fit(state, s) && levels_carry(state, h)
 }
 
 // ## A level's degrees written

@@ -17,10 +17,8 @@ pub fn fill_tables(below: &mut [u16], above: &mut [u16], state: &[u16], k: usize
         × (images_length ≤ length below.old) × (images_length ≤ length above.old) }
     ensures { ReadyPair state.now k below.new above.new }
 {
-    let mut j: usize = 0;
-    while j < k {
+    for j in 0..k {
         soundness::advance(below, above, state, j);
-        j += 1;
     }
 }
 
@@ -32,7 +30,7 @@ pub fn components_of(state: &[u16], k: usize) -> usize
     if k == 0 {
         return words::place(state[3]);
     }
-    words::place(state[words::HEADER_LENGTH + (k - 1) * words::COUNTS_LENGTH])
+    soundness::count_of(state, k - 1)
 }
 
 // The leading rows of level k and the spans of its components.
@@ -44,8 +42,6 @@ pub fn fill_leads(heads: &mut [u16], spans: &mut [u16], state: &[u16], k: usize)
     let r = soundness::count_of(state, k);
     let start = words::ROWS_START + k * words::LEVEL_LENGTH;
     let ends = words::ENDS_START + k * words::COUNTS_LENGTH;
-    let p = state[0];
-    tables::fill_heads(heads, &state[start..], &state[ends..], r, p);
-    let c = components_of(state, k);
-    tables::fill_spans(spans, c + 1, heads, r);
+    tables::fill_heads(heads, &state[start..], &state[ends..], r, state[0]);
+    tables::fill_spans(spans, components_of(state, k) + 1, heads, r);
 }

@@ -1,7 +1,7 @@
 // The state as words: the soundness test behind 11, and the tables of images that it makes as it goes.
 // Knows: crate definitions' Layout and State, with document 01's limits (docs/BUFFERS.md).
 // It writes nothing of the state; that is state::writing.
-ghost use Rattle.std.specs.Prelude.{◌≡◌, not, ◌+◌, ◌-◌, ◌*◌, ◌≤◌, ◌<◌, length, take};
+ghost use Rattle.std.specs.Prelude.{◌≡◌, ◌+◌, ◌-◌, ◌*◌, ◌≤◌, ◌<◌, length, take};
 ghost use Rattle.definitions.specs.Limits.{document_01};
 ghost use Rattle.definitions.specs.Lists.{◌and◌};
 ghost use Rattle.definitions.specs.Packed.{pack};
@@ -28,7 +28,7 @@ ghost use Rattle.state.specs.soundness.Tabled.{Advanced};
 ghost use Rattle.reducers.specs.tables.Cuts.{Cut};
 
 use crate::degrees;
-use orders::{Comparison, Image};
+use orders::Image;
 use reducers::tables;
 use vectors::terms;
 use words::parameters;
@@ -40,24 +40,6 @@ pub struct Bounds {
     pub top: u16,
     pub components: u16,
     pub exponents: u64,
-}
-
-fn both(a: bool, b: bool) -> bool
-    ensures { result ≡ (a and b) }
-{
-    if a {
-        return b;
-    }
-    false
-}
-
-pub fn fails(a: bool) -> bool
-    ensures { result ≡ not a }
-{
-    if a {
-        return false;
-    }
-    true
 }
 
 // ## Parameters
@@ -93,24 +75,13 @@ fn exponent_limits(n: u16) -> u64
     }
 }
 
-fn less_one(p: u16) -> u16
-    ensures { result ≡ p - 1 }
-{
-    if p == 0 {
-        return 0;
-    }
-    p - 1
-}
-
 pub fn row_bounds(p: u16, n: u16, components: u16) -> Bounds
     ensures { result ≡ bounds_of p n components }
 {
-    let top = less_one(p);
-    let exponents = exponent_limits(n);
     Bounds {
-        top,
+        top: p.saturating_sub(1),
         components,
-        exponents,
+        exponents: exponent_limits(n),
     }
 }
 
@@ -119,11 +90,12 @@ pub fn row_holds(level: &[u16], i: usize, b: Bounds) -> bool
     ensures { result ≡ row_holds? b level.now i }
 {
     let at = i * words::ROW_LENGTH;
-    let c = words::between(1, level[at], b.top);
-    let m = words::between(1, level[at + words::COMPONENT_OFFSET], b.components);
-    let x = words::long(level, at + words::EXPONENTS_OFFSET);
-    let e = monomial::divides_exponents(x, b.exponents);
-    both(c, both(m, e))
+    words::between(1, level[at], b.top)
+        && words::between(1, level[at + words::COMPONENT_OFFSET], b.components)
+        && monomial::divides_exponents(
+            words::long(level, at + words::EXPONENTS_OFFSET),
+            b.exponents,
+        )
 }
 
 // ## Vectors
@@ -133,12 +105,7 @@ fn follows(level: &[u16], i: usize, b: Bounds, code: u16, before: Image, image: 
     requires { i * row_length + row_length ≤ length level.now }
     ensures { result ≡ (row_holds? b level.now i and greater? (compare_keys code (key_of before) (key_of image))) }
 {
-    let x = row_holds(level, i, b);
-    match orders::compare_images(code, before, image) {
-        Comparison::Greater => x,
-        Comparison::Equal => false,
-        Comparison::Smaller => false,
-    }
+    row_holds(level, i, b) && orders::compare_images(code, before, image).is_gt()
 }
 
 // The rows behind row `from`, up to row `to`.
@@ -155,14 +122,12 @@ fn rest_holds(
     ensures { result ≡ all_hold? (follows? b (table_order code (table_of n table.now)) level.now) (from + 1) (to - (from + 1)) }
 {
     let mut before = tables::image_at(level, from, table, n);
-    let mut i = from + 1;
-    while i < to {
+    for i in from + 1..to {
         let image = tables::image_at(level, i, table, n);
-        if fails(follows(level, i, b, code, before, image)) {
+        if !follows(level, i, b, code, before, image) {
             return false;
         }
         before = image;
-        i += 1;
     }
     true
 }
@@ -181,18 +146,11 @@ fn vector_holds(
     requires { (level_length ≤ length level.now) × (n * image_length ≤ length table.now) × Tabled n table.now }
     ensures { result ≡ vector_holds? b most (table_order code (table_of n table.now)) level.now from to }
 {
-    if to <= from {
-        return false;
-    }
-    if words::MOST_ROWS < to {
-        return false;
-    }
-    if most < to - from {
-        return false;
-    }
-    let x = row_holds(level, from, b);
-    let y = rest_holds(level, from, to, b, code, table, n);
-    both(x, y)
+    from < to
+        && to <= words::MOST_ROWS
+        && to - from <= most
+        && row_holds(level, from, b)
+        && rest_holds(level, from, to, b, code, table, n)
 }
 
 // Vectors by their ends.
@@ -210,14 +168,12 @@ fn vectors_hold(
     ensures { result ≡ vectors_hold? b most (table_order code (table_of n table.now)) level.now 0 (take r ends.now) }
 {
     let mut from: usize = 0;
-    let mut j: usize = 0;
-    while j < r {
+    for j in 0..r {
         let to = words::place(ends[j]);
-        if fails(vector_holds(level, from, to, most, b, code, table, n)) {
+        if !vector_holds(level, from, to, most, b, code, table, n) {
             return false;
         }
         from = to;
-        j += 1;
     }
     true
 }
@@ -240,7 +196,7 @@ fn count_under(state: &[u16], k: usize) -> usize
     if k == 0 {
         return 0;
     }
-    words::place(state[words::HEADER_LENGTH + (k - 1) * words::COUNTS_LENGTH])
+    count_of(state, k - 1)
 }
 
 // Level k: from low to high vectors, of at most so many terms each.
@@ -261,13 +217,18 @@ fn level_holds(
 {
     let at = words::HEADER_LENGTH + k * words::COUNTS_LENGTH;
     let count = state[at];
-    if fails(words::between(low, count, high)) {
-        return false;
-    }
     let start = words::ROWS_START + k * words::LEVEL_LENGTH;
-    let r = words::place(count);
-    let ends = at + 1;
-    vectors_hold(&state[start..], &state[ends..], r, most, b, code, table, n)
+    words::between(low, count, high)
+        && vectors_hold(
+            &state[start..],
+            &state[at + 1..],
+            words::place(count),
+            most,
+            b,
+            code,
+            table,
+            n,
+        )
 }
 
 // Level k, over the table of images of its module.
@@ -332,14 +293,12 @@ fn levels_hold(below: &mut [u16], above: &mut [u16], state: &[u16], h: usize) ->
     requires { (state_length ≤ length state.now) × (h ≤ all_levels) × (images_length ≤ length below.old) × (images_length ≤ length above.old) }
     ensures { result ≡ levels_hold? state.now h }
 {
-    let mut k: usize = 0;
-    while k < h {
+    for k in 0..h {
         let n = count_under(state, k);
-        if fails(level_test(state, k, above, n)) {
+        if !level_test(state, k, above, n) {
             return false;
         }
         advance(below, above, state, k);
-        k += 1;
     }
     true
 }
@@ -352,8 +311,7 @@ fn basis_holds(state: &[u16], h: usize) -> bool
     ensures { result ≡ basis_holds? state.now h }
 {
     let q = read_parameters(state);
-    let ranges = parameters::in_ranges(q);
-    if fails(both(field::prime_in_range(q.p), ranges)) {
+    if !(field::prime_in_range(q.p) && parameters::in_ranges(q)) {
         return false;
     }
     let mut below = [0u16; words::IMAGES_LENGTH];
@@ -367,14 +325,8 @@ pub fn sound(state: &[u16]) -> bool
     ensures { result ≡ holds_state? document_01 state.now }
 {
     let h = words::place(state[4]);
-    if h == 0 {
+    if h == 0 || words::ALL_LEVELS < h {
         return false;
     }
-    if words::ALL_LEVELS < h {
-        return false;
-    }
-    if fails(basis_holds(state, h)) {
-        return false;
-    }
-    degrees::hold(state, h)
+    basis_holds(state, h) && degrees::hold(state, h)
 }

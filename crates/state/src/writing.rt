@@ -33,11 +33,9 @@ pub fn copy_rows(d: &mut [u16], used: usize, value: &[u16], v: usize)
     requires { (v * row_length ≤ length value.now) × ((used + v) * row_length ≤ length d.old) }
     ensures { d.new ≡ paste d.old (used * row_length) (rows_of (rows value.now 0 v)) (v * row_length) }
 {
-    let mut j: usize = 0;
-    while j < v {
+    for j in 0..v {
         let t = terms::row(value, j);
         terms::put(d, used + j, t);
-        j += 1;
     }
 }
 
@@ -88,10 +86,8 @@ fn tidy(state: &mut [u16], h: usize)
     requires { (state_length ≤ length state.old) × (h ≤ all_levels) × T (all_words_sound? document_01 state.old h) }
     ensures { TidiedTo state.old state.new h }
 {
-    let mut k: usize = 0;
-    while k < h {
+    for k in 0..h {
         tidy_level(state, k);
-        k += 1;
     }
 }
 
@@ -111,10 +107,8 @@ fn tidy_carried(state: &mut [u16], h: usize)
     requires { (state_length ≤ length state.old) × (h ≤ all_levels) × Few state.old h }
     ensures { CarriedTo state.old state.new h }
 {
-    let mut k: usize = 0;
-    while k < h {
+    for k in 0..h {
         tidy_degrees(state, k);
-        k += 1;
     }
 }
 

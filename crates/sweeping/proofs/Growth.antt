@@ -1,11 +1,12 @@
 -- A table that grows: by an edge, by a row's product, by the rows of a multiple, by a node that is expanded, by a frame term.
 use mathlib.Core.Path.{◌≡◌, refl, sym, ap, ◌∙◌, subst}
 use mathlib.Core.Bool.{Bool, true, false}
-use mathlib.Core.List.{List, [], ◌∷◌, ◌++◌}
+use mathlib.Core.List.{[], ◌∷◌, ◌++◌}
 use mathlib.Core.Logic.{◌≢◌, ⊎_elim}
 use Prim.Native.Nat.{ℕ, zero, suc, ◌+◌, ◌-◌, ◌*◌, ◌<◌, ◌≤◌}
 use native.Mathlib.Omega.{arith}
 use mathlib.Core.Option.{Option, none, some}
+use Rattle.std.specs.Prelude.{Option as CodeOption, Some, None}
 use lib.Dec.{T}
 use lib.ListN.{length, get_or, take, set, length-set}
 use lib.Seq.{get_or-set_same, get_or-set_other}
@@ -15,7 +16,7 @@ use Rattle.definitions.specs.Monomial.{Exponents, Monomial, Term, Vector, produc
 use Rattle.definitions.specs.Reducer.{Answer, reducer, lower_order}
 use Rattle.definitions.specs.Stage.{Stage}
 use Rattle.definitions.specs.Run.{dropped?, multiple}
-use Rattle.definitions.specs.Layout.{Words, row_at, rows, vectors_at}
+use Rattle.definitions.specs.Layout.{Words, rows, vectors_at}
 use Rattle.laws.proofs.Rows.{rows_first}
 use Rattle.runs.specs.reduction.Grounds.{first_row}
 use Rattle.runs.proofs.reduction.Adding.{rows_none}
@@ -43,22 +44,8 @@ use Rattle.sweeping.specs.Nodes.{first_root, roots_end, roots_of, Growing, Roote
 use Rattle.sweeping.specs.Made.{Added, Edged}
 use Rattle.sweeping.specs.Growth.{most_edges, Led, Rowed, LedAs, RowedAs, SpannedBy, SpannedAs, Noded, NodedAs, SpanPut, AllGrownAs, Sized}
 use Rattle.sweeping.specs.Reaches.{ReachedAs}
-use Rattle.sweeping.specs.declared.growing.Grown.{Grown}
-use Rattle.sweeping.specs.declared.growing.Grown.TheVariants.{Sizes, Over}
 use Rattle.sweeping.proofs.Views.{edges_last, edges_none}
-use Rattle.sweeping.proofs.Tests.{untrue}
-use Rattle.sweeping.proofs.Tables.{
-  below_or,
-  expanded_same,
-  leads_last,
-  skips_last,
-  edges_more,
-  node_same,
-  edges_stay,
-  told_same,
-  told_more,
-  products_same,
-}
+use Rattle.sweeping.proofs.Tables.{below_or, expanded_same, leads_last, skips_last, edges_more, node_same, told_more, products_same}
 
 -- ## What stays
 
@@ -171,28 +158,27 @@ rowed_led S d count most n n' e e' c q r nodes words nodes' words' f s l = recor
 
 -- ## Answers
 
-pub formed_both : {A : Type 0} (b d : Bool) (x y : A) → choose b (some x) none ≡ choose d (some y) none → b ≡ true → (d ≡ true) × (x ≡ y)
-formed_both true true x y e h = (refl, ap (from x) e)
+pub formed_some : {A : Type 0} (d : Bool) (x y : A) → some x ≡ choose d (some y) none → (d ≡ true) × (x ≡ y)
+formed_some true x y e = (refl, ap (from x) e)
   where
     from : {A : Type 0} → A → Option A → A
     from z (some w) = w
     from z none = z
-formed_both true false x y e h = absurd (subst is_some e tt)
+formed_some false x y e = absurd (subst is_some e tt)
   where
     is_some : {A : Type 0} → Option A → Type 0
     is_some (some w) = Unit {0}
     is_some none = ⊥
-formed_both false d x y e h = untrue h
 
-pub led_rowed : (S : Stage) (d : Bool) (count most n e c : ℕ) (q : Exponents) (r : Term) (nodes words nodes' words' : Words) (m : Monomial) (k : ℕ) (x : Grown)
+pub led_rowed : (S : Stage) (d : Bool) (count most n e c : ℕ) (q : Exponents) (r : Term) (nodes words nodes' words' : Words) (m : Monomial) (k : ℕ) (x : CodeOption (ℕ × ℕ))
     → m ≡ (product q r.1.0, r.1.1) → k ≡ times S.reduction.p c r.0 → T (fits? S.reduction.limits.exponent (product q r.1.0))
     → Same n e nodes words nodes' words' → LedAs S d count most n e m k x nodes words nodes' words'
     → RowedAs S d count most n e c q r x nodes words nodes' words'
-led_rowed S d count most n e c q r nodes words nodes' words' m k (Sizes n' e') a b f s l =
+led_rowed S d count most n e c q r nodes words nodes' words' m k (Some (n', e')) a b f s l =
     rowed_led S d count most n n' e e' c q r nodes words nodes' words' f s
     (subst (λ y. Led S d count most n n' e e' (product q r.1.0, r.1.1) y nodes words nodes' words') b
     (subst (λ y. Led S d count most n n' e e' y k nodes words nodes' words') a l))
-led_rowed S d count most n e c q r nodes words nodes' words' m k Over a b f s l = tt
+led_rowed S d count most n e c q r nodes words nodes' words' m k None a b f s l = tt
 
 -- ## Row after row
 
@@ -281,14 +267,14 @@ noded_none S d count n e m nodes words p t = record {
       (subst (λ es. LeadsAt S.reduction d (node_at nodes) n es []) (sym (edges_none words e)) at_end));
 }
 
-pub spanned_noded : (S : Stage) (d : Bool) (count most n e c : ℕ) (q : Exponents) (f : Vector) (m : Monomial) (x : Grown) (nodes' words' : Words)
+pub spanned_noded : (S : Stage) (d : Bool) (count most n e c : ℕ) (q : Exponents) (f : Vector) (m : Monomial) (x : CodeOption (ℕ × ℕ)) (nodes' words' : Words)
     → edges S.reduction.p c q f ≡ products_of S (answer_at S m) → SpannedAs S d count most n e c q f x nodes' words'
     → NodedAs S d count e m x nodes' words'
-spanned_noded S d count most n e c q f m (Sizes n' e') nodes' words' p s = record {
+spanned_noded S d count most n e c q f m (Some (n', e')) nodes' words' p s = record {
   told = s.told;
   leads = subst (LeadsAt S.reduction d (node_at nodes') n' (edges_in words' e (e' - e))) p s.products.leads;
 }
-spanned_noded S d count most n e c q f m Over nodes' words' p s = tt
+spanned_noded S d count most n e c q f m None nodes' words' p s = tt
 
 -- ## Spans
 
@@ -358,7 +344,7 @@ growing_all S d count n x e nodes spans words z g = subst (λ y. Growing S d cou
 
 -- ## A frame term
 
-pub spanned_alike : (S : Stage) (d : Bool) (count most n e c : ℕ) (q : Exponents) (f f' : Vector) (x : Grown) (nodes' words' : Words) → f ≡ f'
+pub spanned_alike : (S : Stage) (d : Bool) (count most n e c : ℕ) (q : Exponents) (f f' : Vector) (x : CodeOption (ℕ × ℕ)) (nodes' words' : Words) → f ≡ f'
     → SpannedAs S d count most n e c q f x nodes' words' → SpannedAs S d count most n e c q f' x nodes' words'
 spanned_alike S d count most n e c q f f' x nodes' words' p s = subst (λ g. SpannedAs S d count most n e c q g x nodes' words') p s
 
@@ -398,11 +384,11 @@ rooted_begun S d n x x' e y y' v m nodes words nodes' spans spans' spans'' words
       leads = subst (λ es. LeadsAt S.reduction d (node_at nodes') x' es (edges S.reduction.p 1 m.0 (vector_of S.family m.1))) (sym same) t.leads;
     }
 
-pub reached : (S : Stage) (d : Bool) (count most n x e y v : ℕ) (m : Monomial) (r : Grown) (nodes words nodes' spans spans' spans'' words' : Words)
+pub reached : (S : Stage) (d : Bool) (count most n x e y v : ℕ) (m : Monomial) (r : CodeOption (ℕ × ℕ)) (nodes words nodes' spans spans' spans'' words' : Words)
     → n ≤ x → e ≤ y → SpanPut (roots_start + v * 2) e y spans spans' → SameSpans n (v + 1) spans' spans'' → Same x y nodes words nodes' words'
     → ProductsAt S d x e y nodes words 1 m.0 (vector_of S.family m.1) → AllGrownAs S d count r nodes' spans'' words' → Sized most x y r
     → ReachedAs S d count most n e v m r nodes' spans'' words'
-reached S d count most n x e y v m (Sizes x' y') nodes words nodes' spans spans' spans'' words' a b p r s w g z = (
+reached S d count most n x e y v m (Some (x', y')) nodes words nodes' spans spans' spans'' words' a b p r s w g z = (
   g,
   rooted_begun S d n x x' e y y' v m nodes words nodes' spans spans' spans'' words' z.0 z.2 p r s w,
   omega (arith, a, z.0),
@@ -410,4 +396,4 @@ reached S d count most n x e y v m (Sizes x' y') nodes words nodes' spans spans'
   omega (arith, b, z.2),
   z.3,
 )
-reached S d count most n x e y v m Over nodes words nodes' spans spans' spans'' words' a b p r s w g z = tt
+reached S d count most n x e y v m None nodes words nodes' spans spans' spans'' words' a b p r s w g z = tt

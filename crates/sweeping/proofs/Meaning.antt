@@ -5,34 +5,32 @@ use mathlib.Core.List.{List, [], ◌∷◌}
 use Prim.Native.Nat.{ℕ, zero, suc, ◌+◌, ◌-◌, ◌*◌, ◌<◌, ◌≤◌}
 use native.Mathlib.Omega.{arith}
 use borrow.Author.Tests.{ne_eqb}
-use lib.Dec.{T, leb, ltb, eqb, leb→le, le→leb, ltb→lt, eqb→eq, eqb_refl}
+use lib.Dec.{T, leb, ltb, eqb, le→leb, ltb→lt, eqb_refl}
 use lib.ListN.{length, get_or, take, drop}
 use lib.Seq.{get_or-take, length-take-le}
 use Rattle.definitions.specs.Places.{most_exponent}
 use Rattle.definitions.specs.Limits.{Limits}
-use Rattle.definitions.specs.Lists.{◌and◌, every, between, rest}
-use Rattle.definitions.specs.Field.{minus, times}
-use Rattle.definitions.specs.Monomial.{Exponents, Monomial, Term, Vector, Level, fits?, no_term, leading_monomials, vector_of, quotient, divides_monomial?}
+use Rattle.definitions.specs.Lists.{◌and◌, every, between}
+use Rattle.definitions.specs.Field.{times}
+use Rattle.definitions.specs.Monomial.{Monomial, Term, Vector, Level, fits?, no_term, leading_monomials, quotient, divides_monomial?}
 use Rattle.definitions.specs.Frame.{frame}
-use Rattle.definitions.specs.Reducer.{Answer, reducer, lower_order, answer_from, answer}
-use Rattle.definitions.specs.Packed.{unpack}
+use Rattle.definitions.specs.Reducer.{Answer, reducer, lower_order, answer_from}
 use Rattle.definitions.specs.Problem.{Parameters}
 use Rattle.definitions.specs.Result.{Result, done, refused, unfinished, finished?}
 use Rattle.definitions.specs.Stage.{Reduction, Stage, stage_over}
-use Rattle.definitions.specs.Run.{Strategy, run, accepting_strategy}
-use Rattle.definitions.specs.Layout.{Words, row_at}
+use Rattle.definitions.specs.Run.{run, accepting_strategy}
+use Rattle.definitions.specs.Layout.{Words}
 use Rattle.laws.proofs.Tests.{and_left, and_right, and_both, every_at}
 use Rattle.laws.proofs.Rows.{row_is}
 use Rattle.laws.proofs.Packing.{Eight, unpack_eight}
 use Rattle.demands.specs.Notions.{Member}
-use Rattle.demands.specs.Picks.{Picks}
 use Rattle.sweeps.specs.Sizes.{eight_variables}
-use Rattle.sweeps.specs.Sweep.{edges, answer_at, placed?, components, nodes_fit?}
+use Rattle.sweeps.specs.Sweep.{answer_at, placed?, components}
 use Rattle.sweeps.specs.Places.{Row, spread_at, places, settled?, LeadsIn, no_more_in, skips_in, leads_in, products_of, RowIn, RowsIn, RootsIn}
 use Rattle.sweeps.specs.Places.{no_row, picked, renumbered, renumbered_row, renumbered_rows, ordered_nodes, ordered_rows, inverse?}
 use Rattle.sweeps.specs.Claims.{Discovered, Built, passed_vector, passed_settled?, Flagged, Passed}
 use Rattle.sweeps.proofs.Footing.{Footing}
-use Rattle.sweeps.proofs.Renumbered.{Stands, Inverse, inverse_says, built, rooted, discovered_passed}
+use Rattle.sweeps.proofs.Renumbered.{Inverse, inverse_says, built, rooted, discovered_passed}
 use Rattle.sweeps.proofs.Clearing.{Targets, AllTargets, rows_targets, leads_targets, Agree, spread_agree, places_agree, zeros_get, zeros_length}
 use Rattle.sweeps.specs.Sweep.{zeros}
 use Rattle.sweeping.specs.Nodes.{
@@ -49,11 +47,11 @@ use Rattle.sweeping.specs.Nodes.{
   row_of_node,
   nodes_in,
 }
-use Rattle.sweeping.specs.Nodes.{rows_in, LeadsAt, at_end, skips_at, leads_at, Says, Told, Expanded, Growing, Rooted, Gathered, frame_term}
+use Rattle.sweeping.specs.Nodes.{rows_in, LeadsAt, at_end, skips_at, leads_at, Says, Growing, Rooted}
 use Rattle.sweeping.specs.Orders.{Renumbered, Arranged, rows_by}
 use Rattle.sweeping.specs.Passes.{Onward, Passable, Passes}
 use Rattle.sweeping.specs.Served.{Served}
-use Rattle.sweeping.proofs.Views.{nodes_length, nodes_get, rows_get, rows_length, edges_first, by_first, by_none}
+use Rattle.sweeping.proofs.Views.{nodes_length, nodes_get, rows_get, edges_first, by_first, by_none}
 
 -- ## Every node has eight exponents of a byte
 

@@ -1,10 +1,13 @@
 -- One frame term by a pass or by its run, and what it gives kept beside the vectors before it.
 use mathlib.Core.Path.{◌≡◌, refl, sym, ap, ◌∙◌, subst}
 use mathlib.Core.Bool.{Bool, true, false}
-use mathlib.Core.List.{[], ◌∷◌, ◌++◌}
-use Prim.Native.Nat.{ℕ, suc, ◌+◌, ◌*◌, ◌<◌, ◌≤◌}
+use mathlib.Core.List.{[]}
+use Prim.Native.Nat.{ℕ, ◌+◌, ◌*◌, ◌<◌, ◌≤◌}
 use native.Mathlib.Omega.{arith}
 use lib.Dec.{T}
+use Rattle.std.specs.Prelude.{Result, Ok, Err}
+use Rattle.words.specs.declared.refusals.Refusal.{Refusal}
+use Rattle.words.specs.declared.refusals.Refusal.TheVariants.{Level}
 use lib.ListN.{length, set}
 use lib.Seq.{paste}
 use Rattle.definitions.specs.Monomial.{Monomial}
@@ -21,19 +24,18 @@ use Rattle.runs.specs.frame_terms.Vectors.{lifted_vectors, Kept, lifted_one, one
 use Rattle.runs.specs.declared.reduction.Ground.{Ground}
 use Rattle.runs.specs.declared.run.Strategy.{Strategy}
 use Rattle.runs.specs.declared.run.Outcome.{Outcome}
-use Rattle.runs.specs.declared.run.Outcome.TheVariants.{Finished, Refused, Stopped}
-use Rattle.runs.specs.declared.frame_terms.One.{One}
-use Rattle.runs.specs.declared.frame_terms.One.TheVariants.{Used, Refused as OneRefused, Stopped as OneStopped}
+use Rattle.runs.specs.declared.run.Outcome.TheVariants.{Finished, Stopped}
+use Rattle.runs.specs.declared.frame_terms.One.TheVariants.{Used, Stopped as OneStopped}
 use Rattle.runs.specs.declared.frame_terms.Lifted.TheVariants.{Rows}
 use Rattle.runs.proofs.frame_terms.LoopsOverFrame.{Going, going_start, going_end}
 use Rattle.runs.proofs.frame_terms.OneVectorMore.{none_kept, vectors_grown, kept_grown, with_room, without_room}
 use Rattle.sweeping.specs.Nodes.{ground_stage, frame_term}
 use Rattle.sweeping.specs.Passes.{Passes}
-use Rattle.sweeping.specs.Serving.{Grounded, Serving, Allowed}
+use Rattle.sweeping.specs.Serving.{Grounded, Allowed}
 use Rattle.sweeping.specs.Sweeps.{Batched, Ready, PassedBy, kept_one}
 use Rattle.sweeping.specs.Gone.{LiftedAs, LiftedTo, GoneAs}
 use Rattle.sweeping.specs.declared.lifting.Gone.{Gone}
-use Rattle.sweeping.specs.declared.lifting.Gone.TheVariants.{At, Refused as GoneRefused, Stopped as GoneStopped}
+use Rattle.sweeping.specs.declared.lifting.Gone.TheVariants.{At, Stopped as GoneStopped}
 use Rattle.sweeping.specs.Orders.{Arranged}
 use Rattle.sweeping.specs.Growth.{most_edges}
 use Rattle.sweeping.specs.Reaches.{ServingNodes, TakenAs}
@@ -59,8 +61,8 @@ module _ (g : Ground) (level tables frame : Words) (count : ℕ) (G : Grounded g
 
     -- the run comes to the vector of the pass
     pub one_passed : Allowed w → (m : Monomial) → m ≡ frame_term frame v → (r : ℕ) (vector : Words) → PassedBy g.p b nodes spans words order v m r vector
-        → ((k : ℕ) × (outcome_of (Finished r) vector ≡ run (ground_stage g level tables) (strategy_of g tables w) k (frame_term frame v)))
-        × Ended g (Finished r)
+        → ((k : ℕ) × (outcome_of (Ok (Finished r)) vector ≡ run (ground_stage g level tables) (strategy_of g tables w) k (frame_term frame v)))
+        × Ended g (Ok (Finished r))
     one_passed a m e r vector p =
         let s = B.serves p.serves in
         let low : v ≤ v = omega arith in (
@@ -76,32 +78,29 @@ module _ (g : Ground) (S : Stage) (room : S.reduction.limits.level_terms ≡ g.r
   abbrev l : Lifted
   l = (lifted_vectors out i, used)
 
-  -- 15
-  pub keep_full : (v : ℕ) → g.room < used + v → (x : Outcome) → x ≡ Finished v → one_of (OneRefused 15) i out vector ≡ kept_one S l x vector
+  -- there is no room
+  pub keep_full : (v : ℕ) → g.room < used + v → (x : Outcome) → x ≡ Finished v → one_of (Err Level) i out vector ≡ kept_one S l (Ok x) vector
   keep_full v h x e =
-      without_room S l (rows vector 0 v) v (length_rows vector 0 v) (omega (arith, h, room)) ∙ ap (λ y. kept_one S l y vector) (sym e)
+      without_room S l (rows vector 0 v) v (length_rows vector 0 v) (omega (arith, h, room)) ∙ ap (λ y. kept_one S l (Ok y) vector) (sym e)
 
   pub keep_grown : (v : ℕ) → used + v ≤ g.room → i < most_vectors → (used + v) * row_length + ends_length ≤ length out → v * row_length ≤ length vector
       → Kept i used out
       → (out' : Words) → out' ≡ set (paste out (used * row_length + ends_length) vector (v * row_length)) i (used + v) → (x : Outcome) → x ≡ Finished v
-      → one_of (Used (used + v)) i out' vector ≡ kept_one S l x vector
+      → one_of (Ok (Used (used + v))) i out' vector ≡ kept_one S l (Ok x) vector
   keep_grown v h few there has kept out' z x e =
       ap (λ o. done (lifted_vectors o (i + 1), used + v)) z ∙ ap (λ f. done (f, used + v)) (vectors_grown out vector i used v few there has kept)
-      ∙ with_room S l (rows vector 0 v) v (length_rows vector 0 v) (omega (arith, h, room)) ∙ ap (λ y. kept_one S l y vector) (sym e)
+      ∙ with_room S l (rows vector 0 v) v (length_rows vector 0 v) (omega (arith, h, room)) ∙ ap (λ y. kept_one S l (Ok y) vector) (sym e)
 
-  pub keep_refused : (number : ℕ) (x : Outcome) → x ≡ Refused number → one_of (OneRefused number) i out vector ≡ kept_one S l x vector
-  keep_refused number x e = ap (λ y. kept_one S l y vector) (sym e)
-
-  pub keep_stopped : (n : ℕ) (x : Outcome) → x ≡ Stopped n → one_of (OneStopped n) i out vector ≡ kept_one S l x vector
-  keep_stopped n x e = ap (λ y. kept_one S l y vector) (sym e)
+  pub keep_stopped : (n : ℕ) (x : Outcome) → x ≡ Stopped n → one_of (Ok (OneStopped n)) i out vector ≡ kept_one S l (Ok x) vector
+  keep_stopped n x e = ap (λ y. kept_one S l (Ok y) vector) (sym e)
 
 pub after_grown : (g : Ground) (out vector : Words) (i used v : ℕ) → used + v ≤ g.room → i < most_vectors → (used + v) * row_length + ends_length ≤ length out
     → v * row_length ≤ length vector → Kept i used out → (out' : Words)
-    → out' ≡ set (paste out (used * row_length + ends_length) vector (v * row_length)) i (used + v) → After g i (Used (used + v)) out'
+    → out' ≡ set (paste out (used * row_length + ends_length) vector (v * row_length)) i (used + v) → After g i (Ok (Used (used + v))) out'
 after_grown g out vector i used v h few there has kept out' z = (h, subst (Kept (i + 1) (used + v)) (sym z) (kept_grown out vector i used v few there has kept))
 
 -- an outcome that is the run's gives, beside the vectors before it, what the definitions give
-pub kept_run : (S : Stage) (W : definition.Strategy) (k : ℕ) (l : Lifted) (m : Monomial) (x : Outcome) (vector : Words) → outcome_of x vector ≡ run S W k m
+pub kept_run : (S : Stage) (W : definition.Strategy) (k : ℕ) (l : Lifted) (m : Monomial) (x : Result Outcome Refusal) (vector : Words) → outcome_of x vector ≡ run S W k m
     → kept_one S l x vector ≡ lifted_one S W k l m
 kept_run S W k l m x vector e = ap (λ y. y >>= λ v. with_vector S l (v, [])) e
 
@@ -172,27 +171,27 @@ module _ (g : Ground) (S : Stage) (W : definition.Strategy) (frame : Words) (cou
   gone_none out = going_start S W frame count
 
   -- all frame terms are
-  pub gone_whole : (i used : ℕ) (out vector : Words) → LiftedTo g S W frame count false i used out → LiftedAs g S W frame count (Rows used) out vector
+  pub gone_whole : (i used : ℕ) (out vector : Words) → LiftedTo g S W frame count false i used out → LiftedAs g S W frame count (Ok (Rows used)) out vector
   gone_whole i used out vector r =
       let e : i ≡ count = omega (arith, r.inside, r.all refl) in
       let z = going_end S W frame count (lifted_vectors out i, used) i r.going (r.all refl) in
       ((z.0, ap (λ n. done (lifted_vectors out n)) (sym e) ∙ z.1), (r.room, subst (λ n. Kept n used out) e r.kept))
 
   -- there is none
-  pub gone_empty : count ≡ 0 → (out vector : Words) → LiftedAs g S W frame count (Rows 0) out vector
+  pub gone_empty : count ≡ 0 → (out vector : Words) → LiftedAs g S W frame count (Ok (Rows 0)) out vector
   gone_empty e out vector =
       let z = going_end S W frame count (lifted_vectors out 0, 0) 0 (gone_none out) (omega (arith, e)) in
       ((z.0, ap (λ n. done (lifted_vectors out n)) e ∙ z.1), (omega arith, subst (λ n. Kept n 0 out) (sym e) (none_kept out)))
 
   -- what holds whether leaving is allowed or not holds where it is allowed
-  pub gone_allowed : (leaves : Bool) (x : Gone) (out vector : Words) → GoneAs g S W frame count leaves x out vector
+  pub gone_allowed : (leaves : Bool) (x : Result Gone Refusal) (out vector : Words) → GoneAs g S W frame count leaves x out vector
       → GoneAs g S W frame count true x out vector
-  gone_allowed leaves (At i used) out vector r = record {
+  gone_allowed leaves (Ok (At i used)) out vector r = record {
     going = r.going;
     inside = r.inside;
     room = r.room;
     kept = r.kept;
     all = λ e. absurd (subst T e tt);
   }
-  gone_allowed leaves (GoneRefused number) out vector r = r
-  gone_allowed leaves (GoneStopped n) out vector r = r
+  gone_allowed leaves (Err refusal) out vector r = r
+  gone_allowed leaves (Ok (GoneStopped n)) out vector r = r

@@ -1,20 +1,16 @@
 -- A table that serves, used: what a pass asks for, and that its vector is the run's.
-use mathlib.Core.Path.{◌≡◌, refl, sym, ap, ◌∙◌, subst}
-use mathlib.Core.Logic.{◌⊎◌, inl, inr}
-use mathlib.Core.Bool.{Bool, true, false}
-use mathlib.Core.List.{List, ◌∷◌}
-use Prim.Native.Nat.{ℕ, suc, ◌+◌, ◌-◌, ◌*◌, ◌<◌, ◌≤◌}
+use mathlib.Core.Path.{◌≡◌, sym, ap, ◌∙◌, subst}
+use mathlib.Core.Logic.{inl, inr}
+use mathlib.Core.Bool.{Bool, true}
+use mathlib.Core.List.{◌∷◌}
+use Prim.Native.Nat.{ℕ, suc, ◌-◌, ◌<◌, ◌≤◌}
 use native.Mathlib.Omega.{arith}
 use lib.Dec.{T}
-use lib.ListN.{length}
 use Rattle.definitions.specs.Places.{most_exponent}
-use Rattle.definitions.specs.Monomial.{Monomial, Vector, Level}
-use Rattle.definitions.specs.Problem.{Parameters}
-use Rattle.definitions.specs.Limits.{Limits}
+use Rattle.definitions.specs.Monomial.{Vector}
 use Rattle.definitions.specs.Result.{done}
 use Rattle.definitions.specs.Stage.{Stage, stage_over}
-use Rattle.definitions.specs.Run as definition
-use Rattle.definitions.specs.Run.{by_code, run, hybrid_strategy, accepting_strategy}
+use Rattle.definitions.specs.Run.{by_code, run, accepting_strategy}
 use Rattle.definitions.specs.Layout.{Words}
 use Rattle.demands.specs.Picks.{Picks}
 use Rattle.demands.proofs.Picking.{hybrid_picks}
@@ -23,7 +19,7 @@ use Rattle.runs.specs.declared.reduction.Ground.{Ground}
 use Rattle.runs.specs.declared.run.Strategy.{Strategy}
 use Rattle.sweeps.specs.Sizes.{eight_variables}
 use Rattle.sweeps.specs.Sweep.{components}
-use Rattle.sweeping.specs.Nodes.{ground_stage, frame_term, first_root, roots_end, Growing, Rooted, Gathered}
+use Rattle.sweeping.specs.Nodes.{ground_stage, frame_term, first_root, roots_end, Growing, Rooted}
 use Rattle.sweeping.specs.Orders.{Arranged}
 use Rattle.sweeping.specs.Passes.{Onward, Passable, Passes}
 use Rattle.sweeping.specs.Served.{Served}

@@ -6,29 +6,15 @@ use mathlib.Core.List.{List, [], ◌∷◌, ◌++◌}
 use Prim.Native.Nat.{ℕ, zero, suc, ◌+◌, ◌-◌, ◌*◌, ◌<◌, ◌≤◌}
 use native.Mathlib.Omega.{arith}
 use lib.Dec.{T}
-use lib.ListN.{length, get_or}
 use Rattle.definitions.specs.Monomial.{Exponents, Monomial, Term, Vector, fits?, vector_of}
 use Rattle.definitions.specs.Stage.{Reduction, Stage}
 use Rattle.definitions.specs.Run.{dropped?, multiple}
-use Rattle.definitions.specs.Layout.{Words, row_at}
+use Rattle.definitions.specs.Layout.{Words}
 use Rattle.sweeps.specs.Sweep.{edges, answer_at}
 use Rattle.sweeps.specs.Places.{products_of}
-use Rattle.sweeping.specs.Nodes.{
-  node_at,
-  record_at,
-  edge_at,
-  edges_in,
-  first_edge,
-  edges_end,
-  edges_of,
-  first_root,
-  roots_end,
-  roots_of,
-  LeadsAt,
-  at_end,
-}
+use Rattle.sweeping.specs.Nodes.{node_at, record_at, edges_in, first_edge, edges_end, edges_of, first_root, roots_end, roots_of, LeadsAt, at_end}
 use Rattle.sweeping.specs.Nodes.{skips_at, leads_at, Says, Told, ProductsAt, Expanded, Growing, Rooted, Gathered, Same, SameSpans, frame_term}
-use Rattle.sweeping.proofs.Views.{edges_alike, edges_last}
+use Rattle.sweeping.proofs.Views.{edges_alike}
 
 pub below_or : (i n : ℕ) → (i < n) ⊎ (n ≤ i)
 below_or i zero = inr (omega arith)

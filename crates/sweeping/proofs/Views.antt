@@ -1,12 +1,12 @@
 -- Laws of the views: lists of nodes, rows and edges by their members.
 use mathlib.Core.Path.{◌≡◌, refl, ap, ◌∙◌}
-use mathlib.Core.List.{List, [], ◌∷◌, ◌++◌}
+use mathlib.Core.List.{[], ◌∷◌, ◌++◌}
 use Prim.Native.Nat.{ℕ, zero, suc, ◌+◌, ◌<◌, ◌≤◌}
 use native.Mathlib.Omega.{arith}
 use lib.ListN.{length, get_or}
-use Rattle.definitions.specs.Monomial.{Monomial, no_term}
+use Rattle.definitions.specs.Monomial.{no_term}
 use Rattle.definitions.specs.Layout.{Words}
-use Rattle.sweeps.specs.Places.{Row, no_row}
+use Rattle.sweeps.specs.Places.{no_row}
 use Rattle.sweeping.specs.Nodes.{node_at, edge_at, edges_in, row_of_node, nodes_in, rows_in}
 use Rattle.sweeping.specs.Orders.{rows_by}
 

@@ -1,9 +1,9 @@
 -- A pass place by place.
 use mathlib.Core.Path.{◌≡◌, refl, sym, ap, ◌∙◌, subst}
 use mathlib.Core.Bool.{Bool, true, false, not, ◌||◌}
-use mathlib.Core.List.{List, [], ◌∷◌, ◌++◌, append_assoc}
+use mathlib.Core.List.{[], ◌∷◌, ◌++◌, append_assoc}
 use mathlib.Core.Logic.{◌≢◌, ⊎_elim}
-use Prim.Native.Nat.{ℕ, zero, suc, ◌+◌, ◌-◌, ◌*◌, ◌%◌, ◌<◌, ◌≤◌}
+use Prim.Native.Nat.{ℕ, zero, suc, ◌+◌, ◌-◌, ◌%◌, ◌<◌, ◌≤◌}
 use native.Mathlib.Omega.{arith}
 use native.Mathlib.Nat.{zero-mod}
 use lib.Dec.{eqb, eqb-suc-zero}
@@ -16,11 +16,11 @@ use Rattle.vectors.specs.terms.Rows.{written}
 use Rattle.vectors.proofs.terms.Stored.{rows_appended}
 use Rattle.definitions.specs.Monomial.{Term, Vector}
 use Rattle.definitions.specs.Layout.{Words, rows}
-use Rattle.sweeps.specs.Places.{Row, spread_at, moved, noted, places, settled?}
+use Rattle.sweeps.specs.Places.{Row, spread_at, moved, places, settled?}
 use Rattle.sweeping.specs.Nodes.{row_of_node}
 use Rattle.sweeping.specs.Orders.{rows_by}
 use Rattle.sweeping.proofs.Views.{by_first, by_none}
-use Rattle.sweeping.specs.Sums.{Holds, Spends}
+use Rattle.sweeping.specs.Sums.{Spends}
 use Rattle.sweeping.specs.Visits.{most_degree, Noted, Visited, Skips}
 use Rattle.sweeping.proofs.Sums.{holds_less}
 use Rattle.sweeping.proofs.Tables.{below_or}

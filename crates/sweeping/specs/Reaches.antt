@@ -1,20 +1,17 @@
 -- A frame term taken into a table, or left.
-use Rattle.std.specs.Prelude.{Bool, ℕ, suc, ◌-◌, ◌*◌, ◌≤◌, length}
+use Rattle.std.specs.Prelude.{Option, Some, None, Bool, ℕ, suc, ◌-◌, ◌≤◌}
 use Rattle.definitions.specs.Monomial.{Monomial}
 use Rattle.definitions.specs.Stage.{Stage}
 use Rattle.definitions.specs.Layout.{Words}
 use Rattle.runs.specs.declared.reduction.Ground.{Ground}
-use Rattle.definitions.specs.Places.{most_nodes}
 use Rattle.sweeping.specs.Nodes.{ground_stage, Growing, Rooted, Gathered}
 use Rattle.sweeping.specs.Growth.{most_edges}
-use Rattle.sweeping.specs.declared.growing.Grown.{Grown}
-use Rattle.sweeping.specs.declared.growing.Grown.TheVariants.{Sizes, Over}
 use Rattle.sweeping.specs.declared.making.Taken.{Taken}
 
-abbrev pub ReachedAs : Stage → Bool → ℕ → ℕ → ℕ → ℕ → ℕ → Monomial → Grown → Words → Words → Words → Type 0
-ReachedAs S d count most n e v m (Sizes n' e') nodes spans words =
+abbrev pub ReachedAs : Stage → Bool → ℕ → ℕ → ℕ → ℕ → ℕ → Monomial → Option (ℕ × ℕ) → Words → Words → Words → Type 0
+ReachedAs S d count most n e v m (Some (n', e')) nodes spans words =
     Growing S d count n' n' e' nodes spans words × Rooted S d n' e' nodes spans words m v × (n ≤ n') × (n' ≤ most) × (e ≤ e') × (e' ≤ most_edges most)
-ReachedAs S d count most n e v m Over nodes spans words = Unit {0}
+ReachedAs S d count most n e v m None nodes spans words = Unit {0}
 
 -- no more nodes than the slices have room for and the limits allow
 pub record ServingNodes (g : Ground) (size most : ℕ) : Type 0 where

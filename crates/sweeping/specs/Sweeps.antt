@@ -1,6 +1,6 @@
 -- The code's answers as the definitions' ones.
 use Rattle.sweeping.specs.Growth.{most_edges}
-use Rattle.std.specs.Prelude.{◌≡◌, Bool, true, ℕ, suc, ◌+◌, ◌*◌, ◌<◌, ◌≤◌, length, []}
+use Rattle.std.specs.Prelude.{◌≡◌, Option, Some, None, Result as CodeResult, Bool, true, ℕ, ◌+◌, ◌*◌, ◌≤◌, length, []}
 use Rattle.definitions.specs.Monomial.{Monomial}
 use Rattle.definitions.specs.Result.{Result, ◌>>=◌}
 use Rattle.definitions.specs.Stage.{Stage}
@@ -13,14 +13,13 @@ use Rattle.definitions.specs.Places.{row_length, most_nodes, table_spans_length}
 use Rattle.sweeping.specs.Nodes.{first_root, roots_end}
 use Rattle.sweeping.specs.Passes.{Onward, Passable, Passes}
 use Rattle.sweeping.specs.Serving.{Serving}
-use Rattle.sweeping.specs.declared.passes.Swept.{Swept}
-use Rattle.sweeping.specs.declared.passes.Swept.TheVariants.{Settled, Unsettled}
 use Rattle.sweeping.specs.declared.making.Batch.{Batch}
+use Rattle.words.specs.declared.refusals.Refusal.{Refusal}
 
 -- each sum of lower order is zero; else nothing is said
-abbrev pub SweptAs : ℕ → ℕ → Words → Words → Words → Words → ℕ → Monomial → Swept → Words → Type 0
-SweptAs p n nodes spans words order v m (Settled k) vector = Passes p n nodes spans words order v m (rows vector 0 k) true × (k ≤ n + 1)
-SweptAs p n nodes spans words order v m Unsettled vector = Unit {0}
+abbrev pub SweptAs : ℕ → ℕ → Words → Words → Words → Words → ℕ → Monomial → Option ℕ → Words → Type 0
+SweptAs p n nodes spans words order v m (Some k) vector = Passes p n nodes spans words order v m (rows vector 0 k) true × (k ≤ n + 1)
+SweptAs p n nodes spans words order v m None vector = Unit {0}
 
 -- the slices of a table have room for so many nodes, and for their edges
 pub record Areas (size : ℕ) (nodes words spans order keys other : Words) : Type 0 where
@@ -53,5 +52,5 @@ pub record PassedBy (p : ℕ) (b : Batch) (nodes spans words order : Words) (v :
   pub few : r ≤ b.nodes + 1
 
 -- what an outcome gives beside the vectors before it
-abbrev pub kept_one : Stage → Lifted → Outcome → Words → Result Lifted
+abbrev pub kept_one : Stage → Lifted → CodeResult Outcome Refusal → Words → Result Lifted
 kept_one S l x vector = outcome_of x vector >>= λ v. with_vector S l (v, [])

@@ -1,4 +1,6 @@
 // A table grows by a frame term and all that it reaches.
+// Each step gives how many nodes and edges there are then; none where there is no room, or where a product passes the limit on exponents or has a component
+// that there is not.
 // Knows: crate sweeps' Places (what edges must lead to), through the specs here.
 ghost use Rattle.std.specs.Prelude.{◌≡◌, true, false, ℕ, ◌+◌, ◌-◌, ◌*◌, ◌≤◌, ◌<◌, length};
 ghost use Rattle.definitions.specs.Monomial.{vector_of};
@@ -16,17 +18,9 @@ use crate::nodes;
 use crate::nodes::Spot;
 use monomial::Monomial;
 use reducers::search;
-use reducers::search::Answer;
 use runs::reduction;
 use runs::reduction::Ground;
 use vectors::terms;
-
-// Nodes and edges; or there is no room, or a product passes the limit on exponents or has a component that there is not.
-#[derive(Clone, Copy)]
-pub enum Grown {
-    Sizes(usize, usize),
-    Over,
-}
 
 // A new node, and an edge to it. A component that there is not is not taken.
 fn lead_new(
@@ -42,7 +36,7 @@ fn lead_new(
     g: Ground,
     drops: bool,
     most: usize,
-) -> Grown
+) -> Option<(usize, usize)>
     requires { Tables g tables.now × Roomy most n e nodes.old edges.old slots.old × (e < most_edges most) × (h < slots_length)
         × (dropped? (reduction_of g tables.now) drops (monomial_of m) ≡ false) }
     ensures { Same n e nodes.old edges.old nodes.new edges.new
@@ -50,21 +44,15 @@ fn lead_new(
         → LedAs (ground_stage g level tables.now) drops (g.components - 1) most n e (monomial_of m) c result nodes.old
         edges.old nodes.new edges.new) × Sized most n e result }
 {
-    if most <= n {
-        return Grown::Over;
-    }
-    let component = m.component as usize;
-    if component == 0 {
-        return Grown::Over;
-    }
-    if g.components <= component {
-        return Grown::Over;
+    let component = usize::from(m.component);
+    if most <= n || component == 0 || g.components <= component {
+        return None;
     }
     let t = nodes::record_of(tables, g, m);
     nodes::add(nodes, n, m, t);
     slots[h] = (n + 1) as u16;
     nodes::put_edge(edges, e, n, c);
-    Grown::Sizes(n + 1, e + 1)
+    Some((n + 1, e + 1))
 }
 
 // An edge to the product's node, which is made where there is none.
@@ -80,7 +68,7 @@ fn lead(
     g: Ground,
     drops: bool,
     most: usize,
-) -> Grown
+) -> Option<(usize, usize)>
     requires { Tables g tables.now × Roomy most n e nodes.old edges.old slots.old
         × (dropped? (reduction_of g tables.now) drops (monomial_of m) ≡ false) }
     ensures { Same n e nodes.old edges.old nodes.new edges.new
@@ -89,12 +77,12 @@ fn lead(
         edges.old nodes.new edges.new) × Sized most n e result }
 {
     if e == most * words::NODE_EDGES {
-        return Grown::Over;
+        return None;
     }
     match nodes::find(nodes, n, slots, m) {
         Spot::Node(x) => {
             nodes::put_edge(edges, e, x, c);
-            Grown::Sizes(n, e + 1)
+            Some((n, e + 1))
         }
         Spot::Free(h) => lead_new(nodes, n, edges, e, slots, h, m, c, tables, g, drops, most),
     }
@@ -105,14 +93,7 @@ fn left_out(tables: &[u16], g: Ground, drops: bool, m: Monomial) -> bool
     requires { Tables g tables.now }
     ensures { result ≡ dropped? (reduction_of g tables.now) drops (monomial_of m) }
 {
-    if drops {
-        let found = search::search(tables, g.r, &tables[words::TABLES_SPANS..], g.components, m);
-        let Answer::Reducer(_j, _h) = found else {
-            return true;
-        };
-        return false;
-    }
-    false
+    drops && search::search(tables, g.r, &tables[words::TABLES_SPANS..], g.components, m).is_none()
 }
 
 // The product of c·q and row i: no edge where it is left out.
@@ -130,7 +111,7 @@ fn expand_row(
     g: Ground,
     drops: bool,
     most: usize,
-) -> Grown
+) -> Option<(usize, usize)>
     requires { Tables g tables.now × Roomy most n e nodes.old edges.old slots.old × (i * row_length + row_length ≤ length level.now) }
     ensures { Same n e nodes.old edges.old nodes.new edges.new
         × ((below : Words) → Told (ground_stage g below tables.now) drops (g.components - 1) n nodes.old
@@ -139,17 +120,12 @@ fn expand_row(
 {
     let t = terms::row(level, i);
     let u = t.monomial;
-    let y = u.product(q);
-    let fits = y.fits;
-    if fits {
-        let m = y.monomial;
-        if left_out(tables, g, drops, m) {
-            return Grown::Sizes(n, e);
-        }
-        let x = field::times(c, t.coefficient, g.p);
-        return lead(nodes, n, edges, e, slots, m, x, tables, g, drops, most);
+    let m = u.product(q)?;
+    if left_out(tables, g, drops, m) {
+        return Some((n, e));
     }
-    Grown::Over
+    let x = field::times(c, t.coefficient, g.p);
+    lead(nodes, n, edges, e, slots, m, x, tables, g, drops, most)
 }
 
 // The products of c·q and the rows from row `from` up to row `to`.
@@ -168,7 +144,7 @@ fn expand(
     g: Ground,
     drops: bool,
     most: usize,
-) -> Grown
+) -> Option<(usize, usize)>
     requires { Tables g tables.now × Roomy most start first nodes.old edges.old slots.old × (to * row_length ≤ length level.now) }
     ensures { Same start first nodes.old edges.old nodes.new edges.new
         × ((below : Words) → Told (ground_stage g below tables.now) drops (g.components - 1) start nodes.old
@@ -177,20 +153,12 @@ fn expand(
 {
     let mut n = start;
     let mut e = first;
-    let mut i = from;
-    while i < to {
-        match expand_row(
+    for i in from..to {
+        (n, e) = expand_row(
             nodes, n, edges, e, slots, level, i, c, q, tables, g, drops, most,
-        ) {
-            Grown::Sizes(x, y) => {
-                n = x;
-                e = y;
-            }
-            Grown::Over => return Grown::Over,
-        }
-        i += 1;
+        )?;
     }
-    Grown::Sizes(n, e)
+    Some((n, e))
 }
 
 // The products of node x's multiple but for the first, which is the node.
@@ -206,7 +174,7 @@ fn expand_node(
     g: Ground,
     drops: bool,
     most: usize,
-) -> Grown
+) -> Option<(usize, usize)>
     requires { Tables g tables.now × Family g level.now (ends_in tables.now) × Roomy most n e nodes.old edges.old slots.old × (x < n)
         × Told (ground_stage g level.now tables.now) drops (g.components - 1) n nodes.old }
     ensures { Same n e nodes.old edges.old nodes.new edges.new
@@ -215,13 +183,11 @@ fn expand_node(
 {
     let t = terms::row(nodes, x * 2 + 1);
     let m = t.monomial;
-    let j = m.component as usize;
+    let j = usize::from(m.component);
     if j == 0 {
-        return Grown::Sizes(n, e);
+        return Some((n, e));
     }
     let part = reduction::rows_of(tables, j);
-    let from = part.from;
-    let to = part.to;
     expand(
         nodes,
         n,
@@ -229,8 +195,8 @@ fn expand_node(
         e,
         slots,
         level,
-        from + 1,
-        to,
+        part.from + 1,
+        part.to,
         t.coefficient,
         m.exponents,
         tables,
@@ -263,7 +229,7 @@ fn expand_all(
     g: Ground,
     drops: bool,
     most: usize,
-) -> Grown
+) -> Option<(usize, usize)>
     requires { Tables g tables.now × Family g level.now (ends_in tables.now) × Roomy most many first nodes.old edges.old slots.old
         × (start ≤ many) × (table_spans_length ≤ length spans.old)
         × Growing (ground_stage g level.now tables.now) drops (g.components - 1) many start first nodes.old spans.old edges.old }
@@ -275,18 +241,15 @@ fn expand_all(
     let mut n = many;
     let mut e = first;
     let mut x = start;
+    // A while: nodes come meanwhile.
     while x < n {
-        match expand_node(nodes, n, edges, e, slots, x, level, tables, g, drops, most) {
-            Grown::Sizes(y, z) => {
-                put_span(spans, x * 2, e, z);
-                n = y;
-                e = z;
-            }
-            Grown::Over => return Grown::Over,
-        }
+        let (y, z) = expand_node(nodes, n, edges, e, slots, x, level, tables, g, drops, most)?;
+        put_span(spans, x * 2, e, z);
+        n = y;
+        e = z;
         x += 1;
     }
-    Grown::Sizes(n, e)
+    Some((n, e))
 }
 
 // The frame term's own edges: to the products of m and its element's terms.
@@ -302,7 +265,7 @@ fn begin(
     g: Ground,
     drops: bool,
     most: usize,
-) -> Grown
+) -> Option<(usize, usize)>
     requires { Tables g tables.now × Family g level.now (ends_in tables.now) × Roomy most n e nodes.old edges.old slots.old
         × (1 ≤ (monomial_of m).1) × ((monomial_of m).1 ≤ g.r)
         × Told (ground_stage g level.now tables.now) drops (g.components - 1) n nodes.old }
@@ -311,10 +274,8 @@ fn begin(
         (vector_of (family_of g level.now (ends_in tables.now)) (monomial_of m).1) result nodes.new edges.new
         × Sized most n e result }
 {
-    let i = m.component as usize;
+    let i = usize::from(m.component);
     let part = reduction::rows_of(tables, i);
-    let from = part.from;
-    let to = part.to;
     expand(
         nodes,
         n,
@@ -322,8 +283,8 @@ fn begin(
         e,
         slots,
         level,
-        from,
-        to,
+        part.from,
+        part.to,
         1,
         m.exponents,
         tables,
@@ -348,7 +309,7 @@ pub fn reach(
     g: Ground,
     drops: bool,
     most: usize,
-) -> Grown
+) -> Option<(usize, usize)>
     requires { Tables g tables.now × Family g level.now (ends_in tables.now) × Roomy most n e nodes.old edges.old slots.old
         × (table_spans_length ≤ length spans.old) × (v < most_vectors) × (1 ≤ (monomial_of m).1) × ((monomial_of m).1 ≤ g.r)
         × Growing (ground_stage g level.now tables.now) drops (g.components - 1) n n e nodes.old spans.old edges.old }
@@ -357,13 +318,9 @@ pub fn reach(
         × ReachedAs (ground_stage g level.now tables.now) drops (g.components - 1) most n e v (monomial_of m) result
         nodes.new spans.new edges.new }
 {
-    match begin(nodes, n, edges, e, slots, m, level, tables, g, drops, most) {
-        Grown::Over => Grown::Over,
-        Grown::Sizes(x, y) => {
-            put_span(spans, words::ROOTS_START + v * 2, e, y);
-            expand_all(
-                nodes, n, x, edges, y, slots, spans, level, tables, g, drops, most,
-            )
-        }
-    }
+    let (x, y) = begin(nodes, n, edges, e, slots, m, level, tables, g, drops, most)?;
+    put_span(spans, words::ROOTS_START + v * 2, e, y);
+    expand_all(
+        nodes, n, x, edges, y, slots, spans, level, tables, g, drops, most,
+    )
 }

@@ -1,6 +1,6 @@
 // All frame terms of a level, batch by batch: by a pass over their table, or, where there is none, by their run; acceptance likewise.
 // Knows: crate definitions' Lifting, as runs::frame_terms.
-ghost use Rattle.std.specs.Prelude.{◌≡◌, true, false, [], ℕ, ◌+◌, ◌*◌, ◌≤◌, ◌<◌, length, set, drop};
+ghost use Rattle.std.specs.Prelude.{◌≡◌, Ok, IfSome, true, false, [], ℕ, ◌+◌, ◌*◌, ◌≤◌, ◌<◌, length, set, drop};
 ghost use Rattle.std.proofs.Math.Seq.{paste};
 ghost use Rattle.definitions.specs.Layout.{row_at};
 ghost use Rattle.definitions.specs.Lifting.{lift_all as lift_all_definition, accept_from, accepting_place};
@@ -30,9 +30,9 @@ ghost use Rattle.sweeping.specs.Serving.{Grounded, Allowed};
 ghost use Rattle.runs.proofs.frame_terms.LoopsOverFrame.{Going};
 ghost use Rattle.sweeping.specs.Sweeps.{Areas, Batched, Ready, PassedBy, kept_one};
 ghost use Rattle.sweeping.specs.Gone.{GoneAs};
+ghost use Rattle.words.specs.refusals.Numbers.{number_of};
 
 use crate::making::Batch;
-use crate::passes::Swept;
 use crate::{making, passes};
 use monomial::Monomial;
 use runs::frame_terms::{Accepted, Lifted, One};
@@ -40,11 +40,12 @@ use runs::reduction::Ground;
 use runs::run::{Outcome, Strategy};
 use runs::{reduction, run};
 use vectors::terms;
+use words::refusals::{Refusal, Refused};
 
 // A level of so many rows seldom reaches more nodes than a small table has.
 const FEW_ROWS: usize = 80;
 
-// The rows of frame term v's vector by a pass; 0: there is no table, or a sum of lower order is not zero.
+// The rows of frame term v's vector by a pass; none where there is no table, or where a sum of lower order is not zero.
 fn pass(
     vector: &mut [u16],
     sums: &mut [u64],
@@ -56,34 +57,28 @@ fn pass(
     p: u16,
     v: usize,
     m: Monomial,
-) -> usize
+) -> Option<usize>
     requires { (b.serves ≡ true → Ready b v nodes.now spans.now edges.now order.now vector.old) × (0 < p)
         × (length order.now ≤ length sums.old)
         × (v < most_vectors) × (table_spans_length ≤ length spans.now) }
-    ensures { 0 < result → PassedBy p b nodes.now spans.now edges.now order.now v (monomial_of m) result
-        vector.new }
+    ensures { IfSome result (λ k. PassedBy p b nodes.now spans.now edges.now order.now v (monomial_of m) k vector.new) }
 {
-    let serves = b.serves;
-    if serves {
-        let n = b.nodes;
-        let x = passes::sweep(
-            vector,
-            &mut sums[0..n],
-            edges,
-            spans,
-            nodes,
-            order,
-            n,
-            p,
-            v,
-            m,
-        );
-        let Swept::Settled(k) = x else {
-            return 0;
-        };
-        return k;
+    if !b.serves {
+        return None;
     }
-    0
+    let n = b.nodes;
+    passes::sweep(
+        vector,
+        &mut sums[0..n],
+        edges,
+        spans,
+        nodes,
+        order,
+        n,
+        p,
+        v,
+        m,
+    )
 }
 
 // Frame term v: by a pass, or by its run.
@@ -103,7 +98,7 @@ fn one(
     tables: &[u16],
     g: Ground,
     w: Strategy,
-) -> Outcome
+) -> Result<Outcome, Refusal>
     requires { Tables g tables.now × Family g level.now (ends_in tables.now) × Images g.images (below_in tables.now)
         × Images g.r (above_in tables.now) × Rooms g value.old vector.old × (1 ≤ g.vector)
         × Well (stage_of g level.now tables.now (order_of g tables.now)) × Framed g count frame.now × (v < count)
@@ -113,13 +108,11 @@ fn one(
     ensures { ((k : ℕ) × (outcome_of result vector.new ≡ run_definition (ground_stage g level.now tables.now)
         (strategy_of g tables.now w) k (frame_term frame.now v))) × Ended g result }
 {
-    let t = terms::row(frame, v);
-    let m = t.monomial;
-    let k = pass(vector, sums, edges, spans, nodes, order, b, g.p, v, m);
-    if 0 < k {
-        return Outcome::Finished(k);
+    let m = terms::row(frame, v).monomial;
+    match pass(vector, sums, edges, spans, nodes, order, b, g.p, v, m) {
+        Some(k) => Ok(Outcome::Finished(k)),
+        None => run::run(value, vector, level, tables, g, w, m),
     }
-    run::run(value, vector, level, tables, g, w, m)
 }
 
 // The first v rows of vector behind the used ones, as vector i, counted from 0.
@@ -138,24 +131,30 @@ fn append(out: &mut [u16], i: usize, used: usize, vector: &[u16], v: usize)
     out[i] = (used + v) as u16;
 }
 
-// What frame term i gave, beside those before it: 15 where its vector has no room.
-fn keep(out: &mut [u16], i: usize, used: usize, vector: &[u16], x: Outcome, g: Ground) -> One
+// What frame term i gave, beside those before it, where its vector has room.
+fn keep(
+    out: &mut [u16],
+    i: usize,
+    used: usize,
+    vector: &[u16],
+    x: Outcome,
+    g: Ground,
+) -> Result<One, Refusal>
     requires { (i < most_vectors) × (g.room * row_length + ends_length ≤ length out.old) × (g.room < 65536) × (used ≤ g.room)
-        × Kept i used out.old × Ended g x × (g.vector * row_length ≤ length vector.now) }
+        × Kept i used out.old × Ended g (Ok x) × (g.vector * row_length ≤ length vector.now) }
     ensures { ((S : Stage) → S.reduction.limits.level_terms ≡ g.room → one_of result i out.new vector.now
-        ≡ kept_one S (lifted_vectors out.old i, used) x vector.now)
+        ≡ kept_one S (lifted_vectors out.old i, used) (Ok x) vector.now)
         × After g i result out.new }
 {
     match x {
         Outcome::Finished(v) => {
             if g.room - used < v {
-                return One::Refused(15);
+                return Err(Refusal::Level);
             }
             append(out, i, used, vector, v);
-            One::Used(used + v)
+            Ok(One::Used(used + v))
         }
-        Outcome::Refused(n) => One::Refused(n),
-        Outcome::Stopped(n) => One::Stopped(n),
+        Outcome::Stopped(n) => Ok(One::Stopped(n)),
     }
 }
 
@@ -163,7 +162,6 @@ fn keep(out: &mut [u16], i: usize, used: usize, vector: &[u16], x: Outcome, g: G
 #[derive(Clone, Copy)]
 pub enum Gone {
     At(usize, usize),
-    Refused(u16),
     Stopped(usize),
 }
 
@@ -171,14 +169,7 @@ pub enum Gone {
 fn left(b: Batch, count: usize, leaves: bool) -> bool
     ensures { result ≡ true → leaves ≡ true }
 {
-    if b.to < count {
-        return leaves;
-    }
-    let serves = b.serves;
-    if serves {
-        return false;
-    }
-    leaves
+    leaves && (b.to < count || !b.serves)
 }
 
 // The frame terms from frame term `start` on, with these slices for their tables.
@@ -202,7 +193,7 @@ fn lift_on(
     w: Strategy,
     size: usize,
     leaves: bool,
-) -> Gone
+) -> Result<Gone, Refusal>
     requires { Tables g tables.now × Family g level.now (ends_in tables.now) × Images g.images (below_in tables.now)
         × Images g.r (above_in tables.now) × Rooms g value.old vector.old × (1 ≤ g.vector)
         × Well (stage_of g level.now tables.now (order_of g tables.now)) × Framed g count frame.now
@@ -217,32 +208,27 @@ fn lift_on(
 {
     let mut b = making::no_batch();
     let mut used = had;
-    let mut i = start;
-    while i < count {
+    for i in start..count {
         b = making::renew(
             nodes, edges, spans, order, sums, other, b, i, frame, count, level, tables, g, w.drops,
             size,
         );
         if left(b, count, leaves) {
-            return Gone::At(i, used);
+            return Ok(Gone::At(i, used));
         }
         let x = one(
             value, vector, sums, edges, spans, nodes, order, b, i, frame, count, level, tables, g,
             w,
-        );
-        match keep(out, i, used, vector, x, g) {
-            One::Used(u) => {
-                used = u;
-            }
-            One::Refused(n) => return Gone::Refused(n),
-            One::Stopped(n) => return Gone::Stopped(n),
+        )?;
+        match keep(out, i, used, vector, x, g)? {
+            One::Used(u) => used = u,
+            One::Stopped(n) => return Ok(Gone::Stopped(n)),
         }
-        i += 1;
     }
-    Gone::At(i, used)
+    Ok(Gone::At(count, used))
 }
 
-// With small slices, which cost little to make ready and little of the stack.
+// With small slices, which cost little to make ready and little of the stack. An array's length is a constant, so each size has a function of its own.
 fn lift_few(
     out: &mut [u16],
     value: &mut [u16],
@@ -256,7 +242,7 @@ fn lift_few(
     tables: &[u16],
     g: Ground,
     w: Strategy,
-) -> Gone
+) -> Result<Gone, Refusal>
     requires { Tables g tables.now × Family g level.now (ends_in tables.now) × Images g.images (below_in tables.now)
         × Images g.r (above_in tables.now) × Rooms g value.old vector.old × (1 ≤ g.vector)
         × Well (stage_of g level.now tables.now (order_of g tables.now)) × Framed g count frame.now
@@ -312,7 +298,7 @@ fn lift_many(
     tables: &[u16],
     g: Ground,
     w: Strategy,
-) -> Gone
+) -> Result<Gone, Refusal>
     requires { Tables g tables.now × Family g level.now (ends_in tables.now) × Images g.images (below_in tables.now)
         × Images g.r (above_in tables.now) × Rooms g value.old vector.old × (1 ≤ g.vector)
         × Well (stage_of g level.now tables.now (order_of g tables.now)) × Framed g count frame.now
@@ -356,25 +342,7 @@ fn lift_many(
 fn small(tables: &[u16], g: Ground) -> bool
     requires { Tables g tables.now × (g.r ≤ length (ends_in tables.now)) }
 {
-    if g.working <= words::FEW_NODES {
-        return true;
-    }
-    if g.r == 0 {
-        return true;
-    }
-    let part = reduction::rows_of(tables, g.r);
-    let rows = part.to;
-    rows <= FEW_ROWS
-}
-
-// How many sizes of slices are tried: the small one first, or the large one alone.
-fn sizes_of(tables: &[u16], g: Ground) -> usize
-    requires { Tables g tables.now × (g.r ≤ length (ends_in tables.now)) }
-{
-    if small(tables, g) {
-        return 2;
-    }
-    1
+    g.working <= words::FEW_NODES || g.r == 0 || reduction::rows_of(tables, g.r).to <= FEW_ROWS
 }
 
 // With small slices; where these have not room for all frame terms, the others once more, with large ones. A function that calls itself, and lends an
@@ -392,7 +360,7 @@ fn lift_any(
     g: Ground,
     w: Strategy,
     sizes: usize,
-) -> Gone
+) -> Result<Gone, Refusal>
     requires { Tables g tables.now × Family g level.now (ends_in tables.now) × Images g.images (below_in tables.now)
         × Images g.r (above_in tables.now) × Rooms g value.old vector.old × (1 ≤ g.vector)
         × Well (stage_of g level.now tables.now (order_of g tables.now)) × Framed g count frame.now
@@ -404,36 +372,31 @@ fn lift_any(
         false result out.new vector.new }
 {
     let mut spans = [0u16; words::TABLE_SPANS_LENGTH];
-    if 1 < sizes {
-        match lift_few(
+    if sizes <= 1 {
+        return lift_many(
             out, value, vector, &mut spans, start, had, frame, count, level, tables, g, w,
-        ) {
-            Gone::At(i, used) => {
-                if i < count {
-                    return lift_any(
-                        out,
-                        value,
-                        vector,
-                        i,
-                        used,
-                        frame,
-                        count,
-                        level,
-                        tables,
-                        g,
-                        w,
-                        sizes - 1,
-                    );
-                }
-                return Gone::At(i, used);
-            }
-            Gone::Refused(n) => return Gone::Refused(n),
-            Gone::Stopped(n) => return Gone::Stopped(n),
-        }
+        );
     }
-    lift_many(
+    match lift_few(
         out, value, vector, &mut spans, start, had, frame, count, level, tables, g, w,
-    )
+    )? {
+        Gone::At(i, used) if i < count => lift_any(
+            out,
+            value,
+            vector,
+            i,
+            used,
+            frame,
+            count,
+            level,
+            tables,
+            g,
+            w,
+            sizes - 1,
+        ),
+        Gone::At(i, used) => Ok(Gone::At(i, used)),
+        Gone::Stopped(n) => Ok(Gone::Stopped(n)),
+    }
 }
 
 // All frame terms, in number order.
@@ -447,7 +410,7 @@ pub fn lift_all(
     tables: &[u16],
     g: Ground,
     w: Strategy,
-) -> Lifted
+) -> Result<Lifted, Refusal>
     requires { Tables g tables.now × Family g level.now (ends_in tables.now) × Images g.images (below_in tables.now)
         × Images g.r (above_in tables.now) × Rooms g value.old vector.old × (1 ≤ g.vector)
         × Well (stage_of g level.now tables.now (order_of g tables.now)) × Framed g count frame.now
@@ -459,26 +422,26 @@ pub fn lift_all(
         (frame_terms frame.now count))) × Whole g count result out.new }
 {
     if count == 0 {
-        return Lifted::Rows(0);
+        return Ok(Lifted::Rows(0));
     }
-    let sizes = sizes_of(tables, g);
+    // how many sizes of slices are tried: the small one first, or the large one alone
+    let sizes = if small(tables, g) { 2 } else { 1 };
     match lift_any(
         out, value, vector, 0, 0, frame, count, level, tables, g, w, sizes,
-    ) {
-        Gone::At(_i, used) => Lifted::Rows(used),
-        Gone::Refused(n) => Lifted::Refused(n),
-        Gone::Stopped(n) => Lifted::Stopped(n),
+    )? {
+        Gone::At(_, used) => Ok(Lifted::Rows(used)),
+        Gone::Stopped(n) => Ok(Lifted::Stopped(n)),
     }
 }
 
-// Acceptance names the frame term for 9, and level 0 for any other number.
-fn place_of(i: usize, number: u16) -> usize
-    ensures { result ≡ accepting_place i number }
+// Acceptance names the frame term where it has no reducer, and level 0 for any other refusal.
+fn place_of(i: usize, refusal: Refusal) -> usize
+    ensures { result ≡ accepting_place i (number_of refusal) }
 {
-    if number == 9 {
-        return i;
+    match refusal {
+        Refusal::NoReducer => i,
+        _ => 0,
     }
-    0
 }
 
 // Division of the frame terms behind the first `from`, in number order, with these slices for their tables; nothing is kept.
@@ -498,7 +461,7 @@ fn accept_on(
     tables: &[u16],
     g: Ground,
     size: usize,
-) -> Accepted
+) -> Result<Accepted, Refused>
     requires { Tables g tables.now × Family g level.now (ends_in tables.now) × Images g.images (below_in tables.now)
         × Images g.r (above_in tables.now) × Rooms g value.old vector.old × (1 ≤ g.vector)
         × Well (stage_of g level.now tables.now (order_of g tables.now)) × Framed g count frame.now
@@ -513,8 +476,7 @@ fn accept_on(
         stops: true,
     };
     let mut b = making::no_batch();
-    let mut i = from;
-    while i < count {
+    for i in from..count {
         b = making::renew(
             nodes, edges, spans, order, sums, other, b, i, frame, count, level, tables, g, w.drops,
             size,
@@ -523,13 +485,15 @@ fn accept_on(
             value, vector, sums, edges, spans, nodes, order, b, i, frame, count, level, tables, g,
             w,
         ) {
-            Outcome::Finished(_v) => {}
-            Outcome::Refused(x) => return Accepted::Refused(x, place_of(i + 1, x)),
-            Outcome::Stopped(n) => return Accepted::Stopped(i + 1, n),
+            Ok(Outcome::Finished(_)) => {}
+            Ok(Outcome::Stopped(n)) => return Ok(Accepted::Stopped(i + 1, n)),
+            Err(refusal) => {
+                let place = place_of(i + 1, refusal);
+                return Err(Refused { refusal, place });
+            }
         }
-        i += 1;
     }
-    Accepted::Yes
+    Ok(Accepted::Yes)
 }
 
 // Acceptance with small slices, as lift_few.
@@ -542,7 +506,7 @@ fn accept_few(
     level: &[u16],
     tables: &[u16],
     g: Ground,
-) -> Accepted
+) -> Result<Accepted, Refused>
     requires { Tables g tables.now × Family g level.now (ends_in tables.now) × Images g.images (below_in tables.now)
         × Images g.r (above_in tables.now) × Rooms g value.old vector.old × (1 ≤ g.vector)
         × Well (stage_of g level.now tables.now (order_of g tables.now)) × Framed g count frame.now
@@ -585,7 +549,7 @@ fn accept_many(
     level: &[u16],
     tables: &[u16],
     g: Ground,
-) -> Accepted
+) -> Result<Accepted, Refused>
     requires { Tables g tables.now × Family g level.now (ends_in tables.now) × Images g.images (below_in tables.now)
         × Images g.r (above_in tables.now) × Rooms g value.old vector.old × (1 ≤ g.vector)
         × Well (stage_of g level.now tables.now (order_of g tables.now)) × Framed g count frame.now
@@ -628,7 +592,7 @@ pub fn accept_all(
     level: &[u16],
     tables: &[u16],
     g: Ground,
-) -> Accepted
+) -> Result<Accepted, Refused>
     requires { Tables g tables.now × Family g level.now (ends_in tables.now) × Images g.images (below_in tables.now)
         × Images g.r (above_in tables.now) × Rooms g value.old vector.old × (1 ≤ g.vector)
         × Well (stage_of g level.now tables.now (order_of g tables.now)) × Framed g count frame.now
@@ -637,7 +601,8 @@ pub fn accept_all(
         (drop from (frame_terms frame.now count)))) × Left g result }
 {
     if small(tables, g) {
-        return accept_few(value, vector, frame, from, count, level, tables, g);
+        accept_few(value, vector, frame, from, count, level, tables, g)
+    } else {
+        accept_many(value, vector, frame, from, count, level, tables, g)
     }
-    accept_many(value, vector, frame, from, count, level, tables, g)
 }

@@ -9,7 +9,6 @@ ghost use Rattle.sweeping.specs.Growth.{most_edges};
 ghost use Rattle.sweeping.specs.Reaches.{ServingNodes, TakenAs};
 ghost use Rattle.sweeping.specs.Sweeps.{Areas, Batched};
 
-use crate::growing::Grown;
 use crate::{growing, sorting};
 use runs::reduction::Ground;
 use vectors::terms;
@@ -35,23 +34,13 @@ pub fn no_batch() -> Batch
     }
 }
 
-// The lesser of two numbers.
-fn least(a: usize, b: usize) -> usize
-    ensures { (result ≤ a) × (result ≤ b) }
-{
-    if a < b {
-        return a;
-    }
-    b
-}
-
 // How many nodes serve where the slices have room for `size`: as many as a working value may have terms, and one fewer than a vector may.
 fn serving_nodes(g: Ground, size: usize) -> usize
     requires { 1 ≤ g.vector }
     ensures { ServingNodes g size result }
 {
-    let most = least(size, g.working);
-    least(most, g.vector - 1)
+    let most = size.min(g.working);
+    most.min(g.vector - 1)
 }
 
 // Frame terms up to `to` are in a table of so many nodes and edges.
@@ -85,29 +74,22 @@ fn take(
     let mut slots = [0u16; words::SLOTS_LENGTH];
     let mut n: usize = 0;
     let mut e: usize = 0;
-    let mut v = i;
-    while v < count {
-        let t = terms::row(frame, v);
-        let m = t.monomial;
-        match growing::reach(
+    for v in i..count {
+        let m = terms::row(frame, v).monomial;
+        let Some((x, y)) = growing::reach(
             nodes, n, edges, e, &mut slots, spans, v, m, level, tables, g, drops, most,
-        ) {
-            Grown::Sizes(x, y) => {
-                n = x;
-                e = y;
-            }
-            Grown::Over => {
-                return Taken {
-                    to: v,
-                    nodes: n,
-                    edges: e,
-                };
-            }
-        }
-        v += 1;
+        ) else {
+            return Taken {
+                to: v,
+                nodes: n,
+                edges: e,
+            };
+        };
+        n = x;
+        e = y;
     }
     Taken {
-        to: v,
+        to: count,
         nodes: n,
         edges: e,
     }
@@ -141,10 +123,7 @@ fn make(
     let t = take(
         nodes, edges, spans, i, frame, count, level, tables, g, drops, most,
     );
-    let to = t.to;
-    let n = t.nodes;
-    let e = t.edges;
-    if to == i {
+    if t.to == i {
         return Batch {
             to: i + 1,
             nodes: 0,
@@ -157,17 +136,17 @@ fn make(
         edges,
         keys,
         other,
-        e,
+        t.edges,
         nodes,
-        n,
+        t.nodes,
         g.code,
         &tables[words::TABLES_BELOW..],
         g.images,
     );
     Batch {
-        to,
-        nodes: n,
-        edges: e,
+        to: t.to,
+        nodes: t.nodes,
+        edges: t.edges,
         serves,
     }
 }

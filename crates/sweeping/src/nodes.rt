@@ -13,7 +13,6 @@ ghost use Rattle.sweeping.specs.Nodes.{Says};
 ghost use Rattle.sweeping.specs.Made.{FoundAs, ToldOf, Added, Edged};
 
 use monomial::Monomial;
-use reducers::search::Answer;
 use runs::reduction;
 use runs::reduction::Ground;
 use vectors::terms;
@@ -26,18 +25,11 @@ pub enum Spot {
     Free(usize),
 }
 
-// A component in 64 bits, for hashing.
-fn wide(x: u16) -> u64
-    ensures { result ≤ 65535 }
-{
-    x as u64
-}
-
 // Where the search for a monomial starts: by a prime below the number of slots.
 fn slot_of(m: Monomial) -> usize
     ensures { result < slots_length }
 {
-    let x = m.exponents ^ (wide(m.component) * 977);
+    let x = m.exponents ^ (u64::from(m.component) * 977);
     (x % 2039) as usize
 }
 
@@ -47,9 +39,10 @@ fn next_slot(h: usize) -> usize
     ensures { result < slots_length }
 {
     if h + 1 < words::SLOTS_LENGTH {
-        return h + 1;
+        h + 1
+    } else {
+        0
     }
-    0
 }
 
 // One of the first n nodes with this monomial, or a slot.
@@ -58,20 +51,15 @@ pub fn find(nodes: &[u16], n: usize, slots: &[u16], m: Monomial) -> Spot
     ensures { FoundAs n nodes.now (monomial_of m) result }
 {
     let mut h = slot_of(m);
-    let mut left: usize = words::SLOTS_LENGTH;
-    while 0 < left {
+    for _ in 0..words::SLOTS_LENGTH {
         let x = words::place(slots[h]);
-        if x == 0 {
-            return Spot::Free(h);
-        }
-        if n < x {
+        if x == 0 || n < x {
             return Spot::Free(h);
         }
         if terms::same_row(nodes, (x - 1) * 2, m) {
             return Spot::Node(x - 1);
         }
         h = next_slot(h);
-        left -= 1;
     }
     Spot::Free(h)
 }
@@ -85,22 +73,17 @@ pub fn record_of(tables: &[u16], g: Ground, m: Monomial) -> Term
         coefficient: 1,
         monomial: m,
     };
-    let found = reduction::reducer_of(tables, g, u);
-    let answer = found.answer;
-    let Answer::Reducer(j, c) = answer else {
-        let unit = Monomial::UNIT;
+    let Some(reducer) = reduction::reducer_of(tables, g, u) else {
         return Term {
             coefficient: 0,
-            monomial: unit,
+            monomial: Monomial::UNIT,
         };
     };
-    let component = j as u16;
-    let d = field::negative(c, g.p);
     Term {
-        coefficient: d,
+        coefficient: field::negative(reducer.coefficient, g.p),
         monomial: Monomial {
-            exponents: found.quotient,
-            component,
+            exponents: reducer.quotient,
+            component: reducer.number as u16,
         },
     }
 }

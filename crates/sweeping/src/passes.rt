@@ -20,13 +20,6 @@ use monomial::Monomial;
 use vectors::terms;
 use vectors::terms::Term;
 
-// The rows of the vector; or a sum of lower order is not zero: then the run decides.
-#[derive(Clone, Copy)]
-pub enum Swept {
-    Settled(usize),
-    Unsettled,
-}
-
 // The rows of the vector so far; whether every sum of lower order was zero.
 #[derive(Clone, Copy)]
 pub struct Pass {
@@ -34,21 +27,12 @@ pub struct Pass {
     pub settled: bool,
 }
 
-// A coefficient in 64 bits, since sums are not reduced.
-fn wide(x: u16) -> u64
-    ensures { (result ≡ x) × (result ≤ 65535) }
-{
-    x as u64
-}
-
 // Makes every sum zero.
 fn clear(sums: &mut [u64])
     ensures { Zeros (length sums.old) sums.new }
 {
-    let mut i: usize = 0;
-    while i < sums.len() {
-        sums[i] = 0;
-        i += 1;
+    for sum in sums.iter_mut() {
+        *sum = 0;
     }
 }
 
@@ -58,11 +42,9 @@ fn spread(sums: &mut [u64], words: &[u16], a: usize, b: usize, c: u64)
     ensures { (sums.new ≡ spread_at c (edges_in words.now a (b - a)) sums.old)
         × Spends (b - a) sums.old sums.new }
 {
-    let mut k = a;
-    while k < b {
+    for k in a..b {
         let i = words::place(words[k * 2]);
-        sums[i] += c * wide(words[k * 2 + 1]);
-        k += 1;
+        sums[i] += c * u64::from(words[k * 2 + 1]);
     }
 }
 
@@ -71,7 +53,7 @@ fn remainder(s: u64, p: u16) -> u16
     requires { 0 < p }
     ensures { result ≡ s % p }
 {
-    (s % wide(p)) as u16
+    (s % u64::from(p)) as u16
 }
 
 // What is recorded of node y: its reducer's multiple.
@@ -80,11 +62,9 @@ fn recorded(nodes: &[u16], y: usize, c: u16, p: u16) -> Term
     ensures { term_of result ≡ (definition.times p c (record_at nodes.now y).0, (record_at nodes.now y).1) }
 {
     let t = terms::row(nodes, y * 2 + 1);
-    let m = t.monomial;
-    let x = field::times(c, t.coefficient, p);
     Term {
-        coefficient: x,
-        monomial: m,
+        coefficient: field::times(c, t.coefficient, p),
+        monomial: t.monomial,
     }
 }
 
@@ -93,8 +73,7 @@ fn note(vector: &mut [u16], k: usize, t: Term) -> Pass
     requires { k * row_length + row_length ≤ length vector.old }
     ensures { Noted k (term_of t) result.rows result.settled vector.old vector.new }
 {
-    let m = t.monomial;
-    if m.component == 0 {
+    if t.monomial.component == 0 {
         return Pass {
             rows: k,
             settled: false,
@@ -116,7 +95,7 @@ fn spread_node(sums: &mut [u64], spans: &[u16], words: &[u16], y: usize, c: u16)
 {
     let a = words::place(spans[y * 2]);
     let b = words::place(spans[y * 2 + 1]);
-    spread(sums, words, a, b, wide(c));
+    spread(sums, words, a, b, u64::from(c));
 }
 
 // The node at place x: nothing where its sum is zero modulo p.
@@ -155,19 +134,7 @@ fn four_zeros(sums: &[u64], x: usize) -> bool
     requires { x + 4 ≤ length sums.now }
     ensures { result ≡ true → Skips x (x + 4) sums.now }
 {
-    if sums[x] != 0 {
-        return false;
-    }
-    if sums[x + 1] != 0 {
-        return false;
-    }
-    if sums[x + 2] != 0 {
-        return false;
-    }
-    if sums[x + 3] != 0 {
-        return false;
-    }
-    true
+    sums[x] == 0 && sums[x + 1] == 0 && sums[x + 2] == 0 && sums[x + 3] == 0
 }
 
 // A place from place `from` on before which all are passed over, four at each step.
@@ -176,12 +143,9 @@ fn past_zeros(sums: &[u64], from: usize, n: usize) -> usize
     ensures { Skips from result sums.now × (result ≤ n) }
 {
     let mut x = from;
-    while 4 <= n - x {
-        if four_zeros(sums, x) {
-            x += 4;
-        } else {
-            return x;
-        }
+    // A while: the place goes on by four.
+    while 4 <= n - x && four_zeros(sums, x) {
+        x += 4;
     }
     x
 }
@@ -191,24 +155,12 @@ fn next(sums: &[u64], from: usize, n: usize) -> usize
     requires { (from ≤ n) × (n ≤ length sums.now) }
     ensures { Skips from result sums.now × (result ≤ n) }
 {
-    let mut x = past_zeros(sums, from, n);
-    while x < n {
+    for x in past_zeros(sums, from, n)..n {
         if sums[x] != 0 {
             return x;
         }
-        x += 1;
     }
-    x
-}
-
-// Both; a function, so that the loop which asks has no branch.
-fn both(a: bool, b: bool) -> bool
-    ensures { result ≡ (a and b) }
-{
-    if a {
-        return b;
-    }
-    false
+    n
 }
 
 // All places, greatest first, whose sums are not zero; the vector has its first row already.
@@ -232,10 +184,11 @@ fn pass_all(
     let mut k: usize = 1;
     let mut settled = true;
     let mut x = next(sums, 0, n);
+    // A while: the place jumps over sums that are zero.
     while x < n {
         let v = visit(vector, k, sums, x, n, nodes, spans, words, order, p);
         k = v.rows;
-        settled = both(settled, v.settled);
+        settled = settled && v.settled;
         x = next(sums, x + 1, n);
     }
     Pass { rows: k, settled }
@@ -281,7 +234,7 @@ fn vector_of(
     pass_all(vector, sums, n, nodes, spans, words, order, p)
 }
 
-// The vector of frame term v, m, where every sum of lower order is zero.
+// The rows of frame term v's vector, m first; none where a sum of lower order is not zero: then the run decides.
 pub fn sweep(
     vector: &mut [u16],
     sums: &mut [u64],
@@ -293,16 +246,12 @@ pub fn sweep(
     p: u16,
     v: usize,
     m: Monomial,
-) -> Swept
+) -> Option<usize>
     requires { Passable n spans.now edges.now order.now × Onward 0 n (first_root spans.now v) (roots_end spans.now v) edges.now
         × (0 < p) × (n ≤ most_nodes) × (n ≤ length sums.old) × (n ≤ length order.now) × (n * 2 * row_length ≤ length nodes.now)
         × (n * row_length + row_length ≤ length vector.old) × (v < most_vectors) × (table_spans_length ≤ length spans.now) }
     ensures { SweptAs p n nodes.now spans.now edges.now order.now v (monomial_of m) result vector.new }
 {
-    let r = vector_of(vector, sums, n, nodes, spans, edges, order, p, v, m);
-    let settled = r.settled;
-    if settled {
-        return Swept::Settled(r.rows);
-    }
-    Swept::Unsettled
+    let pass = vector_of(vector, sums, n, nodes, spans, edges, order, p, v, m);
+    if pass.settled { Some(pass.rows) } else { None }
 }

@@ -1,7 +1,7 @@
 -- One row more; and what the test of a state says.
 use mathlib.Core.Path.{◌≡◌, refl, sym, ap, ◌∙◌, subst}
 use mathlib.Core.Bool.{Bool, true, false}
-use mathlib.Core.Option.{Option, none, some}
+use mathlib.Core.Option.{Option}
 use mathlib.Core.List.{[]}
 use Prim.Native.Nat.{ℕ, suc, ◌+◌, ◌<◌, ◌≤◌, ◌/◌}
 use native.Mathlib.Omega.{arith}
@@ -10,7 +10,7 @@ use lib.ListN.{length, get_or}
 use borrow.Author.Tests.{ltb-false, leb-false, lt-ltb, le-ltb, le-leb, lt-leb}
 use Rattle.definitions.specs.Limits.{document_01}
 use Rattle.definitions.specs.Lists.{choose}
-use Rattle.definitions.specs.Monomial.{Exponents, Monomial, Term, unit}
+use Rattle.definitions.specs.Monomial.{Exponents, Monomial, Term}
 use Rattle.definitions.specs.Order.{Comparison, greater, equal, smaller, compare_over}
 use Rattle.definitions.specs.Layout.{Words, row_at, rows, holds_state?}
 use Rattle.definitions.specs.Places.{all_levels, row_length, state_length}
@@ -23,7 +23,7 @@ use Rattle.state.specs.soundness.Tabled.{Ready}
 use Rattle.state.proofs.soundness.TablesGrow.{ready_tabled}
 use Rattle.state.specs.preparing.Prepared.{components_at, ReadyPair, Led}
 use Rattle.state.proofs.preparing.TablesReady.{pair_above}
-use Rattle.testing.specs.Leaves.{counted, filled, ready?, greater_mark, descent, product_row, product_at, products}
+use Rattle.testing.specs.Leaves.{counted, filled, ready?, greater_mark, descent, product_row, product_at}
 
 pub counted_none : (f : ℕ → ℕ) → 0 ≡ counted f 0
 unfolding counted
@@ -62,30 +62,9 @@ pub descent_is : (code : ℕ) (s : Words) (i r : ℕ) (c : Comparison) (m m' : M
     ≡ (row_at s i).1 → m' ≡ (row_at s (i + 1)).1 → (r ≡ descent code s i) × (r ≤ 1)
 descent_is code s i r c m m' e h x y = (e ∙ ap greater_mark h ∙ (λ j. greater_mark (compare_over code [] (x j) (y j))), omega (arith, e, mark_few c))
 
-pub product_fits : (b : Bool) (m : Monomial) → b ≡ true → ◌≡◌ {A = Term} (1, m) (product_row (choose b (some m) none))
-product_fits b m e = sym (ap (λ x. product_row (choose x (some m) none)) e)
-
-pub product_over : (b : Bool) (m u : Monomial) → u ≡ (unit, 0) → b ≡ false → ◌≡◌ {A = Term} (0, u) (product_row (choose b (some m) none))
-product_over b m u h e = ap {A = Monomial} {B = Term} (λ x. (0, x)) h ∙ sym (ap (λ x. product_row (choose x (some m) none)) e)
-
 pub product_is : (s : Words) (i : ℕ) (t : Term) (o : Option Monomial) (q : Exponents) (m : Monomial) → t ≡ product_row o → o ≡ formed q m → q
     ≡ (row_at s (i + 1)).1.0 → m ≡ (row_at s i).1 → t ≡ product_at s i
 product_is s i t o q m e h x y = e ∙ ap product_row h ∙ (λ j. product_row (formed (x j) (y j)))
-
--- ## The tests before products
-
-module _ (s d : Words) (n : ℕ) where
-  abbrev or_as_it_is : Bool → Bool → Words
-  or_as_it_is a b = choose a d (choose b d (filled (product_at s) d n))
-
-  pub no_row_behind : length s / row_length ≤ n → d ≡ products s d n
-  no_row_behind h = sym (λ i. or_as_it_is (le-leb (length s / row_length) n h i) (ltb (length d / row_length) n))
-
-  pub no_room : n < length s / row_length → length d / row_length < n → d ≡ products s d n
-  no_room h g = sym (λ i. or_as_it_is (lt-leb (length s / row_length) n h i) (lt-ltb (length d / row_length) n g i))
-
-  pub with_room : n < length s / row_length → n ≤ length d / row_length → filled (product_at s) d n ≡ products s d n
-  with_room h g = sym (λ i. or_as_it_is (lt-leb (length s / row_length) n h i) (le-ltb (length d / row_length) n g i))
 
 -- ## A state's test
 

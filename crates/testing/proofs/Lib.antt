@@ -1,3 +1,2 @@
-pub mod FrameCall
 pub mod LeavesCalls
 pub mod LevelCall

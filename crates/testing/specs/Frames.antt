@@ -7,14 +7,7 @@ use Rattle.definitions.specs.Frame.{frame}
 use Rattle.definitions.specs.Lifting.{if_few}
 use Rattle.definitions.specs.Layout.{Words, rows}
 use Rattle.definitions.specs.Places.{row_length}
-use Rattle.vectors.specs.declared.sums.Stored.{Stored}
-use Rattle.vectors.specs.declared.sums.Stored.TheVariants.{Rows, Full}
 use Rattle.frame.specs.Generators.{monomials_of}
-
--- number and count
-abbrev pub told_of : Stored → ℕ × ℕ
-told_of (Rows n) = (0, n)
-told_of Full = (15, 0)
 
 -- what number, count and rows say
 abbrev pub told : ℕ → ℕ → Words → Result (List Monomial)

@@ -1,5 +1,5 @@
 -- What the leaves give over many rows: numbers counted, products stored, terms sorted.
-use Rattle.std.specs.Prelude.{Bool, false, [], ℕ, zero, suc, ◌+◌, ◌/◌, leb, ltb, length, get_or}
+use Rattle.std.specs.Prelude.{Bool, false, [], ℕ, zero, suc, ◌+◌, ◌/◌, leb, ltb, length, get_or, Option as CodeOption, Some, None}
 use Rattle.std.proofs.Math.Option.{Option, none, some}
 use Rattle.definitions.specs.Limits.{document_01}
 use Rattle.definitions.specs.Lists.{choose}
@@ -13,10 +13,6 @@ use Rattle.monomial.specs.Values.{formed}
 use Rattle.orders.specs.Images.{table_order}
 use Rattle.orders.specs.Levels.{images}
 use Rattle.reducers.specs.search.Search.{searched}
-use Rattle.reducers.specs.declared.search.Answer.{Answer}
-use Rattle.reducers.specs.declared.search.Answer.TheVariants.{Reducer, LowerOrder}
-use Rattle.vectors.specs.declared.sums.Place.{Place}
-use Rattle.vectors.specs.declared.sums.Place.TheVariants.{At, Nowhere}
 use Rattle.vectors.specs.terms.Rows.{written}
 use Rattle.vectors.specs.sums.Places.{seek}
 
@@ -60,9 +56,9 @@ products s d n = choose (leb (length s / row_length) n) d (choose (ltb (length d
 
 -- ## Equality search
 
-abbrev pub place_mark : Place → ℕ
-place_mark (At i) = 1
-place_mark Nowhere = 0
+abbrev pub place_mark : CodeOption ℕ → ℕ
+place_mark (Some i) = 1
+place_mark None = 0
 
 -- how many of the first n rows of s have their monomial among the first r rows of d
 abbrev pub found : Words → ℕ → Words → ℕ → ℕ
@@ -76,9 +72,9 @@ abbrev pub ready? : Words → ℕ → Words → ℕ → Bool
 ready? state k s n = choose (ltb (length state) state_length) false (choose (ltb (length s / row_length) n) false
     (choose (leb (get_or state 4 0) k) false (holds_state? document_01 state)))
 
-abbrev pub lower_mark : Answer → ℕ
-lower_mark (Reducer j c) = 0
-lower_mark LowerOrder = 1
+abbrev pub lower_mark : CodeOption (ℕ × ℕ) → ℕ
+lower_mark (Some x) = 0
+lower_mark None = 1
 
 -- how many of n rows are of lower order by level k
 abbrev pub lower : Words → ℕ → Words → ℕ → ℕ

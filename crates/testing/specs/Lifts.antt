@@ -1,5 +1,5 @@
 -- Levels lifted within limits that may be smaller, and what the call answers.
-use Rattle.std.specs.Prelude.{◌≡◌, Bool, [], ℕ, suc, ◌-◌, leb, eqb, length, get_or}
+use Rattle.std.specs.Prelude.{◌≡◌, Bool, [], ℕ, suc, ◌-◌, leb, eqb, length, get_or, Result as CodeResult, Ok, Err}
 use Rattle.definitions.specs.Limits.{document_01}
 use Rattle.definitions.specs.Lists.{◌and◌, choose}
 use Rattle.definitions.specs.Monomial.{Vector, Level}
@@ -11,7 +11,9 @@ use Rattle.runs.specs.frame_terms.Vectors.{lifted_vectors, Kept}
 use Rattle.level.specs.by_runs.Stages.{limits_with}
 use Rattle.level.specs.declared.by_runs.Bounds.{Bounds}
 use Rattle.level.specs.declared.by_runs.Leveled.{Leveled}
-use Rattle.level.specs.declared.by_runs.Leveled.TheVariants.{Vectors, Refused, Stopped}
+use Rattle.level.specs.declared.by_runs.Leveled.TheVariants.{Vectors, Stopped}
+use Rattle.words.specs.declared.refusals.Refusal.{Refusal}
+use Rattle.words.specs.refusals.Numbers.{number_of as number_of_refusal}
 use Rattle.lift_call.specs.Lifts.{complete_number}
 
 abbrev pub bounds_by : ℕ → ℕ → ℕ → ℕ → Bounds
@@ -30,20 +32,20 @@ abbrev pub lifted_within : Bounds → Words → ℕ → Way → Words → Words 
 lifted_within b s k way work cache n =
     lift_level (limits_with b) (get_or s 0 0) (get_or s 2 0) (levels_at document_01 s (suc (k - 1))) (lifting_by (limits_with b) way work cache) n
 
-abbrev pub number_of : Leveled → ℕ
-number_of (Vectors n used) = 0
-number_of (Refused number) = number
-number_of (Stopped n) = 9
+abbrev pub number_of : CodeResult Leveled Refusal → ℕ
+number_of (Ok (Vectors n used)) = 0
+number_of (Ok (Stopped n)) = 9
+number_of (Err e) = number_of_refusal e
 
-abbrev pub count_of : Leveled → ℕ
-count_of (Vectors n used) = n
-count_of (Refused number) = 0
-count_of (Stopped n) = 0
+abbrev pub count_of : CodeResult Leveled Refusal → ℕ
+count_of (Ok (Vectors n used)) = n
+count_of (Ok (Stopped n)) = 0
+count_of (Err e) = 0
 
-abbrev pub used_of : Leveled → ℕ
-used_of (Vectors n used) = used
-used_of (Refused number) = 0
-used_of (Stopped n) = 0
+abbrev pub used_of : CodeResult Leveled Refusal → ℕ
+used_of (Ok (Vectors n used)) = used
+used_of (Ok (Stopped n)) = 0
+used_of (Err e) = 0
 
 -- what is answered: so many vectors in the slice, or a refusal
 abbrev pub told : ℕ → ℕ → Words → Vector → Result Level

@@ -2,25 +2,7 @@
 // Knows: crate frame's `form`, 15 and 16.
 // No code of the engine calls it.
 ghost use Rattle.std.specs.Prelude.{◌≡◌};
-ghost use Rattle.testing.specs.Frames.{told, told_of, called};
-
-use vectors::sums::Stored;
-
-// 0 and how many, or 15 and 0.
-fn tell(x: Stored, count: &mut usize) -> u16
-    ensures { (result, count.new) ≡ told_of x }
-{
-    match x {
-        Stored::Rows(n) => {
-            *count = n;
-            0
-        }
-        Stored::Full => {
-            *count = 0;
-            15
-        }
-    }
-}
+ghost use Rattle.testing.specs.Frames.{told, called};
 
 // The frame terms of r leading rows, numbered by the order code, into the rows of d; stores how many they are. 15 where they are more than the limit,
 // 16 where a slice is too short.
@@ -35,22 +17,17 @@ pub fn frames_form(
 ) -> u16
     ensures { told result count.new d.new ≡ called d.old limit c.old heads.now r code }
 {
-    if 65535 < r {
-        *count = 0;
+    *count = 0;
+    if 65535 < r
+        || d.len() / words::ROW_LENGTH < limit
+        || c.len() / words::ROW_LENGTH < r
+        || heads.len() / words::ROW_LENGTH < r
+    {
         return 16;
     }
-    if d.len() / words::ROW_LENGTH < limit {
-        *count = 0;
-        return 16;
-    }
-    if c.len() / words::ROW_LENGTH < r {
-        *count = 0;
-        return 16;
-    }
-    if heads.len() / words::ROW_LENGTH < r {
-        *count = 0;
-        return 16;
-    }
-    let x = frame::form(d, limit, c, heads, r, code);
-    tell(x, count)
+    let Some(n) = frame::form(d, limit, c, heads, r, code) else {
+        return 15;
+    };
+    *count = n;
+    0
 }

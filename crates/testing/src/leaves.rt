@@ -26,25 +26,19 @@ ghost use Rattle.testing.specs.Leaves.{
   sorted,
 };
 
-use monomial::{Monomial, Product};
-use orders::Comparison;
+use monomial::Monomial;
 use reducers::search;
-use reducers::search::Answer;
 use state::{preparing, soundness};
-use vectors::sums::Place;
+use std::cmp::Ordering;
 use vectors::terms::Term;
 use vectors::{sums, terms};
 
 // ## Comparison
 
-fn greater(c: Comparison) -> usize
+fn greater(c: Ordering) -> usize
     ensures { result ≡ greater_mark (comparison_of c) }
 {
-    match c {
-        Comparison::Greater => 1,
-        Comparison::Equal => 0,
-        Comparison::Smaller => 0,
-    }
+    usize::from(c == Ordering::Greater)
 }
 
 // 1 where row i is greater than the row behind it.
@@ -52,10 +46,8 @@ fn descent_at(s: &[u16], i: usize, code: u16) -> usize
     requires { (i + 2) * row_length ≤ length s.now }
     ensures { (result ≡ descent code s.now i) × (result ≤ 1) }
 {
-    let a = terms::row(s, i);
-    let b = terms::row(s, i + 1);
-    let x = a.monomial;
-    let y = b.monomial;
+    let x = terms::row(s, i).monomial;
+    let y = terms::row(s, i + 1).monomial;
     greater(orders::compare(code, x, y))
 }
 
@@ -67,10 +59,8 @@ pub fn leaves_descents(s: &[u16], n: usize, code: u16) -> usize
         return 0;
     }
     let mut k: usize = 0;
-    let mut i: usize = 0;
-    while i < n {
+    for i in 0..n {
         k += descent_at(s, i, code);
-        i += 1;
     }
     k
 }
@@ -78,20 +68,18 @@ pub fn leaves_descents(s: &[u16], n: usize, code: u16) -> usize
 // ## Product
 
 // A product as a row; zeros where it does not fit.
-fn row_of(x: Product) -> Term
+fn row_of(x: Option<Monomial>) -> Term
     ensures { term_of result ≡ product_row (product_of x) }
 {
-    let m = x.monomial;
-    if x.fits {
-        return Term {
+    match x {
+        Some(monomial) => Term {
             coefficient: 1,
-            monomial: m,
-        };
-    }
-    let u = Monomial::unit();
-    Term {
-        coefficient: 0,
-        monomial: u,
+            monomial,
+        },
+        None => Term {
+            coefficient: 0,
+            monomial: Monomial::unit(),
+        },
     }
 }
 
@@ -100,10 +88,8 @@ fn product_at(s: &[u16], i: usize) -> Term
     requires { (i + 2) * row_length ≤ length s.now }
     ensures { term_of result ≡ product_at_definition s.now i }
 {
-    let a = terms::row(s, i);
-    let b = terms::row(s, i + 1);
-    let x = a.monomial;
-    let y = b.monomial;
+    let x = terms::row(s, i).monomial;
+    let y = terms::row(s, i + 1).monomial;
     row_of(x.product(y.exponents))
 }
 
@@ -111,11 +97,9 @@ fn fill_products(d: &mut [u16], s: &[u16], n: usize)
     requires { (n * row_length + row_length ≤ length s.now) × (n * row_length ≤ length d.old) }
     ensures { d.new ≡ filled (product_at_definition s.now) d.old n }
 {
-    let mut i: usize = 0;
-    while i < n {
+    for i in 0..n {
         let t = product_at(s, i);
         terms::put(d, i, t);
-        i += 1;
     }
 }
 
@@ -123,43 +107,30 @@ fn fill_products(d: &mut [u16], s: &[u16], n: usize)
 pub fn leaves_products(d: &mut [u16], s: &[u16], n: usize)
     ensures { d.new ≡ products s.now d.old n }
 {
-    if s.len() / words::ROW_LENGTH <= n {
-        return;
+    if n < s.len() / words::ROW_LENGTH && n <= d.len() / words::ROW_LENGTH {
+        fill_products(d, s, n);
     }
-    if d.len() / words::ROW_LENGTH < n {
-        return;
-    }
-    fill_products(d, s, n);
 }
 
 // ## Equality search
 
-fn found_mark(x: Place) -> usize
+fn found_mark(x: Option<usize>) -> usize
     ensures { (result ≡ place_mark x) × (result ≤ 1) }
 {
-    match x {
-        Place::At(_) => 1,
-        Place::Nowhere => 0,
-    }
+    usize::from(x.is_some())
 }
 
 // How many of the first n rows of s have their monomial among the first r rows of d; none where a slice is too short.
 pub fn leaves_found(d: &[u16], r: usize, s: &[u16], n: usize) -> usize
     ensures { result ≡ found d.now r s.now n }
 {
-    if d.len() / words::ROW_LENGTH < r {
-        return 0;
-    }
-    if s.len() / words::ROW_LENGTH < n {
+    if d.len() / words::ROW_LENGTH < r || s.len() / words::ROW_LENGTH < n {
         return 0;
     }
     let mut k: usize = 0;
-    let mut i: usize = 0;
-    while i < n {
-        let t = terms::row(s, i);
-        let m = t.monomial;
+    for i in 0..n {
+        let m = terms::row(s, i).monomial;
         k += found_mark(sums::find(d, r, m));
-        i += 1;
     }
     k
 }
@@ -170,25 +141,16 @@ pub fn leaves_found(d: &[u16], r: usize, s: &[u16], n: usize) -> usize
 fn ready(state: &[u16], k: usize, s: &[u16], n: usize) -> bool
     ensures { result ≡ ready? state.now k s.now n }
 {
-    if state.len() < words::STATE_LENGTH {
-        return false;
-    }
-    if s.len() / words::ROW_LENGTH < n {
-        return false;
-    }
-    if words::place(state[4]) <= k {
-        return false;
-    }
-    soundness::sound(state)
+    words::STATE_LENGTH <= state.len()
+        && n <= s.len() / words::ROW_LENGTH
+        && k < words::place(state[4])
+        && soundness::sound(state)
 }
 
-fn mark_lower(a: Answer) -> usize
-    ensures { (result ≡ lower_mark a) × (result ≤ 1) }
+fn mark_lower(x: Option<(usize, u16)>) -> usize
+    ensures { (result ≡ lower_mark x) × (result ≤ 1) }
 {
-    match a {
-        Answer::Reducer(_, _) => 0,
-        Answer::LowerOrder => 1,
-    }
+    usize::from(x.is_none())
 }
 
 // How many of n rows none of the heads divides.
@@ -198,12 +160,9 @@ fn count_lower(heads: &[u16], r: usize, spans: &[u16], k: usize, s: &[u16], n: u
     ensures { result ≡ counted (λ i. lower_mark (searched (rows heads.now 0 r) (row_at s.now i).1)) n }
 {
     let mut x: usize = 0;
-    let mut i: usize = 0;
-    while i < n {
-        let t = terms::row(s, i);
-        let m = t.monomial;
+    for i in 0..n {
+        let m = terms::row(s, i).monomial;
         x += mark_lower(search::search(heads, r, spans, k, m));
-        i += 1;
     }
     x
 }
@@ -212,15 +171,15 @@ fn count_lower(heads: &[u16], r: usize, spans: &[u16], k: usize, s: &[u16], n: u
 pub fn leaves_lower(state: &[u16], k: usize, s: &[u16], n: usize) -> usize
     ensures { result ≡ lower state.now k s.now n }
 {
-    if ready(state, k, s, n) {
-        let mut heads = [0u16; words::HEADS_LENGTH];
-        let mut spans = [0u16; words::SPANS_LENGTH];
-        preparing::fill_leads(&mut heads, &mut spans, state, k);
-        let r = soundness::count_of(state, k);
-        let c = preparing::components_of(state, k) + 1;
-        return count_lower(&heads, r, &spans, c, s, n);
+    if !ready(state, k, s, n) {
+        return 0;
     }
-    0
+    let mut heads = [0u16; words::HEADS_LENGTH];
+    let mut spans = [0u16; words::SPANS_LENGTH];
+    preparing::fill_leads(&mut heads, &mut spans, state, k);
+    let r = soundness::count_of(state, k);
+    let c = preparing::components_of(state, k) + 1;
+    count_lower(&heads, r, &spans, c, s, n)
 }
 
 // ## Insertion
@@ -231,17 +190,12 @@ pub fn leaves_sort(d: &mut [u16], s: &[u16], n: usize, state: &[u16], k: usize) 
     ensures { rows d.new 0 result ≡ choose (ltb (length d.old / row_length) n) []
         (sorted state.now k s.now n) }
 {
-    if d.len() / words::ROW_LENGTH < n {
+    if d.len() / words::ROW_LENGTH < n || !ready(state, k, s, n) {
         return 0;
     }
-    if ready(state, k, s, n) {
-        let mut below = [0u16; words::IMAGES_LENGTH];
-        let mut above = [0u16; words::IMAGES_LENGTH];
-        preparing::fill_tables(&mut below, &mut above, state, k + 1);
-        let r = soundness::count_of(state, k);
-        let code = state[2];
-        let p = state[0];
-        return sums::sort(d, s, n, code, &above, r, p);
-    }
-    0
+    let mut below = [0u16; words::IMAGES_LENGTH];
+    let mut above = [0u16; words::IMAGES_LENGTH];
+    preparing::fill_tables(&mut below, &mut above, state, k + 1);
+    let r = soundness::count_of(state, k);
+    sums::sort(d, s, n, state[2], &above, r, state[0])
 }

@@ -10,11 +10,13 @@ use reader::problem;
 pub fn reader_read(file: &[u8], state: &mut [u16], place: &mut usize) -> u16
     ensures { (result, place.new, state.new) ≡ called file.now state.old }
 {
+    *place = 0;
     if state.len() < words::STATE_LENGTH {
-        *place = 0;
         return 16;
     }
-    let reading = problem::read(file, state);
-    *place = reading.place;
-    reading.number
+    let Err(refused) = problem::read(file, state) else {
+        return 0;
+    };
+    *place = refused.place;
+    refused.refusal.number()
 }

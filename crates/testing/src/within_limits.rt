@@ -17,36 +17,17 @@ use level::by_runs::{Bounds, Leveled};
 use runs::run::Strategy;
 use ways::any_way::Way;
 use ways::{any_way, by_tree};
+use words::refusals::Refusal;
 
 // Limits that the buffers' lengths suffice for.
 fn within(b: Bounds) -> bool
     ensures { result ≡ within? b }
 {
-    if words::MOST_TERMS < b.working {
-        return false;
-    }
-    if words::MOST_TERMS < b.vector {
-        return false;
-    }
-    if b.vector == 0 {
-        return false;
-    }
-    if words::MOST_TREE_TERMS < b.tree {
-        return false;
-    }
-    b.room <= words::MOST_ROWS
-}
-
-// Room for so many terms in a working value.
-fn with_working(b: Bounds, working: usize) -> Bounds
-    ensures { result ≡ bounds_by working b.vector b.tree b.room }
-{
-    Bounds {
-        working,
-        vector: b.vector,
-        tree: b.tree,
-        room: b.room,
-    }
+    b.working <= words::MOST_TERMS
+        && b.vector <= words::MOST_TERMS
+        && 1 <= b.vector
+        && b.tree <= words::MOST_TREE_TERMS
+        && b.room <= words::MOST_ROWS
 }
 
 // Every test is passed.
@@ -58,7 +39,7 @@ fn lift_by(
     k: usize,
     way: Way,
     b: Bounds,
-) -> Leveled
+) -> Result<Leveled, Refusal>
     requires { Base state.now (k - 1) × (1 ≤ k) × (k ≤ most_levels) × (grown_length ≤ length out.old)
         × (work_words document_01 (way_of way) ≤ length work.old) × Within b }
     ensures { ((n : ℕ) × (v : Words) × (leveled_of result out.new v
@@ -79,8 +60,10 @@ fn lift_by(
                 pick,
                 stops: false,
             };
-            let room = any_way::room_of(work.len(), b.working);
-            let c = with_working(b, room);
+            let c = Bounds {
+                working: any_way::room_of(work.len(), b.working),
+                ..b
+            };
             by_runs::lift_level(out, work, state, k - 1, w, c)
         }
         Way::Tree => by_tree::lift_level(out, cache, work, state, k - 1, b),
@@ -91,38 +74,46 @@ fn lift_by(
 fn fits(state: &[u16], work: &[u16], out: &[u16], way: Way, b: Bounds) -> bool
     ensures { result ≡ fits? state.now work.now out.now (way_of way) b }
 {
-    if state.len() < words::STATE_LENGTH {
-        return false;
+    words::STATE_LENGTH <= state.len()
+        && lift_call::work_length(way) <= work.len()
+        && words::GROWN_LENGTH <= out.len()
+        && within(b)
+}
+
+// 16, then 11 and 12, then the level.
+fn lift_tested(
+    out: &mut [u16],
+    work: &mut [u16],
+    cache: &mut [u16],
+    state: &[u16],
+    k: usize,
+    way: Way,
+    b: Bounds,
+) -> Result<Leveled, Refusal>
+    ensures { ((n : ℕ) × (v : Words) × (leveled_of result out.new v
+        ≡ called b state.now work.old out.old cache.old k (way_of way) n)) × StoredAs result out.new }
+{
+    if !fits(state, work, out, way, b) {
+        return Err(Refusal::Buffer);
     }
-    if work.len() < lift_call::work_length(way) {
-        return false;
-    }
-    if out.len() < words::GROWN_LENGTH {
-        return false;
-    }
-    within(b)
+    lift_call::complete(state, k, way)?;
+    lift_by(out, work, cache, state, k, way, b)
 }
 
 // How many vectors and rows, or a refusal's number.
-fn tell(x: Leveled, count: &mut usize, used: &mut usize) -> u16
+fn tell(x: Result<Leveled, Refusal>, count: &mut usize, used: &mut usize) -> u16
     ensures { (result ≡ number_of x) × (count.new ≡ count_of x) × (used.new ≡ used_of x) }
 {
+    *count = 0;
+    *used = 0;
     match x {
-        Leveled::Vectors(n, rows) => {
+        Ok(Leveled::Vectors(n, rows)) => {
             *count = n;
             *used = rows;
             0
         }
-        Leveled::Refused(number) => {
-            *count = 0;
-            *used = 0;
-            number
-        }
-        Leveled::Stopped(_n) => {
-            *count = 0;
-            *used = 0;
-            9
-        }
+        Ok(Leveled::Stopped(_n)) => 9,
+        Err(refusal) => refusal.number(),
     }
 }
 
@@ -153,15 +144,6 @@ pub fn lifts_level(
         room,
     };
     let w = lift_call::way_by(way, pick);
-    *count = 0;
-    *used = 0;
-    if fits(state, work, out, w, b) {
-        let number = lift_call::complete(state, level, w);
-        if number == 0 {
-            let x = lift_by(out, work, cache, state, level, w, b);
-            return tell(x, count, used);
-        }
-        return number;
-    }
-    16
+    let x = lift_tested(out, work, cache, state, level, w, b);
+    tell(x, count, used)
 }

@@ -1,7 +1,7 @@
 // All frame terms of a level by the tree, with a cache of any length.
 // Knows: crate definitions' Tree and Lifting.
 // A frame term's vector is made where it stays, behind the vectors before it (runs::frame_terms says how they are kept).
-ghost use Rattle.std.specs.Prelude.{◌≡◌, [], ◌+◌, ◌-◌, ◌*◌, ◌/◌, ◌≤◌, ◌<◌, length};
+ghost use Rattle.std.specs.Prelude.{◌≡◌, [], ◌+◌, ◌-◌, ◌*◌, ◌/◌, ◌≤◌, ◌<◌, length, Ok};
 ghost use Rattle.definitions.specs.Packed.{unpack};
 ghost use Rattle.definitions.specs.Layout.{row_at, rows};
 ghost use Rattle.definitions.specs.Tree.{lift_term, lift_vector as vector_definition, tree as tree_definition};
@@ -17,7 +17,6 @@ ghost use Rattle.runs.specs.frame_terms.Vectors.{lifted_vectors, Kept, Framed, f
 ghost use Rattle.tree.specs.frame_terms.Frames.{added_vector, lifted_one, one_of, After, Unstopped};
 
 use crate::subtrees;
-use crate::subtrees::Sum;
 use cache::Subtree;
 use monomial::Monomial;
 use reducers::search;
@@ -26,13 +25,7 @@ use runs::reduction;
 use runs::reduction::Ground;
 use vectors::terms;
 use vectors::terms::Term;
-
-// The rows of the vectors with this one, and those of the cache; or a refusal's number.
-#[derive(Clone, Copy)]
-pub enum One {
-    Used(usize, usize),
-    Refused(u16),
-}
+use words::refusals::Refusal;
 
 // A finished subtree, times c, into the vector: the frame term's own sum counts only there.
 fn add_result<'a>(
@@ -45,12 +38,12 @@ fn add_result<'a>(
     c: u16,
     tables: &[u16],
     g: Ground,
-) -> Sum
+) -> Result<(usize, usize), Refusal>
     requires { Tables g tables.now × (n ≤ g.vector) × (g.vector * row_length ≤ length vector.old) × (g.tree * row_length ≤ length work.now)
-        × (room * row_length ≤ length cache.now) × Sized 0 g.tree room s × Images g.r (above_in tables.now) }
+        × (room * row_length ≤ length cache.now) × Sized 0 g.tree room (Ok s) × Images g.r (above_in tables.now) }
     ensures { (sum_of 0 result cache.now vector.new
         ≡ added_vector (table_order g.code (table_of g.r (above_in tables.now))) g.p g.vector c (rows vector.old 0 n)
-        (subtree_of g.tree s cache.now work.now)) × Fits 0 g.vector room result }
+        (subtree_of g.tree (Ok s) cache.now work.now)) × Fits 0 g.vector room result }
 {
     let above = &tables[words::TABLES_ABOVE..];
     match s {
@@ -64,7 +57,6 @@ fn add_result<'a>(
             let x = cache::add_rows(vector, n, g.vector, part, len, c, g.code, above, g.r, g.p);
             subtrees::joined(x, used)
         }
-        Subtree::Refused(x) => Sum::Refused(x),
     }
 }
 
@@ -82,7 +74,7 @@ fn lift_vector(
     level: &[u16],
     tables: &[u16],
     g: Ground,
-) -> Sum
+) -> Result<(usize, usize), Refusal>
     requires { Lent g used room cache.old work.old level.now tables.now × (n ≤ g.vector) × (g.vector * row_length ≤ length vector.old)
         × (to * row_length ≤ length level.now) × (to < 65536) }
     ensures { (sum_of 0 result cache.new vector.new
@@ -94,36 +86,25 @@ fn lift_vector(
 {
     let mut k = n;
     let mut v = used;
-    let mut i = from;
-    while i < to {
-        let x = search::multiplied(level, i, 1, q, g.p);
-        let fits = x.fits;
-        let t = x.term;
-        if fits {
-            let m = t.monomial;
-            let s = subtrees::lift_term(cache, v, room, work, 0, m, level, tables, g, g.tree);
-            let y = add_result(
-                vector,
-                k,
-                &cache[..],
-                room,
-                &work[..],
-                s,
-                t.coefficient,
-                tables,
-                g,
-            );
-            let Sum::Rows(w, u) = y else {
-                return y;
-            };
-            k = w;
-            v = u;
-            i += 1;
-        } else {
-            return Sum::Refused(13);
-        }
+    for i in from..to {
+        let t = search::multiplied(level, i, 1, q, g.p).ok_or(Refusal::Exponent)?;
+        let m = t.monomial;
+        let s = subtrees::lift_term(cache, v, room, work, 0, m, level, tables, g, g.tree)?;
+        let (w, u) = add_result(
+            vector,
+            k,
+            &cache[..],
+            room,
+            &work[..],
+            s,
+            t.coefficient,
+            tables,
+            g,
+        )?;
+        k = w;
+        v = u;
     }
-    Sum::Rows(k, v)
+    Ok((k, v))
 }
 
 // A frame term's vector, from row 0 of the slice on.
@@ -137,7 +118,7 @@ fn lift_frame_term(
     level: &[u16],
     tables: &[u16],
     g: Ground,
-) -> Sum
+) -> Result<(usize, usize), Refusal>
     requires { Lent g used room cache.old work.old level.now tables.now × (1 ≤ g.vector) × (g.vector * row_length ≤ length vector.old)
         × (1 ≤ m.component) × (m.component ≤ g.r) }
     ensures { (sum_of 0 result cache.new vector.new
@@ -153,17 +134,24 @@ fn lift_frame_term(
             monomial: m,
         },
     );
-    let component = m.component;
-    let part = reduction::rows_of(tables, words::place(component));
-    let from = part.from;
-    let to = part.to;
-    let q = m.exponents;
+    let part = reduction::rows_of(tables, usize::from(m.component));
     lift_vector(
-        vector, 1, cache, used, room, work, q, from, to, level, tables, g,
+        vector,
+        1,
+        cache,
+        used,
+        room,
+        work,
+        m.exponents,
+        part.from,
+        part.to,
+        level,
+        tables,
+        g,
     )
 }
 
-// The vector of frame term i, added to the i before it: 15 where it has no room.
+// The vector of frame term i, added to the i before it, and the rows of the cache.
 fn lift_one(
     out: &mut [u16],
     i: usize,
@@ -177,7 +165,7 @@ fn lift_one(
     level: &[u16],
     tables: &[u16],
     g: Ground,
-) -> One
+) -> Result<(usize, usize), Refusal>
     requires { Lent g u room cache.old work.old level.now tables.now × (1 ≤ g.vector) × Framed g count frame.now × (i < count)
         × ((g.room + g.vector) * row_length + ends_length ≤ length out.old) × (g.room < 65536) × (used ≤ g.room) × Kept i used out.old }
     ensures { (one_of result i out.new cache.new
@@ -185,11 +173,10 @@ fn lift_one(
         room (lifted_vectors out.old i, used) (cache_of u cache.old) (row_at frame.now i).1)
         × After g i room result out.new }
 {
-    let t = terms::row(frame, i);
-    let m = t.monomial;
+    let m = terms::row(frame, i).monomial;
     let start = used * words::ROW_LENGTH + words::ENDS_LENGTH;
     let end = start + g.vector * words::ROW_LENGTH;
-    let s = lift_frame_term(
+    let (v, c) = lift_frame_term(
         &mut out[start..end],
         cache,
         u,
@@ -199,17 +186,12 @@ fn lift_one(
         level,
         tables,
         g,
-    );
-    match s {
-        Sum::Rows(v, c) => {
-            if g.room - used < v {
-                return One::Refused(15);
-            }
-            out[i] = (used + v) as u16;
-            One::Used(used + v, c)
-        }
-        Sum::Refused(x) => One::Refused(x),
+    )?;
+    if g.room - used < v {
+        return Err(Refusal::Level);
     }
+    out[i] = (used + v) as u16;
+    Ok((used + v, c))
 }
 
 // All frame terms, in number order; the cache is empty at first.
@@ -222,7 +204,7 @@ pub fn lift_all(
     level: &[u16],
     tables: &[u16],
     g: Ground,
-) -> Lifted
+) -> Result<Lifted, Refusal>
     requires { Tables g tables.now × Family g level.now (ends_in tables.now) × Images g.r (above_in tables.now)
         × Framed g count frame.now × (g.tree * row_length ≤ length work.old) × (g.tree < 65536) × (1 ≤ g.vector)
         × ((g.room + g.vector) * row_length + ends_length ≤ length out.old) × (g.room < 65536) }
@@ -235,18 +217,12 @@ pub fn lift_all(
     let room = cache.len() / words::ROW_LENGTH;
     let mut used: usize = 0;
     let mut u: usize = 0;
-    let mut i: usize = 0;
-    while i < count {
-        match lift_one(
+    for i in 0..count {
+        let (v, c) = lift_one(
             out, i, used, cache, u, room, work, frame, count, level, tables, g,
-        ) {
-            One::Used(v, c) => {
-                used = v;
-                u = c;
-            }
-            One::Refused(x) => return Lifted::Refused(x),
-        }
-        i += 1;
+        )?;
+        used = v;
+        u = c;
     }
-    Lifted::Rows(used)
+    Ok(Lifted::Rows(used))
 }

@@ -1,7 +1,7 @@
 // The lifting of a term and the lifting of a list, which call each other; what falls is the work area that unfinished subtrees leave.
 // Knows: crate definitions' Tree.
 // Unfinished sums are one stack from row 0 of the work area, so the row where a sum starts is the number of terms that count elsewhere.
-ghost use Rattle.std.specs.Prelude.{◌≡◌, ◌+◌, ◌-◌, ◌*◌, ◌≤◌, ◌<◌, ltb, length};
+ghost use Rattle.std.specs.Prelude.{◌≡◌, ◌+◌, ◌-◌, ◌*◌, ◌≤◌, ◌<◌, ltb, length, Ok};
 ghost use Rattle.definitions.specs.Field.{minus};
 ghost use Rattle.definitions.specs.Packed.{unpack};
 ghost use Rattle.definitions.specs.Layout.{rows};
@@ -13,43 +13,23 @@ ghost use Rattle.runs.specs.reduction.Grounds.{above_in, Tables};
 ghost use Rattle.runs.specs.run.Stages.{stage_of, Images};
 ghost use Rattle.cache.specs.Area.{Keeps};
 ghost use Rattle.cache.specs.Entries.{cache_of, subtree_of, Sized};
-ghost use Rattle.tree.specs.subtrees.Sums.{Lent, sum_of, Fits, joined_as, passed_as, added_to, list_at};
+ghost use Rattle.tree.specs.subtrees.Sums.{Lent, sum_of, Fits, joined_as, added_to, list_at};
 
-use cache::{Entry, Subtree};
+use cache::Subtree;
 use monomial::Monomial;
 use reducers::search;
-use reducers::search::Answer;
 use runs::reduction;
 use runs::reduction::Ground;
-use vectors::sums::Stored;
 use vectors::terms;
 use vectors::terms::Term;
+use words::refusals::Refusal;
 
-// The rows of a sum and those of the cache, or a refusal's number.
-#[derive(Clone, Copy)]
-pub enum Sum {
-    Rows(usize, usize),
-    Refused(u16),
-}
-
-// A sum that has grown, beside the cache.
-pub fn joined(x: Stored, used: usize) -> Sum
+// The rows of a sum that has grown, and those of the cache.
+pub fn joined(x: Option<usize>, used: usize) -> Result<(usize, usize), Refusal>
     ensures { result ≡ joined_as x used }
 {
-    match x {
-        Stored::Rows(n) => Sum::Rows(n, used),
-        Stored::Full => Sum::Refused(14),
-    }
-}
-
-// A refusal handed on.
-fn passed(s: Sum) -> Subtree
-    ensures { result ≡ passed_as s }
-{
-    match s {
-        Sum::Rows(_n, _used) => Subtree::Refused(0),
-        Sum::Refused(x) => Subtree::Refused(x),
-    }
+    let n = x.ok_or(Refusal::Terms)?;
+    Ok((n, used))
 }
 
 // A finished subtree, times c, into its parent's sum. One that waits is counted: the sum must end where it starts.
@@ -63,12 +43,12 @@ fn add_subtree(
     c: u16,
     tables: &[u16],
     g: Ground,
-) -> Sum
+) -> Result<(usize, usize), Refusal>
     requires { Tables g tables.now × (a + n ≤ g.tree) × (g.tree * row_length ≤ length work.old) × (room * row_length ≤ length cache.now)
-        × Sized (a + n) g.tree room s × Images g.r (above_in tables.now) }
+        × Sized (a + n) g.tree room (Ok s) × Images g.r (above_in tables.now) }
     ensures { (sum_of a result cache.now work.new
         ≡ added_to (table_order g.code (table_of g.r (above_in tables.now))) g.p g.tree a c (rows work.old a n)
-        (subtree_of g.tree s cache.now work.old)) × Fits a g.tree room result × Keeps a work.old work.new }
+        (subtree_of g.tree (Ok s) cache.now work.old)) × Fits a g.tree room result × Keeps a work.old work.new }
 {
     let above = &tables[words::TABLES_ABOVE..];
     match s {
@@ -86,7 +66,6 @@ fn add_subtree(
             );
             joined(x, used)
         }
-        Subtree::Refused(x) => Sum::Refused(x),
     }
 }
 
@@ -103,33 +82,38 @@ pub fn lift_term(
     tables: &[u16],
     g: Ground,
     left: usize,
-) -> Subtree
+) -> Result<Subtree, Refusal>
     requires { Lent g used room cache.old work.old level.now tables.now × (a ≤ g.tree) }
     ensures { (subtree_of g.tree result cache.new work.new
         ≡ term_definition (stage_of g level.now tables.now
         (table_order g.code (table_of g.r (above_in tables.now)))) room left a (cache_of used cache.old) (monomial_of m))
         × Sized a g.tree room result × Keeps a work.old work.new }
 {
-    let f = reduction::reducer_of(
+    let t = Term {
+        coefficient: 1,
+        monomial: m,
+    };
+    let Some(f) = reduction::reducer_of(tables, g, t) else {
+        return Ok(Subtree::Cached(0, 0, used));
+    };
+    if let Some((from, n)) = cache::look_up(&cache[..], used, m) {
+        return Ok(Subtree::Cached(from, n, used));
+    }
+    open_subtree(
+        cache,
+        used,
+        room,
+        work,
+        a,
+        m,
+        f.number,
+        f.coefficient,
+        f.quotient,
+        level,
         tables,
         g,
-        Term {
-            coefficient: 1,
-            monomial: m,
-        },
-    );
-    let q = f.quotient;
-    let answer = f.answer;
-    let Answer::Reducer(j, c) = answer else {
-        return Subtree::Cached(0, 0, used);
-    };
-    let e = cache::look_up(&cache[..], used, m);
-    let Entry::Rows(from, n) = e else {
-        return open_subtree(
-            cache, used, room, work, a, m, j, c, q, level, tables, g, left,
-        );
-    };
-    Subtree::Cached(from, n, used)
+        left,
+    )
 }
 
 // A subtree opened: its sum starts with its reducer's multiple, sign turned; the first product cancels its term.
@@ -148,7 +132,7 @@ fn open_subtree(
     tables: &[u16],
     g: Ground,
     left: usize,
-) -> Subtree
+) -> Result<Subtree, Refusal>
     requires { Lent g used room cache.old work.old level.now tables.now × (a ≤ g.tree) × (1 ≤ j) × (j ≤ g.r) }
     ensures { (subtree_of g.tree result cache.new work.new
         ≡ open_definition (ltb a g.tree) (stage_of g level.now tables.now
@@ -157,11 +141,8 @@ fn open_subtree(
         left) a (cache_of used cache.old) (monomial_of m) j (minus g.p c) (unpack q)) × Sized a g.tree room result
         × Keeps a work.old work.new }
 {
-    if g.tree <= a {
-        return Subtree::Refused(14);
-    }
-    if left == 0 {
-        return Subtree::Refused(14);
+    if g.tree <= a || left == 0 {
+        return Err(Refusal::Terms);
     }
     let d = field::negative(c, g.p);
     let component = j as u16;
@@ -177,9 +158,7 @@ fn open_subtree(
         },
     );
     let part = reduction::rows_of(tables, j);
-    let from = part.from;
-    let to = part.to;
-    let s = lift_list(
+    let (n, u) = lift_list(
         cache,
         used,
         room,
@@ -188,17 +167,14 @@ fn open_subtree(
         1,
         d,
         q,
-        from + 1,
-        to,
+        part.from + 1,
+        part.to,
         level,
         tables,
         g,
         left - 1,
-    );
-    let Sum::Rows(n, u) = s else {
-        return passed(s);
-    };
-    cache::keep(cache, u, room, work, a, n, m, g.tree)
+    )?;
+    Ok(cache::keep(cache, u, room, work, a, n, m, g.tree))
 }
 
 // The products of c·q and the rows from row `from` up to row `to`, lifted one by one into the sum of n rows from row a on.
@@ -218,7 +194,7 @@ fn lift_list(
     tables: &[u16],
     g: Ground,
     left: usize,
-) -> Sum
+) -> Result<(usize, usize), Refusal>
     requires { Lent g used room cache.old work.old level.now tables.now × (a + n ≤ g.tree) × (to * row_length ≤ length level.now)
         × (to < 65536) }
     ensures { (sum_of a result cache.new work.new
@@ -230,24 +206,13 @@ fn lift_list(
 {
     let mut k = n;
     let mut v = used;
-    let mut i = from;
-    while i < to {
-        let x = search::multiplied(level, i, c, q, g.p);
-        let fits = x.fits;
-        let t = x.term;
-        if fits {
-            let m = t.monomial;
-            let s = lift_term(cache, v, room, work, a + k, m, level, tables, g, left);
-            let y = add_subtree(&cache[..], room, work, a, k, s, t.coefficient, tables, g);
-            let Sum::Rows(w, u) = y else {
-                return y;
-            };
-            k = w;
-            v = u;
-            i += 1;
-        } else {
-            return Sum::Refused(13);
-        }
+    for i in from..to {
+        let t = search::multiplied(level, i, c, q, g.p).ok_or(Refusal::Exponent)?;
+        let m = t.monomial;
+        let s = lift_term(cache, v, room, work, a + k, m, level, tables, g, left)?;
+        let (w, u) = add_subtree(&cache[..], room, work, a, k, s, t.coefficient, tables, g)?;
+        k = w;
+        v = u;
     }
-    Sum::Rows(k, v)
+    Ok((k, v))
 }

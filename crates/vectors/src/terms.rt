@@ -25,11 +25,10 @@ pub fn row(s: &[u16], i: usize) -> Term
     ensures { term_of result ≡ row_at s.now i }
 {
     let at = i * words::ROW_LENGTH;
-    let e = words::long(s, at + words::EXPONENTS_OFFSET);
     Term {
         coefficient: s[at],
         monomial: Monomial {
-            exponents: e,
+            exponents: words::long(s, at + words::EXPONENTS_OFFSET),
             component: s[at + words::COMPONENT_OFFSET],
         },
     }
@@ -54,10 +53,8 @@ fn store_words(s: &mut [u16], at: usize, w: [u16; words::ROW_LENGTH])
     requires { at + row_length ≤ length s.old }
     ensures { s.new ≡ paste s.old at w row_length }
 {
-    let mut j = 0;
-    while j < words::ROW_LENGTH {
+    for j in 0..words::ROW_LENGTH {
         s[at + j] = w[j];
-        j += 1;
     }
 }
 
@@ -66,9 +63,7 @@ pub fn put(s: &mut [u16], i: usize, t: Term)
     requires { i * row_length + row_length ≤ length s.old }
     ensures { (s.new ≡ written s.old i (term_of t)) × Eight (term_of t).1.0 }
 {
-    let c = t.coefficient;
-    let m = t.monomial;
-    let w = words(c, m.component, m.exponents);
+    let w = words(t.coefficient, t.monomial.component, t.monomial.exponents);
     store_words(s, i * words::ROW_LENGTH, w);
 }
 
@@ -85,9 +80,7 @@ pub fn with_exponents(s: &[u16], i: usize, x: u64) -> bool
     requires { i * row_length + row_length ≤ length s.now }
     ensures { result ≡ same_exponents? (unpack x) (row_at s.now i).1.0 }
 {
-    let t = row(s, i);
-    let m = t.monomial;
-    monomial::same_exponents(x, m.exponents)
+    monomial::same_exponents(x, row(s, i).monomial.exponents)
 }
 
 // Whether row i has the monomial: its exponents decide mostly.
@@ -95,12 +88,8 @@ pub fn same_row(s: &[u16], i: usize, m: Monomial) -> bool
     requires { i * row_length + row_length ≤ length s.now }
     ensures { result ≡ same_monomial? (monomial_of m) (row_at s.now i).1 }
 {
-    let t = row(s, i);
-    let n = t.monomial;
-    if monomial::same_exponents(m.exponents, n.exponents) {
-        return m.component == n.component;
-    }
-    false
+    let n = row(s, i).monomial;
+    monomial::same_exponents(m.exponents, n.exponents) && m.component == n.component
 }
 
 // Row i leaves the first n rows; those above it close up.
@@ -109,10 +98,8 @@ pub fn remove(s: &mut [u16], n: usize, i: usize)
     ensures { s.new ≡ closed s.old (i * row_length) (n * row_length - row_length) }
 {
     let end = n * words::ROW_LENGTH - words::ROW_LENGTH;
-    let mut k = i * words::ROW_LENGTH;
-    while k < end {
+    for k in i * words::ROW_LENGTH..end {
         s[k] = s[k + words::ROW_LENGTH];
-        k += 1;
     }
 }
 
@@ -122,9 +109,7 @@ pub fn open(s: &mut [u16], n: usize, i: usize)
     ensures { s.new ≡ opened s.old (i * row_length) (n * row_length) }
 {
     let start = i * words::ROW_LENGTH;
-    let mut k = n * words::ROW_LENGTH;
-    while start < k {
-        k -= 1;
+    for k in (start..n * words::ROW_LENGTH).rev() {
         s[k + words::ROW_LENGTH] = s[k];
     }
 }
@@ -133,10 +118,8 @@ pub fn open(s: &mut [u16], n: usize, i: usize)
 pub fn clear(s: &mut [u16], a: usize)
     ensures { s.new ≡ cleared s.old a }
 {
-    let mut k = a;
-    while k < s.len() {
+    for k in a..s.len() {
         s[k] = 0;
-        k += 1;
     }
 }
 
@@ -145,9 +128,7 @@ pub fn copy(d: &mut [u16], at: usize, s: &[u16], n: usize)
     requires { (at + n ≤ length d.old) × (n ≤ length s.now) }
     ensures { d.new ≡ paste d.old at s.now n }
 {
-    let mut j = 0;
-    while j < n {
+    for j in 0..n {
         d[at + j] = s[j];
-        j += 1;
     }
 }

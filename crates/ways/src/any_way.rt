@@ -11,6 +11,7 @@ ghost use Rattle.ways.specs.any_way.Ways.{way_of};
 use crate::by_tree;
 use level::{all_levels, by_runs};
 use runs::run::Strategy;
+use words::refusals::Refusal;
 
 // "by one of three ways"; hybrid's with its pick code.
 #[derive(Clone, Copy)]
@@ -27,12 +28,12 @@ fn lift_tree(
     cache: &mut [u16],
     out: &mut [u16],
     k: usize,
-) -> u16
+) -> Result<(), Refusal>
     requires { Liftable state.old k × (tree_length ≤ length work.old) × (grown_length ≤ length out.old) }
     ensures { LiftedBy state.old k (by_tree (length cache.old / row_length)) result state.new }
 {
     let b = by_runs::usual();
-    let x = by_tree::lift_level(out, cache, work, state, k - 1, b);
+    let x = by_tree::lift_level(out, cache, work, state, k - 1, b)?;
     all_levels::store(state, k, x, out)
 }
 
@@ -40,15 +41,17 @@ fn lift_tree(
 pub fn room_of(length: usize, limit: usize) -> usize
     ensures { result ≡ min limit (length / row_length) }
 {
-    let rows = length / words::ROW_LENGTH;
-    if limit < rows {
-        return limit;
-    }
-    rows
+    limit.min(length / words::ROW_LENGTH)
 }
 
 // Level k.
-pub fn lift_by(state: &mut [u16], work: &mut [u16], cache: &mut [u16], k: usize, way: Way) -> u16
+pub fn lift_by(
+    state: &mut [u16],
+    work: &mut [u16],
+    cache: &mut [u16],
+    k: usize,
+    way: Way,
+) -> Result<(), Refusal>
     requires { Liftable state.old k × (work_words document_01 (way_of way) ≤ length work.old) }
     ensures { LiftedBy state.old k (lifting_by document_01 (way_of way) work.old cache.old) result state.new }
 {

@@ -11,7 +11,7 @@ use level::by_runs::{Bounds, Leveled};
 use runs::frame_terms::Lifted;
 use state::soundness;
 use tree::frame_terms;
-use vectors::sums::Stored;
+use words::refusals::Refusal;
 
 // All frame terms over level j.
 fn lift_frame(
@@ -24,7 +24,7 @@ fn lift_frame(
     count: usize,
     tables: &[u16],
     b: Bounds,
-) -> Lifted
+) -> Result<Lifted, Refusal>
     requires { Base state.now j × TablesAt state.now j tables.now × FramedBy state.now j count frame.now
         × (grown_length ≤ length out.old) × (tree_length ≤ length work.old) × Within b }
     ensures { framed_over b state.now j (length cache.old / row_length) count frame.now result out.new }
@@ -43,7 +43,7 @@ fn lift_with(
     j: usize,
     tables: &[u16],
     b: Bounds,
-) -> Leveled
+) -> Result<Leveled, Refusal>
     requires { Base state.now j × TablesAt state.now j tables.now × (grown_length ≤ length out.old) × (tree_length ≤ length work.old)
         × Within b }
     ensures { (leveled_of result out.new [] ≡ tree_over b state.now j (length cache.old / row_length))
@@ -53,13 +53,12 @@ fn lift_with(
     let mut gens = [0u16; words::HEADS_LENGTH];
     let r = soundness::count_of(state, j);
     // numbered by code 1, the lexicographic order, whatever the file's (A10)
-    match frame::form(&mut framed, words::MOST_VECTORS, &mut gens, tables, r, 1) {
-        Stored::Full => Leveled::Refused(15),
-        Stored::Rows(n) => match lift_frame(out, cache, work, state, j, &framed, n, tables, b) {
-            Lifted::Rows(used) => Leveled::Vectors(n, used),
-            Lifted::Refused(x) => Leveled::Refused(x),
-            Lifted::Stopped(x) => Leveled::Stopped(x),
-        },
+    let Some(n) = frame::form(&mut framed, words::MOST_VECTORS, &mut gens, tables, r, 1) else {
+        return Err(Refusal::Level);
+    };
+    match lift_frame(out, cache, work, state, j, &framed, n, tables, b)? {
+        Lifted::Rows(used) => Ok(Leveled::Vectors(n, used)),
+        Lifted::Stopped(x) => Ok(Leveled::Stopped(x)),
     }
 }
 
@@ -71,7 +70,7 @@ pub fn lift_level(
     state: &[u16],
     j: usize,
     b: Bounds,
-) -> Leveled
+) -> Result<Leveled, Refusal>
     requires { Base state.now j × (grown_length ≤ length out.old) × (tree_length ≤ length work.old) × Within b }
     ensures { (leveled_of result out.new [] ≡ tree_over b state.now j (length cache.old / row_length))
         × StoredAs result out.new }

@@ -1,2 +1,3 @@
 pub mod Slices
 pub mod parameters
+pub mod refusals

@@ -2,7 +2,7 @@
 // is in a range.
 // Knows: crate definitions' Places, whose names these are, in capitals.
 // `numbers`, `word_numbers` and `long_numbers` hold each of them to the definitions' one.
-// `parameters` has the four numbers of a problem.
+// `parameters` has the four numbers of a problem, `refusals` the refusals by name.
 #![tactic(auto)]
 
 ghost use Rattle.std.specs.Prelude.{◌≡◌, ◌∷◌, [], ◌+◌, ◌≤◌, ◌<◌, length};
@@ -105,6 +105,7 @@ ghost use Rattle.definitions.specs.Places.{
 ghost use Rattle.words.specs.Slices.{SixteenBits};
 
 pub mod parameters;
+pub mod refusals;
 
 // ## Limits
 
@@ -480,10 +481,8 @@ pub fn long(s: &[u16], at: usize) -> u64
 pub fn know(s: &[u16])
     ensures { SixteenBits s.now }
 {
-    let mut i: usize = 0;
-    while i < s.len() {
+    for i in 0..s.len() {
         part(s[i]);
-        i += 1;
     }
 }
 
@@ -491,8 +490,5 @@ pub fn know(s: &[u16])
 pub fn between(a: u16, x: u16, b: u16) -> bool
     ensures { result ≡ between_definition a x b }
 {
-    if x < a {
-        return false;
-    }
-    x <= b
+    a <= x && x <= b
 }

@@ -18,14 +18,7 @@ pub struct Parameters {
 pub fn in_ranges(q: Parameters) -> bool
     ensures { result ≡ in_ranges? document_01 (parameters_of q) }
 {
-    let n = q.n;
-    let code = q.code;
-    let s = q.s;
-    if crate::between(1, n, crate::MOST_VARIABLES) {
-        if crate::between(1, code, 3) {
-            return crate::between(1, s, crate::MOST_COMPONENTS);
-        }
-        return false;
-    }
-    false
+    crate::between(1, q.n, crate::MOST_VARIABLES)
+        && crate::between(1, q.code, 3)
+        && crate::between(1, q.s, crate::MOST_COMPONENTS)
 }

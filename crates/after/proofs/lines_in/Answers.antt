@@ -12,8 +12,8 @@ loop-at-init c = (omega arith, omega arith, omega arith)
 pub behind_line-at-requires : goal.behind_line-at-requires
 behind_line-at-requires c = c.loop-at.invariant.1
 
-pub overflow_add-k : goal.overflow_add-k
-overflow_add-k c =
+pub overflow_add-count : goal.overflow_add-count
+overflow_add-count c =
     let a = c.args in
     let l = c.loop-at in
     omega (arith, l.invariant.0, c.behind_line-at.ensures.0, c.behind_line-at.ensures.1, line_passes a.file.now l.at (omega arith))

@@ -5,7 +5,7 @@ use Rattle.definitions.specs.Problem.{lines}
 use Rattle.after.proofs.lines_in.Given as goal
 
 abbrev pub invariant-loop-at : goal.invariant-loop-at
-invariant-loop-at l = (l.k ≤ l.at) × (l.at ≤ length l.file) × (length (lines l.file) ≡ l.k + length (lines (drop l.at l.file)))
+invariant-loop-at l = (l.count ≤ l.at) × (l.at ≤ length l.file) × (length (lines l.file) ≡ l.count + length (lines (drop l.at l.file)))
 
 abbrev pub decreases-loop-at : goal.decreases-loop-at
 decreases-loop-at l = length l.file - l.at

@@ -1,5 +1,5 @@
 use mathlib.Core.Path.{◌≡◌}
-use Prim.Native.Nat.{◌+◌, ◌-◌, ◌≤◌}
+use Prim.Native.Nat.{◌+◌, ◌≤◌}
 use lib.ListN.{length}
 use Rattle.orders.specs.Images.{table_of, table_order}
 use Rattle.definitions.specs.Tree.{add_result}
@@ -16,6 +16,3 @@ invariant-loop-i l =
     (rows (choose l.in_cache l.cache l.initial.work) l.from l.len) (rows l.initial.work l.a l.n)
     ≡ adding_from (table_order l.code (table_of l.r l.table)) l.p l.top l.a l.c
     (choose l.in_cache l.cache l.initial.work) l.from l.len l.i (rows l.work l.a l.k))
-
-abbrev pub decreases-loop-i : goal.decreases-loop-i
-decreases-loop-i l = l.len - l.i

@@ -1,5 +1,5 @@
 use mathlib.Core.Path.{◌≡◌}
-use Prim.Native.Nat.{◌-◌, ◌≤◌}
+use Prim.Native.Nat.{◌≤◌}
 use lib.ListN.{length}
 use Rattle.orders.specs.Images.{table_of, table_order}
 use Rattle.definitions.specs.Tree.{add_result}
@@ -12,6 +12,3 @@ invariant-loop-i l =
     (l.i ≤ l.len) × (l.k ≤ l.limit) × (length l.s ≡ length l.initial.s)
     × (add_result (table_order l.code (table_of l.r l.table)) l.p l.limit 0 l.c (rows l.part 0 l.len) (rows l.initial.s 0 l.n)
     ≡ adding_from (table_order l.code (table_of l.r l.table)) l.p l.limit 0 l.c l.part 0 l.len l.i (rows l.s 0 l.k))
-
-abbrev pub decreases-loop-i : goal.decreases-loop-i
-decreases-loop-i l = l.len - l.i

@@ -23,9 +23,9 @@ pub returns : goal.returns
 returns c =
     let a = c.args in
     let P = c.requires in
-    let mv = c.move_up in (
-      ap done (waits a.used a.n a.a (a.limit - a.n) a.room (monomial_of a.m) a.cache.now a.work.now mv.new.s
-          (moved_rows a.work.now mv.new.s a.a a.n (a.limit - a.n) mv.ensures.1) c.if-used-n.false),
+    let mv = c.copy_within in (
+      ap done (waits a.used a.n a.a (a.limit - a.n) a.room (monomial_of a.m) a.cache.now a.work.now mv.new.self
+          (moved_rows a.work.now mv.new.self a.a a.n (a.limit - a.n) mv.ensures.by_index.0) c.if-used-n.false),
       (P.2, P.0),
-      kept_rows a.work.now mv.new.s a.a (a.limit - a.n) (omega (arith, P.2)) mv.ensures.0,
+      kept_rows a.work.now mv.new.self a.a (a.limit - a.n) (omega (arith, P.2)) mv.ensures.by_index.1,
     )

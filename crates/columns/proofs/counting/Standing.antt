@@ -19,6 +19,7 @@ use Rattle.laws.proofs.Sound.{sound_says}
 use Rattle.laws.proofs.Degrees.{carries_below, holds_says}
 use Rattle.laws.proofs.RoundTrip.{length_carried}
 use Rattle.state.specs.soundness.Places.{count_at}
+use Rattle.state.specs.preparing.Prepared.{components_at}
 use Rattle.state.specs.degrees.Carrying.{under_place, carried_from, carried_right?}
 use Rattle.state.proofs.preparing.Complete.{length_levels}
 use Rattle.state.proofs.soundness.SoundLevels.{height, complete_cut}
@@ -97,10 +98,6 @@ module _ (s : Words) (long : state_length ≤ length s) (holds : T (holds_state?
       counted_words (suc k) (count_at s k) (few_level k h) (omega (arith, h, height s long holds))
       (level_column (get_or s 4 0) (height s long holds) few_level (holds_says document_01 s holds).carries k h)
 
-  pub later_column : (c : ℕ) → (c ≡ 0 → ⊥) → c ≤ get_or s 4 0 → Stands s c (count_at s (c - 1))
-  later_column zero n h = absurd (n refl)
-  later_column (suc k) n h = let e : k ≡ suc k - 1 = omega arith in subst (λ i. Stands s (suc k) (count_at s i)) e (level_stands k h)
-
   pub no_column : (c : ℕ) → get_or s 4 0 < c → Stands s c 0
   no_column c h =
       let past : length (columns_of s) ≤ c = omega (arith, how_many, h) in
@@ -112,3 +109,7 @@ module _ (s : Words) (long : state_length ≤ length s) (holds : T (holds_state?
   first_degree =
       let e : get_or s 3 0 ≡ suc (get_or s 3 0 - 1) = omega (arith, some_component) in
       (λ i. take (e i) (drop degrees_start s)) ∙ ap (λ l. take (suc (get_or s 3 0 - 1)) l) (drop-cons s degrees_start 0 (omega arith))
+
+  pub any_column : (c : ℕ) → c ≤ get_or s 4 0 → Stands s c (components_at s c)
+  any_column zero h = first_column 0 refl
+  any_column (suc k) h = level_stands k h

@@ -1,12 +1,13 @@
--- An element's number as a place, 0 where there is none; terms compared by one number each.
-use Rattle.std.specs.Prelude.{Bool, List, ℕ, eqb}
+-- An element's number, if there is one; terms compared by one number each.
+use Rattle.std.specs.Prelude.{Bool, List, ℕ, eqb, Option as CodeOption, Some, None}
 use Rattle.std.proofs.Math.Option.{Option, none, some}
 use Rattle.definitions.specs.Monomial.{Monomial}
 use Rattle.definitions.specs.Bidegrees.{degree_weighted, bidegree, same_bidegree?}
 
-abbrev pub place_of : Option ℕ → ℕ
-place_of none = 0
-place_of (some i) = i
+-- an optional number of the code as one of the definitions
+abbrev pub place_of : CodeOption ℕ → Option ℕ
+place_of None = none
+place_of (Some i) = some i
 
 -- the same number for both
 abbrev pub same_by : (Monomial → ℕ) → Monomial → Monomial → Bool

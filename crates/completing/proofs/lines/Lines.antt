@@ -2,7 +2,8 @@
 use mathlib.Core.Path.{◌≡◌, refl, sym, ap, ◌∙◌}
 use mathlib.Core.Bool.{Bool, true, false}
 use mathlib.Core.List.{[], ◌∷◌, ◌++◌, append_assoc, append-nil}
-use Prim.Native.Nat.{ℕ, suc, ◌+◌, ◌<◌}
+use Prim.Native.Nat.{ℕ, suc, ◌+◌, ◌<◌, ◌≤◌}
+use Rattle.std.specs.Int.{from_bool}
 use native.Mathlib.Omega.{arith}
 use lib.Dec.{eqb}
 use lib.ListN.{length, get_or, take}
@@ -33,6 +34,21 @@ count_one b = go (eqb b newline)
     go : (t : Bool) → ◌≡◌ {A = ℕ} (elim t [ true ↦ suc (ends []) | false ↦ ends [] ]) (choose t 1 0)
     go true = refl
     go false = refl
+
+-- 1 for the byte that ends a line, 0 for any other
+pub one_ended : (b : ℕ) → from_bool (eqb b newline) ≡ choose (eqb b newline) 1 0
+one_ended b = go (eqb b newline)
+  where
+    go : (t : Bool) → from_bool t ≡ choose {A = ℕ} t 1 0
+    go true = refl
+    go false = refl
+
+pub ends_one : (b : ℕ) → choose (eqb b newline) 1 0 ≤ 1
+ends_one b = go (eqb b newline)
+  where
+    go : (t : Bool) → choose t 1 0 ≤ 1
+    go true = omega arith
+    go false = omega arith
 
 pub ends_more : (file : Bytes) (i : ℕ) → i < length file → ends (take i file) + choose (eqb (get_or file i 0) newline) 1 0 ≡ ends (take (i + 1) file)
 ends_more file i h =

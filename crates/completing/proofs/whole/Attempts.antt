@@ -30,7 +30,11 @@ use Rattle.level.proofs.all_levels.Basis.{length_is, decoded, based}
 use Rattle.completing.specs.adding.Additions.{added_over}
 use Rattle.completing.specs.whole.Tries.{Read_in, GrownAs, TriedAs}
 use Rattle.completing.specs.declared.whole.Tried.{Tried}
-use Rattle.completing.specs.declared.whole.Tried.TheVariants.{Accepted, Grown, Refused}
+use Rattle.completing.specs.declared.whole.Tried.TheVariants.{Accepted, Grown}
+use Rattle.std.specs.Prelude.{Result as CodeResult, Ok, Err}
+use Rattle.words.specs.declared.refusals.Refused.{Refused}
+use Rattle.words.specs.refusals.Numbers.{number_of}
+use Rattle.words.proofs.Numbered.{number_positive}
 
 -- ## A file that was read
 
@@ -72,9 +76,9 @@ module _ (file : Bytes) (s : Words) (long : state_length ≤ length s) (R : Read
       added_is : added_over s file v ≡ with_value document_01 file R.said v
       added_is = λ i. with_value document_01 file (parameters_are i, level_is i) v
 
-      pub accept_grown : (x : Tried) (out out' : Bytes) → GrownAs x s file v t out out' → TriedAs x file out out'
-      accept_grown Accepted out out' g = absurd g
-      accept_grown (Grown r from') out out' g =
+      pub accept_grown : (x : CodeResult Tried ℕ) (out out' : Bytes) → GrownAs x s file v t out out' → TriedAs x file out out'
+      accept_grown (Ok Accepted) out out' g = absurd g
+      accept_grown (Ok (Grown r from')) out out' g =
           let a = behind_decides document_01 file from passed R.said R.says n (refused 9 t v) tt
           (ap (λ x. x >>= λ u. done X) e ∙ behind_is from n) in
           let h = sym added_is ∙ g.0 in (
@@ -82,7 +86,7 @@ module _ (file : Bytes) (s : Words) (long : state_length ≤ length s) (R : Read
             subst (Passed document_01 (take r out')) (sym g.2) (grown_passes document_01 tt file R.said R.says 0 t v a (take r out') h),
             g.1,
           )
-      accept_grown (Refused r) out out' g = λ left.
+      accept_grown (Err r) out out' g = λ left.
           let a = behind_decides document_01 file from passed R.said R.says n (refused 9 t v) tt
           (ap (λ x. x >>= λ u. done X) e ∙ behind_is from n) in
           record {
@@ -96,7 +100,7 @@ module _ (file : Bytes) (s : Words) (long : state_length ≤ length s) (R : Read
 
 -- ## What reading says
 
--- number 0: the words hold what the file says
+-- read: the words hold what the file says
 pub read_in : (size : ℕ) (big : state_length ≤ size) (file : Bytes) (f : Parameters × Level) → problem document_01 file ≡ done f → (s : Words)
     → s ≡ words_read size f → Read_in file s
 read_in size big file f e s w = record {
@@ -105,19 +109,23 @@ read_in size big file f e s w = record {
   words = w ∙ ap (λ k. words_read k f) (sym (length_is size big file f e s w));
 }
 
--- another number: the file is refused
-pub not_read : (size number place : ℕ) (file : Bytes) (s : Words) → (number ≡ 0 → ⊥)
-    → ◌≡◌ {A = ℕ × ℕ × Words} (number, place, s) (read_as size (problem document_01 file)) → problem document_01 file ≡ refused number place []
-not_read size number place file s Some-number e = go (problem document_01 file) (document_reader.answered file) e
+-- refused
+pub not_read : (size : ℕ) (e : Refused) (file : Bytes) (s : Words)
+    → ◌≡◌ {A = ℕ × ℕ × Words} (number_of e.refusal, e.place, s) (read_as size (problem document_01 file))
+    → problem document_01 file ≡ refused (number_of e.refusal) e.place []
+not_read size e file s h = go (problem document_01 file) (document_reader.answered file) h
   where
-    go : (x : Result (Parameters × Level)) → Answered document_01 file x → ◌≡◌ {A = ℕ × ℕ × Words} (number, place, s) (read_as size x)
-        → x ≡ refused number place []
-    go (done f) b q = absurd (Some-number (ap (λ t. t.0) q))
+    some_number : number_of e.refusal ≡ 0 → ⊥
+    some_number z = absurd (omega (arith, z, number_positive e.refusal))
+
+    go : (x : Result (Parameters × Level)) → Answered document_01 file x
+        → ◌≡◌ {A = ℕ × ℕ × Words} (number_of e.refusal, e.place, s) (read_as size x) → x ≡ refused (number_of e.refusal) e.place []
+    go (done f) b q = absurd (some_number (ap (λ t. t.0) q))
     go (refused m o value) b q = ap (λ v. refused m o v) b.1 ∙ sym (λ i. refused (q i).0 (q i).1 [])
-    go unfinished b q = absurd (Some-number (ap (λ t. t.0) q))
+    go unfinished b q = absurd (some_number (ap (λ t. t.0) q))
 
 pub attempt_refused : (file : Bytes) (number place : ℕ) → problem document_01 file ≡ refused number place [] → (out out' : Bytes) (r : ℕ)
-    → Printed out out' 0 r (printed letter_X (number ∷ place ∷ [])) → r ≤ pair_line_length → TriedAs (Refused r) file out out'
+    → Printed out out' 0 r (printed letter_X (number ∷ place ∷ [])) → r ≤ pair_line_length → TriedAs (Err r) file out out'
 attempt_refused file number place e out out' r p h left = record {
   number = number;
   place = place;

@@ -1,5 +1,5 @@
 -- What an addition answers.
-use Rattle.std.specs.Prelude.{[], ℕ, suc, ◌+◌, ◌-◌, ◌≤◌, leb, eqb, length, take}
+use Rattle.std.specs.Prelude.{[], ℕ, suc, ◌+◌, ◌-◌, ◌≤◌, leb, eqb, length, take, Result as CodeResult, Ok, Err}
 use Rattle.definitions.specs.Limits.{document_01}
 use Rattle.definitions.specs.Lists.{count}
 use Rattle.definitions.specs.Monomial.{Vector}
@@ -9,17 +9,17 @@ use Rattle.definitions.specs.Layout.{Words, level_at}
 use Rattle.definitions.specs.Completing.{with_value}
 use Rattle.definitions.specs.Places.{file_length, most_rows}
 use Rattle.state.specs.soundness.Places.{parameters_at}
-use Rattle.completing.specs.declared.adding.Added.{Added}
-use Rattle.completing.specs.declared.adding.Added.TheVariants.{Grown, Refused}
+use Rattle.words.specs.declared.refusals.Refused.{Refused}
+use Rattle.words.specs.refusals.Numbers.{number_of}
 
 -- the longer file in front of the buffer, or a refusal
-abbrev pub added_of : Added → Bytes → Result Bytes
-added_of (Grown r) out = done (take r out)
-added_of (Refused number place) out = refused number place []
+abbrev pub added_of : CodeResult ℕ Refused → Bytes → Result Bytes
+added_of (Ok r) out = done (take r out)
+added_of (Err e) out = refused (number_of e.refusal) e.place []
 
-abbrev pub Short : Added → Type 0
-Short (Grown r) = r ≤ file_length
-Short (Refused number place) = Unit {0}
+abbrev pub Short : CodeResult ℕ Refused → Type 0
+Short (Ok r) = r ≤ file_length
+Short (Err e) = Unit {0}
 
 -- the lines among the first bytes, so many of them, that are no T lines
 abbrev pub heads_in : Bytes → ℕ → ℕ → ℕ

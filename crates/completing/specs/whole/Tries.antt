@@ -1,5 +1,5 @@
 -- What one try of a file comes to.
-use Rattle.std.specs.Prelude.{◌≡◌, [], ◌∷◌, ℕ, suc, ◌-◌, ◌≤◌, length, take}
+use Rattle.std.specs.Prelude.{◌≡◌, [], ◌∷◌, ℕ, suc, ◌-◌, ◌≤◌, length, take, Result as CodeResult, Ok, Err}
 use Rattle.definitions.specs.Limits.{document_01}
 use Rattle.definitions.specs.Monomial.{Vector, Level}
 use Rattle.definitions.specs.Result.{Result, done, refused}
@@ -13,7 +13,7 @@ use Rattle.pages.specs.bytes.Printing.{Printed}
 use Rattle.reader.specs.problem.Reading.{words_read}
 use Rattle.completing.specs.adding.Additions.{added_over}
 use Rattle.completing.specs.declared.whole.Tried.{Tried}
-use Rattle.completing.specs.declared.whole.Tried.TheVariants.{Accepted, Grown, Refused}
+use Rattle.completing.specs.declared.whole.Tried.TheVariants.{Accepted, Grown}
 
 -- the words hold what the file says
 pub record Read_in (file : Bytes) (s : Words) : Type 0 where
@@ -30,15 +30,15 @@ pub record Refuses (F : ℕ → Result Bytes) (before after : Bytes) (r : ℕ) :
   pub fits : r ≤ pair_line_length
 
 -- a value added to the file, where division stopped at a frame term: the longer file and the frame terms before that one, or a refusal
-abbrev pub GrownAs : Tried → Words → Bytes → Vector → ℕ → Bytes → Bytes → Type 0
-GrownAs Accepted s file v t out out' = ⊥
-GrownAs (Grown r from) s file v t out out' = (added_over s file v ≡ done (take r out')) × (r ≤ file_length) × (from ≡ t - 1)
-GrownAs (Refused r) s file v t out out' = Refuses (λ n. added_over s file v) out out' r
+abbrev pub GrownAs : CodeResult Tried ℕ → Words → Bytes → Vector → ℕ → Bytes → Bytes → Type 0
+GrownAs (Ok Accepted) s file v t out out' = ⊥
+GrownAs (Ok (Grown r from)) s file v t out out' = (added_over s file v ≡ done (take r out')) × (r ≤ file_length) × (from ≡ t - 1)
+GrownAs (Err r) s file v t out out' = Refuses (λ n. added_over s file v) out out' r
 
 -- one of so many tries
-abbrev pub TriedAs : Tried → Bytes → Bytes → Bytes → Type 0
-TriedAs Accepted file out out' = ((left : ℕ) → Same (λ n. completed document_01 n (suc left) file) (λ n. done file)) × (out' ≡ out)
-TriedAs (Grown r from) file out out' =
+abbrev pub TriedAs : CodeResult Tried ℕ → Bytes → Bytes → Bytes → Type 0
+TriedAs (Ok Accepted) file out out' = ((left : ℕ) → Same (λ n. completed document_01 n (suc left) file) (λ n. done file)) × (out' ≡ out)
+TriedAs (Ok (Grown r from)) file out out' =
     ((left : ℕ) → Same (λ n. completed document_01 n (suc left) file) (λ n. completed document_01 n left (take r out')))
     × Passed document_01 (take r out') from × (r ≤ file_length)
-TriedAs (Refused r) file out out' = (left : ℕ) → Refuses (λ n. completed document_01 n (suc left) file) out out' r
+TriedAs (Err r) file out out' = (left : ℕ) → Refuses (λ n. completed document_01 n (suc left) file) out out' r

@@ -125,15 +125,7 @@ module _ (level ends own es : List ℕ) (b j : ℕ) (many : length es ≡ b) whe
 
 -- ## In the state's words
 
--- the degrees of a column, from where it starts on
-pub column_part : (s : Words) (c r at : ℕ) → at ≡ under_place c → Stands s c r → take r (take (length s - at) (drop at s)) ≡ column_of s c
-column_part s c r at e S = ap (take r) (whole_part at s ∙ ap (λ i. drop i s) e) ∙ S.words
-
 module _ (s : Words) (long : state_length ≤ length s) (holds : T (holds_state? document_01 s)) where
-  -- as many as the level's count says
-  pub level_many : (k a : ℕ) → k < get_or s 4 0 → Stands s (suc k) a → a ≡ count_at s k
-  level_many k a h S = S.long ∙ sym (level_stands s long holds k h).long
-
   pub level_cut : (k a : ℕ) → a ≡ count_at s k
       → cut_level a (take (length s - rows_offset k) (drop (rows_offset k) s)) (take (length s - ends_offset k) (drop (ends_offset k) s))
       ≡ level_at document_01 s k

@@ -1,5 +1,4 @@
 -- A matrix in words: a row of n columns begins at every 128th word.
-use Rattle.std.proofs.Math.Option.{Option, none, some}
 use Rattle.std.specs.Prelude.{List, [], ◌∷◌, ℕ, zero, suc, take, drop}
 use Rattle.definitions.specs.Rank.{Row, Matrix}
 use Rattle.definitions.specs.Places.{most_vectors}
@@ -12,8 +11,3 @@ row_words s a n = take n (drop a s)
 abbrev pub rows_at : ℕ → ℕ → List ℕ → Matrix
 rows_at n zero s = []
 rows_at n (suc k) s = take n s ∷ rows_at n k (drop most_vectors s)
-
--- a column, or the number of columns for none
-abbrev pub column_or : Option ℕ → ℕ → ℕ
-column_or none n = n
-column_or (some c) n = c

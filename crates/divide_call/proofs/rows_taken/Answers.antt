@@ -1,8 +1,6 @@
-use borrow.Author.Rules.{rules}
 use native.Mathlib.Omega.{arith}
 use mathlib.Core.Path.{◌≡◌, sym, ap, ◌∙◌}
-use Prim.Native.Nat.{◌-◌, ◌≤◌}
-use borrow.Author.Tests.{not-true, not-false}
+use Prim.Native.Nat.{◌-◌}
 use Rattle.divide_call.specs.Rows.{first_bad}
 use Rattle.divide_call.proofs.RowByRow.{bad_on, bad_here, bad_end}
 use Rattle.divide_call.proofs.rows_taken.Goals as goal
@@ -15,12 +13,12 @@ loop-i-init c =
 pub row_fits-requires : goal.row_fits-requires
 row_fits-requires c = omega (arith, c.requires)
 
-pub returns-then-fails : goal.returns-then-fails
-returns-then-fails c =
+pub returns-then-not-row_fits : goal.returns-then-not-row_fits
+returns-then-not-row_fits c =
     let a = c.args in
     let l = c.loop-i in
     sym (l.invariant.1 ∙ bad_here a.b a.code a.vector.now l.i a.n (omega arith)
-    (sym c.row_fits.ensures ∙ not-true c.row_fits.result (sym c.fails.ensures ∙ c.if-fails.true)))
+    (sym c.row_fits.ensures ∙ c.if-not-row_fits.true))
 
 pub loop-i-preserved : goal.loop-i-preserved
 loop-i-preserved c =
@@ -28,7 +26,7 @@ loop-i-preserved c =
     let l = c.loop-i in (
       omega arith,
       l.invariant.1 ∙ bad_on a.b a.code a.vector.now l.i a.n (omega arith)
-          (sym c.row_fits.ensures ∙ not-false c.row_fits.result (sym c.fails.ensures ∙ c.if-fails.false)),
+          (sym c.row_fits.ensures ∙ c.if-not-row_fits.false),
     )
 
 pub returns : goal.returns

@@ -1,4 +1,3 @@
-use borrow.Author.Rules.{rules}
 use native.Mathlib.Omega.{arith}
 use mathlib.Core.Path.{sym, ap, ◌∙◌, subst}
 use mathlib.Core.Option.{some}
@@ -9,33 +8,24 @@ use Rattle.divide_call.proofs.settle.Goals as goal
 
 pub zero_behind-requires : goal.zero_behind-requires
 zero_behind-requires c =
-    let asked = c.requires in
-    let left = subst Few c.in-Done.is asked.2 in omega (arith, left.0, asked.0)
+    let few = subst Few c.in-Ok.is c.requires.2 in
+    omega (arith, few.0, c.requires.0)
 
-pub zero_behind-requires-in-Done : goal.zero_behind-requires-in-Done
-zero_behind-requires-in-Done c =
-    let asked =
-    c.requires in
-    let left = subst Few c.in-Done.is asked.2 in omega (arith, left.1, asked.1)
+pub zero_behind-requires-in-Ok : goal.zero_behind-requires-in-Ok
+zero_behind-requires-in-Ok c =
+    let few = subst Few c.in-Ok.is c.requires.2 in
+    omega (arith, few.1, c.requires.1)
 
-pub returns-in-Done : goal.returns-in-Done
-returns-in-Done c =
-    let a =
-    c.args in
-    let first = c.zero_behind in
-    let second = c.zero_behind-in-Done in
-    let quotients = a.quotients.now in
-    let remainder = a.remainder.now in
-    (λ i. some (0, 0, first.ensures i, second.ensures i))
-    ∙ sym (ap (λ y. divide_left quotients remainder (parts_as y quotients remainder)) c.in-Done.is)
+pub returns-in-Ok : goal.returns-in-Ok
+returns-in-Ok c =
+    let quotients = c.args.quotients.now in
+    let remainder = c.args.remainder.now in
+    (λ i. some (0, 0, c.zero_behind.ensures i, c.zero_behind-in-Ok.ensures i))
+    ∙ sym (ap (λ y. divide_left quotients remainder (parts_as y quotients remainder)) c.in-Ok.is)
 
-pub returns-in-Refused : goal.returns-in-Refused
-returns-in-Refused c =
-    let a =
-    c.args in
-    let first = c.clear in
-    let second = c.clear-in-Refused in
-    let quotients = a.quotients.now in
-    let remainder = a.remainder.now in
-    (λ i. some (c.in-Refused.number, 0, (first.ensures ∙ none_kept quotients) i, (second.ensures ∙ none_kept remainder) i))
-    ∙ sym (ap (λ y. divide_left quotients remainder (parts_as y quotients remainder)) c.in-Refused.is)
+pub returns-in-Err : goal.returns-in-Err
+returns-in-Err c =
+    let quotients = c.args.quotients.now in
+    let remainder = c.args.remainder.now in
+    (λ i. some (c.number.ensures i, 0, (c.clear.ensures ∙ none_kept quotients) i, (c.clear-in-Err.ensures ∙ none_kept remainder) i))
+    ∙ sym (ap (λ y. divide_left quotients remainder (parts_as y quotients remainder)) c.in-Err.is)

@@ -1,4 +1,3 @@
-use borrow.Author.Rules.{rules}
 use mathlib.Core.Path.{◌∙◌}
 use Rattle.divide_call.proofs.DivideCall.{kept_rows}
 use Rattle.divide_call.proofs.zero_behind.Goals as goal

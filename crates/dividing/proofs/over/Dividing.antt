@@ -22,7 +22,8 @@ use Rattle.level.proofs.by_runs.GroundOfLevel.{tables_at, family_in, images_belo
 use Rattle.runs.specs.declared.reduction.Ground.{Ground}
 use Rattle.runs.proofs.reduction.Adding.{rows_none}
 use Rattle.dividing.specs.declared.steps.Divided.{Divided}
-use Rattle.dividing.specs.declared.steps.Divided.TheVariants.{Done, Refused}
+use Rattle.std.specs.Prelude.{Result as CodeResult, Ok, Err}
+use Rattle.words.specs.declared.refusals.Refusal.{Refusal}
 use Rattle.dividing.specs.steps.Divisions.{division_of, Rooms, Left}
 use Rattle.dividing.specs.over.Parts.{sorted_parts, divided_over, Few}
 
@@ -76,6 +77,6 @@ module _ (s : Words) (b : Base s 0) (tables : Words) (t : TablesAt s 0 tables) (
       parts_same (stage_of g level tables above) (stage_at usual s 0) stage_same k (division_of value n quotients 0 remainder 0) (undivided (rows value 0 n))
       (division_start value n quotients remainder) x e
 
-pub few_left : (g : Ground) → g.working ≡ most_terms → g.vector ≡ most_terms → (x : Divided) → Left g x → Few x
-few_left g a b (Done v r) h = (omega (arith, b, h.0), omega (arith, a, h.1))
-few_left g a b (Refused number) h = tt
+pub few_left : (g : Ground) → g.working ≡ most_terms → g.vector ≡ most_terms → (x : CodeResult Divided Refusal) → Left g x → Few x
+few_left g a b (Ok d) h = (omega (arith, b, h.0), omega (arith, a, h.1))
+few_left g a b (Err e) h = tt

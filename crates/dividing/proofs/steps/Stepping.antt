@@ -10,7 +10,7 @@ use borrow.Author.Tests.{lt-ltb, le-ltb}
 use Rattle.definitions.specs.Lists.{without}
 use Rattle.definitions.specs.Field.{minus}
 use Rattle.definitions.specs.Monomial.{Exponents, Term, Vector, no_term, vector_of}
-use Rattle.definitions.specs.Reducer.{Answer, reducer, answer}
+use Rattle.definitions.specs.Reducer.{Answer, answer}
 use Rattle.definitions.specs.Result.{Result, done, refusal, ◌>>=◌}
 use Rattle.definitions.specs.Vectors.{store, appended}
 use Rattle.definitions.specs.Stage.{Stage}

@@ -1,19 +1,10 @@
 use native.Mathlib.Omega.{arith}
 use mathlib.Core.Path.{sym, ◌∙◌}
 use Prim.Native.Nat.{◌-◌, ◌*◌}
-use native.Mathlib.Nat.{mod-lt, div-le_self}
+use native.Mathlib.Nat.{mod-lt}
 use Prim.Native.Nat.{◌/◌}
-use Rattle.field.proofs.Inverses.{inverse_start, inverse_on, inverse_end}
+use Rattle.field.proofs.Inverses.{inverse_on, inverse_end}
 use Rattle.field.proofs.inverse.Goals as goal
-
-pub loop-x-init : goal.loop-x-init
-loop-x-init c = (omega arith, inverse_start c.args.p c.args.a c.requires)
-
-pub overflow_sub-p : goal.overflow_sub-p
-overflow_sub-p c = omega (arith, div-le_self c.args.p c.loop-x.x)
-
-pub loop-x-smaller : goal.loop-x-smaller
-loop-x-smaller c = mod-lt c.args.p (omega arith)
 
 pub loop-x-preserved : goal.loop-x-preserved
 loop-x-preserved c =

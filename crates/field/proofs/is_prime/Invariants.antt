@@ -1,6 +1,5 @@
 use Prim.Native.Nat.{◌-◌, ◌≤◌}
 use Rattle.field.proofs.Primes.{Clear}
-use Rattle.field.proofs.Primes.{Clear}
 use Rattle.field.proofs.is_prime.Given as goal
 
 abbrev pub invariant-loop-d : goal.invariant-loop-d

@@ -24,8 +24,12 @@ use Rattle.laws.proofs.Bound.{lift_steady}
 use Rattle.definitions.specs.Places.{most_levels, all_levels}
 use Rattle.demands.proofs.Lifts.{LiftedTo, one_more, limit_met, still_lifting, lifted_to, height_up_to}
 use Rattle.state.proofs.preparing.Complete.{length_levels, holds_sound}
+use Rattle.std.specs.Prelude.{Ok, Err}
+use Rattle.words.specs.declared.refusals.Refusal.{Refusal}
+use Rattle.words.specs.refusals.Numbers.{number_of}
+use Rattle.words.proofs.Numbered.{number_positive}
 use Rattle.level.specs.by_runs.Stages.{Base}
-use Rattle.definitions.specs.Program.{unless_empty, lifted_from, lifted}
+use Rattle.definitions.specs.Program.{unless_empty, lifted_from}
 use Rattle.level.specs.all_levels.Levels.{Levels, unless_last, then_levels, reached_from, reached}
 use Rattle.level.specs.all_levels.Level.{Liftable, kept, told_of, usual_way, LiftedNext}
 
@@ -49,10 +53,10 @@ module _ (s : Words) (k : ℕ) (h : Liftable s k) where
   tall : k - 1 < length X.levels
   tall = omega (arith, length_levels s (get_or s 4 0), h.base.has)
 
-  pub next_of : (number : ℕ) (t : Words) (L : LiftedNext s k number t) → number ≡ 0 → Next L.bound t
-  next_of number t L z = go (lifted_to document_01 tt X sound_is k usual_way L.bound) refl L.gives L.finishes
+  pub next_of : (t : Words) (L : LiftedNext s k (Ok tt) t) → Next L.bound t
+  next_of t L = go (lifted_to document_01 tt X sound_is k usual_way L.bound) refl L.gives L.finishes
     where
-      go : {x : Result State} → LiftedTo document_01 X k x → lift document_01 L.bound X k usual_way ≡ x → told_of number t ≡ kept X x
+      go : {x : Result State} → LiftedTo document_01 X k x → lift document_01 L.bound X k usual_way ≡ x → told_of (Ok tt) t ≡ kept X x
           → T (finished? x) → Next L.bound t
       go (one_more g r) p q f =
           let d : decode document_01 t ≡ record { parameters = X.parameters; levels = g ∷ up_to X (k - 1) } = ap (λ o. o.1) q in
@@ -65,19 +69,22 @@ module _ (s : Words) (k : ℕ) (h : Liftable s k) where
             height = tops;
             base = record { long = L.base.long; holds = L.base.holds; has = omega (arith, tops); low = omega (arith, h.high) };
           }
-      go (limit_met u) p q f = absurd (subst (λ i. T (limit_number? i)) (sym (ap (λ o. o.0) q) ∙ z) u)
+      go (limit_met u) p q f = absurd (subst (λ i. T (limit_number? i)) (sym (ap (λ o. o.0) q)) u)
       go still_lifting p q f = absurd f
+
+  none_at : (n : ℕ) → 1 ≤ n → n ≡ 0 → ⊥
+  none_at n l z = absurd (omega (arith, l, z))
 
   pub record Stays (n number : ℕ) (t : Words) : Type 0 where
     pub refuses : lift document_01 n X k usual_way ≡ refused number k []
     pub same : decode document_01 t ≡ X
 
-  pub stays_of : (number : ℕ) (t : Words) (L : LiftedNext s k number t) → (number ≡ 0 → ⊥) → Stays L.bound number t
-  stays_of number t L z = go (lifted_to document_01 tt X sound_is k usual_way L.bound) refl L.gives L.finishes
+  pub stays_of : (e : Refusal) (t : Words) (L : LiftedNext s k (Err e) t) → Stays L.bound (number_of e) t
+  stays_of e t L = go (lifted_to document_01 tt X sound_is k usual_way L.bound) refl L.gives L.finishes
     where
-      go : {x : Result State} → LiftedTo document_01 X k x → lift document_01 L.bound X k usual_way ≡ x → told_of number t ≡ kept X x
-          → T (finished? x) → Stays L.bound number t
-      go (one_more g r) p q f = absurd (z (ap (λ o. o.0) q))
+      go : {x : Result State} → LiftedTo document_01 X k x → lift document_01 L.bound X k usual_way ≡ x → told_of (Err e) t ≡ kept X x
+          → T (finished? x) → Stays L.bound (number_of e) t
+      go (one_more g r) p q f = absurd (none_at (number_of e) (number_positive e) (ap (λ o. o.0) q))
       go (limit_met u) p q f = record { refuses = p ∙ sym (ap (λ o. refused o.0 k []) q); same = ap (λ o. o.1) q }
       go still_lifting p q f = absurd f
 

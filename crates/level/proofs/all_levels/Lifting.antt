@@ -41,7 +41,10 @@ use Rattle.runs.specs.declared.run.Strategy.{Strategy}
 use Rattle.runs.specs.frame_terms.Vectors.{lifted_vectors, Kept, lifts}
 use Rattle.level.specs.by_runs.Stages.{Base, with_working, usual, stage_at, lift_over, leveled_of, StoredAs}
 use Rattle.level.specs.declared.by_runs.Leveled.{Leveled}
-use Rattle.level.specs.declared.by_runs.Leveled.TheVariants.{Vectors, Refused, Stopped}
+use Rattle.level.specs.declared.by_runs.Leveled.TheVariants.{Vectors, Stopped}
+use Rattle.std.specs.Prelude.{Result as CodeResult, Ok, Err}
+use Rattle.words.specs.declared.refusals.Refusal.{Refusal}
+use Rattle.words.specs.refusals.Numbers.{number_of}
 use Rattle.level.proofs.by_runs.GroundOfLevel.{sound_levels, prime_at}
 use Rattle.level.specs.storing.Stored.{KeptApart, with_level, Added}
 use Rattle.state.proofs.preparing.Complete.{up_to_is, length_levels, holds_sound}
@@ -157,37 +160,37 @@ apart s j b n used out l u k t = record {
 -- ## What can be stored
 
 -- vectors that stand apart, or a refusal
-abbrev Apart : Leveled → Words → Type 0
-Apart (Vectors n used) out = KeptApart n out
-Apart (Refused number) out = Unit {0}
-Apart (Stopped n) out = ⊥
+abbrev Apart : CodeResult Leveled Refusal → Words → Type 0
+Apart (Ok (Vectors n used)) out = KeptApart n out
+Apart (Ok (Stopped n)) out = ⊥
+Apart (Err e) out = Unit {0}
 
 module _ (s : Words) (j : ℕ) (b : Base s j) (out : Words) (long : lifted_length ≤ length out) where
-  stands : (x : Leveled) (v : Words) → Right s j b (leveled_of x out v) → StoredAs x out → Apart x out
-  stands (Vectors n used) v r k = apart s j b n used out long k.0 k.1 r
-  stands (Refused number) v r k = tt
-  stands (Stopped n) v r k = absurd r.0
+  stands : (x : CodeResult Leveled Refusal) (v : Words) → Right s j b (leveled_of x out v) → StoredAs x out → Apart x out
+  stands (Ok (Vectors n used)) v r k = apart s j b n used out long k.0 k.1 r
+  stands (Ok (Stopped n)) v r k = absurd r.0
+  stands (Err e) v r k = tt
 
-  valueless : (x : Leveled) (v : Words) → Apart x out → leveled_of x out [] ≡ leveled_of x out v
-  valueless (Vectors n used) v h = refl
-  valueless (Refused number) v h = refl
-  valueless (Stopped n) v h = absurd h
+  valueless : (x : CodeResult Leveled Refusal) (v : Words) → Apart x out → leveled_of x out [] ≡ leveled_of x out v
+  valueless (Ok (Vectors n used)) v h = refl
+  valueless (Ok (Stopped n)) v h = absurd h
+  valueless (Err e) v h = refl
 
-  over_finished : (x : Leveled) (v : Words) → T (finished? (leveled_of x out v))
-  over_finished (Vectors n used) v = tt
-  over_finished (Refused number) v = tt
-  over_finished (Stopped n) v = tt
+  over_finished : (x : CodeResult Leveled Refusal) (v : Words) → T (finished? (leveled_of x out v))
+  over_finished (Ok (Vectors n used)) v = tt
+  over_finished (Ok (Stopped n)) v = tt
+  over_finished (Err e) v = tt
 
   -- what a lifting left, any way
-  way_right : (way : Lifting) (n : ℕ) (x : Leveled) (v : Words) → leveled_of x out v
+  way_right : (way : Lifting) (n : ℕ) (x : CodeResult Leveled Refusal) (v : Words) → leveled_of x out v
       ≡ lift_level document_01 (get_or s 0 0) (get_or s 2 0) (levels_at document_01 s (suc j)) way n → Right s j b (leveled_of x out v)
   way_right way n x v e = subst (Right s j b) (sym e) (right s j b way n)
 
-  way_apart : (way : Lifting) (n : ℕ) (x : Leveled) (v : Words) → leveled_of x out v
+  way_apart : (way : Lifting) (n : ℕ) (x : CodeResult Leveled Refusal) (v : Words) → leveled_of x out v
       ≡ lift_level document_01 (get_or s 0 0) (get_or s 2 0) (levels_at document_01 s (suc j)) way n → StoredAs x out → Apart x out
   way_apart way n x v e k = stands x v (way_right way n x v e) k
 
-  pub run_way : (w : Strategy) (working : ℕ) → Chosen w working → (n : ℕ) (x : Leveled) (v : Words) → leveled_of x out v
+  pub run_way : (w : Strategy) (working : ℕ) → Chosen w working → (n : ℕ) (x : CodeResult Leveled Refusal) (v : Words) → leveled_of x out v
       ≡ lift_over (with_working working) s j w n
       → leveled_of x out v ≡ lift_level document_01 (get_or s 0 0) (get_or s 2 0) (levels_at document_01 s (suc j)) (way_by w working) n
   run_way w working c n x v e = e ∙ chosen_is s j b w working c n
@@ -219,16 +222,15 @@ module _ (s : Words) (k : ℕ) (h : Liftable s k) where
       (omega (arith, length_levels s (get_or s 4 0), h.base.has)) f
       (subst (λ ls. T (levels_sound? document_01 (parameters_at s) (f ∷ ls))) (sym up) t))
 
-  settles : (x : Leveled) (out v : Words) → Right s (k - 1) h.base (leveled_of x out v) → Apart x out → Settles s k x out
+  settles : (x : Leveled) (out v : Words) → Right s (k - 1) h.base (leveled_of (Ok x) out v) → Apart (Ok x) out → Settles s k x out
   settles (Vectors n used) out v r a = (a, sound_with (lifted_vectors out n) r)
-  settles (Refused number) out v r a = tt
   settles (Stopped n) out v r a = a
 
   -- what a lifting left, any way
-  pub way_settles : (out : Words) → lifted_length ≤ length out → (way : Lifting) (n : ℕ) (x : Leveled) (v : Words) → leveled_of x out v
-      ≡ lift_level document_01 (get_or s 0 0) (get_or s 2 0) (levels_at document_01 s (suc (k - 1))) way n → StoredAs x out → Settles s k x out
+  pub way_settles : (out : Words) → lifted_length ≤ length out → (way : Lifting) (n : ℕ) (x : Leveled) (v : Words) → leveled_of (Ok x) out v
+      ≡ lift_level document_01 (get_or s 0 0) (get_or s 2 0) (levels_at document_01 s (suc (k - 1))) way n → StoredAs (Ok x) out → Settles s k x out
   way_settles out long way n x v e saved =
-      settles x out v (way_right s (k - 1) h.base out long way n x v e) (way_apart s (k - 1) h.base out long way n x v e saved)
+      settles x out v (way_right s (k - 1) h.base out long way n (Ok x) v e) (way_apart s (k - 1) h.base out long way n (Ok x) v e saved)
 
   at_finished : (x : Result Level) → T (finished? x) → T (finished? (state_over s k x))
   at_finished (done f) t = tt
@@ -236,10 +238,10 @@ module _ (s : Words) (k : ℕ) (h : Liftable s k) where
   at_finished unfinished t = t
 
   -- stored: the contract of one level
-  pub lifted_by : (way : Lifting) (n : ℕ) (out : Words) → lifted_length ≤ length out → (x : Leveled) (v : Words)
+  pub lifted_by : (way : Lifting) (n : ℕ) (out : Words) → lifted_length ≤ length out → (x : CodeResult Leveled Refusal) (v : Words)
       → leveled_of x out v ≡ lift_level document_01 (get_or s 0 0) (get_or s 2 0) (levels_at document_01 s (suc (k - 1))) way n → StoredAs x out
-      → (number : ℕ) (t : Words) → told number t ≡ stored s (state_over s k (leveled_of x out [])) → LiftedBy s k way number t
-  lifted_by way n out long x v e kept number t p =
+      → (r : CodeResult (Unit {0}) Refusal) (t : Words) → told r t ≡ stored s (state_over s k (leveled_of x out [])) → LiftedBy s k way r t
+  lifted_by way n out long x v e kept r t p =
       let settled = way_apart s (k - 1) h.base out long way n x v e kept in
       let f = valueless s (k - 1) h.base out long x v settled ∙ e in (
         n,
@@ -247,6 +249,12 @@ module _ (s : Words) (k : ℕ) (h : Liftable s k) where
         subst (λ y. T (finished? y)) (lift_is way n) (at_finished (lift_level document_01 (get_or s 0 0) (get_or s 2 0)
             (levels_at document_01 s (suc (k - 1))) way n) (subst (λ y. T (finished? y)) e (over_finished s (k - 1) h.base out long x v))),
       )
+
+  -- a refusal changes nothing
+  pub refused_by : (way : Lifting) (n : ℕ) (out : Words) → lifted_length ≤ length out → (e : Refusal) (v : Words)
+      → leveled_of (Err e) out v ≡ lift_level document_01 (get_or s 0 0) (get_or s 2 0) (levels_at document_01 s (suc (k - 1))) way n
+      → LiftedBy s k way (Err e) s
+  refused_by way n out long e v p = lifted_by way n out long (Err e) v p tt (Err e) s refl
 
   -- ## Kept without zeroing
 
@@ -290,47 +298,46 @@ module _ (s : Words) (k : ℕ) (h : Liftable s k) where
         low = omega arith;
       }
 
-  next_of : (n : ℕ) (out : Words) (x : Leveled) (number : ℕ) (t : Words) → KeptAs s k x out number t
-      → leveled_of x out [] ≡ lift_level document_01 (get_or s 0 0) (get_or s 2 0) (levels_at document_01 s (suc (k - 1))) usual_way n
-      → LiftedNext s k number t
-  next_of n out (Vectors count used) number t (z, A) e =
+  next_of : (n : ℕ) (out : Words) (x : Leveled) (r : CodeResult (Unit {0}) Refusal) (t : Words) → KeptAs s k x out r t
+      → leveled_of (Ok x) out [] ≡ lift_level document_01 (get_or s 0 0) (get_or s 2 0) (levels_at document_01 s (suc (k - 1))) usual_way n
+      → LiftedNext s k r t
+  next_of n out (Vectors count used) (Ok u) t A e =
       let p : lift document_01 n here k usual_way ≡ done (with_level s k count out) = sym (lift_is usual_way n) ∙ ap (state_over s k) (sym e) in
       record {
         bound = n;
-        gives = (λ i. (z i, A.state i)) ∙ ap (kept here) (sym p);
+        gives = (λ i. (0, A.state i)) ∙ ap (kept here) (sym p);
         finishes = subst (λ y. T (finished? y)) (sym p) tt;
         base = added_base t count out A (sound_next usual_way n (with_level s k count out) p);
       }
-  next_of n out (Refused m) number t (z, same) e =
-      let p : lift document_01 n here k usual_way ≡ refused m k [] = sym (lift_is usual_way n) ∙ ap (state_over s k) (sym e) in
-      record {
-        bound = n;
-        gives = (λ i. (z i, decode document_01 (same i))) ∙ ap (kept here) (sym p);
-        finishes = subst (λ y. T (finished? y)) (sym p) tt;
-        base = subst (λ u. Base u 0) (sym same) (lowest s (k - 1) h.base);
-      }
-  next_of n out (Stopped m) number t a e = absurd a
+  next_of n out (Vectors count used) (Err m) t a e = absurd a
+  next_of n out (Stopped m) r t a e = absurd a
 
   pub lifted_next : (n : ℕ) (out : Words) → lifted_length ≤ length out → (x : Leveled) (v : Words)
-      → leveled_of x out v ≡ lift_level document_01 (get_or s 0 0) (get_or s 2 0) (levels_at document_01 s (suc (k - 1))) usual_way n → StoredAs x out
-      → (number : ℕ) (t : Words) → KeptAs s k x out number t → LiftedNext s k number t
-  lifted_next n out long x v e saved number t a =
-      let settled = way_apart s (k - 1) h.base out long usual_way n x v e saved in
-      next_of n out x number t a (valueless s (k - 1) h.base out long x v settled ∙ e)
+      → leveled_of (Ok x) out v ≡ lift_level document_01 (get_or s 0 0) (get_or s 2 0) (levels_at document_01 s (suc (k - 1))) usual_way n
+      → StoredAs (Ok x) out → (r : CodeResult (Unit {0}) Refusal) (t : Words) → KeptAs s k x out r t → LiftedNext s k r t
+  lifted_next n out long x v e saved r t a =
+      let settled = way_apart s (k - 1) h.base out long usual_way n (Ok x) v e saved in
+      next_of n out x r t a (valueless s (k - 1) h.base out long (Ok x) v settled ∙ e)
 
-  pub kept_words : (x : Leveled) (count used : ℕ) (out t : Words) → x ≡ Vectors count used → Added s t k count out → KeptAs s k x out 0 t
-  kept_words x count used out t e A = subst (λ y. KeptAs s k y out 0 t) (sym e) (refl, A)
+  pub refused_next : (n : ℕ) (out : Words) (m : Refusal) (v : Words)
+      → leveled_of (Err m) out v ≡ lift_level document_01 (get_or s 0 0) (get_or s 2 0) (levels_at document_01 s (suc (k - 1))) usual_way n
+      → LiftedNext s k (Err m) s
+  refused_next n out m v e =
+      let p : lift document_01 n here k usual_way ≡ refused (number_of m) k [] = sym (lift_is usual_way n) ∙ ap (state_over s k) (sym e) in
+      record {
+        bound = n;
+        gives = ap (kept here) (sym p);
+        finishes = subst (λ y. T (finished? y)) (sym p) tt;
+        base = lowest s (k - 1) h.base;
+      }
 
-  pub kept_none : (x : Leveled) (number : ℕ) (out : Words) → x ≡ Refused number → KeptAs s k x out number s
-  kept_none x number out e = subst (λ y. KeptAs s k y out number s) (sym e) (refl, refl)
+  pub kept_words : (x : Leveled) (count used : ℕ) (out t : Words) → x ≡ Vectors count used → Added s t k count out → KeptAs s k x out (Ok tt) t
+  kept_words x count used out t e A = subst (λ y. KeptAs s k y out (Ok tt) t) (sym e) A
 
   pub stored_words : (x : Leveled) (count used : ℕ) (out t : Words) → x ≡ Vectors count used → t
       ≡ encode document_01 (length s) (with_level s k count out)
-      → told 0 t ≡ stored s (state_over s k (leveled_of x out []))
-  stored_words x count used out t e p = ap (told 0) p ∙ ap (λ y. stored s (state_over s k (leveled_of y out []))) (sym e)
-
-  pub refused_words : (x : Leveled) (number : ℕ) (out : Words) → x ≡ Refused number → told number s ≡ stored s (state_over s k (leveled_of x out []))
-  refused_words x number out e = ap (λ y. stored s (state_over s k (leveled_of y out []))) (sym e)
+      → told (Ok tt) t ≡ stored s (state_over s k (leveled_of (Ok x) out []))
+  stored_words x count used out t e p = ap (told (Ok tt)) p ∙ ap (λ y. stored s (state_over s k (leveled_of (Ok y) out []))) (sym e)
 
 -- ## Degrees that are carried
 

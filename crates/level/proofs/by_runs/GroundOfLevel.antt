@@ -12,7 +12,6 @@ use Rattle.definitions.specs.Limits.{document_01}
 use Rattle.definitions.specs.Field.{prime?}
 use Rattle.definitions.specs.Monomial.{Monomial, Level}
 use Rattle.definitions.specs.Order.{Comparison, compare_over}
-use Rattle.definitions.specs.Reducer.{heads}
 use Rattle.definitions.specs.State.{levels_sound?}
 use Rattle.definitions.specs.Layout.{Words, vectors_at, level_at, levels_at, decode}
 use Rattle.laws.proofs.Tests.{and_right}

@@ -3,7 +3,7 @@ use mathlib.Core.Path.{◌≡◌, refl, sym, ap, ◌∙◌, subst, subst₂}
 use mathlib.Core.Bool.{Bool, true, false}
 use mathlib.Core.List.{List, [], ◌∷◌}
 use mathlib.Core.Logic.{inl, inr}
-use Prim.Native.Nat.{ℕ, zero, suc, ◌+◌, ◌-◌, ◌<◌, ◌≤◌}
+use Prim.Native.Nat.{ℕ, zero, suc, ◌+◌, ◌-◌, ◌*◌, ◌<◌, ◌≤◌}
 use native.Mathlib.Omega.{arith}
 use lib.Dec.{T, leb}
 use lib.ListN.{length, get_or, take, drop, replicate}
@@ -17,7 +17,7 @@ use Rattle.definitions.specs.Frame.{frame}
 use Rattle.definitions.specs.Lifting.{limited_frame, if_few, lift_all, accept_from}
 use Rattle.definitions.specs.Layout.{Words, row_at, rows, rows_of, padded, level_at, levels_at}
 use Rattle.laws.proofs.Rows.{length_rows, rows_spelled}
-use Rattle.definitions.specs.Places.{most_vectors, most_terms, value_length}
+use Rattle.definitions.specs.Places.{most_vectors, most_terms, row_length, value_length}
 use Rattle.ending.specs.Well.{Well}
 use Rattle.orders.specs.Images.{table_of, table_order}
 use Rattle.laws.proofs.Modular.{prime_says}
@@ -26,9 +26,9 @@ use Rattle.state.proofs.soundness.VectorTests.{length_vectors}
 use Rattle.state.specs.preparing.Prepared.{components_at, Led}
 use Rattle.state.proofs.preparing.Complete.{complete_count}
 use Rattle.state.proofs.writing.Copying.{eights_rows}
-use Rattle.frame.specs.Generators.{monomials_of}
+use Rattle.frame.specs.Generators.{monomials_of, framed_of, few}
 use Rattle.frame.proofs.Components.{frame_components}
-use Rattle.runs.specs.reduction.Grounds.{ends_in, below_in, above_in, Tables, Family}
+use Rattle.runs.specs.reduction.Grounds.{spans_in, ends_in, below_in, above_in, Tables, Family}
 use Rattle.runs.specs.declared.reduction.Ground.{Ground}
 use Rattle.runs.specs.run.Stages.{Images, order_of, stage_of, strategy_of}
 use Rattle.runs.specs.declared.run.Strategy.{Strategy}
@@ -40,7 +40,8 @@ use Rattle.sweeps.specs.Sweep.{components}
 use Rattle.sweeps.proofs.Footing.{footing, footing_resized}
 use Rattle.sweeping.specs.Serving.{Grounded}
 use Rattle.runs.specs.declared.frame_terms.Accepted.{Accepted}
-use Rattle.runs.specs.declared.frame_terms.Accepted.TheVariants.{Yes, Refused as AcceptedRefused, Stopped as AcceptedStopped}
+use Rattle.runs.specs.declared.frame_terms.Accepted.TheVariants.{Yes, Stopped as AcceptedStopped}
+use Rattle.std.specs.Prelude.{Option as CodeOption, Some, None, Ok}
 use Rattle.level.specs.by_runs.Stages.{Base, with_working, usual, Within, ground_at, stage_at, strategy_at, TablesAt, FramedBy, accepted_with}
 use Rattle.level.specs.by_runs.Stages.{value_in, LeftIn}
 use Rattle.level.specs.declared.by_runs.Bounds.{Bounds}
@@ -151,12 +152,39 @@ pub whole_frame : (code : ℕ) (F G ms : List Monomial) → F ≡ G → done ms 
     ≡ frame code G
 whole_frame code F G ms e h = subst (Says (frame code F)) (sym h) (says (frame code F) (leb (length (frame code F)) most_vectors)) ∙ ap (frame code) e
 
+-- what forming the frame gave, over the tables of a level
+module _ (s : Words) (j : ℕ) (b : Base s j) (tables : Words) (t : TablesAt s j tables) (r : ℕ) (er : r ≡ count_at s j) (d : Words) where
+  abbrev F : List Monomial
+  F = monomials_of (rows tables 0 r)
+
+  lead : F ≡ leading_monomials (level_at document_01 s j)
+  lead = ap (λ k. monomials_of (rows tables 0 k)) er ∙ leading_at s j b tables (spans_in tables) t.led
+
+  module _ (o : CodeOption ℕ) (e : framed_of o d ≡ if_few (leb (length (frame 1 (monomials_of (rows tables 0 r)))) most_vectors)
+      (frame 1 (monomials_of (rows tables 0 r)))) where
+    pub formed : (n : ℕ) → few most_vectors o → most_vectors * row_length ≤ length d → o ≡ Some n → FramedBy s j n d
+    formed n h l p =
+        let m : n ≤ most_vectors = subst (few most_vectors) p h in
+        record {
+          few = m;
+          fits = omega (arith, m, l);
+          terms = whole_frame 1 F (leading_monomials (level_at document_01 s j)) (frame_terms d n) lead (sym (ap (λ y. framed_of y d) p) ∙ e);
+        }
+
+    pub formed_on : {A : Type 0} (go : List Monomial → Result A) (n : ℕ) → o ≡ Some n → go (frame_terms d n)
+        ≡ (limited_frame document_01 (get_or s 2 0) (level_at document_01 s j) >>= go)
+    formed_on go n p =
+        few_enough (get_or s 2 0) (level_at document_01 s j) F (frame_terms d n) go lead (sym (ap (λ y. framed_of y d) p) ∙ e)
+
+    pub formed_not : {A : Type 0} (go : List Monomial → Result A) → o ≡ None → refusal 15
+        ≡ (limited_frame document_01 (get_or s 2 0) (level_at document_01 s j) >>= go)
+    formed_not go p = too_many (get_or s 2 0) (level_at document_01 s j) F go lead (sym (ap (λ y. framed_of y d) p) ∙ e)
+
 -- ## A value without a reducer
 
-pub left_room : (g : Ground) (x : Accepted) (vector work : Words) → g.working ≡ most_terms → Left g x → value_length ≤ length vector
+pub left_room : (g : Ground) (x : Accepted) (vector work : Words) → g.working ≡ most_terms → Left g (Ok x) → value_length ≤ length vector
     → value_length ≤ length work → LeftIn x vector work
 left_room g Yes vector work e l h k = tt
-left_room g (AcceptedRefused number place) vector work e l h k = tt
 left_room g (AcceptedStopped i n) vector work e l h k = (omega (arith, l, e), omega (arith, l, e), omega (arith, l, e))
 
 pub shown_rows : (vector work : Words) (n : ℕ) → work ≡ padded (length work) (rows_of (rows vector 0 n)) → rows work 0 n ≡ rows vector 0 n
@@ -164,9 +192,8 @@ shown_rows vector work n e =
     let v = rows vector 0 n in
     ap (rows work 0) (sym (length_rows vector 0 n)) ∙ rows_spelled work 0 v (replicate (length work - length (rows_of v)) 0) (eights_rows vector 0 n) e
 
-pub answer_same : (x : Accepted) (vector : Words) → accepted_with x (value_in x vector) ≡ accepted_of x vector
+pub answer_same : (x : Accepted) (vector : Words) → accepted_with (Ok x) (value_in x vector) ≡ accepted_of (Ok x) vector
 answer_same Yes vector = refl
-answer_same (AcceptedRefused number place) vector = refl
 answer_same (AcceptedStopped i n) vector = refl
 
 pub working_within : (working : ℕ) → working ≤ most_terms → Within (with_working working)

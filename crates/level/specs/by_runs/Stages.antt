@@ -1,5 +1,5 @@
 -- A state's level as the ground of a lifting, and what is said of the level over it.
-use Rattle.std.specs.Prelude.{◌≡◌, [], ℕ, suc, ◌+◌, ◌*◌, ◌<◌, ◌≤◌, T, length, get_or, take, drop}
+use Rattle.std.specs.Prelude.{◌≡◌, [], ℕ, suc, ◌+◌, ◌*◌, ◌<◌, ◌≤◌, T, length, get_or, take, drop, Result as CodeResult, Ok, Err}
 use Rattle.std.proofs.Math.Seq.{paste}
 use Rattle.definitions.specs.Limits.{Limits, document_01}
 use Rattle.definitions.specs.Monomial.{Vector, Level, leading_monomials}
@@ -22,10 +22,13 @@ use Rattle.runs.specs.declared.run.Strategy.{Strategy}
 use Rattle.runs.specs.frame_terms.Vectors.{lifted_vectors, Kept, frame_terms, lifts, lifted_of, Whole}
 use Rattle.runs.specs.declared.frame_terms.Lifted.{Lifted}
 use Rattle.runs.specs.declared.frame_terms.Accepted.{Accepted}
-use Rattle.runs.specs.declared.frame_terms.Accepted.TheVariants.{Yes, Refused as AcceptedRefused, Stopped as AcceptedStopped}
+use Rattle.runs.specs.declared.frame_terms.Accepted.TheVariants.{Yes, Stopped as AcceptedStopped}
+use Rattle.words.specs.declared.refusals.Refusal.{Refusal}
+use Rattle.words.specs.declared.refusals.Refused.{Refused}
+use Rattle.words.specs.refusals.Numbers.{number_of}
 use Rattle.level.specs.declared.by_runs.Bounds.{Bounds}
 use Rattle.level.specs.declared.by_runs.Leveled.{Leveled}
-use Rattle.level.specs.declared.by_runs.Leveled.TheVariants.{Vectors, Refused, Stopped}
+use Rattle.level.specs.declared.by_runs.Leveled.TheVariants.{Vectors, Stopped}
 
 -- a sound state with level j complete
 pub record Base (s : Words) (j : ℕ) : Type 0 where
@@ -111,7 +114,7 @@ pub record FramedBy (s : Words) (j count : ℕ) (words : Words) : Type 0 where
   pub terms : frame_terms words count ≡ frame (document_01.numbering (get_or s 2 0)) (leading_monomials (level_at document_01 s j))
 
 -- what lifting these frame terms gives; the value of one without a reducer is not kept
-abbrev pub lifted_over : Bounds → Words → ℕ → Strategy → ℕ → Words → Lifted → Words → Type 0
+abbrev pub lifted_over : Bounds → Words → ℕ → Strategy → ℕ → Words → CodeResult Lifted Refusal → Words → Type 0
 lifted_over b s j w count words x out =
     ((n : ℕ) × (v : Words) × (lifted_of x count out v ≡ lift_all (stage_at b s j) (lifts (stage_at b s j) (strategy_at b s j w) n) ([], 0) []
     (frame_terms words count))) × Whole (ground_at b s j) count x out
@@ -122,15 +125,15 @@ lift_over b s j w n =
     limited_frame document_01 (get_or s 2 0) (level_at document_01 s j) >>= λ ms.
     lift_all (stage_at b s j) (lifts (stage_at b s j) (strategy_at b s j w) n) ([], 0) [] ms
 
-abbrev pub leveled_of : Leveled → Words → Words → Result Level
-leveled_of (Vectors n used) out v = done (lifted_vectors out n)
-leveled_of (Refused number) out v = refusal number
-leveled_of (Stopped n) out v = refused 9 0 (rows v 0 n)
+abbrev pub leveled_of : CodeResult Leveled Refusal → Words → Words → Result Level
+leveled_of (Ok (Vectors n used)) out v = done (lifted_vectors out n)
+leveled_of (Ok (Stopped n)) out v = refused 9 0 (rows v 0 n)
+leveled_of (Err e) out v = refusal (number_of e)
 
-abbrev pub StoredAs : Leveled → Words → Type 0
-StoredAs (Vectors n used) out = (used ≤ most_rows) × Kept n used out
-StoredAs (Refused number) out = Unit {0}
-StoredAs (Stopped n) out = Unit {0}
+abbrev pub StoredAs : CodeResult Leveled Refusal → Words → Type 0
+StoredAs (Ok (Vectors n used)) out = (used ≤ most_rows) × Kept n used out
+StoredAs (Ok (Stopped n)) out = Unit {0}
+StoredAs (Err e) out = Unit {0}
 
 -- acceptance that passes over so many frame terms; 15 is tested for all of them
 abbrev pub accepted_behind : Words → ℕ → ℕ → Result (Unit {0})
@@ -140,25 +143,23 @@ accepted_behind s from n =
 abbrev pub accepted_over : Words → ℕ → Result (Unit {0})
 accepted_over s n = accept document_01 (get_or s 0 0) (get_or s 2 0) (level_at document_01 s 0) n
 
-abbrev pub accepted_with : Accepted → Vector → Result (Unit {0})
-accepted_with Yes v = done tt
-accepted_with (AcceptedRefused number place) v = refused number place []
-accepted_with (AcceptedStopped i n) v = refused 9 i v
+abbrev pub accepted_with : CodeResult Accepted Refused → Vector → Result (Unit {0})
+accepted_with (Ok Yes) v = done tt
+accepted_with (Ok (AcceptedStopped i n)) v = refused 9 i v
+accepted_with (Err e) v = refused (number_of e.refusal) e.place []
 
 -- "9 leaves in the work area the value where division stopped": its n rows, and zeros after them
-abbrev pub Shown : Accepted → Vector → Words → Type 0
-Shown Yes v work = Unit {0}
-Shown (AcceptedRefused number place) v work = Unit {0}
-Shown (AcceptedStopped i n) v work = (work ≡ padded (length work) (rows_of v)) × (v ≡ rows work 0 n) × (n * row_length ≤ length work)
+abbrev pub Shown : CodeResult Accepted Refused → Vector → Words → Type 0
+Shown (Ok Yes) v work = Unit {0}
+Shown (Ok (AcceptedStopped i n)) v work = (work ≡ padded (length work) (rows_of v)) × (v ≡ rows work 0 n) × (n * row_length ≤ length work)
     × (n ≤ most_terms)
+Shown (Err e) v work = Unit {0}
 
 -- the value where division stopped
 abbrev pub value_in : Accepted → Words → Vector
 value_in Yes vector = []
-value_in (AcceptedRefused number place) vector = []
 value_in (AcceptedStopped i n) vector = rows vector 0 n
 
 abbrev pub LeftIn : Accepted → Words → Words → Type 0
 LeftIn Yes vector work = Unit {0}
-LeftIn (AcceptedRefused number place) vector work = Unit {0}
 LeftIn (AcceptedStopped i n) vector work = (n * row_length ≤ length vector) × (n * row_length ≤ length work) × (n ≤ most_terms)

@@ -1,5 +1,5 @@
+use native.Mathlib.Omega.{arith}
 use mathlib.Core.Path.{sym, ap}
-use Prim.Native.Nat.{◌-◌}
 use Rattle.lift_call.proofs.Coding.{no_way}
 use Rattle.lift_call.specs.Codes.{coded_way}
 use Rattle.lift_call.proofs.way_by.Goals as goal
@@ -14,4 +14,4 @@ pub returns-in-2 : goal.returns-in-2
 returns-in-2 c = sym (ap (λ w. coded_way w c.args.pick) c.in-2.is)
 
 pub returns-in_default : goal.returns-in_default
-returns-in_default c = sym (no_way c.args.way c.args.pick c.in_default.in_default-own.rest.0.0.1 c.in_default.in_default-own.rest.0.1 c.in_default.in_default-own.rest.1)
+returns-in_default c = sym (no_way c.args.way c.args.pick (λ e. omega arith) (λ e. omega arith) (λ e. omega arith))

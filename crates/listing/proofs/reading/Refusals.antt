@@ -21,8 +21,10 @@ use Rattle.reader.specs.problem.Reading.{read_as, words_read}
 use Rattle.level.specs.by_runs.Stages.{accepted_over}
 use Rattle.level.proofs.all_levels.Basis.{decoded, based, accepted_is}
 use Rattle.state.proofs.preparing.Complete.{length_levels}
-use Rattle.listing.specs.declared.reading.Begun.{Begun}
-use Rattle.listing.specs.declared.reading.Begun.TheVariants.{Accepted, Refused}
+use Rattle.std.specs.Prelude.{Result as CodeResult, Ok, Err}
+use Rattle.words.specs.declared.refusals.Refused.{Refused}
+use Rattle.words.specs.refusals.Numbers.{number_of}
+use Rattle.words.proofs.Numbered.{number_positive}
 use Rattle.listing.specs.reading.Beginning.{Stops, AcceptedAs, Basis, BegunAs}
 
 -- a refusal without a value: its X line alone
@@ -77,20 +79,24 @@ module _ (size : ℕ) (big : state_length ≤ size) (file : Bytes) (f : Paramete
     fits = S.fits;
   }
 
-  pub begun_by : (b : Begun) (out out' : Bytes) → AcceptedAs b s out out' → BegunAs b file s out out'
-  begun_by Accepted out out' a = basis_accepted a.0 a.1
-  begun_by (Refused r) out out' S = basis_refused out out' r S
+  pub begun_by : (b : CodeResult (Unit {0}) ℕ) (out out' : Bytes) → AcceptedAs b s out out' → BegunAs b file s out out'
+  begun_by (Ok u) out out' a = basis_accepted a.0 a.1
+  begun_by (Err r) out out' S = basis_refused out out' r S
 
 -- ## A file that was not
 
-module _ (size : ℕ) (file : Bytes) (number place : ℕ) (s : Words) (Some-number : number ≡ 0 → ⊥) where
-  pub read_refused : ◌≡◌ {A = ℕ × ℕ × Words} (number, place, s) (read_as size (problem document_01 file)) → read document_01 0 file
-      ≡ refused number place []
-  read_refused e = go (problem document_01 file) refl (document_reader.answered file) e
+module _ (size : ℕ) (file : Bytes) (e : Refused) (s : Words) where
+  some_number : number_of e.refusal ≡ 0 → ⊥
+  some_number z = absurd (omega (arith, z, number_positive e.refusal))
+
+  pub read_refused : ◌≡◌ {A = ℕ × ℕ × Words} (number_of e.refusal, e.place, s) (read_as size (problem document_01 file)) → read document_01 0 file
+      ≡ refused (number_of e.refusal) e.place []
+  read_refused h = go (problem document_01 file) refl (document_reader.answered file) h
     where
       go : (x : Result (Parameters × Level)) → problem document_01 file ≡ x → Answered document_01 file x
-          → ◌≡◌ {A = ℕ × ℕ × Words} (number, place, s) (read_as size x) → read document_01 0 file ≡ refused number place []
-      go (done f) p b q = absurd (Some-number (ap (λ t. t.0) q))
+          → ◌≡◌ {A = ℕ × ℕ × Words} (number_of e.refusal, e.place, s) (read_as size x)
+          → read document_01 0 file ≡ refused (number_of e.refusal) e.place []
+      go (done f) p b q = absurd (some_number (ap (λ t. t.0) q))
       go (refused m o value) p b q =
           ap (λ x. x >>= accepted document_01 0) p ∙ ap (λ v. refused m o v) b.1 ∙ sym (λ i. refused (q i).0 (q i).1 [])
-      go unfinished p b q = absurd (Some-number (ap (λ t. t.0) q))
+      go unfinished p b q = absurd (some_number (ap (λ t. t.0) q))

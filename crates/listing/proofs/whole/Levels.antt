@@ -25,7 +25,12 @@ use Rattle.laws.proofs.Numbers.{limit_number?, Numbered, lift_level_number}
 use Rattle.definitions.specs.Places.{most_vectors, most_rows, most_levels, state_length}
 use Rattle.state.specs.soundness.Places.{count_at, ends_from}
 use Rattle.state.proofs.preparing.Complete.{words_below, length_levels}
+use Rattle.std.specs.Prelude.{Result as CodeResult, Ok, Err}
+use Rattle.words.specs.declared.refusals.Refused.{Refused}
+use Rattle.words.specs.refusals.Numbers.{number_of}
+use Rattle.words.proofs.Numbered.{number_positive}
 use Rattle.level.specs.all_levels.Levels.{Levels, unless_last, then_levels, reached_from, reached}
+use Rattle.level.specs.all_levels.Level.{levels_of}
 use Rattle.listing.specs.printing.Lines.{Short}
 use Rattle.listing.specs.whole.Listed.{lines_of, lines_to, all_lines_of, refusal_line}
 
@@ -154,7 +159,7 @@ as_it_is (some bytes) = refl
 
 module _ (s t : Words) (n number place : ℕ) (one : get_or s 4 0 ≡ 1) (tall : 0 < get_or t 4 0)
     (r : some (number, place, decode document_01 t) ≡ reached document_01 n (decode document_01 s)) where
-  pub lifted_lines : some (all_lines_of t ++ refusal_line number place) ≡ levels_from document_01 n most_levels 1 (decode document_01 s)
+  lifted_lines : some (all_lines_of t ++ refusal_line number place) ≡ levels_from document_01 n most_levels 1 (decode document_01 s)
   lifted_lines =
       let X = decode document_01 s in
       let up : suc (get_or t 4 0 - 1) ≡ get_or t 4 0 = omega (arith, tall) in
@@ -167,11 +172,17 @@ module _ (s t : Words) (n number place : ℕ) (one : get_or s 4 0 ≡ 1) (tall :
       ∙ ap (λ l. levels_from document_01 n most_levels 1 X then λ bytes. some (l ++ bytes)) none_yet
       ∙ as_it_is (levels_from document_01 n most_levels 1 X)
 
-  pub whole_lines : number ≡ 0 → some (all_lines_of t) ≡ levels_from document_01 n most_levels 1 (decode document_01 s)
-  whole_lines e =
-      ap some (sym (append-nil (all_lines_of t)) ∙ ap (λ m. all_lines_of t ++ refusal_line m place) (sym e)) ∙ lifted_lines
+module _ (s t : Words) (n : ℕ) (x : CodeResult (Unit {0}) Refused) (one : get_or s 4 0 ≡ 1) (tall : 0 < get_or t 4 0)
+    (r : some (levels_of x (decode document_01 t)) ≡ reached document_01 n (decode document_01 s)) where
+  abbrev ReachedAs : CodeResult (Unit {0}) Refused → Type 0
+  ReachedAs y = some (levels_of y (decode document_01 t)) ≡ reached document_01 n (decode document_01 s)
 
-  pub refused_lines : (number ≡ 0 → ⊥) → some (all_lines_of t ++ printed letter_X (number ∷ place ∷ []))
+  pub whole_lines : x ≡ Ok tt → some (all_lines_of t) ≡ levels_from document_01 n most_levels 1 (decode document_01 s)
+  whole_lines h = ap some (sym (append-nil (all_lines_of t))) ∙ lifted_lines s t n 0 0 one tall (subst ReachedAs h r)
+
+  pub refused_lines : (e : Refused) → x ≡ Err e → some (all_lines_of t ++ printed letter_X (number_of e.refusal ∷ e.place ∷ []))
       ≡ levels_from document_01 n most_levels 1 (decode document_01 s)
-  refused_lines m =
-      sym (ap (λ b. some (all_lines_of t ++ choose b [] (printed letter_X (number ∷ place ∷ [])))) (ne_eqb number 0 m)) ∙ lifted_lines
+  refused_lines e h =
+      let m : number_of e.refusal ≡ 0 → ⊥ = λ z. absurd (omega (arith, z, number_positive e.refusal)) in
+      sym (ap (λ b. some (all_lines_of t ++ choose b [] (printed letter_X (number_of e.refusal ∷ e.place ∷ [])))) (ne_eqb (number_of e.refusal) 0 m))
+      ∙ lifted_lines s t n (number_of e.refusal) e.place one tall (subst ReachedAs h r)

@@ -3,7 +3,8 @@ use mathlib.Core.Path.{◌≡◌, refl, sym, ap, ◌∙◌, subst}
 use mathlib.Core.Bool.{Bool, true, false}
 use mathlib.Core.Option.{Option, none, some}
 use mathlib.Core.List.{[], ◌∷◌}
-use Prim.Native.Nat.{ℕ, zero, suc, ◌+◌, ◌-◌}
+use Prim.Native.Nat.{ℕ, zero, suc, ◌+◌, ◌-◌, ◌≤◌}
+use native.Mathlib.Omega.{arith}
 use native.Mathlib.Nat.{add_comm}
 use lib.Dec.{T}
 use Rattle.definitions.specs.Limits.{document_01}
@@ -26,8 +27,11 @@ use Rattle.pages.specs.bytes.Printing.{Printed}
 use Rattle.pages.proofs.bytes.Spelling.{spelled}
 use Rattle.level.specs.all_levels.Levels.{Levels, unless_last, then_levels, reached_from, reached}
 use Rattle.level.proofs.all_levels.Levels.{result_of, lifted_reached}
-use Rattle.listing.specs.declared.reading.Begun.{Begun}
-use Rattle.listing.specs.declared.reading.Begun.TheVariants.{Accepted, Refused}
+use Rattle.std.specs.Prelude.{Result as CodeResult, Ok, Err}
+use Rattle.words.specs.declared.refusals.Refused.{Refused}
+use Rattle.words.specs.refusals.Numbers.{number_of}
+use Rattle.words.proofs.Numbered.{number_positive}
+use Rattle.level.specs.all_levels.Level.{levels_of}
 use Rattle.listing.specs.reading.Beginning.{Stops, Basis, BegunAs}
 use Rattle.listing.specs.whole.Listed.{Prints}
 use Rattle.listing.specs.whole.Paged.{paged, tested, AcceptedPrints, LiftedPrints, then_printed}
@@ -68,41 +72,46 @@ reached_keeps n (suc left) k X = go (lift document_01 n X k (by_hybrid 2 documen
     go (refused number place value) e h = refl
     go unfinished e h = tt
 
-pub parameters_stay : (s t : Words) (n number place : ℕ)
-    → ◌≡◌ {A = Option Levels} (some (number, place, decode document_01 t)) (reached document_01 n (decode document_01 s))
+pub parameters_stay : (s t : Words) (n : ℕ) (x : CodeResult (Unit {0}) Refused)
+    → ◌≡◌ {A = Option Levels} (some (levels_of x (decode document_01 t))) (reached document_01 n (decode document_01 s))
     → (decode document_01 t).parameters ≡ (decode document_01 s).parameters
-parameters_stay s t n number place r =
-    let X = decode document_01 s in
-    subst (Keeps X) (sym r) (reached_keeps n most_levels 1 X)
+parameters_stay s t n x r = go x (subst (Keeps (decode document_01 s)) (sym r) (reached_keeps n most_levels 1 (decode document_01 s)))
+  where
+    go : (x : CodeResult (Unit {0}) Refused) → Keeps (decode document_01 s) (some (levels_of x (decode document_01 t)))
+        → (decode document_01 t).parameters ≡ (decode document_01 s).parameters
+    go (Ok u) h = h
+    go (Err e) h = h
 
-module _ (page : State → Bytes) (s t : Words) (n number place : ℕ)
-    (r : ◌≡◌ {A = Option Levels} (some (number, place, decode document_01 t)) (reached document_01 n (decode document_01 s))) where
-  lifted_is : lifted document_01 n (decode document_01 s) ≡ result_of (some (number, place, decode document_01 t))
-  lifted_is = lifted_reached document_01 n most_levels 1 (decode document_01 s) ∙ ap result_of (sym r)
+module _ (page : State → Bytes) (s t : Words) (n : ℕ) (x : CodeResult (Unit {0}) Refused)
+    (r : ◌≡◌ {A = Option Levels} (some (levels_of x (decode document_01 t))) (reached document_01 n (decode document_01 s))) where
+  lifted_is : (y : CodeResult (Unit {0}) Refused) → x ≡ y → lifted document_01 n (decode document_01 s)
+      ≡ result_of (some (levels_of y (decode document_01 t)))
+  lifted_is y h = lifted_reached document_01 n most_levels 1 (decode document_01 s)
+      ∙ ap result_of (sym r ∙ ap (λ y. some (levels_of y (decode document_01 t))) h)
 
-  some_refused : (m : ℕ) → (m ≡ 0 → ⊥) → result_of (some (m, place, decode document_01 t)) ≡ refused m place []
-  some_refused zero h = absurd (h refl)
-  some_refused (suc m) h = refl
+  some_refused : (m place : ℕ) → 1 ≤ m → result_of (some (m, place, decode document_01 t)) ≡ refused m place []
+  some_refused zero place h = absurd (omega arith)
+  some_refused (suc m) place h = refl
 
   abbrev shown : ℕ → Result State → Option Bytes
   shown v x = printed_or_refused v (x >>= λ Y. done (page Y))
 
-  pub page_printed : {out out' : Bytes} {long : ℕ} → number ≡ 0 → Printed out out' 0 long (page (decode document_01 t))
+  pub page_printed : {out out' : Bytes} {long : ℕ} → x ≡ Ok tt → Printed out out' 0 long (page (decode document_01 t))
       → LiftedPrints page s out out' long
-  page_printed e p v = record {
+  page_printed h p v = record {
     bound = n;
     bytes = page (decode document_01 t);
-    gives = sym (ap (shown v) (lifted_is ∙ ap (λ m. result_of (some (m, place, decode document_01 t))) e));
+    gives = sym (ap (shown v) (lifted_is (Ok tt) h));
     printed = p;
   }
 
-  pub level_refused : {out out' : Bytes} {long : ℕ} → (number ≡ 0 → ⊥) → Printed out out' 0 long (printed letter_X (number ∷ place ∷ []))
-      → LiftedPrints page s out out' long
-  level_refused h p v = record {
+  pub level_refused : {out out' : Bytes} {long : ℕ} (e : Refused) → x ≡ Err e
+      → Printed out out' 0 long (printed letter_X (number_of e.refusal ∷ e.place ∷ [])) → LiftedPrints page s out out' long
+  level_refused e h p v = record {
     bound = n;
-    bytes = x_lines v number place [];
-    gives = sym (ap (shown v) (lifted_is ∙ some_refused number h));
-    printed = spelled (x_alone v number place) p;
+    bytes = x_lines v (number_of e.refusal) e.place [];
+    gives = sym (ap (shown v) (lifted_is (Err e) h ∙ some_refused (number_of e.refusal) e.place (number_positive e.refusal)));
+    printed = spelled (x_alone v (number_of e.refusal) e.place) p;
   }
 
 -- ## The test
@@ -133,11 +142,11 @@ module _ (file : Bytes) where
   v = variables_of (problem document_01 file)
 
   -- what was begun was accepted, or refused in r bytes
-  module _ (s : Words) (out out' : Bytes) (b : Begun) (begun : BegunAs b file s out out') where
-    pub begun_basis : b ≡ Accepted → Basis file s
+  module _ (s : Words) (out out' : Bytes) (b : CodeResult (Unit {0}) ℕ) (begun : BegunAs b file s out out') where
+    pub begun_basis : b ≡ Ok tt → Basis file s
     begun_basis e = subst (λ y. BegunAs y file s out out') e begun
 
-    pub begun_stops : (r : ℕ) → b ≡ Refused r → Stops (λ n. read document_01 n file) (variables_of (problem document_01 file)) out out' r
+    pub begun_stops : (r : ℕ) → b ≡ Err r → Stops (λ n. read document_01 n file) (variables_of (problem document_01 file)) out out' r
     begun_stops r e = subst (λ y. BegunAs y file s out out') e begun
 
   module _ (of : ℕ → State → Option Bytes) (whole : ℕ → Option Bytes)
@@ -178,20 +187,20 @@ module _ (file : Bytes) where
   sheet_then n (refused number place value) = refl
   sheet_then n unfinished = refl
 
-  module _ (s : Words) (out out' : Bytes) (b : Begun) (begun : BegunAs b file s out out') where
+  module _ (s : Words) (out out' : Bytes) (b : CodeResult (Unit {0}) ℕ) (begun : BegunAs b file s out out') where
     abbrev the_sheet : ℕ → Option Bytes
     the_sheet n = sheet document_01 n file
 
     sheet_is : (n : ℕ) → sheet document_01 n file ≡ then_printed v (levels_from document_01 n most_levels 1) (read document_01 n file)
     sheet_is n = sheet_then n (read document_01 n file)
 
-    pub accepted_sheet : {after : Bytes} {r : ℕ} → b ≡ Accepted → Prints (λ n. levels_from document_01 n most_levels 1 (decode document_01 s)) out' after 0 r
+    pub accepted_sheet : {after : Bytes} {r : ℕ} → b ≡ Ok tt → Prints (λ n. levels_from document_01 n most_levels 1 (decode document_01 s)) out' after 0 r
         → Prints (λ n. sheet document_01 n file) out after 0 r
     accepted_sheet e =
         over_accepted (λ n. levels_from document_01 n most_levels 1) the_sheet sheet_is s out out' (levels_from_steady document_01 most_levels 1)
         (begun_basis s out out' b begun e)
 
-    pub refused_sheet : (r : ℕ) → b ≡ Refused r → Prints (λ n. sheet document_01 n file) out out' 0 r
+    pub refused_sheet : (r : ℕ) → b ≡ Err r → Prints (λ n. sheet document_01 n file) out out' 0 r
     refused_sheet r e =
         over_refused (λ n. levels_from document_01 n most_levels 1) the_sheet sheet_is s out out' (begun_stops s out out' b begun r e)
 
@@ -206,18 +215,18 @@ module _ (file : Bytes) where
     program_then n (refused number place value) = refl
     program_then n unfinished = refl
 
-    module _ (s : Words) (out out' : Bytes) (b : Begun) (begun : BegunAs b file s out out') where
+    module _ (s : Words) (out out' : Bytes) (b : CodeResult (Unit {0}) ℕ) (begun : BegunAs b file s out out') where
       abbrev the_page : ℕ → Option Bytes
       the_page n = program (page n) document_01 n file
 
       page_is : (n : ℕ) → program (page n) document_01 n file ≡ then_printed v (of n) (read document_01 n file)
       page_is n = program_then n (read document_01 n file)
 
-      pub accepted_page : {after : Bytes} {r : ℕ} → ((X : State) → Steady finished? (λ n. page n X)) → b ≡ Accepted
+      pub accepted_page : {after : Bytes} {r : ℕ} → ((X : State) → Steady finished? (λ n. page n X)) → b ≡ Ok tt
           → AcceptedPrints page s out' after r → Prints (λ n. program (page n) document_01 n file) out after 0 r
       accepted_page steady e p =
           over_accepted of the_page page_is s out out'
           (λ X. result_steady answered? (printed_or_refused v) (λ t. t) (λ n. page n X) (steady X)) (begun_basis s out out' b begun e) (p v)
 
-      pub refused_page : (r : ℕ) → b ≡ Refused r → Prints (λ n. program (page n) document_01 n file) out out' 0 r
+      pub refused_page : (r : ℕ) → b ≡ Err r → Prints (λ n. program (page n) document_01 n file) out out' 0 r
       refused_page r e = over_refused of the_page page_is s out out' (begun_stops s out out' b begun r e)

@@ -1,5 +1,5 @@
 -- What a program has after reading and acceptance: an accepted basis, or the lines of a refusal.
-use Rattle.std.specs.Prelude.{◌≡◌, ℕ, ◌+◌, ◌*◌, ◌≤◌, get_or}
+use Rattle.std.specs.Prelude.{◌≡◌, ℕ, ◌+◌, ◌*◌, ◌≤◌, get_or, Result as CodeResult, Ok, Err}
 use Rattle.definitions.specs.Limits.{document_01}
 use Rattle.definitions.specs.Monomial.{Vector, Level}
 use Rattle.definitions.specs.Result.{Result, done, refused}
@@ -10,8 +10,6 @@ use Rattle.definitions.specs.Sheet.{x_lines, variables_of}
 use Rattle.definitions.specs.Places.{most_terms, w_line_length, pair_line_length}
 use Rattle.level.specs.by_runs.Stages.{Base, accepted_over}
 use Rattle.pages.specs.bytes.Printing.{Printed}
-use Rattle.listing.specs.declared.reading.Begun.{Begun}
-use Rattle.listing.specs.declared.reading.Begun.TheVariants.{Accepted, Refused}
 
 -- within some bound this refuses, and the refusal's lines were printed, with v exponents in the W lines
 pub record Stops {A : Type 0} (x : ℕ → Result A) (v : ℕ) (before after : Bytes) (r : ℕ) : Type 0 where
@@ -24,9 +22,9 @@ pub record Stops {A : Type 0} (x : ℕ → Result A) (v : ℕ) (before after : B
   pub fits : r ≤ pair_line_length + most_terms * w_line_length
 
 -- of a state that was read
-abbrev pub AcceptedAs : Begun → Words → Bytes → Bytes → Type 0
-AcceptedAs Accepted s out out' = (n : ℕ) × (accepted_over s n ≡ done tt)
-AcceptedAs (Refused r) s out out' = Stops (accepted_over s) (get_or s 1 0) out out' r
+abbrev pub AcceptedAs : CodeResult (Unit {0}) ℕ → Words → Bytes → Bytes → Type 0
+AcceptedAs (Ok u) s out out' = (n : ℕ) × (accepted_over s n ≡ done tt)
+AcceptedAs (Err r) s out out' = Stops (accepted_over s) (get_or s 1 0) out out' r
 
 -- the words hold the accepted basis of a file, and nothing above it
 pub record Basis (file : Bytes) (s : Words) : Type 0 where
@@ -39,6 +37,6 @@ pub record Basis (file : Bytes) (s : Words) : Type 0 where
   pub says : problem document_01 file ≡ done said
   pub parameters : (decode document_01 s).parameters ≡ said.0
 
-abbrev pub BegunAs : Begun → Bytes → Words → Bytes → Bytes → Type 0
-BegunAs Accepted file s out out' = Basis file s
-BegunAs (Refused r) file s out out' = Stops (λ n. read document_01 n file) (variables_of (problem document_01 file)) out out' r
+abbrev pub BegunAs : CodeResult (Unit {0}) ℕ → Bytes → Words → Bytes → Bytes → Type 0
+BegunAs (Ok u) file s out out' = Basis file s
+BegunAs (Err r) file s out out' = Stops (λ n. read document_01 n file) (variables_of (problem document_01 file)) out out' r

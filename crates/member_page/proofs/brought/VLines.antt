@@ -9,6 +9,8 @@ use lib.Dec.{ltb}
 use lib.ListN.{length, get_or, take, drop, replicate, length-append, length-drop}
 use lib.Seq.{drop-cons, get_or-take, drop-append-le, take-append-add}
 use borrow.Author.Tests.{lt-ltb, le-ltb, ltb-true}
+use Rattle.std.specs.Prelude.{Option as CodeOption, Some, None, Ok, Err}
+use Rattle.std.specs.Option.{ok_or}
 use Rattle.definitions.specs.Limits.{document_01}
 use Rattle.definitions.specs.Lists.{◌and◌, ◌then◌, last, between}
 use Rattle.definitions.specs.Monomial as definition
@@ -27,6 +29,16 @@ use Rattle.reader.proofs.fields.Lines.{first_of}
 use Rattle.reader.proofs.problem.LineByLine.{getD_padded, take_zeros}
 use Rattle.after.proofs.Cutting.{here}
 use Rattle.member_page.specs.brought.Lines.{follows?, fits?, tested, v_first}
+
+-- ## What `ok_or` hands on
+
+pub ok_or_ok : {A E : Type 0} (o : CodeOption A) (e : E) (x : A) → ok_or o e ≡ Ok x → o ≡ Some x
+ok_or_ok None e x h = cc
+ok_or_ok (Some y) e x h = cc
+
+pub ok_or_err : {A E : Type 0} (o : CodeOption A) (e d : E) → ok_or o e ≡ Err d → (o ≡ None) × (d ≡ e)
+ok_or_err None e d h = (refl, cc)
+ok_or_err (Some y) e d h = (cc, cc)
 
 -- ## Numbers
 

@@ -12,11 +12,16 @@ use Rattle.definitions.specs.Membership.{letter_C, letter_M, c_lines, m_line}
 use Rattle.definitions.specs.Layout.{Words, rows}
 use Rattle.laws.proofs.Rows.{length_rows}
 use Rattle.listing.specs.printing.Lines.{term_lines}
+use Rattle.std.specs.Int.{from_bool}
 use Rattle.member_page.specs.page.Lines.{one_by}
 
 pub c_lines_are : (n : ℕ) (v : Vector) → term_lines letter_C n v ≡ c_lines n v
 c_lines_are n [] = refl
 c_lines_are n (t ∷ v) = ap (λ z. printed letter_C (term_fields n t) ++ z) (c_lines_are n v)
+
+pub one_of : (b : Bool) → from_bool b ≡ one_by b
+one_of true = refl
+one_of false = refl
 
 one_line : (b : Bool) → printed letter_M (one_by b ∷ []) ≡ m_line b
 one_line true = refl

@@ -1,5 +1,5 @@
 -- One V line from the bytes that are left, and what the code says of all of them.
-use Rattle.std.specs.Prelude.{Bool, true, [], ◌∷◌, ℕ, zero, suc, ◌+◌, ◌≤◌, ltb, take}
+use Rattle.std.specs.Prelude.{Bool, true, [], ◌∷◌, ℕ, zero, suc, ◌+◌, ◌≤◌, ltb, take, Result as CodeResult, Ok, Err}
 use Rattle.std.proofs.Math.Option.{Option, none, some}
 use Rattle.definitions.specs.Limits.{document_01}
 use Rattle.definitions.specs.Lists.{◌and◌}
@@ -11,8 +11,6 @@ use Rattle.definitions.specs.Layout.{Words, rows}
 use Rattle.definitions.specs.Places.{most_terms}
 use Rattle.reader.specs.fields.Scanning.{kept, shaped_first, in_sixteen}
 use Rattle.reader.specs.lines.Tests.{term_in, above?}
-use Rattle.member_page.specs.declared.brought.Brought.{Brought}
-use Rattle.member_page.specs.declared.brought.Brought.TheVariants.{Terms, Bad}
 
 -- a term before it is the greater one; the first has none
 abbrev pub follows? : ℕ → ℕ → Words → Words → Bool
@@ -33,10 +31,10 @@ v_first q count before bytes = tested q count before (in_sixteen (shaped_first 6
 
 -- ## What the code says
 
-abbrev pub brought_as : Brought → Words → Result Vector
-brought_as (Terms n) value = done (rows value 0 n)
-brought_as (Bad place) value = refused 23 place []
+abbrev pub brought_as : CodeResult ℕ ℕ → Words → Result Vector
+brought_as (Ok n) value = done (rows value 0 n)
+brought_as (Err place) value = refused 23 place []
 
-abbrev pub Few : Brought → Type 0
-Few (Terms n) = n ≤ most_terms
-Few (Bad place) = Unit {0}
+abbrev pub Few : CodeResult ℕ ℕ → Type 0
+Few (Ok n) = n ≤ most_terms
+Few (Err place) = Unit {0}

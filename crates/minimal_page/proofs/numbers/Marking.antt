@@ -13,11 +13,10 @@ use Rattle.definitions.specs.Layout.{Words, decode, holds_state?}
 use Rattle.definitions.specs.Betti.{betti_count}
 use Rattle.definitions.specs.Minimal.{of_degree, minimal_number}
 use Rattle.definitions.specs.Places.{most_vectors, row_shift, page_columns}
-use Rattle.state.specs.degrees.Carrying.{under_place}
 use Rattle.state.proofs.preparing.Complete.{holds_sound}
 use Rattle.ranks.specs.Blocks.{column_marks, marked}
 use Rattle.minimal_numbers.proofs.Marked.{sound_marked}
-use Rattle.columns.specs.counting.Columns.{columns_of, column_of, Stands}
+use Rattle.columns.specs.counting.Columns.{columns_of, column_of}
 use Rattle.columns.proofs.counting.Standing.{few_columns}
 use Rattle.minimal_page.specs.numbers.Marks.{Marks, with_mark}
 
@@ -63,10 +62,9 @@ marks_more x ds ms i h l =
     marks_suc x ds ms i h l ∙ ap (λ j. sum (of_degree x (take j ds) (take j ms))) e
 
 module _ (s m : Words) (M : Marks s m) (t c : ℕ) where
-  pub column_marked : (n : ℕ) → c < page_columns → Stands s c n
-      → sum (of_degree t (take n (drop (under_place c) s)) (take n (drop (c * most_vectors) m))) ≡ marked (decode document_01 s) (columns_of s) t c
-  column_marked n h S =
-      (λ i. sum (of_degree t (S.words i) (take (S.long i) (drop (c * most_vectors) m)))) ∙ ap (λ l. sum (of_degree t (column_of s c) l)) (M.marked c h)
+  pub column_marked : c < page_columns → sum (of_degree t (column_of s c) (take (length (column_of s c)) (drop (c * most_vectors) m)))
+      ≡ marked (decode document_01 s) (columns_of s) t c
+  column_marked h = ap (λ l. sum (of_degree t (column_of s c) l)) (M.marked c h)
 
   pub none_marked : c ≡ page_columns → 0 ≡ marked (decode document_01 s) (columns_of s) t c
   none_marked e =

@@ -3,7 +3,7 @@ use mathlib.Core.Path.{◌≡◌, refl, sym, ap, ◌∙◌}
 use mathlib.Core.Bool.{true, false}
 use mathlib.Core.Option.{Option, some}
 use mathlib.Core.List.{[], ◌∷◌}
-use Prim.Native.Nat.{ℕ, zero, suc}
+use Prim.Native.Nat.{ℕ, zero, suc, ◌≤◌}
 use native.Mathlib.Omega.{arith}
 use lib.ListN.{length}
 use Rattle.definitions.specs.Limits.{document_01}
@@ -21,6 +21,11 @@ use Rattle.definitions.specs.Places.{most_levels}
 use Rattle.minimal_numbers.proofs.Columns.{column_lengths}
 use Rattle.pages.specs.bytes.Printing.{Printed}
 use Rattle.pages.proofs.bytes.Spelling.{spelled}
+use Rattle.std.specs.Prelude.{Result as CodeResult, Ok, Err}
+use Rattle.words.specs.declared.refusals.Refused.{Refused}
+use Rattle.words.specs.refusals.Numbers.{number_of}
+use Rattle.words.proofs.Numbered.{number_positive}
+use Rattle.level.specs.all_levels.Level.{levels_of}
 use Rattle.level.specs.all_levels.Levels.{Levels, reached}
 use Rattle.level.proofs.all_levels.Levels.{result_of, lifted_reached}
 use Rattle.listing.specs.whole.Paged.{AcceptedPrints}
@@ -75,29 +80,33 @@ module _ (s : Words) (count : ℕ) (S : Stands s (suc most_levels) count) where
 
 -- ## Levels
 
-module _ (s t : Words) (n number place : ℕ)
-    (r : ◌≡◌ {A = Option Levels} (some (number, place, decode document_01 t)) (reached document_01 n (decode document_01 s))) where
-  lifted_is : lifted document_01 n (decode document_01 s) ≡ result_of (some (number, place, decode document_01 t))
-  lifted_is = lifted_reached document_01 n most_levels 1 (decode document_01 s) ∙ ap result_of (sym r)
+module _ (s t : Words) (n : ℕ) (x : CodeResult (Unit {0}) Refused)
+    (r : ◌≡◌ {A = Option Levels} (some (levels_of x (decode document_01 t))) (reached document_01 n (decode document_01 s))) where
+  lifted_is : (y : CodeResult (Unit {0}) Refused) → x ≡ y → lifted document_01 n (decode document_01 s)
+      ≡ result_of (some (levels_of y (decode document_01 t)))
+  lifted_is y h = lifted_reached document_01 n most_levels 1 (decode document_01 s)
+      ∙ ap result_of (sym r ∙ ap (λ y. some (levels_of y (decode document_01 t))) h)
 
-  some_refused : (m : ℕ) → (m ≡ 0 → ⊥) → result_of (some (m, place, decode document_01 t)) ≡ refused m place []
-  some_refused zero h = absurd (h refl)
-  some_refused (suc m) h = refl
+  some_refused : (m place : ℕ) → 1 ≤ m → result_of (some (m, place, decode document_01 t)) ≡ refused m place []
+  some_refused zero place h = absurd (omega arith)
+  some_refused (suc m) place h = refl
 
-  pub levels_done : {out out' : Bytes} {long : ℕ} → number ≡ 0 → AcceptedPrints (λ m. page_of) t out out' long
+  pub levels_done : {out out' : Bytes} {long : ℕ} → x ≡ Ok tt → AcceptedPrints (λ m. page_of) t out out' long
       → AcceptedPrints lifted_page s out out' long
-  levels_done e R v =
+  levels_done h R v =
       let p = R v in
       record {
         bound = n;
         bytes = p.bytes;
-        gives = p.gives ∙ sym (ap (λ x. printed_or_refused v (x >>= page_of)) (lifted_is ∙ ap (λ m. result_of (some (m, place, decode document_01 t))) e));
+        gives = p.gives ∙ sym (ap (λ x. printed_or_refused v (x >>= page_of)) (lifted_is (Ok tt) h));
         printed = p.printed;
       }
 
-  pub level_refused : {out out' : Bytes} {long : ℕ} → (number ≡ 0 → ⊥) → Printed out out' 0 long (printed letter_X (number ∷ place ∷ []))
-      → AcceptedPrints lifted_page s out out' long
-  level_refused h = refused_alone lifted_page s n number place (ap (λ x. x >>= page_of) (lifted_is ∙ some_refused number h))
+  pub level_refused : {out out' : Bytes} {long : ℕ} (e : Refused) → x ≡ Err e
+      → Printed out out' 0 long (printed letter_X (number_of e.refusal ∷ e.place ∷ [])) → AcceptedPrints lifted_page s out out' long
+  level_refused e h =
+      refused_alone lifted_page s n (number_of e.refusal) e.place
+      (ap (λ x. x >>= page_of) (lifted_is (Err e) h ∙ some_refused (number_of e.refusal) e.place (number_positive e.refusal)))
 
 -- ## 17
 

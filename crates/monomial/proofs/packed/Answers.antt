@@ -5,12 +5,9 @@ use Rattle.monomial.proofs.packed.Goals as goal
 pub returns : goal.returns
 returns c =
     packed_bytes c.args.e
-    c.wide.result c.wide-2.result
-    c.wide-3.result c.wide-4.result
-    c.wide-5.result c.wide-6.result c.wide-7.result c.wide-8.result (omega arith)
-    c.wide.ensures.0 c.wide-2.ensures.0
-    c.wide-3.ensures.0 c.wide-4.ensures.0
-    c.wide-5.ensures.0 c.wide-6.ensures.0 c.wide-7.ensures.0 c.wide-8.ensures.0
-    c.wide.ensures.1 c.wide-2.ensures.1
-    c.wide-3.ensures.1 c.wide-4.ensures.1
-    c.wide-5.ensures.1 c.wide-6.ensures.1 c.wide-7.ensures.1 c.wide-8.ensures.1
+    c.from.result c.from-2.result c.from-3.result c.from-4.result
+    c.from-5.result c.from-6.result c.from-7.result c.from-8.result (omega arith)
+    c.from.ensures c.from-2.ensures c.from-3.ensures c.from-4.ensures
+    c.from-5.ensures c.from-6.ensures c.from-7.ensures c.from-8.ensures
+    (omega arith) (omega arith) (omega arith) (omega arith)
+    (omega arith) (omega arith) (omega arith) (omega arith)

@@ -6,6 +6,3 @@ use Rattle.orders.proofs.last_differing.Given as goal
 
 abbrev pub invariant-loop-j : goal.invariant-loop-j
 invariant-loop-j l = (l.j ≤ 8) × (length l.x ≡ 8) × (length l.y ≡ 8) × EqualFrom l.j l.x l.y
-
-abbrev pub decreases-loop-j : goal.decreases-loop-j
-decreases-loop-j l = l.j

@@ -1,4 +1,5 @@
 use native.Mathlib.Omega.{arith}
+use mathlib.Core.Logic.{⊎_elim}
 use mathlib.Core.Path.{◌≡◌, sym, ap, ◌∙◌, subst}
 use Prim.Native.Nat.{◌+◌, ◌-◌, ◌*◌}
 use Rattle.definitions.specs.Monomial.{degree}
@@ -10,22 +11,14 @@ use Rattle.orders.proofs.row_degree.Goals as goal
 pub returns-then-c-eq0 : goal.returns-then-c-eq0
 returns-then-c-eq0 c =
     let a = c.args in
-    let p = c.place-c in
+    let p = c.from-c in
     c.own_total.ensures ∙ ap (λ k. degree k.0)
-    (row_key_at_0 a.r a.table.now a.s.now a.i c.long-e.result (sym p.ensures.0 ∙ c.if-c-eq0.true)
-    c.long-e.ensures)
-
-pub returns-then-r-c : goal.returns-then-r-c
-returns-then-r-c c =
-    let a = c.args in
-    let p = c.place-c in
-    c.own_total-then-r-c.ensures ∙ ap (λ k. degree k.0)
-    (row_key_beyond a.r a.table.now a.s.now a.i c.long-e.result
-    (omega (arith, p.ensures.0, c.if-r-c.true)) c.long-e.ensures)
+    (⊎_elim (λ z. row_key_at_0 a.r a.table.now a.s.now a.i c.long-e.result (sym p.ensures ∙ z) c.long-e.ensures)
+    (λ z. row_key_beyond a.r a.table.now a.s.now a.i c.long-e.result (omega (arith, p.ensures, z.1)) c.long-e.ensures) c.then-c-eq0.either)
 
 pub row_total-requires : goal.row_total-requires
 row_total-requires c =
-    let p = c.place-c.result in
+    let p = c.from-c.result in
     let b : p * image_length - image_length ≡ (p - 1) * image_length = omega arith in (
       omega (arith, c.requires.1),
       subst (λ n. Bounded c.args.table.now (n + 2)) (sym b) (c.requires.2 (p - 1) (omega arith)),
@@ -34,8 +27,8 @@ row_total-requires c =
 pub returns : goal.returns
 returns c =
     let a = c.args in
-    let p = c.place-c in
+    let p = c.from-c in
     c.row_total.ensures ∙ ap (λ k. degree k.0)
     (row_key_inside a.r a.table.now a.s.now a.i (p.result * image_length - image_length) c.long-e.result
-    (λ z. c.if-c-eq0.false (p.ensures.0 ∙ z)) (omega (arith, p.ensures.0, c.if-r-c.false))
-    (ap (λ n. n * image_length - image_length) p.ensures.0) c.long-e.ensures)
+    (λ z. c.if-c-eq0.false (p.ensures ∙ z)) (omega (arith, p.ensures, c.if-r-c.false))
+    (ap (λ n. n * image_length - image_length) p.ensures) c.long-e.ensures)

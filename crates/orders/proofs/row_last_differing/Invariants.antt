@@ -9,6 +9,3 @@ use Rattle.orders.proofs.row_last_differing.Given as goal
 
 abbrev pub invariant-loop-j : goal.invariant-loop-j
 invariant-loop-j l = (l.j ≤ 8) × (length l.x ≡ 8) × (l.f < long_bound) × Behind l.e l.j l.f × EqualFrom l.j l.x (row_image l.e l.table l.to)
-
-abbrev pub decreases-loop-j : goal.decreases-loop-j
-decreases-loop-j l = l.j

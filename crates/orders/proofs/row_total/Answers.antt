@@ -24,13 +24,6 @@ added_lanes-requires c =
     row_room a.e (bytes_of a.e (omega arith)) a.table.now a.to c.requires.1 _ _ _ c.paired.ensures
     c.long-l.ensures c.long-h.ensures
 
-pub overflow_cast-result : goal.overflow_cast-result
-overflow_cast-result c =
-    let a = c.args in
-    let r = row_room a.e (bytes_of a.e (omega arith)) a.table.now a.to c.requires.1 _ _ _
-    c.paired.ensures c.long-l.ensures c.long-h.ensures in
-    omega (arith, r, c.added_lanes.ensures)
-
 pub returns : goal.returns
 returns c =
     let a = c.args in

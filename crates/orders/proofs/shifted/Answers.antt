@@ -1,5 +1,5 @@
 use native.Mathlib.Omega.{arith}
-use mathlib.Core.Path.{◌≡◌, refl, sym, ◌∙◌, subst}
+use mathlib.Core.Path.{◌≡◌, sym, ◌∙◌, subst}
 use Prim.Native.Nat.{◌+◌, ◌<◌}
 use Rattle.definitions.specs.Monomial.{product}
 use Rattle.definitions.specs.Packed.{unpack}
@@ -8,13 +8,8 @@ use Rattle.lists.specs.Filling.{filled_more, filled_list}
 use Rattle.monomial.proofs.Places.{getD_product, length_product}
 use Rattle.orders.specs.Images.{exponents_raw}
 use Rattle.orders.proofs.Comparing.{getD_raw}
-use native.Mathlib.Nat.{not-suc-le-zero}
 use lib.ListN.{length, get_or, length-set}
 use Rattle.orders.proofs.shifted.Goals as goal
-
--- src/lib.rt:235:5
-pub loop-j-init : goal.loop-j-init
-loop-j-init c = (omega arith, c.widened-x.ensures, refl, λ k h. absurd (not-suc-le-zero h))
 
 -- src/lib.rt:236:16
 pub overflow_add-w-in-loop-j : goal.overflow_add-w-in-loop-j

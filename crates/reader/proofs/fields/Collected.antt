@@ -10,13 +10,7 @@ use lib.Seq.{take-suc-set, drop-set-lt, drop-drop, length-take-le}
 use Rattle.definitions.specs.Lists.{◌then◌}
 use Rattle.definitions.specs.Problem.{Bytes}
 use Rattle.definitions.specs.Layout.{Words, padded}
-use Rattle.reader.specs.fields.Scanning.{field_first, line_end, numbers_first, line_as, end_as, in_sixteen}
-use Rattle.reader.specs.declared.fields.End.{End}
-use Rattle.reader.specs.declared.fields.End.TheVariants.{Misshapen}
-use Rattle.reader.specs.declared.fields.Line.{Line}
-
-pub misshapen_as : (r : Line) (file : Bytes) → r.end ≡ Misshapen → line_as r file ≡ none
-misshapen_as r file e = ap (λ (x : End). end_as x r.numbers file) e
+use Rattle.reader.specs.fields.Scanning.{field_first, line_end, numbers_first, in_sixteen}
 
 -- the first i numbers of the array stand before those still to come
 abbrev pub so_far : Words → ℕ → Option (List ℕ × Bytes) → Option (List ℕ × Bytes)

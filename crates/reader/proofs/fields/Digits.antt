@@ -9,37 +9,25 @@ use lib.Dec.{leb}
 use borrow.Author.Tests.{le-leb, lt-leb, ne_eqb}
 use Rattle.definitions.specs.Lists.{◌and◌, ◌then◌, every, empty?}
 use Rattle.definitions.specs.Problem.{Bytes, digit?, value_from, written?, number}
-use Rattle.laws.proofs.Tests.{is_true, between_low, between_high}
-use Rattle.reader.specs.fields.Scanning.{digits, past_digits, digit_by, digit_or_ten, number_first, kept, number_on, number_zero}
+use Rattle.laws.proofs.Tests.{is_true, between_low}
+use Rattle.reader.specs.fields.Scanning.{digits, past_digits, digit_value, number_first, kept, number_on, number_zero}
 
 -- ## One byte
 
-pub digit_low : (b : ℕ) → b < 48 → digit_or_ten b ≡ 10
-digit_low b h = λ i. digit_by (lt-leb 48 b h i and leb b 57) b
-
-pub digit_high : (b : ℕ) → 57 < b → digit_or_ten b ≡ 10
-digit_high b h = let l : 48 ≤ b = omega arith in λ i. digit_by (le-leb 48 b l i and lt-leb b 57 h i) b
-
-pub digit_value : (b : ℕ) → 48 ≤ b → b ≤ 57 → digit_or_ten b ≡ b - 48
-digit_value b h k = λ i. digit_by (le-leb 48 b h i and le-leb b 57 k i) b
-
--- what the answer says
-pub digit_is : (b : ℕ) → digit_or_ten b ≤ 9 → (digit? b ≡ true) × (digit_or_ten b ≡ b - 48)
-digit_is b h = go (digit? b) h
+-- what a digit's value says of the byte
+pub digit_is : (b d : ℕ) → some d ≡ digit_value b → (digit? b ≡ true) × (d ≡ b - 48)
+digit_is b d e = go (digit? b) e
   where
-    go : (t : Bool) → digit_by t b ≤ 9 → (t ≡ true) × (digit_by t b ≡ b - 48)
-    go true h = (refl, refl)
-    go false h = absurd (omega arith)
+    go : (t : Bool) → some d ≡ kept t (some (b - 48)) → (t ≡ true) × (d ≡ b - 48)
+    go true e = let v : d ≡ b - 48 = cc in (refl, v)
+    go false e = let y : ◌≡◌ {A = ℕ} 0 1 = cc in absurd (omega arith)
 
-pub digit_is_none : (b : ℕ) → 9 < digit_or_ten b → digit? b ≡ false
-digit_is_none b h = go (digit? b) refl h
+pub digit_is_none : (b : ℕ) → none ≡ digit_value b → digit? b ≡ false
+digit_is_none b e = go (digit? b) e
   where
-    low : digit? b ≡ true → b - 48 ≤ 9
-    low e = let k : b ≤ 57 = between_high 48 b 57 (is_true e) in omega arith
-
-    go : (t : Bool) → digit? b ≡ t → 9 < digit_by t b → t ≡ false
-    go true e h = let k : b - 48 ≤ 9 = low e in absurd (omega arith)
-    go false e h = refl
+    go : (t : Bool) → none ≡ kept t (some (b - 48)) → t ≡ false
+    go true e = let y : ◌≡◌ {A = ℕ} 0 1 = cc in absurd (omega arith)
+    go false e = refl
 
 -- a digit is not below 48: its value is 0 only for 48 itself
 pub digit_zero : (b : ℕ) → digit? b ≡ true → b - 48 ≡ 0 → b ≡ 48

@@ -1,6 +1,6 @@
 -- The laws of numbers and lines at a position in a file, from what the code's tests say there.
 use mathlib.Core.Path.{◌≡◌, refl, sym, ap, ◌∙◌, subst}
-use mathlib.Core.Bool.{true, false, not}
+use mathlib.Core.Bool.{true, false}
 use mathlib.Core.Option.{none, some}
 use mathlib.Core.List.{[], ◌∷◌}
 use Prim.Native.Nat.{ℕ, ◌+◌, ◌-◌, ◌*◌, ◌<◌, ◌≤◌}
@@ -10,7 +10,7 @@ use lib.ListN.{length, drop, get_or, drop_of_length-le}
 use lib.Seq.{drop-cons}
 use borrow.Author.Tests.{eq-eqb, ne_eqb}
 use Rattle.definitions.specs.Problem.{Bytes, digit?}
-use Rattle.reader.specs.fields.Scanning.{digit_or_ten, number_first, kept, number_on, number_zero, field_first, line_end, numbers_first, shaped_first}
+use Rattle.reader.specs.fields.Scanning.{digit_value, number_first, kept, number_on, number_zero, field_first, line_end, numbers_first, shaped_first}
 use Rattle.reader.proofs.fields.Digits.{digit_is, digit_is_none, digit_zero, number_more, number_ends, number_ends_file, number_none, number_begins}
 use Rattle.reader.proofs.fields.Digits.{zero_first}
 use Rattle.reader.proofs.fields.Lines.{letter_differs, letter_stands}
@@ -24,50 +24,40 @@ pub byte_left : (file : Bytes) (at : ℕ) → at < length file → drop at file 
 byte_left file at h = drop-cons file at 0 h ∙ ap (λ n. get_or file at 0 ∷ drop n file) (sym (add-one at))
 
 module _ (file : Bytes) (at : ℕ) where
-  pub zero_end : length file ≤ at → some (0, drop at file) ≡ number_zero (drop at file)
-  zero_end h = subst (λ (l : Bytes). some (0, l) ≡ number_zero l) (sym (nothing_left file at h)) refl
+  module _ (h : at < length file) where
+    module _ (none_here : none ≡ digit_value (get_or file at 0)) where
+      no_digit : digit? (get_or file at 0) ≡ false
+      no_digit = digit_is_none (get_or file at 0) none_here
 
-  module _ (h : at < length file) (d : ℕ) (e : d ≡ digit_or_ten (get_or file at 0)) where
-    a_digit : d ≤ 9 → digit? (get_or file at 0) ≡ true
-    a_digit l = (digit_is (get_or file at 0) (subst (λ x. x ≤ 9) e l)).0
+      pub on_other : (v : ℕ) → v ≤ 65535 → some (v, drop at file) ≡ number_on 65535 v (drop at file)
+      on_other v k = subst (λ (w : Bytes). some (v, w) ≡ number_on 65535 v w) (sym (byte_left file at h))
+          (sym (number_ends 65535 v (get_or file at 0) (drop (at + 1) file) no_digit k))
 
-    its_value : d ≤ 9 → d ≡ get_or file at 0 - 48
-    its_value l = e ∙ (digit_is (get_or file at 0) (subst (λ x. x ≤ 9) e l)).1
+      pub first_other : none ≡ number_first 65535 (drop at file)
+      first_other = sym (ap (number_first 65535) (byte_left file at h) ∙ number_none 65535 (get_or file at 0) (drop (at + 1) file) no_digit)
 
-    no_digit : 9 < d → digit? (get_or file at 0) ≡ false
-    no_digit l = digit_is_none (get_or file at 0) (subst (λ x. 9 < x) e l)
+    module _ (d : ℕ) (here : some d ≡ digit_value (get_or file at 0)) where
+      a_digit : digit? (get_or file at 0) ≡ true
+      a_digit = (digit_is (get_or file at 0) d here).0
 
-    pub zero_other : 9 < d → some (0, drop at file) ≡ number_zero (drop at file)
-    zero_other l =
-        subst (λ (w : Bytes). some (0, w) ≡ number_zero w) (sym (byte_left file at h))
-        (sym (λ i. kept (not (no_digit l i)) (some (0, get_or file at 0 ∷ drop (at + 1) file))))
+      its_value : d ≡ get_or file at 0 - 48
+      its_value = (digit_is (get_or file at 0) d here).1
 
-    pub zero_digit : d ≤ 9 → none ≡ number_zero (drop at file)
-    zero_digit l = sym (ap number_zero (byte_left file at h) ∙ (λ i. kept (not (a_digit l i)) (some (0, get_or file at 0 ∷ drop (at + 1) file))))
+      pub on_more : (v : ℕ) → number_on 65535 v (drop at file) ≡ number_on 65535 (v * 10 + d) (drop (at + 1) file)
+      on_more v =
+          ap (number_on 65535 v) (byte_left file at h) ∙ number_more 65535 v (get_or file at 0) (drop (at + 1) file) a_digit
+          ∙ ap (λ x. number_on 65535 (v * 10 + x) (drop (at + 1) file)) (sym its_value)
 
-    pub on_other : (v : ℕ) → v ≤ 65535 → 9 < d → some (v, drop at file) ≡ number_on 65535 v (drop at file)
-    on_other v k l = subst (λ (w : Bytes). some (v, w) ≡ number_on 65535 v w) (sym (byte_left file at h))
-        (sym (number_ends 65535 v (get_or file at 0) (drop (at + 1) file) (no_digit l) k))
+      pub first_zero : d ≡ 0 → number_first 65535 (drop at file) ≡ number_zero (drop (at + 1) file)
+      first_zero z =
+          let q : get_or file at 0 ≡ 48 = digit_zero (get_or file at 0) a_digit (sym its_value ∙ z) in
+          ap (number_first 65535) (byte_left file at h ∙ ap (λ x. x ∷ drop (at + 1) file) q) ∙ zero_first 65535 (drop (at + 1) file)
 
-    pub on_more : (v : ℕ) → d ≤ 9 → number_on 65535 v (drop at file) ≡ number_on 65535 (v * 10 + d) (drop (at + 1) file)
-    on_more v l =
-        ap (number_on 65535 v) (byte_left file at h) ∙ number_more 65535 v (get_or file at 0) (drop (at + 1) file) (a_digit l)
-        ∙ ap (λ x. number_on 65535 (v * 10 + x) (drop (at + 1) file)) (sym (its_value l))
-
-    pub first_other : 9 < d → none ≡ number_first 65535 (drop at file)
-    first_other l = sym (ap (number_first 65535) (byte_left file at h) ∙ number_none 65535 (get_or file at 0) (drop (at + 1) file) (no_digit l))
-
-    pub first_zero : d ≡ 0 → number_first 65535 (drop at file) ≡ number_zero (drop (at + 1) file)
-    first_zero z =
-        let l : d ≤ 9 = omega arith in
-        let q : get_or file at 0 ≡ 48 = digit_zero (get_or file at 0) (a_digit l) (sym (its_value l) ∙ z) in
-        ap (number_first 65535) (byte_left file at h ∙ ap (λ x. x ∷ drop (at + 1) file) q) ∙ zero_first 65535 (drop (at + 1) file)
-
-    pub first_on : d ≤ 9 → (d ≡ 0 → ⊥) → number_first 65535 (drop at file) ≡ number_on 65535 d (drop (at + 1) file)
-    first_on l n =
-        ap (number_first 65535) (byte_left file at h)
-        ∙ number_begins 65535 (get_or file at 0) (drop (at + 1) file) (a_digit l) (λ q. n (its_value l ∙ ap (λ x. x - 48) q))
-        ∙ ap (λ x. number_on 65535 x (drop (at + 1) file)) (sym (its_value l))
+      pub first_on : (d ≡ 0 → ⊥) → number_first 65535 (drop at file) ≡ number_on 65535 d (drop (at + 1) file)
+      first_on n =
+          ap (number_first 65535) (byte_left file at h)
+          ∙ number_begins 65535 (get_or file at 0) (drop (at + 1) file) a_digit (λ q. n (its_value ∙ ap (λ x. x - 48) q))
+          ∙ ap (λ x. number_on 65535 x (drop (at + 1) file)) (sym its_value)
 
   pub on_end : (v : ℕ) → v ≤ 65535 → length file ≤ at → some (v, drop at file) ≡ number_on 65535 v (drop at file)
   on_end v k h = subst (λ (w : Bytes). some (v, w) ≡ number_on 65535 v w) (sym (nothing_left file at h)) (sym (number_ends_file 65535 v k))

@@ -18,47 +18,28 @@ use Rattle.definitions.specs.Layout.{Words}
 use Rattle.definitions.specs.Places.{most_degree, most_weight, most_variables, most_components, file_length}
 use Rattle.laws.proofs.Results.{IfDone, if_done_bind, guard_done}
 use Rattle.laws.proofs.Tests.{is_true, and_left, and_right, between_high}
-use Rattle.words.specs.parameters.Values.{parameters_of}
-use Rattle.reader.specs.fields.Scanning.{shaped_first, in_sixteen, line_as, end_as}
-use Rattle.reader.specs.declared.fields.End as line_end
-use Rattle.reader.specs.declared.fields.End.TheVariants.{Behind, Misshapen}
-use Rattle.reader.specs.declared.fields.Line.{Line}
-use Rattle.reader.specs.declared.lines.Opening.{Opening}
-use Rattle.reader.specs.declared.lines.Opening.TheVariants.{At, Refused}
-use Rattle.reader.specs.declared.lines.Optional.{Optional}
-use Rattle.reader.specs.declared.lines.Head.{Head}
+use Rattle.reader.specs.fields.Scanning.{shaped_first, in_sixteen}
 use Rattle.reader.specs.lines.Tests.{unless}
 use Rattle.reader.specs.lines.Steps.{judged, with_shape, r_judged, r_first, Opened, or_without, optional, d_first, weights_words, g_next}
-use Rattle.reader.specs.lines.Steps.{HeadSaid, behind_r, head_first, opening_as, optional_as, head_as}
+use Rattle.reader.specs.lines.Steps.{HeadSaid, behind_r, head_first}
 
 -- ## A line that may be left out
 
-module _ (most number : ℕ) (without : Words) (place : ℕ) (bytes : Bytes) (o : Option (Words × Bytes)) (file : Bytes) (l : Line)
-    (said : line_as l file ≡ o) where
-  abbrev by_shape : Option (Words × Bytes) → Result (Opened Words)
-  by_shape o = or_without most number without place bytes o
+module _ (most number : ℕ) (without : Words) (place : ℕ) (bytes : Bytes) (o : Option (Words × Bytes)) where
+  pub left_out : none ≡ o → done (without, place, bytes) ≡ or_without most number without place bytes o
+  left_out e = ap (or_without most number without place bytes) e
 
-  pub left_out : l.end ≡ Misshapen → done (without, place, bytes) ≡ or_without most number without place bytes o
-  left_out e = sym (ap by_shape (sym said ∙ ap (λ (x : line_end.End). end_as x l.numbers file) e))
+  module _ (w : Words) (rest : Bytes) (said : some (w, rest) ≡ o) where
+    abbrev by_test : Bool → Result (Opened Words)
+    by_test b = unless_refused b number place >>= λ u. done (w, place + 1, rest)
 
-  stands : (next : ℕ) → l.end ≡ Behind next → or_without most number without place bytes o ≡ by_shape (some (l.numbers, drop next file))
-  stands next e = ap by_shape (sym said ∙ ap (λ (x : line_end.End). end_as x l.numbers file) e)
+    pub line_taken : fits? most w ≡ true → done (w, place + 1, rest) ≡ or_without most number without place bytes o
+    line_taken t = sym (ap by_test t) ∙ ap (or_without most number without place bytes) said
 
-  abbrev by_test : ℕ → Bool → Result (Opened Words)
-  by_test next b = unless_refused b number place >>= λ u. done (l.numbers, place + 1, drop next file)
-
-  pub line_taken : (next : ℕ) → l.end ≡ Behind next → fits? most l.numbers ≡ true
-      → done (l.numbers, place + 1, drop next file) ≡ or_without most number without place bytes o
-  line_taken next e t = sym (stands next e ∙ ap (by_test next) t)
-
-  pub line_refused : (next : ℕ) → l.end ≡ Behind next → fits? most l.numbers ≡ false
-      → refused number place [] ≡ or_without most number without place bytes o
-  line_refused next e t = sym (stands next e ∙ ap (by_test next) t)
+    pub line_refused : fits? most w ≡ false → refused number place [] ≡ or_without most number without place bytes o
+    line_refused t = sym (ap by_test t) ∙ ap (or_without most number without place bytes) said
 
 -- ## The head
-
-pub barred_as : (r : Head) (file : Bytes) (number place : ℕ) → r.opening ≡ Refused number place → head_as r file ≡ refused number place []
-barred_as r file number place e = ap (λ (x : Opening). opening_as x (parameters_of r.parameters, r.degrees, r.weights) file) e
 
 module _ (q : Parameters) (bytes : Bytes) where
   -- a refusal of D's line
@@ -66,18 +47,18 @@ module _ (q : Parameters) (bytes : Bytes) where
   degrees_refused number place e = sym (ap (λ x. x >>= λ d. g_next q.n d.1 d.2 >>= λ g. done ((q, d.0, g.0), g.1, g.2)) e)
 
   -- G's line behind it
-  pub weights_behind : (d : Words) (place next : ℕ) (file : Bytes) (w : Optional) → d_first q.s bytes ≡ done (d, place, drop next file)
-      → optional_as w file ≡ g_next q.n place (drop next file) → opening_as w.opening (q, d, w.numbers) file ≡ behind_r q bytes
-  weights_behind d place next file w e said =
-      go w.opening ∙ ap (λ x. x >>= with_degrees) said
-      ∙ sym (ap (λ x. x >>= λ d. g_next q.n d.1 d.2 >>= λ g. done ((q, d.0, g.0), g.1, g.2)) e)
-    where
-      with_degrees : Opened Words → Result (Opened HeadSaid)
-      with_degrees g = done ((q, d, g.0), g.1, g.2)
+  pub weights_behind : (d : Words) (place : ℕ) (rest : Bytes) (w : Words) (place' : ℕ) (rest' : Bytes) → done (d, place, rest) ≡ d_first q.s bytes
+      → done (w, place', rest') ≡ g_next q.n place rest → done ((q, d, w), place', rest') ≡ behind_r q bytes
+  weights_behind d place rest w place' rest' e said =
+      ap (λ x. x >>= λ g. done ((q, d, g.0), g.1, g.2)) said
+      ∙ ap (λ x. x >>= λ d. g_next q.n d.1 d.2 >>= λ g. done ((q, d.0, g.0), g.1, g.2)) e
 
-      go : (o : Opening) → opening_as o (q, d, w.numbers) file ≡ (opening_as o w.numbers file >>= with_degrees)
-      go (At next place) = refl
-      go (Refused number place) = refl
+  -- .. or its refusal
+  pub weights_refused : (d : Words) (place : ℕ) (rest : Bytes) (number place' : ℕ) → done (d, place, rest) ≡ d_first q.s bytes
+      → refused number place' [] ≡ g_next q.n place rest → refused number place' [] ≡ behind_r q bytes
+  weights_refused d place rest number place' e said =
+      ap (λ x. x >>= λ g. done ((q, d, g.0), g.1, g.2)) said
+      ∙ ap (λ x. x >>= λ d. g_next q.n d.1 d.2 >>= λ g. done ((q, d.0, g.0), g.1, g.2)) e
 
 module _ (file : Bytes) where
   abbrev headed : Bool → Result (Parameters × Bytes) → Result (Opened HeadSaid)

@@ -1,7 +1,7 @@
 -- A line's answer, from what its shape and its tests say.
 use mathlib.Core.Path.{◌≡◌, refl, sym, ap, ◌∙◌, subst}
 use mathlib.Core.Bool.{Bool, true, false, not}
-use mathlib.Core.Option.{Option, none}
+use mathlib.Core.Option.{Option, none, some}
 use mathlib.Core.List.{[], ◌∷◌}
 use Prim.Native.Nat.{ℕ, zero, suc, ◌+◌, ◌<◌, ◌≤◌}
 use native.Mathlib.Omega.{arith}
@@ -12,28 +12,17 @@ use Rattle.definitions.specs.Lists.{◌and◌, empty?}
 use Rattle.definitions.specs.Result.{Result, done, refused, unless_refused, ◌>>=◌}
 use Rattle.definitions.specs.Problem.{Bytes, Parameters}
 use Rattle.definitions.specs.Layout.{Words}
-use Rattle.reader.specs.fields.Scanning.{line_as, end_as}
-use Rattle.reader.specs.declared.fields.End as line_end
-use Rattle.reader.specs.declared.fields.End.TheVariants.{Behind, Misshapen}
-use Rattle.reader.specs.declared.fields.Line.{Line}
 use Rattle.reader.proofs.fields.Positions.{nothing_left, byte_left}
-use Rattle.reader.specs.declared.lines.Step.{Step}
-use Rattle.reader.specs.declared.lines.Step.TheVariants.{Refused}
-use Rattle.reader.specs.declared.lines.Taken.{Taken}
-use Rattle.reader.specs.lines.Steps.{Said, judged, with_shape, t_first, e_judged, e_first, by_letter, line_first, step_as, taken_as}
-
-pub refused_as : (r : Taken) (file : Bytes) (number place : ℕ) → r.step ≡ Refused number place → taken_as r file ≡ refused number place []
-refused_as r file number place e = ap (λ (x : Step). step_as x r.numbers file) e
+use Rattle.reader.specs.lines.Steps.{Said, judged, with_shape, t_first, e_judged, e_first, by_letter, line_first}
 
 -- ## The shape
 
-module _ {A : Type 0} (o : Option (Words × Bytes)) (place : ℕ) (tests : Words × Bytes → Result A) (file : Bytes) (l : Line)
-    (said : line_as l file ≡ o) where
-  pub no_shape : l.end ≡ Misshapen → refused 1 place [] ≡ with_shape o place tests
-  no_shape e = sym (ap (λ x. with_shape x place tests) (sym said ∙ ap (λ (x : line_end.End). end_as x l.numbers file) e))
+module _ {A : Type 0} (o : Option (Words × Bytes)) (place : ℕ) (tests : Words × Bytes → Result A) where
+  pub no_shape : none ≡ o → refused 1 place [] ≡ with_shape o place tests
+  no_shape e = ap (λ x. with_shape x place tests) e
 
-  pub has_shape : (next : ℕ) → l.end ≡ Behind next → tests (l.numbers, drop next file) ≡ with_shape o place tests
-  has_shape next e = sym (ap (λ x. with_shape x place tests) (sym said ∙ ap (λ (x : line_end.End). end_as x l.numbers file) e))
+  pub has_shape : (line : Words × Bytes) → some line ≡ o → tests line ≡ with_shape o place tests
+  has_shape line e = ap (λ x. with_shape x place tests) e
 
 -- ## The tests
 

@@ -18,9 +18,8 @@ use Rattle.laws.proofs.Finished.{problem_finished}
 use Rattle.definitions.specs.Places.{most_components, rows_start, degrees_start, state_length}
 use Rattle.vectors.specs.terms.Rows.{cleared}
 use Rattle.reader.specs.lines.Steps.{Opened, HeadSaid, head_first}
-use Rattle.reader.specs.problem.Reading.{laid_level, degrees_alone, state_read, words_laid, read_as, body_words, problem_words, begun, outcome_as}
+use Rattle.reader.specs.problem.Reading.{laid_level, degrees_alone, state_read, words_laid, read_as, body_words, problem_words, begun}
 use Rattle.reader.specs.problem.Reading.{Weighable, carrying}
-use Rattle.reader.specs.declared.problem.Outcome.{Outcome}
 use Rattle.reader.proofs.problem.LevelWords.{laid_begun, behind_laid}
 use Rattle.reader.proofs.problem.HeadLines.{words_step}
 use Rattle.reader.proofs.problem.Carrying.{read_weighable, carrying_is}
@@ -59,9 +58,6 @@ module _ (size : ℕ) (file : Bytes) where
   read_on a e = sym (words_step size file ∙ ap behind_head e)
 
 -- ## The answer
-
-pub outcome_is : (s : Words) {r r' : Outcome} → r ≡ r' → outcome_as r s ≡ outcome_as r' s
-outcome_is s e = ap (λ (x : Outcome). outcome_as x s) e
 
 module _ (size : ℕ) where
   -- the file that was read

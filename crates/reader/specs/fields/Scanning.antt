@@ -1,13 +1,9 @@
 -- One line read from the bytes that are left of a file: what crate definitions says of it, and the same field by field, as the code goes.
-use Rattle.std.specs.Prelude.{Bool, true, false, not, List, [], ◌∷◌, ℕ, zero, suc, ◌-◌, leb, eqb, drop}
+use Rattle.std.specs.Prelude.{Bool, true, false, not, List, [], ◌∷◌, ℕ, zero, suc, ◌-◌, leb, eqb, drop, Option as CodeOption, Some, None}
 use Rattle.std.proofs.Math.Option.{Option, none, some}
 use Rattle.definitions.specs.Lists.{◌then◌}
 use Rattle.definitions.specs.Problem.{Bytes, Line as LineDefinition, newline, comma, lines, digit?, value_from, number, shaped}
 use Rattle.definitions.specs.Layout.{Words, padded}
-use Rattle.reader.specs.declared.fields.Field.{Field}
-use Rattle.reader.specs.declared.fields.Field.TheVariants.{Number, Wrong}
-use Rattle.reader.specs.declared.fields.End.{End}
-use Rattle.reader.specs.declared.fields.End.TheVariants.{Behind, Misshapen}
 use Rattle.reader.specs.declared.fields.Line.{Line}
 
 -- ## The definitions' words
@@ -38,22 +34,18 @@ abbrev pub past_digits : Bytes → Bytes
 past_digits [] = []
 past_digits (b ∷ bytes) = elim (digit? b) [ true ↦ past_digits bytes | false ↦ b ∷ bytes ]
 
-abbrev pub digit_by : Bool → ℕ → ℕ
-digit_by true b = b - 48
-digit_by false b = 10
-
--- a digit's value, 10 for any other byte
-abbrev pub digit_or_ten : ℕ → ℕ
-digit_or_ten b = digit_by (digit? b) b
-
--- a number and what stands behind it
-abbrev pub number_first : ℕ → Bytes → Option (ℕ × Bytes)
-number_first limit bytes = number limit (digits bytes) then λ v. some (v, past_digits bytes)
-
 -- nothing unless the test holds
 abbrev pub kept : {A : Type 0} → Bool → Option A → Option A
 kept true o = o
 kept false o = none
+
+-- a digit's value
+abbrev pub digit_value : ℕ → Option ℕ
+digit_value b = kept (digit? b) (some (b - 48))
+
+-- a number and what stands behind it
+abbrev pub number_first : ℕ → Bytes → Option (ℕ × Bytes)
+number_first limit bytes = number limit (digits bytes) then λ v. some (v, past_digits bytes)
 
 -- the same after the digits so far gave v
 abbrev pub number_on : ℕ → ℕ → Bytes → Option (ℕ × Bytes)
@@ -81,16 +73,17 @@ numbers_first limit (suc count) bytes = field_first limit bytes then λ f. numbe
 
 -- ## What the code says
 
-abbrev pub field_as : Field → Bytes → Option (ℕ × Bytes)
-field_as (Number v next) file = some (v, drop next file)
-field_as Wrong file = none
+abbrev pub digit_as : CodeOption ℕ → Option ℕ
+digit_as (Some d) = some d
+digit_as None = none
 
-abbrev pub end_as : End → Words → Bytes → Option (Words × Bytes)
-end_as (Behind next) numbers file = some (numbers, drop next file)
-end_as Misshapen numbers file = none
+abbrev pub field_as : CodeOption (ℕ × ℕ) → Bytes → Option (ℕ × Bytes)
+field_as (Some f) file = some (f.0, drop f.1 file)
+field_as None file = none
 
-abbrev pub line_as : Line → Bytes → Option (Words × Bytes)
-line_as r file = end_as r.end r.numbers file
+abbrev pub line_as : CodeOption Line → Bytes → Option (Words × Bytes)
+line_as (Some r) file = some (r.numbers, drop r.next file)
+line_as None file = none
 
 -- a line has sixteen numbers at the most: zeros stand for those that it does not have
 abbrev pub in_sixteen : Option (List ℕ × Bytes) → Option (Words × Bytes)

@@ -1,5 +1,6 @@
 -- One line of the file, from the bytes that are left: what it says, or its refusal.
-use Rattle.std.specs.Prelude.{Bool, true, false, not, List, [], ◌∷◌, ℕ, zero, suc, ◌+◌, ◌*◌, leb, eqb, length, get_or, drop, replicate}
+use Rattle.std.specs.Prelude.{Bool, true, false, not, List, [], ◌∷◌, ℕ, zero, suc, ◌+◌, ◌*◌, Result as CodeResult, Ok, Err, leb, eqb, length, get_or}
+use Rattle.std.specs.Prelude.{drop, replicate}
 use Rattle.std.proofs.Math.Option.{Option, none, some}
 use Rattle.definitions.specs.Lists.{◌and◌, empty?}
 use Rattle.definitions.specs.Monomial.{fits?}
@@ -11,16 +12,14 @@ use Rattle.definitions.specs.Places.{most_degree, most_weight, most_components, 
 use Rattle.words.specs.declared.parameters.Parameters.{Parameters}
 use Rattle.words.specs.parameters.Values.{parameters_of}
 use Rattle.reader.specs.fields.Scanning.{shaped_first, in_sixteen}
-use Rattle.reader.specs.declared.lines.Start.{Start}
-use Rattle.reader.specs.declared.lines.Start.TheVariants.{At, Refused as StartRefused}
+use Rattle.words.specs.declared.refusals.Refusal.{Refusal}
+use Rattle.words.specs.declared.refusals.Refused.{Refused}
+use Rattle.words.specs.refusals.Numbers.{number_of}
 use Rattle.reader.specs.declared.lines.First.{First}
-use Rattle.reader.specs.declared.lines.Opening.{Opening}
-use Rattle.reader.specs.declared.lines.Opening.TheVariants.{At as OpeningAt, Refused as OpeningRefused}
 use Rattle.reader.specs.declared.lines.Optional.{Optional}
 use Rattle.reader.specs.declared.lines.Head.{Head}
-use Rattle.reader.specs.declared.lines.Step.{Step}
-use Rattle.reader.specs.declared.lines.Step.TheVariants.{Term, End, Refused}
 use Rattle.reader.specs.declared.lines.Taken.{Taken}
+use Rattle.reader.specs.declared.lines.Taken.TheVariants.{Term, End}
 use Rattle.reader.specs.lines.Tests.{t_number, r_number}
 
 -- a value, unless a test failed
@@ -122,27 +121,19 @@ line_first q place count r before (b ∷ bytes) =
 
 -- ## What the code says
 
-abbrev pub start_as : Start → Parameters → Bytes → Result (definition.Parameters × Bytes)
-start_as (At next) q file = done (parameters_of q, drop next file)
-start_as (StartRefused number) q file = refused number 1 []
+abbrev pub first_as : CodeResult First Refusal → Bytes → Result (definition.Parameters × Bytes)
+first_as (Ok r) file = done (parameters_of r.parameters, drop r.next file)
+first_as (Err e) file = refused (number_of e) 1 []
 
-abbrev pub first_as : First → Bytes → Result (definition.Parameters × Bytes)
-first_as r file = start_as r.start r.parameters file
+abbrev pub optional_as : CodeResult Optional Refused → Bytes → Result (Opened Words)
+optional_as (Ok r) file = done (r.numbers, r.place, drop r.next file)
+optional_as (Err e) file = refused (number_of e.refusal) e.place []
 
-abbrev pub opening_as : {A : Type 0} → Opening → A → Bytes → Result (Opened A)
-opening_as (OpeningAt next place) said file = done (said, place, drop next file)
-opening_as (OpeningRefused number place) said file = refused number place []
+abbrev pub head_as : CodeResult Head Refused → Bytes → Result (Opened HeadSaid)
+head_as (Ok r) file = done ((parameters_of r.parameters, r.degrees, r.weights), r.place, drop r.next file)
+head_as (Err e) file = refused (number_of e.refusal) e.place []
 
-abbrev pub optional_as : Optional → Bytes → Result (Opened Words)
-optional_as r file = opening_as r.opening r.numbers file
-
-abbrev pub head_as : Head → Bytes → Result (Opened HeadSaid)
-head_as r file = opening_as r.opening (parameters_of r.parameters, r.degrees, r.weights) file
-
-abbrev pub step_as : Step → Words → Bytes → Result Said
-step_as (Term next) numbers file = done (some (numbers, drop next file))
-step_as End numbers file = done none
-step_as (Refused number place) numbers file = refused number place []
-
-abbrev pub taken_as : Taken → Bytes → Result Said
-taken_as r file = step_as r.step r.numbers file
+abbrev pub taken_as : CodeResult Taken Refused → Bytes → Result Said
+taken_as (Ok (Term line)) file = done (some (line.numbers, drop line.next file))
+taken_as (Ok End) file = done none
+taken_as (Err e) file = refused (number_of e.refusal) e.place []

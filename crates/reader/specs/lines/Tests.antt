@@ -1,5 +1,5 @@
 -- The tests on one line, by the sixteen numbers of its fields (zeros behind those that it has) and by what was read before it.
-use Rattle.std.specs.Prelude.{Bool, true, false, not, ◌||◌, [], ℕ, suc, leb, ltb, eqb, get_or, take, drop}
+use Rattle.std.specs.Prelude.{Bool, true, false, not, ◌||◌, [], ℕ, suc, ⊤, Result as CodeResult, Ok, Err, leb, ltb, eqb, get_or, take, drop}
 use Rattle.definitions.specs.Limits.{document_01}
 use Rattle.definitions.specs.Lists.{◌and◌}
 use Rattle.definitions.specs.Monomial.{Term}
@@ -8,6 +8,8 @@ use Rattle.definitions.specs.Problem as definition
 use Rattle.definitions.specs.Problem.{prime_in_range?, in_ranges?, term_in_range?}
 use Rattle.definitions.specs.Layout.{Words}
 use Rattle.definitions.specs.Places.{most_elements, most_rows}
+use Rattle.words.specs.declared.refusals.Refusal.{Refusal}
+use Rattle.words.specs.refusals.Numbers.{number_of}
 
 -- the term of a T line: "exponents past n are zero"
 abbrev pub term_in : Words → Term
@@ -47,3 +49,10 @@ t_number q count r before w =
 -- "1, then 2, 3 for R", after the shape
 abbrev pub r_number : definition.Parameters → ℕ
 r_number q = unless (prime_in_range? document_01 q.p) 2 (unless (in_ranges? document_01 q) 3 0)
+
+-- ## What the code says
+
+-- the number of a refusal, 0 where there is none
+abbrev pub number_said : CodeResult ⊤ Refusal → ℕ
+number_said (Ok u) = 0
+number_said (Err e) = number_of e

@@ -1,5 +1,5 @@
 -- What reading leaves in the state's words, and what it answers.
-use Rattle.std.specs.Prelude.{[], ◌∷◌, ◌++◌, ℕ, ◌+◌, ◌-◌, ◌*◌, ◌≤◌, length, get_or, set, drop, replicate}
+use Rattle.std.specs.Prelude.{[], ◌∷◌, ◌++◌, ℕ, ◌+◌, ◌-◌, ◌*◌, ◌≤◌, ⊤, Result as CodeResult, Ok, Err, length, get_or, set, drop, replicate}
 use Rattle.std.proofs.Math.Seq.{paste}
 use Rattle.definitions.specs.Limits.{document_01}
 use Rattle.definitions.specs.Monomial.{Level}
@@ -14,9 +14,8 @@ use Rattle.definitions.specs.Places.{degrees_start, carried_start, state_length,
 use Rattle.reducers.specs.tables.Cuts.{Cut, Light}
 use Rattle.reader.specs.lines.Tests.{term_in}
 use Rattle.reader.specs.lines.Steps.{weights_words}
-use Rattle.reader.specs.declared.problem.Outcome.{Outcome}
-use Rattle.reader.specs.declared.problem.Outcome.TheVariants.{Done, Refused}
-use Rattle.reader.specs.declared.problem.Reading.{Reading}
+use Rattle.words.specs.declared.refusals.Refused.{Refused}
+use Rattle.words.specs.refusals.Numbers.{number_of}
 
 -- The state with the file's elements as level 0, read and not accepted: what the definitions' acceptance starts from.
 abbrev pub state_read : definition.Parameters × Level → State
@@ -97,9 +96,10 @@ head_weights unfinished = replicate weights_length 0
 
 -- ## What the code says
 
-abbrev pub outcome_as : {A : Type 0} → Outcome → A → Result A
-outcome_as Done a = done a
-outcome_as (Refused number place) a = refused number place []
+abbrev pub outcome_as : {A : Type 0} → CodeResult ⊤ Refused → A → Result A
+outcome_as (Ok u) a = done a
+outcome_as (Err e) a = refused (number_of e.refusal) e.place []
 
-abbrev pub answer_as : Reading → Words → ℕ × ℕ × Words
-answer_as r s = (r.number, r.place, s)
+abbrev pub answer_as : CodeResult ⊤ Refused → Words → ℕ × ℕ × Words
+answer_as (Ok u) s = (0, 0, s)
+answer_as (Err e) s = (number_of e.refusal, e.place, s)

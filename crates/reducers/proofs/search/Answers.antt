@@ -1,9 +1,8 @@
 -- The rule's answer, from the first head that divides; products.
 use mathlib.Core.Path.{◌≡◌, refl, sym, ap, ◌∙◌, subst}
 use mathlib.Core.Bool.{Bool, true, false}
-use mathlib.Core.Option.{Option, none, some}
 use mathlib.Core.List.{[], ◌∷◌}
-use Prim.Native.Nat.{ℕ, zero, suc, ◌+◌, ◌-◌, ◌<◌, ◌≤◌}
+use Prim.Native.Nat.{ℕ, suc, ◌+◌, ◌-◌, ◌<◌, ◌≤◌}
 use native.Mathlib.Omega.{arith}
 use lib.Dec.{T, ltb}
 use lib.ListN.{length, get_or}
@@ -12,8 +11,7 @@ use Rattle.definitions.specs.Lists.{choose}
 use Rattle.definitions.specs.Field.{times}
 use Rattle.definitions.specs.Monomial.{Monomial, Term, Vector, divides_monomial?, quotient, no_term}
 use Rattle.definitions.specs.Reducer.{Answer, reducer, lower_order, answer_from}
-use Rattle.reducers.specs.declared.search.Answer as code
-use Rattle.reducers.specs.declared.search.Answer.TheVariants.{Reducer, LowerOrder}
+use Rattle.std.specs.Prelude.{Option as CodeOption, Some, None}
 use Rattle.reducers.specs.search.Search.{searched, searched_at, first_dividing}
 
 abbrev answer_at : ℕ → ℕ → Vector → Term → ℕ → Answer
@@ -70,17 +68,17 @@ found_inside p v t j e q = subst (λ n. n < length v) (sym e) (to_inside (answer
 
 -- ## What the search gives
 
-abbrev element : code.Answer → ℕ
-element (Reducer j h) = j
-element LowerOrder = 0
+abbrev element : CodeOption (ℕ × ℕ) → ℕ
+element (Some x) = x.0
+element None = 0
 
-abbrev head_of : code.Answer → ℕ
-head_of (Reducer j h) = h
-head_of LowerOrder = 0
+abbrev head_of : CodeOption (ℕ × ℕ) → ℕ
+head_of (Some x) = x.1
+head_of None = 0
 
-abbrev found? : code.Answer → Bool
-found? (Reducer j h) = true
-found? LowerOrder = false
+abbrev found? : CodeOption (ℕ × ℕ) → Bool
+found? (Some x) = true
+found? None = false
 
 first_within : (p : ℕ) (v : Vector) (t : Term) → first_dividing t.1 v 0 ≤ length v
 first_within p v t = go (answered_by p 1 v t 0)
@@ -89,24 +87,24 @@ first_within p v t = go (answered_by p 1 v t 0)
     go (none_divides e) = omega arith
     go (one_divides l m e) = omega arith
 
-pub searched_none : (v : Vector) (m : Monomial) (j : ℕ) → j ≡ first_dividing m v 0 → j ≡ length v → LowerOrder ≡ searched v m
-searched_none v m j e q = sym (ap (searched_at v) (sym e) ∙ ap (λ b. choose b (Reducer (suc j) (get_or v j no_term).0) LowerOrder)
+pub searched_none : (v : Vector) (m : Monomial) (j : ℕ) → j ≡ first_dividing m v 0 → j ≡ length v → None ≡ searched v m
+searched_none v m j e q = sym (ap (searched_at v) (sym e) ∙ ap (λ b. choose {A = CodeOption (ℕ × ℕ)} b (Some (suc j, (get_or v j no_term).0)) None)
     (le-ltb j (length v) (omega arith)))
 
-pub searched_one : (v : Vector) (m : Monomial) (j : ℕ) → j ≡ first_dividing m v 0 → j < length v → Reducer (j + 1) (get_or v j no_term).0 ≡ searched v m
+pub searched_one : (v : Vector) (m : Monomial) (j : ℕ) → j ≡ first_dividing m v 0 → j < length v → ◌≡◌ {A = CodeOption (ℕ × ℕ)} (Some (j + 1, (get_or v j no_term).0)) (searched v m)
 searched_one v m j e l =
     let z : j + 1 ≡ suc j = omega arith in
-    ap (λ n. Reducer n (get_or v j no_term).0) z ∙ sym (ap (searched_at v) (sym e)
-    ∙ ap (λ b. choose b (Reducer (suc j) (get_or v j no_term).0) LowerOrder) (lt-ltb j (length v) l))
+    ap {B = CodeOption (ℕ × ℕ)} (λ n. Some (n, (get_or v j no_term).0)) z ∙ sym (ap (searched_at v) (sym e)
+    ∙ ap (λ b. choose {A = CodeOption (ℕ × ℕ)} b (Some (suc j, (get_or v j no_term).0)) None) (lt-ltb j (length v) l))
 
 -- none: of lower order, whatever the coefficient
-pub searched_lower : (p : ℕ) (v : Vector) (t : Term) → LowerOrder ≡ searched v t.1 → lower_order ≡ answer_from p 1 v t
+pub searched_lower : (p : ℕ) (v : Vector) (t : Term) → None ≡ searched v t.1 → lower_order ≡ answer_from p 1 v t
 searched_lower p v t e = go (ltb (first_dividing t.1 v 0) (length v)) refl e
   where
     j : ℕ
     j = first_dividing t.1 v 0
 
-    go : (b : Bool) → ltb j (length v) ≡ b → LowerOrder ≡ choose b (Reducer (suc j) (get_or v j no_term).0) LowerOrder → lower_order
+    go : (b : Bool) → ltb j (length v) ≡ b → ◌≡◌ {A = CodeOption (ℕ × ℕ)} None (choose b (Some (suc j, (get_or v j no_term).0)) None) → lower_order
         ≡ answer_from p 1 v t
     go true q f = absurd (subst (λ x. T (found? x)) (sym f) tt)
     go false q f = let n : length v ≤ j = ltb-false j (length v) q in answer_none p v t j refl (omega (arith, first_within p v t))
@@ -118,13 +116,13 @@ pub record IsReducer (p : ℕ) (v : Vector) (t : Term) (j h : ℕ) : Type 0 wher
   pub head : h ≡ (get_or v (j - 1) no_term).0
   pub answers : reducer j (times p t.0 h) (quotient t.1.0 (get_or v (j - 1) no_term).1.0) ≡ answer_from p 1 v t
 
-pub searched_reducer : (p : ℕ) (v : Vector) (t : Term) (j h : ℕ) → Reducer j h ≡ searched v t.1 → IsReducer p v t j h
+pub searched_reducer : (p : ℕ) (v : Vector) (t : Term) (j h : ℕ) → ◌≡◌ {A = CodeOption (ℕ × ℕ)} (Some (j, h)) (searched v t.1) → IsReducer p v t j h
 searched_reducer p v t j h e = go (ltb k (length v)) refl e
   where
     k : ℕ
     k = first_dividing t.1 v 0
 
-    go : (b : Bool) → ltb k (length v) ≡ b → Reducer j h ≡ choose b (Reducer (suc k) (get_or v k no_term).0) LowerOrder → IsReducer p v t j h
+    go : (b : Bool) → ltb k (length v) ≡ b → ◌≡◌ {A = CodeOption (ℕ × ℕ)} (Some (j, h)) (choose b (Some (suc k, (get_or v k no_term).0)) None) → IsReducer p v t j h
     go false q f = absurd (subst (λ x. T (found? x)) f tt)
     go true q f =
         let n : k < length v = ltb-true k (length v) q in
@@ -139,17 +137,3 @@ searched_reducer p v t j h e = go (ltb k (length v)) refl e
           answers = (λ i. reducer (w i) (times p t.0 (y i)) (quotient t.1.0 (get_or v (z i) no_term).1.0))
               ∙ answer_one p v t k refl (λ m. omega arith);
         }
-
--- ## A product with its coefficient
-
-abbrev with_coefficient : ℕ → Option Monomial → Option Term
-with_coefficient c none = none
-with_coefficient c (some m) = some (c, m)
-
-chosen : (c : ℕ) (b : Bool) (m : Monomial) → with_coefficient c (choose b (some m) none) ≡ choose b (some (c, m)) none
-chosen c true m = refl
-chosen c false m = refl
-
-pub product_formed : (c : ℕ) (b d : Bool) (m n : Monomial) → choose b (some m) none ≡ choose d (some n) none
-    → choose {A = Option Term} b (some (c, m)) none ≡ choose d (some (c, n)) none
-product_formed c b d m n e = sym (chosen c b m) ∙ ap (with_coefficient c) e ∙ chosen c d n

@@ -24,19 +24,12 @@ pub record First (f : ℕ → Bool) (a b r : ℕ) : Type 0 where
   pub passes : r < b → f r ≡ true
 
 -- one step of the loop
-pub first_here : (f : ℕ → Bool) (i to : ℕ) → i < to → true ≡ f i → first_from f (to - i) i ≡ i
-first_here f i to h e = let z : to - i ≡ suc (to - suc i) = omega arith in ap (λ n. first_from f n i) z
-    ∙ ap (λ b. elim b [ true ↦ i | false ↦ first_from f (to - suc i) (suc i) ]) (sym e)
-
 pub first_past : (f : ℕ → Bool) (i to : ℕ) → i < to → false ≡ f i → first_from f (to - i) i ≡ first_from f (to - (i + 1)) (i + 1)
 first_past f i to h e =
     let z : to - i ≡ suc (to - suc i) = omega arith in
     let s : suc i ≡ i + 1 = omega arith in
     ap (λ n. first_from f n i) z ∙ ap (λ b. elim b [ true ↦ i | false ↦ first_from f (to - suc i) (suc i) ]) (sym e)
     ∙ ap (λ k. first_from f (to - k) k) s
-
-pub first_end : (f : ℕ → Bool) (i to : ℕ) → to ≤ i → first_from f (to - i) i ≡ i
-first_end f i to h = let z : to - i ≡ 0 = omega arith in ap (λ n. first_from f n i) z
 
 first_at : (f : ℕ → Bool) (n i : ℕ) → First f i (i + n) (first_from f n i)
 first_at f zero i = record { from = omega arith; none_before = λ k h l. absurd (omega arith); passes = λ h. absurd (omega arith) }

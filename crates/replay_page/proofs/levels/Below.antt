@@ -14,7 +14,6 @@ use Rattle.laws.proofs.Steady.{steady_from}
 use Rattle.laws.proofs.Bound.{lift_steady}
 use Rattle.level.specs.all_levels.Level.{Liftable, usual_way}
 use Rattle.level.proofs.all_levels.Levels.{Next, Stays}
-use Rattle.replay_page.specs.levels.Below.{below_by}
 
 -- so far: whatever the bound, if it is large enough, the rest from level i on is the whole
 abbrev pub Going : ℕ → Words → Words → ℕ → Type 0
@@ -63,7 +62,3 @@ pub going_over : (k : ℕ) (s t : Words) → (g : Going k s t k) → done (decod
 going_over k s t g =
     let e : 0 ≡ k - k = omega arith in
     ap (λ l. lifted_below document_01 (g.0 + 0) l k (decode document_01 t)) e ∙ sym (g.1 0)
-
-pub below_refused : (number place : ℕ) (t : Words) → (number ≡ 0 → ⊥) → below_by number place t ≡ refused number place []
-below_refused zero place t h = absurd (h refl)
-below_refused (suc number) place t h = refl

@@ -78,13 +78,11 @@ module _ (s : Words) (place k v : ℕ) (ls : List Line) where
     printed = spelled (x_alone w 12 place) p;
   }
 
-  pub level_zero : {out out' : Bytes} {r : ℕ} → k ≡ 0 → Printed out out' 0 r (printed letter_X (12 ∷ place ∷ []))
+  pub level_outside : {out out' : Bytes} {r : ℕ} (l : ℕ) → l ≡ k → (l ≡ 0) ⊎ ((l ≡ 0 → ⊥) × (most_levels < l))
+      → Printed out out' 0 r (printed letter_X (12 ∷ place ∷ []))
       → AcceptedPrints (λ n. replay_level document_01 n most_picks place k v ls) s out out' r
-  level_zero z p = no_level (outside (inl (lt-leb 1 k (omega (arith, z))))) p
-
-  pub level_past : {out out' : Bytes} {r : ℕ} → most_levels < k → Printed out out' 0 r (printed letter_X (12 ∷ place ∷ []))
-      → AcceptedPrints (λ n. replay_level document_01 n most_picks place k v ls) s out out' r
-  level_past l p = no_level (outside (inr (lt-leb k most_levels l))) p
+  level_outside l e (inl z) p = no_level (outside (inl (lt-leb 1 k (omega (arith, e, z))))) p
+  level_outside l e (inr h) p = no_level (outside (inr (lt-leb k most_levels (omega (arith, e, h.1))))) p
 
   module _ (low : 1 ≤ k) (high : k ≤ most_levels) (n : ℕ) where
     inside : (w : ℕ) → tested w n true ≡ tested w n (between 1 k most_levels)

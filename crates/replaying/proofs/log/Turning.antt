@@ -7,6 +7,8 @@ use Prim.Native.Nat.{ℕ, zero, suc, ◌+◌, ◌<◌, ◌≤◌}
 use native.Mathlib.Omega.{arith}
 use lib.ListN.{length, get_or, drop}
 use borrow.Author.Tests.{lt-ltb, le-ltb}
+use Rattle.std.specs.Prelude.{Option as CodeOption, Some, None, Ok, Err}
+use Rattle.std.specs.Option.{ok_or}
 use Rattle.definitions.specs.Lists.{◌then◌, empty?}
 use Rattle.definitions.specs.Monomial.{Vector}
 use Rattle.definitions.specs.Result.{Result, done, refused, unfinished, unless_refused, ◌>>=◌}
@@ -26,6 +28,15 @@ use Rattle.runs.proofs.reduction.Adding.{rows_none}
 use Rattle.replaying.specs.picks.Named.{named}
 use Rattle.replaying.specs.log.Lines.{p_first}
 use Rattle.replaying.proofs.picks.Naming.{named_is}
+
+-- what `ok_or` hands on
+pub ok_or_ok : {A E : Type 0} (o : CodeOption A) (e : E) (x : A) → ok_or o e ≡ Ok x → o ≡ Some x
+ok_or_ok None e x h = cc
+ok_or_ok (Some y) e x h = cc
+
+pub ok_or_err : {A E : Type 0} (o : CodeOption A) (e d : E) → ok_or o e ≡ Err d → (o ≡ None) × (d ≡ e)
+ok_or_err None e d h = (refl, cc)
+ok_or_err (Some y) e d h = (cc, cc)
 
 none_is_not : {A : Type 0} {a : A} → ◌≡◌ {A = Option A} none (some a) → ⊥
 none_is_not e = let z : ◌≡◌ {A = ℕ} 0 1 = cc in omega arith

@@ -2,6 +2,7 @@
 use mathlib.Core.Path.{◌≡◌, refl, sym, ap, ◌∙◌, subst, subst₂}
 use mathlib.Core.Bool.{Bool, true, false}
 use mathlib.Core.List.{List, [], ◌∷◌}
+use mathlib.Core.Logic.{◌⊎◌, inl, inr}
 use Prim.Native.Nat.{ℕ, zero, suc, ◌+◌, ◌-◌, ◌<◌, ◌≤◌}
 use native.Mathlib.Omega.{arith}
 use lib.Dec.{leb}
@@ -28,8 +29,8 @@ use Rattle.runs.specs.declared.reduction.Ground.{Ground}
 use Rattle.level.specs.by_runs.Stages.{Base, usual, ground_at, TablesAt, stage_at}
 use Rattle.level.proofs.by_runs.GroundOfLevel.{tables_at, family_in, images_above}
 use Rattle.level.proofs.by_runs.OverGround.{stage_same}
-use Rattle.replaying.specs.declared.log.Replayed.{Replayed}
-use Rattle.replaying.specs.declared.log.Replayed.TheVariants.{Finished, Refused}
+use Rattle.std.specs.Prelude.{Result as CodeResult, Ok, Err}
+use Rattle.words.specs.declared.refusals.Refused.{Refused}
 use Rattle.replaying.specs.log.Lines.{Ended}
 use Rattle.replaying.specs.over.Vectors.{replay_term, Few}
 
@@ -56,9 +57,9 @@ module _ (s : Words) (j : ℕ) (b : Base s j) (tables : Words) (t : TablesAt s j
       → x ≡ replay_term (stage_at usual s j) n' k place m ls
   term_same n n' k place h m ls x e = e ∙ (λ i. replay_term (stage_same s j b tables t usual g level is from i) (h i) k place m ls)
 
-pub few_ended : (g : Ground) → g.vector ≡ most_terms → (x : Replayed) → Ended g x → Few x
-few_ended g e (Finished u) h = omega (arith, e, h)
-few_ended g e (Refused number place) h = tt
+pub few_ended : (g : Ground) → g.vector ≡ most_terms → (x : CodeResult ℕ Refused) → Ended g x → Few x
+few_ended g e (Ok u) h = omega (arith, e, h)
+few_ended g e (Err r) h = tt
 
 -- ## The frame first
 
@@ -106,11 +107,10 @@ module _ (s : Words) (j v place : ℕ) (ls : List Line) (tall : get_or s 4 0 ≡
       above true e = e
       above false e = refl
 
-      pub no_vector : v ≡ 0 → refused 12 place [] ≡ replayed_vector document_01 most_picks place (j + 1) v ls (decode document_01 s)
-      no_vector z = sym (ap tested (outside (lt-leb 1 v (omega (arith, z))))) ∙ on_frame
-
-      pub past_vectors : count < v → refused 12 place [] ≡ replayed_vector document_01 most_picks place (j + 1) v ls (decode document_01 s)
-      past_vectors l = sym (ap tested (above (leb 1 v) (lt-leb v (length ms) (omega (arith, counted, l))))) ∙ on_frame
+      pub no_vector : (v ≡ 0) ⊎ ((v ≡ 0 → ⊥) × (count < v))
+          → refused 12 place [] ≡ replayed_vector document_01 most_picks place (j + 1) v ls (decode document_01 s)
+      no_vector (inl z) = sym (ap tested (outside (lt-leb 1 v (omega (arith, z))))) ∙ on_frame
+      no_vector (inr p) = sym (ap tested (above (leb 1 v) (lt-leb v (length ms) (omega (arith, counted, p.1))))) ∙ on_frame
 
       getD_monomials : (u : Vector) (i : ℕ) → i < length u → get_or (monomials_of u) i no_term.1 ≡ (get_or u i no_term).1
       getD_monomials [] i l = absurd (omega arith)

@@ -24,7 +24,7 @@ use Rattle.laws.proofs.Numbers.{by_pick_number}
 use Rattle.reader.proofs.problem.LineByLine.{take_zeros}
 use Rattle.state.proofs.writing.Copying.{eights_rows}
 use Rattle.vectors.specs.sums.Places.{seek}
-use Rattle.vectors.specs.declared.sums.Place.TheVariants.{At, Nowhere}
+use Rattle.std.specs.Prelude.{Option as CodeOption, Some, None}
 use Rattle.replaying.specs.picks.Named.{named, place_as}
 
 -- ## Numbers
@@ -80,20 +80,20 @@ named_is n u h l = λ i. (exponents i, get_d_front u (replicate (16 - length u) 
 -- ## Its place
 
 -- a monomial with an exponent above 255 is none of these
-nowhere_of : (m : Monomial) → fits? most_exponent m.0 ≡ false → (v : Vector) → Eights v → (i : ℕ) → Nowhere ≡ seek m v i
+nowhere_of : (m : Monomial) → fits? most_exponent m.0 ≡ false → (v : Vector) → Eights v → (i : ℕ) → ◌≡◌ {A = CodeOption ℕ} None (seek m v i)
 nowhere_of m e [] no_terms i = refl
 nowhere_of m e (t ∷ v) (one_more h hs) i = go (same_monomial? m t.1) refl (nowhere_of m e v hs (suc i))
   where
     never : false ≡ true → ⊥
     never e = let z : ◌≡◌ {A = ℕ} 0 1 = cc in omega arith
 
-    go : (b : Bool) → same_monomial? m t.1 ≡ b → Nowhere ≡ seek m v (suc i) → Nowhere ≡ elim b [ true ↦ At i | false ↦ seek m v (suc i) ]
+    go : (b : Bool) → same_monomial? m t.1 ≡ b → ◌≡◌ {A = CodeOption ℕ} None (seek m v (suc i)) → ◌≡◌ {A = CodeOption ℕ} None (elim b [ true ↦ Some i | false ↦ seek m v (suc i) ])
     go false s r = r
     go true s r =
         let k = same_monomial_says m t.1 (subst T (sym s) tt) in
         absurd (never (sym e ∙ ap (λ x. fits? most_exponent x.0) k ∙ true_is (fits? most_exponent t.1.0) h.small))
 
-pub nowhere : (m : Monomial) (s : Words) (n : ℕ) → fits? most_exponent m.0 ≡ false → Nowhere ≡ seek m (rows s 0 n) 0
+pub nowhere : (m : Monomial) (s : Words) (n : ℕ) → fits? most_exponent m.0 ≡ false → ◌≡◌ {A = CodeOption ℕ} None (seek m (rows s 0 n) 0)
 nowhere m s n e = nowhere_of m e (rows s 0 n) (eights_rows s 0 n) 0
 
 pub place_is : (m : Monomial) (v : Vector) (i : ℕ) → place_as (seek m v i) ≡ place_from m i v
@@ -101,7 +101,7 @@ place_is m [] i = refl
 place_is m (t ∷ v) i = go (same_monomial? m t.1) (place_is m v (suc i))
   where
     go : (b : Bool) → place_as (seek m v (suc i)) ≡ place_from m (suc i) v
-        → place_as (elim b [ true ↦ At i | false ↦ seek m v (suc i) ]) ≡ elim b [ true ↦ some i | false ↦ place_from m (suc i) v ]
+        → place_as (elim b [ true ↦ Some i | false ↦ seek m v (suc i) ]) ≡ elim b [ true ↦ some i | false ↦ place_from m (suc i) v ]
     go true e = refl
     go false e = e
 
@@ -114,10 +114,10 @@ module _ (S : Stage) (k place : ℕ) (r : Run) (m : Monomial) where
   abbrev after : Result Step → Result Run
   after x = at_level k x >>= λ s. done (run_after s)
 
-  pub pick_nowhere : Nowhere ≡ seek m r.value 0 → refused 22 place [] ≡ asked
+  pub pick_nowhere : ◌≡◌ {A = CodeOption ℕ} None (seek m r.value 0) → refused 22 place [] ≡ asked
   pick_nowhere e = ap (λ p. replayed S k place r (place_as p)) e ∙ ap (replayed S k place r) (place_is m r.value 0)
 
-  module _ (i : ℕ) (e : At i ≡ seek m r.value 0) where
+  module _ (i : ℕ) (e : ◌≡◌ {A = CodeOption ℕ} (Some i) (seek m r.value 0)) where
     at_place : after (by_pick S (hybrid_strategy S 2) r (some i)) ≡ asked
     at_place = ap (λ p. replayed S k place r (place_as p)) e ∙ ap (replayed S k place r) (place_is m r.value 0)
 

@@ -2,7 +2,7 @@
 use mathlib.Core.Path.{◌≡◌, refl, sym, ap, ◌∙◌, subst}
 use mathlib.Core.Bool.{Bool, true, false}
 use mathlib.Core.Option.{Option, none, some}
-use mathlib.Core.List.{[], ◌∷◌, ◌++◌}
+use mathlib.Core.List.{[], ◌∷◌}
 use Prim.Native.Nat.{ℕ, suc, ◌+◌, ◌-◌, ◌<◌, ◌≤◌}
 use native.Mathlib.Omega.{arith}
 use lib.Dec.{T, ltb, eqb}
@@ -10,31 +10,35 @@ use lib.ListN.{length, length-append}
 use borrow.Author.Tests.{ltb-true}
 use Rattle.definitions.specs.Lists.{choose}
 use Rattle.definitions.specs.Field.{plus}
-use Rattle.definitions.specs.Monomial.{Exponents, Monomial, Term, Vector, same_monomial?, fits?}
-use Rattle.definitions.specs.Reducer.{Answer, lower_order?}
+use Rattle.definitions.specs.Monomial.{Exponents, Monomial, Term, Vector, same_monomial?}
+use Rattle.definitions.specs.Reducer.{lower_order?}
 use Rattle.definitions.specs.Result.{Result, done, refused, unfinished, refusal, ◌>>=◌}
-use Rattle.definitions.specs.Vectors.{combined, behind, unless_zero, or_last, appended, store}
+use Rattle.definitions.specs.Vectors.{combined, behind, or_last, appended, store}
 use Rattle.definitions.specs.Stage.{Reduction}
-use Rattle.definitions.specs.Run.{dropped?, unless_dropped, if_fits, add_term, add_products, multiple}
+use Rattle.definitions.specs.Run.{dropped?, add_term, add_products, multiple}
 use Rattle.definitions.specs.Layout.{Words, row_at, rows}
 use Rattle.laws.proofs.Rows.{length_rows, rows_first}
-use Rattle.reducers.specs.search.Search.{searched, formed_term}
-use Rattle.reducers.specs.declared.search.Answer.TheVariants.{Reducer, LowerOrder}
+use Rattle.std.specs.Prelude.{Option as CodeOption, Some, None, is_some, ok_or, not}
+use Rattle.reducers.specs.search.Search.{searched}
 use Rattle.reducers.proofs.search.Answers.{searched_lower, searched_reducer}
 use Rattle.vectors.specs.sums.Places.{stored_as}
-use Rattle.vectors.specs.declared.sums.Stored.{Stored}
-use Rattle.vectors.specs.declared.sums.Stored.TheVariants.{Rows as StoredRows, Full}
+use Rattle.words.specs.declared.refusals.Refusal.TheVariants.{Terms}
 use Rattle.runs.specs.reduction.Grounds.{added_of, Within}
-use Rattle.runs.specs.declared.reduction.Added.{Added}
-use Rattle.runs.specs.declared.reduction.Added.TheVariants.{Rows, Refused}
 
 -- ## Dropped or not
 
-pub is_dropped : (R : Reduction) (m : Monomial) → LowerOrder ≡ searched R.heads m → dropped? R true m ≡ true
+pub is_dropped : (R : Reduction) (m : Monomial) → None ≡ searched R.heads m → dropped? R true m ≡ true
 is_dropped R m e = sym (ap lower_order? (searched_lower R.p R.heads (1, m) e))
 
-pub not_dropped : (R : Reduction) (m : Monomial) (j h : ℕ) → Reducer j h ≡ searched R.heads m → dropped? R true m ≡ false
+pub not_dropped : (R : Reduction) (m : Monomial) (j h : ℕ) → Some (j, h) ≡ searched R.heads m → dropped? R true m ≡ false
 not_dropped R m j h e = sym (ap lower_order? (searched_reducer R.p R.heads (1, m) j h e).answers)
+
+-- dropped where nothing is found
+pub found_none : (R : Reduction) (m : Monomial) (x : CodeOption (ℕ × ℕ)) (b : Bool) → is_some x ≡ not b → x ≡ searched R.heads m → b ≡ dropped? R true m
+found_none R m None true q e = sym (is_dropped R m e)
+found_none R m None false q e = absurd (subst T (sym q) tt)
+found_none R m (Some (j, h)) true q e = absurd (subst T q tt)
+found_none R m (Some (j, h)) false q e = sym (not_dropped R m j h e)
 
 pub drops_none : (R : Reduction) (drops : Bool) (m : Monomial) → drops ≡ false → dropped? R drops m ≡ false
 drops_none R drops m e = ap (λ b. dropped? R b m) e
@@ -73,10 +77,15 @@ store_at_most limit p t v h = go (combined p t v) (combined_short p t v)
     go (some w) k = omega arith
     go none k = last (ltb (length v) limit) refl
 
-pub store_within : (limit p : ℕ) (t : Term) (v : Vector) (x : Stored) (s : Words) (k : ℕ) → length v ≤ limit → stored_as x s ≡ store limit p t v → x
-    ≡ StoredRows k → k ≤ limit
-store_within limit p t v x s k h e f = let n : length (rows s 0 k) ≤ limit =
-    subst (AtMost limit) (sym e ∙ ap (λ y. stored_as y s) f) (store_at_most limit p t v h) in omega (arith, length_rows s 0 k)
+pub stored_added : (x : CodeOption ℕ) (s : Words) → added_of (ok_or x Terms) s ≡ stored_as x s
+stored_added None s = refl
+stored_added (Some k) s = refl
+
+pub store_within : (limit p : ℕ) (t : Term) (v : Vector) (x : CodeOption ℕ) (s : Words) → length v ≤ limit → stored_as x s ≡ store limit p t v
+    → Within limit (ok_or x Terms)
+store_within limit p t v None s h e = tt
+store_within limit p t v (Some k) s h e =
+    let n : length (rows s 0 k) ≤ limit = subst (AtMost limit) (sym e) (store_at_most limit p t v h) in omega (arith, length_rows s 0 k)
 
 -- ## Formed
 
@@ -88,17 +97,17 @@ abbrev given : Option Term → Term → Term
 given none d = d
 given (some t) d = t
 
-pub fits_as : (b d : Bool) (u t : Term) → choose b (some u) none ≡ choose d (some t) none → b ≡ d
-fits_as b d u t e = tell b u ∙ ap some? e ∙ sym (tell d t)
-  where
-    tell : (b : Bool) (u : Term) → b ≡ some? (choose b (some u) none)
-    tell true u = refl
-    tell false u = refl
+pub fits_as : (b : Bool) (u t : Term) → some u ≡ choose b (some t) none → b ≡ true
+fits_as true u t e = refl
+fits_as false u t e = absurd (subst (λ x. T (some? x)) e tt)
 
-pub formed_as : (b d : Bool) (u t : Term) → choose b (some u) none ≡ choose d (some t) none → b ≡ true → u ≡ t
-formed_as true true u t e q = ap (λ x. given x u) e
-formed_as true false u t e q = absurd (subst (λ x. T (some? x)) e tt)
-formed_as false d u t e q = absurd (subst T (sym q) tt)
+pub formed_as : (b : Bool) (u t : Term) → some u ≡ choose b (some t) none → u ≡ t
+formed_as true u t e = ap (λ x. given x u) e
+formed_as false u t e = absurd (subst (λ x. T (some? x)) e tt)
+
+pub unformed : (b : Bool) (t : Term) → none ≡ choose b (some t) none → b ≡ false
+unformed true t e = absurd (subst (λ x. T (some? x)) (sym e) tt)
+unformed false t e = refl
 
 -- ## One product after the other
 
@@ -115,22 +124,17 @@ module _ (R : Reduction) (drops : Bool) (c : ℕ) (q : Exponents) (level : Words
       ap (λ n. add_products R drops c q (rows level i n) v) z ∙ ap (λ f. add_products R drops c q f v) (rows_first level i (to - (i + 1)))
       ∙ ap (λ k. add_term R drops (multiple R.p c q (row_at level i)) v >>= λ w. add_products R drops c q (rows level k (to - (i + 1))) w) y
 
-  pub adding_on : (i to : ℕ) (v : Vector) (k : ℕ) (x : Added) (s : Words) → i < to → added_of x s
-      ≡ add_term R drops (multiple R.p c q (row_at level i)) v → x ≡ Rows k → add_products R drops c q (rows level i (to - i)) v
-      ≡ add_products R drops c q (rows level (i + 1) (to - (i + 1))) (rows s 0 k)
-  adding_on i to v k x s h e f = adding_first i to v h ∙ ap (λ y. y >>= λ w. add_products R drops c q (rows level (i + 1) (to - (i + 1))) w)
-      (sym e ∙ ap (λ y. added_of y s) f)
+  pub adding_on : (i to : ℕ) (v w : Vector) → i < to → done w ≡ add_term R drops (multiple R.p c q (row_at level i)) v
+      → add_products R drops c q (rows level i (to - i)) v ≡ add_products R drops c q (rows level (i + 1) (to - (i + 1))) w
+  adding_on i to v w h e =
+      adding_first i to v h ∙ ap (λ y. y >>= λ u. add_products R drops c q (rows level (i + 1) (to - (i + 1))) u) (sym e)
 
-  pub adding_stops : (i to : ℕ) (v : Vector) (number : ℕ) (x : Added) (s : Words) → i < to → added_of x s
-      ≡ add_term R drops (multiple R.p c q (row_at level i)) v → x ≡ Refused number → add_products R drops c q (rows level i (to - i)) v
-      ≡ refusal number
-  adding_stops i to v number x s h e f = adding_first i to v h ∙ ap (λ y. y >>= λ w. add_products R drops c q (rows level (i + 1) (to - (i + 1))) w)
-      (sym e ∙ ap (λ y. added_of y s) f)
+  pub adding_stops : (i to : ℕ) (v : Vector) (number : ℕ) → i < to → refusal number ≡ add_term R drops (multiple R.p c q (row_at level i)) v
+      → add_products R drops c q (rows level i (to - i)) v ≡ refusal number
+  adding_stops i to v number h e =
+      adding_first i to v h ∙ ap (λ y. y >>= λ u. add_products R drops c q (rows level (i + 1) (to - (i + 1))) u) (sym e)
 
   pub adding_ends : (i to : ℕ) (v : Vector) → to ≤ i → add_products R drops c q (rows level i (to - i)) v ≡ done v
   adding_ends i to v h =
       let z : to - i ≡ 0 = omega arith in
       ap (λ n. add_products R drops c q (rows level i n) v) z ∙ ap (λ f. add_products R drops c q f v) (rows_none level i)
-
-pub within_rows : (limit : ℕ) (x : Added) (k : ℕ) → Within limit x → x ≡ Rows k → k ≤ limit
-within_rows limit x k h e = subst (Within limit) e h

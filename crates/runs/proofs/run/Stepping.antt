@@ -6,7 +6,7 @@ use mathlib.Core.List.{[], ◌∷◌}
 use Prim.Native.Nat.{ℕ, suc, ◌+◌, ◌*◌, ◌<◌, ◌≤◌}
 use native.Mathlib.Omega.{arith}
 use lib.ListN.{length}
-use Rattle.definitions.specs.Lists.{without}
+use Rattle.std.specs.Prelude.{Ok}
 use Rattle.definitions.specs.Monomial.{Exponents, Monomial, Term, Vector, Level, vector_of, divides_monomial?}
 use Rattle.definitions.specs.Order.{Comparison}
 use Rattle.definitions.specs.Reducer.{Answer, reducer, lower_order, answer_from}
@@ -47,12 +47,12 @@ module _ (R : Reduction) (f : Level) (drops : Bool) (r : Run) (j c : ℕ) (q : E
 
 module _ (S : Stage) (value : Words) (n : ℕ) (vector : Words) (v i : ℕ) (l : i < n) (fits : n * row_length ≤ length value) where
   pub left_out : (stops : Bool)
-      → step_of S.below S.reduction.p (without_step stops n v) (without_words stops value n i) vector
+      → step_of S.below S.reduction.p (Ok (without_step stops n v)) (without_words stops value n i) vector
       ≡ without_reducer stops S (run_of value n vector v) i
   left_out true = refl
   left_out false = ap (λ w. done (on (record { value = w; vector = rows vector 0 v }))) (rows_closed value n i l fits)
 
-pub without_room : (g : Ground) (n v : ℕ) (stops : Bool) → n ≤ g.working → v ≤ g.vector → Room g (without_step stops n v)
+pub without_room : (g : Ground) (n v : ℕ) (stops : Bool) → n ≤ g.working → v ≤ g.vector → Room g (Ok (without_step stops n v))
 without_room g n v true k l = k
 without_room g n v false k l = (omega arith, l)
 

@@ -1,5 +1,5 @@
 -- The vectors of a level as they are lifted, and the code's answers as the definitions' ones.
-use Rattle.std.specs.Prelude.{◌≡◌, List, [], map, ℕ, zero, suc, ◌+◌, ◌*◌, ◌<◌, ◌≤◌, length, get_or, take, drop}
+use Rattle.std.specs.Prelude.{◌≡◌, List, [], map, ℕ, zero, suc, ◌+◌, ◌*◌, ◌<◌, ◌≤◌, length, get_or, take, drop, Result as CodeResult, Ok, Err}
 use Rattle.definitions.specs.Monomial.{Monomial, Level}
 use Rattle.definitions.specs.Result.{Result, done, refused, refusal, ◌>>=◌}
 use Rattle.definitions.specs.Stage.{Stage}
@@ -12,11 +12,14 @@ use Rattle.definitions.specs.Layout.{Words, rows, vectors_at}
 use Rattle.definitions.specs.Places.{most_vectors, row_length, component_offset, ends_length}
 use Rattle.runs.specs.declared.reduction.Ground.{Ground}
 use Rattle.runs.specs.declared.frame_terms.One.{One}
-use Rattle.runs.specs.declared.frame_terms.One.TheVariants.{Used, Refused as OneRefused, Stopped as OneStopped}
+use Rattle.runs.specs.declared.frame_terms.One.TheVariants.{Used, Stopped as OneStopped}
 use Rattle.runs.specs.declared.frame_terms.Lifted.{Lifted}
-use Rattle.runs.specs.declared.frame_terms.Lifted.TheVariants.{Rows, Refused, Stopped}
+use Rattle.runs.specs.declared.frame_terms.Lifted.TheVariants.{Rows, Stopped}
 use Rattle.runs.specs.declared.frame_terms.Accepted.{Accepted}
-use Rattle.runs.specs.declared.frame_terms.Accepted.TheVariants.{Yes, Refused as AcceptedRefused, Stopped as AcceptedStopped}
+use Rattle.runs.specs.declared.frame_terms.Accepted.TheVariants.{Yes, Stopped as AcceptedStopped}
+use Rattle.words.specs.declared.refusals.Refusal.{Refusal}
+use Rattle.words.specs.declared.refusals.Refused.{Refused}
+use Rattle.words.specs.refusals.Numbers.{number_of}
 
 -- the first n vectors: their ends first, their rows from word 128 on
 abbrev pub lifted_vectors : Words → ℕ → Level
@@ -54,32 +57,32 @@ lifts S W n cache m = run S W n m >>= λ v. done (v, cache)
 abbrev pub lifted_one : Stage → definition.Strategy → ℕ → lifting.Lifted → Monomial → Result lifting.Lifted
 lifted_one S W n l m = run S W n m >>= λ v. with_vector S l (v, [])
 
-abbrev pub one_of : One → ℕ → Words → Words → Result lifting.Lifted
-one_of (Used u) i out vector = done (lifted_vectors out (i + 1), u)
-one_of (OneRefused number) i out vector = refusal number
-one_of (OneStopped n) i out vector = refused 9 0 (rows vector 0 n)
+abbrev pub one_of : CodeResult One Refusal → ℕ → Words → Words → Result lifting.Lifted
+one_of (Ok (Used u)) i out vector = done (lifted_vectors out (i + 1), u)
+one_of (Ok (OneStopped n)) i out vector = refused 9 0 (rows vector 0 n)
+one_of (Err e) i out vector = refusal (number_of e)
 
-abbrev pub After : Ground → ℕ → One → Words → Type 0
-After g i (Used u) out = (u ≤ g.room) × Kept (i + 1) u out
-After g i (OneRefused number) out = Unit {0}
-After g i (OneStopped n) out = n ≤ g.working
+abbrev pub After : Ground → ℕ → CodeResult One Refusal → Words → Type 0
+After g i (Ok (Used u)) out = (u ≤ g.room) × Kept (i + 1) u out
+After g i (Ok (OneStopped n)) out = n ≤ g.working
+After g i (Err e) out = Unit {0}
 
-abbrev pub lifted_of : Lifted → ℕ → Words → Words → Result Level
-lifted_of (Rows used) n out vector = done (lifted_vectors out n)
-lifted_of (Refused number) n out vector = refusal number
-lifted_of (Stopped rows_left) n out vector = refused 9 0 (rows vector 0 rows_left)
+abbrev pub lifted_of : CodeResult Lifted Refusal → ℕ → Words → Words → Result Level
+lifted_of (Ok (Rows used)) n out vector = done (lifted_vectors out n)
+lifted_of (Ok (Stopped rows_left)) n out vector = refused 9 0 (rows vector 0 rows_left)
+lifted_of (Err e) n out vector = refusal (number_of e)
 
-abbrev pub Whole : Ground → ℕ → Lifted → Words → Type 0
-Whole g n (Rows used) out = (used ≤ g.room) × Kept n used out
-Whole g n (Refused number) out = Unit {0}
-Whole g n (Stopped rows_left) out = rows_left ≤ g.working
+abbrev pub Whole : Ground → ℕ → CodeResult Lifted Refusal → Words → Type 0
+Whole g n (Ok (Rows used)) out = (used ≤ g.room) × Kept n used out
+Whole g n (Ok (Stopped rows_left)) out = rows_left ≤ g.working
+Whole g n (Err e) out = Unit {0}
 
-abbrev pub accepted_of : Accepted → Words → Result (Unit {0})
-accepted_of Yes vector = done tt
-accepted_of (AcceptedRefused number place) vector = refused number place []
-accepted_of (AcceptedStopped i n) vector = refused 9 i (rows vector 0 n)
+abbrev pub accepted_of : CodeResult Accepted Refused → Words → Result (Unit {0})
+accepted_of (Ok Yes) vector = done tt
+accepted_of (Ok (AcceptedStopped i n)) vector = refused 9 i (rows vector 0 n)
+accepted_of (Err e) vector = refused (number_of e.refusal) e.place []
 
-abbrev pub Left : Ground → Accepted → Type 0
-Left g Yes = Unit {0}
-Left g (AcceptedRefused number place) = Unit {0}
-Left g (AcceptedStopped i n) = n ≤ g.working
+abbrev pub Left : Ground → CodeResult Accepted Refused → Type 0
+Left g (Ok Yes) = Unit {0}
+Left g (Ok (AcceptedStopped i n)) = n ≤ g.working
+Left g (Err e) = Unit {0}

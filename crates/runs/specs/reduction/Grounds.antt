@@ -1,18 +1,16 @@
 -- What the lent slices and the ground mean: the reduction, the stage and the run of the definitions.
-use Rattle.std.specs.Prelude.{ℕ, zero, suc, ◌-◌, ◌*◌, ◌<◌, ◌≤◌, length, get_or, take, drop}
+use Rattle.std.specs.Prelude.{ℕ, zero, suc, ◌-◌, ◌*◌, ◌<◌, ◌≤◌, length, get_or, take, drop, Result as CodeResult, Ok, Err}
 use Rattle.definitions.specs.Limits.{Limits, document_01}
 use Rattle.definitions.specs.Monomial.{Vector, Level}
 use Rattle.definitions.specs.Result.{Result, done, refusal}
 use Rattle.definitions.specs.Stage.{Reduction}
-use Rattle.definitions.specs.Run as definition
-use Rattle.definitions.specs.Run.{Run}
 use Rattle.definitions.specs.Layout.{Words, rows, vectors_at}
 use Rattle.definitions.specs.Places.{most_exponent, row_length}
 use Rattle.definitions.specs.Places.{tables_above, tables_below, tables_ends, tables_length, tables_spans}
 use Rattle.reducers.specs.search.Search.{Spanned}
 use Rattle.runs.specs.declared.reduction.Ground.{Ground}
-use Rattle.runs.specs.declared.reduction.Added.{Added}
-use Rattle.runs.specs.declared.reduction.Added.TheVariants.{Rows, Refused}
+use Rattle.words.specs.declared.refusals.Refusal.{Refusal}
+use Rattle.words.specs.refusals.Numbers.{number_of}
 
 -- document 01's limits, but for those that the ground names
 abbrev pub limits_of : Ground → Limits
@@ -72,13 +70,13 @@ pub record Tables (g : Ground) (tables : Words) : Type 0 where
 
 -- ## Answers
 
-abbrev pub added_of : Added → Words → Result Vector
-added_of (Rows n) s = done (rows s 0 n)
-added_of (Refused number) s = refusal number
+abbrev pub added_of : CodeResult ℕ Refusal → Words → Result Vector
+added_of (Ok n) s = done (rows s 0 n)
+added_of (Err e) s = refusal (number_of e)
 
-abbrev pub Within : ℕ → Added → Type 0
-Within limit (Rows n) = n ≤ limit
-Within limit (Refused number) = Unit {0}
+abbrev pub Within : ℕ → CodeResult ℕ Refusal → Type 0
+Within limit (Ok n) = n ≤ limit
+Within limit (Err e) = Unit {0}
 
 -- ## A level's vectors
 

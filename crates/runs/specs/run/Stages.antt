@@ -1,5 +1,5 @@
 -- What the lent slices mean to a run: the stage, the strategy, the run so far; and the code's answers as the definitions' ones.
-use Rattle.std.specs.Prelude.{Bool, true, false, ℕ, ◌-◌, ◌*◌, ◌≤◌, length}
+use Rattle.std.specs.Prelude.{Bool, true, false, ℕ, ◌-◌, ◌*◌, ◌≤◌, length, Result as CodeResult, Ok, Err}
 use Rattle.definitions.specs.Monomial.{Exponents, Monomial, Vector, Level, vector_of}
 use Rattle.definitions.specs.Order.{Comparison}
 use Rattle.definitions.specs.Result.{Result, done, refused, refusal, ◌>>=◌}
@@ -15,9 +15,11 @@ use Rattle.runs.specs.reduction.Grounds.{reduction_of, family_of, ends_in, below
 use Rattle.runs.specs.declared.reduction.Ground.{Ground}
 use Rattle.runs.specs.declared.run.Strategy.{Strategy}
 use Rattle.runs.specs.declared.run.Step.{Step}
-use Rattle.runs.specs.declared.run.Step.TheVariants.{On, Refused as StepRefused, Stopped as StepStopped}
+use Rattle.runs.specs.declared.run.Step.TheVariants.{On, Stopped as StepStopped}
 use Rattle.runs.specs.declared.run.Outcome.{Outcome}
-use Rattle.runs.specs.declared.run.Outcome.TheVariants.{Finished, Refused, Stopped}
+use Rattle.runs.specs.declared.run.Outcome.TheVariants.{Finished, Stopped}
+use Rattle.words.specs.declared.refusals.Refusal.{Refusal}
+use Rattle.words.specs.refusals.Numbers.{number_of}
 
 -- the order of the module where working values live
 abbrev pub order_of : Ground → Words → Monomial → Monomial → Comparison
@@ -67,31 +69,32 @@ abbrev pub without_words : Bool → Words → ℕ → ℕ → Words
 without_words true s n i = s
 without_words false s n i = closed s (i * row_length) (n * row_length - row_length)
 
-abbrev pub step_of : (Monomial → Monomial → Comparison) → ℕ → Step → Words → Words → Result definition.Step
-step_of order p (On n v) value vector = done (on (run_of value n vector v))
-step_of order p (StepRefused number) value vector = refusal number
-step_of order p (StepStopped n) value vector = refused 9 0 (descending order p (rows value 0 n))
+abbrev pub step_of : (Monomial → Monomial → Comparison) → ℕ → CodeResult Step Refusal → Words → Words → Result definition.Step
+step_of order p (Ok (On n v)) value vector = done (on (run_of value n vector v))
+step_of order p (Ok (StepStopped n)) value vector = refused 9 0 (descending order p (rows value 0 n))
+step_of order p (Err e) value vector = refusal (number_of e)
 
-abbrev pub Room : Ground → Step → Type 0
-Room g (On n v) = (n ≤ g.working) × (v ≤ g.vector)
-Room g (StepRefused number) = Unit {0}
-Room g (StepStopped n) = n ≤ g.working
+abbrev pub Room : Ground → CodeResult Step Refusal → Type 0
+Room g (Ok (On n v)) = (n ≤ g.working) × (v ≤ g.vector)
+Room g (Ok (StepStopped n)) = n ≤ g.working
+Room g (Err e) = Unit {0}
 
 -- ## A run
 
 -- not sorted yet
-abbrev pub ended_of : (Monomial → Monomial → Comparison) → (Monomial → Monomial → Comparison) → ℕ → Outcome → Words → Words → Result Vector
-ended_of order above p (Finished v) value vector = done (descending above p (rows vector 0 v))
-ended_of order above p (Refused number) value vector = refusal number
-ended_of order above p (Stopped n) value vector = refused 9 0 (descending order p (rows value 0 n))
+abbrev pub ended_of : (Monomial → Monomial → Comparison) → (Monomial → Monomial → Comparison) → ℕ → CodeResult Outcome Refusal → Words → Words
+    → Result Vector
+ended_of order above p (Ok (Finished v)) value vector = done (descending above p (rows vector 0 v))
+ended_of order above p (Ok (Stopped n)) value vector = refused 9 0 (descending order p (rows value 0 n))
+ended_of order above p (Err e) value vector = refusal (number_of e)
 
 -- sorted, in the vector's place
-abbrev pub outcome_of : Outcome → Words → Result Vector
-outcome_of (Finished v) vector = done (rows vector 0 v)
-outcome_of (Refused number) vector = refusal number
-outcome_of (Stopped n) vector = refused 9 0 (rows vector 0 n)
+abbrev pub outcome_of : CodeResult Outcome Refusal → Words → Result Vector
+outcome_of (Ok (Finished v)) vector = done (rows vector 0 v)
+outcome_of (Ok (Stopped n)) vector = refused 9 0 (rows vector 0 n)
+outcome_of (Err e) vector = refusal (number_of e)
 
-abbrev pub Ended : Ground → Outcome → Type 0
-Ended g (Finished v) = v ≤ g.vector
-Ended g (Refused number) = Unit {0}
-Ended g (Stopped n) = n ≤ g.working
+abbrev pub Ended : Ground → CodeResult Outcome Refusal → Type 0
+Ended g (Ok (Finished v)) = v ≤ g.vector
+Ended g (Ok (Stopped n)) = n ≤ g.working
+Ended g (Err e) = Unit {0}

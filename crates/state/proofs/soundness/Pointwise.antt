@@ -24,15 +24,6 @@ pub and_false : (a b : Bool) → b ≡ false → (a and b) ≡ false
 and_false true b e = e
 and_false false b e = refl
 
--- two tests that come first hold, or one of them does not
-pub basis_on : (a b c : Bool) → (a and b) ≡ true → (a and b and c) ≡ c
-basis_on true b c e = λ i. e i and c
-basis_on false b c e = absurd (subst T (sym e) tt)
-
-pub basis_fails : (a b c : Bool) → (a and b) ≡ false → (a and b and c) ≡ false
-basis_fails true b c e = λ i. e i and c
-basis_fails false b c e = refl
-
 module _ {A : Type 0} (f : A → Bool) where
   pub every_all : (l : List A) (d : A) → ((i : ℕ) → i < length l → T (f (get_or l i d))) → T (every f l)
   every_all [] d h = tt

@@ -21,12 +21,7 @@ use Rattle.runs.specs.frame_terms.Vectors.{lifted_vectors, end_of, Kept, frame_t
 use Rattle.runs.proofs.frame_terms.OneVectorMore.{vectors_same, vectors_grown, kept_grown, with_room, without_room}
 use Rattle.runs.proofs.frame_terms.LoopsOverFrame.{left_at, left_none}
 use Rattle.cache.specs.Entries.{cache_skip, cache_of}
-use Rattle.tree.specs.subtrees.Sums.{sum_of}
-use Rattle.tree.specs.declared.subtrees.Sum as code
-use Rattle.tree.specs.declared.subtrees.Sum.TheVariants.{Rows as SumRows, Refused as SumRefused}
-use Rattle.tree.specs.frame_terms.Frames.{lifted_one, one_of}
-use Rattle.tree.specs.declared.frame_terms.One.{One}
-use Rattle.tree.specs.declared.frame_terms.One.TheVariants.{Used, Refused}
+use Rattle.tree.specs.frame_terms.Frames.{lifted_one}
 
 -- ## The slice after a vector was made in a part of it
 
@@ -141,27 +136,26 @@ module _ (out p : Words) (i used v end : ℕ) (order : used * row_length + ends_
 
 -- ## One frame term
 
-module _ (S : Stage) (room : ℕ) (l : Lifted) (k : Cache) (m m' : Monomial) (p c : Words) (s : code.Sum) (same : m' ≡ m)
-    (gives : sum_of 0 s c p ≡ tree S room k m') where
+module _ (S : Stage) (room : ℕ) (l : Lifted) (k : Cache) (m m' : Monomial) (same : m' ≡ m) where
   abbrev beside : Result Sum → Result (Lifted × Cache)
   beside x = x >>= λ s. with_vector S l s >>= λ l'. done (l', s.1)
 
-  came : sum_of 0 s c p ≡ tree S room k m
-  came = gives ∙ ap (tree S room k) same
+  one_is : (x : Result Sum) → x ≡ tree S room k m' → beside x ≡ lifted_one S room l k m
+  one_is x e = ap beside (e ∙ ap (tree S room k) same)
 
-  pub one_refused : (number : ℕ) → s ≡ SumRefused number → refusal number ≡ lifted_one S room l k m
-  one_refused number e = ap (λ y. beside (sum_of 0 y c p)) (sym e) ∙ ap beside came
+  pub one_refused : (number : ℕ) → refusal number ≡ tree S room k m' → refusal number ≡ lifted_one S room l k m
+  one_refused number e = one_is (refusal number) e
 
-  pub one_full : (v u : ℕ) → s ≡ SumRows v u → S.reduction.limits.level_terms < l.1 + v → refusal 15 ≡ lifted_one S room l k m
-  one_full v u e h =
-      ap (λ (y : Result Lifted). y >>= λ l'. done (l', cache_of u c)) (without_room S l (rows p 0 v) v (length_rows p 0 v) h)
-      ∙ ap (λ y. beside (sum_of 0 y c p)) (sym e) ∙ ap beside came
+  module _ (p c : Words) (v u : ℕ) (gives : done (rows p 0 v, cache_of u c) ≡ tree S room k m') where
+    pub one_full : S.reduction.limits.level_terms < l.1 + v → refusal 15 ≡ lifted_one S room l k m
+    one_full h =
+        ap (λ (y : Result Lifted). y >>= λ l'. done (l', cache_of u c)) (without_room S l (rows p 0 v) v (length_rows p 0 v) h)
+        ∙ one_is (done (rows p 0 v, cache_of u c)) gives
 
-  pub one_kept : (v u : ℕ) → s ≡ SumRows v u → l.1 + v ≤ S.reduction.limits.level_terms → done ((l.0 ++ rows p 0 v ∷ [], l.1 + v), cache_of u c)
-      ≡ lifted_one S room l k m
-  one_kept v u e h =
-      ap (λ (y : Result Lifted). y >>= λ l'. done (l', cache_of u c)) (with_room S l (rows p 0 v) v (length_rows p 0 v) h)
-      ∙ ap (λ y. beside (sum_of 0 y c p)) (sym e) ∙ ap beside came
+    pub one_kept : l.1 + v ≤ S.reduction.limits.level_terms → done ((l.0 ++ rows p 0 v ∷ [], l.1 + v), cache_of u c) ≡ lifted_one S room l k m
+    one_kept h =
+        ap (λ (y : Result Lifted). y >>= λ l'. done (l', cache_of u c)) (with_room S l (rows p 0 v) v (length_rows p 0 v) h)
+        ∙ one_is (done (rows p 0 v, cache_of u c)) gives
 
 -- ## All frame terms
 
@@ -190,16 +184,15 @@ module _ (S : Stage) (room : ℕ) (frame : Words) (count : ℕ) where
       go (refused number place value) = refl
       go unfinished = refl
 
-  module _ (i : ℕ) (l : Lifted) (k : Cache) (inside : i < count) (x : One) (out c : Words)
-      (gives : one_of x i out c ≡ lifted_one S room l k (row_at frame i).1) where
-    next : all_from i l k ≡ (one_of x i out c >>= λ y. all_from (i + 1) y.0 y.1)
-    next = one_first i l k inside ∙ ap (λ y. y >>= λ z. all_from (i + 1) z.0 z.1) (sym gives)
+  module _ (i : ℕ) (l : Lifted) (k : Cache) (inside : i < count) where
+    next : (x : Result (Lifted × Cache)) → x ≡ lifted_one S room l k (row_at frame i).1 → all_from i l k ≡ (x >>= λ y. all_from (i + 1) y.0 y.1)
+    next x e = one_first i l k inside ∙ ap (λ y. y >>= λ z. all_from (i + 1) z.0 z.1) (sym e)
 
-    pub all_on : (r u : ℕ) → x ≡ Used r u → all_from i l k ≡ all_from (i + 1) (lifted_vectors out (i + 1), r) (cache_of u c)
-    all_on r u e = next ∙ ap (λ y. one_of y i out c >>= λ z. all_from (i + 1) z.0 z.1) e
+    pub all_on : (l' : Lifted) (k' : Cache) → done (l', k') ≡ lifted_one S room l k (row_at frame i).1 → all_from i l k ≡ all_from (i + 1) l' k'
+    all_on l' k' e = next (done (l', k')) e
 
-    pub all_refused : (number : ℕ) → x ≡ Refused number → all_from i l k ≡ refusal number
-    all_refused number e = next ∙ ap (λ y. one_of y i out c >>= λ z. all_from (i + 1) z.0 z.1) e
+    pub all_refused : (number : ℕ) → refusal number ≡ lifted_one S room l k (row_at frame i).1 → all_from i l k ≡ refusal number
+    all_refused number e = next (refusal number) e
 
   pub all_end : (i : ℕ) (l : Lifted) (k : Cache) → count ≤ i → all_from i l k ≡ done l.0
   all_end i l k h = ap (lift_all S (tree S room) l k) (left_none frame count i h)

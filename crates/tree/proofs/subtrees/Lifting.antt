@@ -7,7 +7,7 @@ use Prim.Native.Nat.{ℕ, zero, suc, ◌+◌, ◌-◌, ◌*◌, ◌<◌, ◌≤�
 use native.Mathlib.Omega.{arith}
 use lib.Dec.{ltb}
 use lib.ListN.{length, get_or}
-use borrow.Author.Tests.{lt-ltb, le-ltb}
+use borrow.Author.Tests.{lt-ltb}
 use Rattle.definitions.specs.Lists.{rest}
 use Rattle.definitions.specs.Field.{minus}
 use Rattle.definitions.specs.Monomial.{Exponents, Monomial, Term, Vector, fits?, vector_of}
@@ -20,20 +20,31 @@ use Rattle.definitions.specs.Tree.{Cache, LiftTerm, finish, cached, if_product_f
 use Rattle.definitions.specs.Layout.{Words, row_at, rows}
 use Rattle.laws.proofs.Packing.{Eight}
 use Rattle.laws.proofs.Rows.{length_rows, rows_first}
-use Rattle.definitions.specs.Places.{row_length}
-use Rattle.vectors.specs.terms.Rows.{written}
+use Rattle.definitions.specs.Places.{row_length, most_exponent}
+use Rattle.vectors.specs.terms.Rows.{written, term_of}
+use Rattle.vectors.specs.declared.terms.Term.{Term as CodeTerm}
+use Rattle.std.specs.Prelude.{Option, Some, None}
+use Rattle.reducers.specs.search.Search.{formed_term, multiple_of}
+use Rattle.runs.proofs.reduction.Adding.{fits_as, formed_as, unformed}
 use Rattle.vectors.proofs.terms.Stored.{written_here, written_other}
 use Rattle.runs.specs.reduction.Grounds.{first_row, Family, family_of}
 use Rattle.runs.specs.declared.reduction.Ground.{Ground}
 use Rattle.runs.proofs.reduction.Families.{vector_at}
 use Rattle.cache.specs.Area.{Keeps}
-use Rattle.cache.specs.Entries.{cache_of, subtree_of}
-use Rattle.cache.specs.declared.Subtree.{Subtree}
 use Rattle.cache.proofs.BoundedSums.{rows_none}
 use Rattle.cache.proofs.Parts.{rows_kept}
-use Rattle.tree.specs.subtrees.Sums.{sum_of, added_to, list_at, passed_as}
-use Rattle.tree.specs.declared.subtrees.Sum.{Sum}
-use Rattle.tree.specs.declared.subtrees.Sum.TheVariants.{Rows, Refused}
+use Rattle.tree.specs.subtrees.Sums.{added_to, list_at}
+
+-- ## A product
+
+pub formed_product : (x : Option CodeTerm) (u : CodeTerm) (t : Term) → x ≡ Some u → multiple_of x ≡ formed_term t
+    → (fits? most_exponent t.1.0 ≡ true) × (term_of u ≡ t)
+formed_product x u t n e =
+    let q = sym (ap multiple_of n) ∙ e in
+    (fits_as (fits? most_exponent t.1.0) (term_of u) t q, formed_as (fits? most_exponent t.1.0) (term_of u) t q)
+
+pub unformed_product : (x : Option CodeTerm) (t : Term) → x ≡ None → multiple_of x ≡ formed_term t → fits? most_exponent t.1.0 ≡ false
+unformed_product x t n e = unformed (fits? most_exponent t.1.0) t (sym (ap multiple_of n) ∙ e)
 
 -- ## A list, one product after the other
 
@@ -63,28 +74,35 @@ module _ (S : Stage) (lift : LiftTerm) (a c : ℕ) (q : Exponents) (level : Word
       ap (λ n. lift_list S lift a c q (rows level i n) s) e ∙ ap (λ v. lift_list S lift a c q v s) (rows_none level i)
 
   -- one product lifted and added, as the two calls give it
-  module _ (i n : ℕ) (w w₁ z c₁ : Words) (k : Cache) (t : Term) (s : Subtree) (r : Sum) (inside : i < to)
-      (fits : fits? S.reduction.limits.exponent (product_at i).1.0 ≡ true)
-      (product : t ≡ product_at i) (keeps : Keeps (a + n) w w₁) (lifts : subtree_of S.reduction.limits.tree s c₁ w₁ ≡ lift (a + n) k t.1)
-      (adds : sum_of a r c₁ z ≡ added_to S.above S.reduction.p S.reduction.limits.tree a t.0 (rows w₁ a n)
-      (subtree_of S.reduction.limits.tree s c₁ w₁)) where
-    one_product : lift_product S lift a (product_at i) (rows w a n, k) ≡ sum_of a r c₁ z
+  module _ (i n : ℕ) (w : Words) (k : Cache) (t : Term) (inside : i < to) (fits : fits? S.reduction.limits.exponent (product_at i).1.0 ≡ true)
+      (product : t ≡ product_at i) where
+    abbrev added : Vector → Result definition.Subtree → Result definition.Sum
+    added v x = added_to S.above S.reduction.p S.reduction.limits.tree a t.0 v x
+
+    abbrev further : Result definition.Sum → Result definition.Sum
+    further x = x >>= λ r. listing_from (i + 1) r
+
+    one_product : lift_product S lift a (product_at i) (rows w a n, k) ≡ added (rows w a n) (lift (a + n) k t.1)
     one_product =
         ap (λ b. if_product_fits b S lift a (product_at i) (rows w a n, k)) fits
         ∙ (λ x. added_to S.above S.reduction.p S.reduction.limits.tree a (sym product x).0 (rows w a n)
         (lift (a + length_rows w a n x) k (sym product x).1))
-        ∙ (λ x. added_to S.above S.reduction.p S.reduction.limits.tree a t.0 (sym (rows_kept w w₁ a n (a + n) (omega arith) keeps) x)
-        (sym lifts x))
-        ∙ sym adds
 
-    after : listing_from i (rows w a n, k) ≡ (sum_of a r c₁ z >>= λ x. listing_from (i + 1) x)
-    after = listing_first i (rows w a n, k) inside ∙ ap (λ y. y >>= λ x. listing_from (i + 1) x) one_product
+    lifted : listing_from i (rows w a n, k) ≡ further (added (rows w a n) (lift (a + n) k t.1))
+    lifted = listing_first i (rows w a n, k) inside ∙ ap further one_product
 
-    pub listing_on : (m u : ℕ) → r ≡ Rows m u → listing_from i (rows w a n, k) ≡ listing_from (i + 1) (rows z a m, cache_of u c₁)
-    listing_on m u e = after ∙ ap (λ y. sum_of a y c₁ z >>= λ x. listing_from (i + 1) x) e
+    pub listing_unlifted : (number : ℕ) → refusal number ≡ lift (a + n) k t.1 → listing_from i (rows w a n, k) ≡ refusal number
+    listing_unlifted number e = lifted ∙ ap (λ x. further (added (rows w a n) x)) (sym e)
 
-    pub listing_stops : (number : ℕ) → r ≡ Refused number → listing_from i (rows w a n, k) ≡ sum_of a r c₁ z
-    listing_stops number e = after ∙ ap (λ y. sum_of a y c₁ z >>= λ x. listing_from (i + 1) x) e ∙ ap (λ y. sum_of a y c₁ z) (sym e)
+    module _ (w₁ : Words) (x : Result definition.Subtree) (keeps : Keeps (a + n) w w₁) (lifts : x ≡ lift (a + n) k t.1) where
+      after : listing_from i (rows w a n, k) ≡ further (added (rows w₁ a n) x)
+      after = lifted ∙ (λ y. further (added (sym (rows_kept w w₁ a n (a + n) (omega arith) keeps) y) (sym lifts y)))
+
+      pub listing_on : (r : definition.Sum) → done r ≡ added (rows w₁ a n) x → listing_from i (rows w a n, k) ≡ listing_from (i + 1) r
+      listing_on r e = after ∙ ap further (sym e)
+
+      pub listing_stops : (number : ℕ) → refusal number ≡ added (rows w₁ a n) x → listing_from i (rows w a n, k) ≡ refusal number
+      listing_stops number e = after ∙ ap further (sym e)
 
 -- ## A term
 
@@ -119,17 +137,6 @@ module _ (S : Stage) (room left others : ℕ) (k : Cache) (m : Monomial) where
       ∙ ap (λ x. or_open x S room (list_at S room left) others k m j (minus S.reduction.p c) q) (sym f)
 
   -- ## A subtree opened
-
-  pub opened_full : (j c : ℕ) (q : Exponents) → S.reduction.limits.tree ≤ others → opened j c q (ltb others S.reduction.limits.tree)
-      ≡ refusal 14
-  opened_full j c q h = ap (opened j c q) (le-ltb others S.reduction.limits.tree h)
-
-  pub opened_deep : (j c : ℕ) (q : Exponents) (b : Bool) → left ≡ 0 → opened j c q b ≡ refusal 14
-  opened_deep j c q b e = ap (λ n. open_subtree b S room (list_at S room n) others k m j c q) e ∙ go b
-    where
-      go : (b : Bool) → open_subtree b S room (list_at S room 0) others k m j c q ≡ refusal 14
-      go true = refl
-      go false = refl
 
   pub opened_list : (j c d : ℕ) (q : Exponents) (f v : Vector) → others < S.reduction.limits.tree → 0 < left → d ≡ c → rest (vector_of S.family j)
       ≡ f → v ≡ (d, (q, j)) ∷ []
@@ -172,9 +179,3 @@ pub rest_of : (g : Ground) (level ends : Words) (j from to : ℕ) → Family g l
 rest_of g level ends j from to F h l e f =
     ap rest (vector_at level ends g.r j F.ends_fit h l) ∙ rest_rows level (first_row ends j) (get_or ends (j - 1) 0)
     ∙ (λ i. rows level (sym e i + 1) (sym f i - (sym e i + 1)))
-
--- a refusal handed on
-pub handed_on : (room : ℕ) (m : Monomial) (a limit number : ℕ) (c w : Words) (s : Sum) (x : Subtree) → s ≡ Refused number → x ≡ passed_as s
-    → subtree_of limit x c w ≡ (sum_of a s c w >>= λ r. done (finish room m r))
-handed_on room m a limit number c w s x e f =
-    ap (λ y. subtree_of limit y c w) (f ∙ ap passed_as e) ∙ ap (λ y. sum_of a y c w >>= λ r. done (finish room m r)) (sym e)

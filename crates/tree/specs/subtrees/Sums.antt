@@ -1,5 +1,5 @@
 -- Sums that subtrees are added to, and what all functions of the recursion are lent.
-use Rattle.std.specs.Prelude.{ℕ, zero, suc, ◌+◌, ◌-◌, ◌*◌, ◌<◌, ◌≤◌, length}
+use Rattle.std.specs.Prelude.{ℕ, zero, suc, ◌+◌, ◌-◌, ◌*◌, ◌<◌, ◌≤◌, length, Option, Some, None, Result as CodeResult, Ok, Err}
 use Rattle.definitions.specs.Monomial.{Monomial, Vector}
 use Rattle.definitions.specs.Order.{Comparison}
 use Rattle.definitions.specs.Result.{Result, done, refusal, ◌>>=◌}
@@ -8,16 +8,13 @@ use Rattle.definitions.specs.Tree as definition
 use Rattle.definitions.specs.Tree.{LiftList, add_result, lift_list, lift_term}
 use Rattle.definitions.specs.Layout.{Words, rows}
 use Rattle.definitions.specs.Places.{row_length}
-use Rattle.vectors.specs.declared.sums.Stored.{Stored}
-use Rattle.vectors.specs.declared.sums.Stored.TheVariants.{Rows as StoredRows, Full}
+use Rattle.words.specs.declared.refusals.Refusal.{Refusal}
+use Rattle.words.specs.declared.refusals.Refusal.TheVariants.{Terms}
+use Rattle.words.specs.refusals.Numbers.{number_of}
 use Rattle.runs.specs.reduction.Grounds.{ends_in, above_in, Tables, Family}
 use Rattle.runs.specs.declared.reduction.Ground.{Ground}
 use Rattle.runs.specs.run.Stages.{Images}
 use Rattle.cache.specs.Entries.{cache_of}
-use Rattle.cache.specs.declared.Subtree.{Subtree}
-use Rattle.cache.specs.declared.Subtree.TheVariants.{Refused as SubtreeRefused}
-use Rattle.tree.specs.declared.subtrees.Sum.{Sum}
-use Rattle.tree.specs.declared.subtrees.Sum.TheVariants.{Rows, Refused}
 
 -- the tables, the level below, the work area and the cache, of which so many rows are used
 pub record Lent (g : Ground) (used room : ℕ) (cache work level tables_at : Words) : Type 0 where
@@ -30,21 +27,17 @@ pub record Lent (g : Ground) (used room : ℕ) (cache work level tables_at : Wor
   pub images : Images g.r (above_in tables_at)
 
 -- a sum from row a of the work area on, and the cache
-abbrev pub sum_of : ℕ → Sum → Words → Words → Result definition.Sum
-sum_of a (Rows n used) cache work = done (rows work a n, cache_of used cache)
-sum_of a (Refused number) cache work = refusal number
+abbrev pub sum_of : ℕ → CodeResult (ℕ × ℕ) Refusal → Words → Words → Result definition.Sum
+sum_of a (Ok x) cache work = done (rows work a x.0, cache_of x.1 cache)
+sum_of a (Err e) cache work = refusal (number_of e)
 
-abbrev pub Fits : ℕ → ℕ → ℕ → Sum → Type 0
-Fits a limit room (Rows n used) = (a + n ≤ limit) × (used ≤ room)
-Fits a limit room (Refused number) = Unit {0}
+abbrev pub Fits : ℕ → ℕ → ℕ → CodeResult (ℕ × ℕ) Refusal → Type 0
+Fits a limit room (Ok x) = (a + x.0 ≤ limit) × (x.1 ≤ room)
+Fits a limit room (Err e) = Unit {0}
 
-abbrev pub joined_as : Stored → ℕ → Sum
-joined_as (StoredRows n) used = Rows n used
-joined_as Full used = Refused 14
-
-abbrev pub passed_as : Sum → Subtree
-passed_as (Rows n used) = SubtreeRefused 0
-passed_as (Refused number) = SubtreeRefused number
+abbrev pub joined_as : Option ℕ → ℕ → CodeResult (ℕ × ℕ) Refusal
+joined_as (Some n) used = Ok (n, used)
+joined_as None used = Err Terms
 
 -- what a lifting gave, times c, into the sum beside which others count: the terms that it counts are taken off the limit
 abbrev pub added_to : (Monomial → Monomial → Comparison) → ℕ → ℕ → ℕ → ℕ → Vector → Result definition.Subtree → Result definition.Sum

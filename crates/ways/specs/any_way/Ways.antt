@@ -1,5 +1,4 @@
 -- The three ways, as the definitions have them.
-use Rattle.std.specs.Prelude.{ℕ}
 use Rattle.definitions.specs.Layout as layout
 use Rattle.definitions.specs.Layout.{division, hybrid, tree}
 use Rattle.ways.specs.declared.any_way.Way.{Way}

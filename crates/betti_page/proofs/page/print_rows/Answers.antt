@@ -13,17 +13,11 @@ loop-r-init c =
     let a = c.args in
     (omega arith, omega arith, refl, spelled (no_rows_yet a.state.now a.low (a.low - a.low) (omega arith)) (nothing a.out.now 0), omega arith)
 
-pub row_counts-counts-requires : goal.row_counts-counts-requires
-row_counts-counts-requires c = let P = c.requires in (P.0, P.1, omega arith)
-
-pub row_line-at-requires : goal.row_line-at-requires
-row_line-at-requires c = (omega (arith, c.loop-r.invariant.4, c.requires.4), omega arith)
-
 pub loop-r-preserved : goal.loop-r-preserved
 loop-r-preserved c =
     let a = c.args in
     let l = c.loop-r in
-    let n = c.row_counts-counts in
+    let n = c.row_counts in
     let v = c.row_line-at.ensures in (
       omega arith,
       omega arith,

@@ -12,6 +12,3 @@ abbrev pub invariant-loop-r : goal.invariant-loop-r
 invariant-loop-r l =
     (l.low ≤ l.r) × (l.r ≤ suc l.high) × (length l.out ≡ length l.initial.out)
     × Printed l.initial.out l.out 0 l.at (lines_from l.state l.low (l.r - l.low)) × (l.at ≡ (l.r - l.low) * 73)
-
-abbrev pub decreases-loop-r : goal.decreases-loop-r
-decreases-loop-r l = suc l.high - l.r

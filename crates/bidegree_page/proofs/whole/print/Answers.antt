@@ -20,16 +20,16 @@ print_accepted-requires c =
     let P = c.requires in
     let a = c.args in
     let b = c.begin in
-    let told = c.in-Accepted.is in
+    let told = c.in-Ok.is in
     let fits = c.weights-ws.ensures.1 in
     let B = begun_basis a.file.now b.new.state a.out.now b.new.out b.result b.ensures told in
     (B.base, B.alone, omega (arith, P.1), omega (arith, P.2), subst T (sym fits) tt)
 
-pub returns-in-Accepted : goal.returns-in-Accepted
-returns-in-Accepted c =
+pub returns-in-Ok : goal.returns-in-Ok
+returns-in-Ok c =
     let a = c.args in
     let b = c.begin in
-    let told = c.in-Accepted.is in
+    let told = c.in-Ok.is in
     let w = c.weights-ws in
     let R = c.print_accepted.ensures in
     let s = b.new.state in
@@ -41,12 +41,12 @@ returns-in-Accepted c =
       R.1,
     )
 
-pub returns-in-Refused : goal.returns-in-Refused
-returns-in-Refused c =
+pub returns-in-Err : goal.returns-in-Err
+returns-in-Err c =
     let a = c.args in
     let b = c.begin in
     let file = a.file.now in
     let page : ℕ → State → Result Bytes = λ n X. head document_01 file >>= λ h. bidegrees_of document_01 n h.weights X in (
-      refused_page file page b.new.state a.out.now b.new.out b.result b.ensures c.in-Refused.length c.in-Refused.is,
-      omega (arith, (begun_stops file b.new.state a.out.now b.new.out b.result b.ensures c.in-Refused.length c.in-Refused.is).fits),
+      refused_page file page b.new.state a.out.now b.new.out b.result b.ensures c.in-Err.length c.in-Err.is,
+      omega (arith, (begun_stops file b.new.state a.out.now b.new.out b.result b.ensures c.in-Err.length c.in-Err.is).fits),
     )

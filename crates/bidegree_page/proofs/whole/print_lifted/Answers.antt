@@ -10,41 +10,27 @@ use Rattle.pages.proofs.bytes.Spelling.{spelled}
 use Rattle.listing.proofs.whole.Whole.{parameters_stay, page_printed, level_refused}
 use Rattle.bidegree_page.proofs.whole.print_lifted.Goals as goal
 
-pub lift_levels-e-requires : goal.lift_levels-e-requires
-lift_levels-e-requires c = let P = c.requires in (P.0, omega (arith, P.1))
-
-pub print_lines-requires : goal.print_lines-requires
-print_lines-requires c =
-    let b = c.lift_levels-e.ensures.1 in
-    let long = c.requires.2 in
-    let fits = c.requires.3 in
-    (b.long, b.holds, fits, omega (arith, long))
-
-pub returns-then-number-eq0 : goal.returns-then-number-eq0
-returns-then-number-eq0 c =
+pub returns-in-Ok : goal.returns-in-Ok
+returns-in-Ok c =
     let s = c.args.state.now in
     let ws = c.args.ws in
-    let L = c.lift_levels-e in
+    let L = c.lift_levels in
     let t = L.new.state in
     let R = L.ensures.0 in
     let Q = c.print_lines.ensures in
-    let zero = c.if-number-eq0.true in
-    let same = parameters_stay s t R.0 L.result.number L.result.place R.1 in (
-      page_printed (bidegree_lines (weights_of (get_or s 1 0) ws)) s t R.0 L.result.number L.result.place R.1 zero
+    let same = parameters_stay s t R.0 L.result R.1 in (
+      page_printed (bidegree_lines (weights_of (get_or s 1 0) ws)) s t R.0 L.result R.1 c.in-Ok.is
           (spelled (ap (λ q. bidegree_lines (weights_of q.n ws) (decode document_01 t)) same) Q.0),
       Q.1,
     )
 
-pub pair_line-requires : goal.pair_line-requires
-pair_line-requires c = let long = c.requires.2 in omega (arith, long)
-
-pub returns : goal.returns
-returns c =
+pub returns-in-Err : goal.returns-in-Err
+returns-in-Err c =
     let s = c.args.state.now in
     let ws = c.args.ws in
-    let L = c.lift_levels-e in
+    let L = c.lift_levels in
     let R = L.ensures.0 in
-    let q = c.pair_line.ensures in
-    let Some-number = c.if-number-eq0.false in
+    let q = c.x_line.ensures in
+    let e = c.in-Err.refused in
     let page = bidegree_lines (weights_of (get_or s 1 0) ws) in
-    (level_refused page s L.new.state R.0 L.result.number L.result.place R.1 Some-number q.0, omega (arith, q.1))
+    (level_refused page s L.new.state R.0 L.result R.1 e c.in-Err.is q.0, omega (arith, q.1))

@@ -10,6 +10,3 @@ use Rattle.columns.proofs.counting.row_counts.Given as goal
 
 abbrev pub invariant-loop-c : goal.invariant-loop-c
 invariant-loop-c l = (l.c ≤ 11) × (length l.counts ≡ 11) × Filled (λ k. get_or (map (betti_count (columns_of l.state) l.r) all_columns) k 0) l.c l.counts
-
-abbrev pub decreases-loop-c : goal.decreases-loop-c
-decreases-loop-c l = 11 - l.c

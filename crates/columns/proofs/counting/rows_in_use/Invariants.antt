@@ -4,6 +4,3 @@ use Rattle.columns.proofs.counting.rows_in_use.Given as goal
 
 abbrev pub invariant-loop-c : goal.invariant-loop-c
 invariant-loop-c l = (l.c ≤ 11) × SoFar l.state l.first l.c l.low l.high
-
-abbrev pub decreases-loop-c : goal.decreases-loop-c
-decreases-loop-c l = 11 - l.c

@@ -16,21 +16,17 @@ loop-c-init c = (omega arith, refl, λ k h. absurd (not-suc-le-zero h))
 pub column_length-requires : goal.column_length-requires
 column_length-requires c = let P = c.requires in (P.0, P.1, omega arith)
 
-pub narrow-requires : goal.narrow-requires
-narrow-requires c = omega (arith, c.column_length.ensures.few)
-
 pub loop-c-preserved : goal.loop-c-preserved
 loop-c-preserved c =
     let a = c.args in
     let l = c.loop-c in
     let n = c.column_length in
-    let b = c.narrow in
     let cs = columns_of a.state.now in
     let f = totals_of cs in (
       omega arith,
       simp length-set l.invariant.1,
-      filled_more (λ k. get_or (map f all_columns) k 0) l.c b.result l.counts (omega arith)
-          (b.ensures ∙ n.ensures.long ∙ sym (totals_are cs l.c (omega arith)) ∙ at_column f l.c (omega arith)) l.invariant.2,
+      filled_more (λ k. get_or (map f all_columns) k 0) l.c n.result l.counts (omega arith)
+          (n.ensures.long ∙ sym (totals_are cs l.c (omega arith)) ∙ at_column f l.c (omega arith)) l.invariant.2,
     )
 
 pub returns : goal.returns

@@ -9,6 +9,3 @@ use Rattle.columns.proofs.counting.totals.Given as goal
 
 abbrev pub invariant-loop-c : goal.invariant-loop-c
 invariant-loop-c l = (l.c ≤ 11) × (length l.counts ≡ 11) × Filled (λ k. get_or (map (totals_of (columns_of l.state)) all_columns) k 0) l.c l.counts
-
-abbrev pub decreases-loop-c : goal.decreases-loop-c
-decreases-loop-c l = 11 - l.c

@@ -6,10 +6,7 @@ use Rattle.definitions.specs.Betti.{smallest, largest}
 use Rattle.definitions.specs.Places.{row_shift}
 use Rattle.columns.proofs.counting.widened.Given as goal
 
-abbrev pub invariant-loop-i : goal.invariant-loop-i
-invariant-loop-i l =
-    (l.i ≤ l.n) × (l.a ≡ smallest l.low (map (λ d. d + row_shift - l.c) (take l.i l.ds)))
-    × (l.b ≡ largest l.high (map (λ d. d + row_shift - l.c) (take l.i l.ds))) × (l.a ≤ l.low) × (l.high ≤ l.b)
-
-abbrev pub decreases-loop-i : goal.decreases-loop-i
-decreases-loop-i l = l.n - l.i
+abbrev pub invariant-loop-d : goal.invariant-loop-d
+invariant-loop-d l =
+    (l.a ≡ smallest l.low (map (λ d. d + row_shift - l.c) (take l.d-index l.ds)))
+    × (l.b ≡ largest l.high (map (λ d. d + row_shift - l.c) (take l.d-index l.ds))) × (l.a ≤ l.low) × (l.high ≤ l.b)

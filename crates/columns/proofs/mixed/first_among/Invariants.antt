@@ -11,6 +11,3 @@ abbrev pub invariant-loop-j : goal.invariant-loop-j
 invariant-loop-j l =
     (l.j ≤ l.r) × (l.from ≡ start_of l.ends l.j) × (first_mixed (same_key? l.kw (take l.n l.d)) 1 (vectors_at l.level 0 (take l.r l.ends))
     ≡ first_mixed (same_key? l.kw (take l.n l.d)) (l.j + 1) (vectors_at l.level l.from (drop l.j (take l.r l.ends))))
-
-abbrev pub decreases-loop-j : goal.decreases-loop-j
-decreases-loop-j l = l.r - l.j

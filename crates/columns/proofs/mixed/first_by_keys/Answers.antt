@@ -7,7 +7,7 @@ use Rattle.reducers.specs.tables.Cuts.{Cut, cut_level}
 use Rattle.state.proofs.soundness.SoundLevels.{complete_cut}
 use Rattle.state.proofs.soundness.StateTests.{holds_said}
 use Rattle.state.proofs.soundness.VectorByVector.{whole_part}
-use Rattle.columns.specs.mixed.Placed.{place_of, same_key?}
+use Rattle.columns.specs.mixed.Placed.{same_key?}
 use Rattle.columns.proofs.mixed.first_by_keys.Goals as goal
 
 pub first_among-requires : goal.first_among-requires
@@ -27,4 +27,4 @@ returns c =
     let r = c.count_of-r.ensures in
     let d = c.component_keys-n.ensures.held in
     c.first_among.ensures
-    ∙ (λ i. place_of (first_mixed (same_key? a.kw (d i)) 1 (cut_level (r i) (whole_part rows_start s i) (whole_part ends_start s i))))
+    ∙ (λ i. first_mixed (same_key? a.kw (d i)) 1 (cut_level (r i) (whole_part rows_start s i) (whole_part ends_start s i)))

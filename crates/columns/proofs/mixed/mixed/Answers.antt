@@ -11,19 +11,19 @@ key_at-x-requires c = let P = c.requires in (omega arith, P.2, P.3, P.4)
 pub loop-i-init : goal.loop-i-init
 loop-i-init c = (omega arith, omega arith, refl)
 
-pub key_at-y-requires : goal.key_at-y-requires
-key_at-y-requires c = let P = c.requires in (omega arith, P.2, P.3, P.4)
+pub key_at-requires : goal.key_at-requires
+key_at-requires c = let P = c.requires in (omega arith, P.2, P.3, P.4)
 
-pub returns-then-x-y : goal.returns-then-x-y
-returns-then-x-y c =
+pub returns-then-key_at-x : goal.returns-then-key_at-x
+returns-then-key_at-x c =
     let a = c.args in
     let l = c.loop-i in
     let s = a.level.now in
     let g = degree_weighted a.kw (take a.n a.d.now) in
     let x = c.key_at-x.ensures in
-    let y = c.key_at-y.ensures in
+    let y = c.key_at.ensures in
     sym (mixed_starts g s a.from a.to (omega arith) ∙ l.invariant.2
-    ∙ mixed_stops g s a.from l.i a.to (omega arith) (λ e. c.if-x-y.true (x ∙ e ∙ sym y)))
+    ∙ mixed_stops g s a.from l.i a.to (omega arith) (λ e. c.if-key_at-x.true (y ∙ sym e ∙ sym x)))
 
 pub loop-i-preserved : goal.loop-i-preserved
 loop-i-preserved c =
@@ -32,8 +32,8 @@ loop-i-preserved c =
     let s = a.level.now in
     let g = degree_weighted a.kw (take a.n a.d.now) in
     let x = c.key_at-x.ensures in
-    let y = c.key_at-y.ensures in
-    (omega arith, omega arith, l.invariant.2 ∙ mixed_on g s a.from l.i a.to (omega arith) (sym x ∙ c.if-x-y.false ∙ y))
+    let y = c.key_at.ensures in
+    (omega arith, omega arith, l.invariant.2 ∙ mixed_on g s a.from l.i a.to (omega arith) (sym x ∙ sym c.if-key_at-x.false ∙ y))
 
 pub returns : goal.returns
 returns c =

@@ -11,6 +11,3 @@ abbrev pub invariant-loop-i : goal.invariant-loop-i
 invariant-loop-i l =
     (l.from < l.i) × (l.i ≤ l.to) × (any (other? (degree_weighted l.kw (take l.n l.d)) l.level l.from) (rows l.level (l.from + 1) (l.to - (l.from + 1)))
     ≡ any (other? (degree_weighted l.kw (take l.n l.d)) l.level l.from) (rows l.level l.i (l.to - l.i)))
-
-abbrev pub decreases-loop-i : goal.decreases-loop-i
-decreases-loop-i l = l.to - l.i

@@ -1,6 +1,7 @@
 use native.Mathlib.Omega.{arith}
 use mathlib.Core.Path.{◌≡◌, sym, ap, ◌∙◌}
 use Prim.Native.Nat.{◌+◌}
+use Rattle.definitions.specs.Hilbert.{column_value}
 use Rattle.columns.proofs.values.Adding.{even_from, odd_from, even_more, odd_more, even_none, odd_none, even_all, odd_all}
 use Rattle.columns.proofs.values.both_sums.Goals as goal
 
@@ -10,19 +11,19 @@ loop-c-init c =
     let P = c.requires in
     (omega arith, even_none a.n a.d a.state.now P.0 P.1, odd_none a.n a.d a.state.now P.0 P.1, omega arith, omega arith)
 
-pub value_of-requires : goal.value_of-requires
-value_of-requires c = let P = c.requires in (P.0, P.1, omega arith, P.2, P.3, P.4)
+pub column_value-requires : goal.column_value-requires
+column_value-requires c = let P = c.requires in (P.2, P.3, P.4, c.column.ensures.1)
 
 pub overflow_add-sum : goal.overflow_add-sum
-overflow_add-sum c = omega (arith, c.value_of.ensures.1, c.loop-c.invariant.4)
+overflow_add-sum c = omega (arith, c.column_value.ensures.1, c.loop-c.invariant.4)
 
 pub loop-c-preserved : goal.loop-c-preserved
 loop-c-preserved c =
     let a = c.args in
     let l = c.loop-c in
-    let v = c.value_of.ensures in (
+    let v = c.column_value.ensures in (
       omega arith,
-      (λ k. v.0 k + l.invariant.2 k) ∙ sym (even_more a.n a.d a.state.now l.c (omega arith)),
+      (λ k. (v.0 ∙ ap (column_value a.n a.d) c.column.ensures.0) k + l.invariant.2 k) ∙ sym (even_more a.n a.d a.state.now l.c (omega arith)),
       l.invariant.1 ∙ sym (odd_more a.n a.d a.state.now l.c (omega arith)),
       omega (arith, v.1, l.invariant.4),
       omega (arith, l.invariant.3),

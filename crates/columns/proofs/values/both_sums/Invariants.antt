@@ -9,6 +9,3 @@ abbrev pub invariant-loop-c : goal.invariant-loop-c
 invariant-loop-c l =
     (l.c ≤ 11) × (l.even ≡ even_from l.n l.d l.state l.c) × (l.odd ≡ odd_from l.n l.d l.state l.c)
     × (l.even ≤ (11 - l.c) * (most_vectors * most_monomials)) × (l.odd ≤ (11 - l.c) * (most_vectors * most_monomials))
-
-abbrev pub decreases-loop-c : goal.decreases-loop-c
-decreases-loop-c l = l.c

@@ -1,11 +1,11 @@
 use native.Mathlib.Omega.{arith}
 use mathlib.Core.Path.{◌≡◌, refl, ap, ◌∙◌, subst}
-use Prim.Native.Nat.{◌*◌}
+use Prim.Native.Nat.{◌+◌, ◌*◌}
 use native.Mathlib.Nat.{not-suc-le-zero}
 use lib.ListN.{get_or, length-set}
 use Rattle.definitions.specs.Limits.{document_01}
 use Rattle.definitions.specs.Layout.{degrees_at}
-use Rattle.definitions.specs.Places.{second_base}
+use Rattle.definitions.specs.Places.{degrees_start, second_base}
 use Rattle.lists.specs.Filling.{Filled, filled_more}
 use Rattle.columns.specs.weights.Keys.{key_degrees}
 use Rattle.columns.proofs.counting.Standing.{few_components}
@@ -25,7 +25,7 @@ bounds-state-j c =
     omega (arith, few_components s P.0 P.1, c.place-s.ensures.0, P.0)
 
 pub overflow_mul-keys : goal.overflow_mul-keys
-overflow_mul-keys c = omega (arith, c.wide.ensures.1)
+overflow_mul-keys c = omega (arith, c.from.ensures, c.type_inv.state (degrees_start + c.loop-j.j))
 
 pub bounds-keys-j : goal.bounds-keys-j
 bounds-keys-j c =
@@ -42,9 +42,9 @@ loop-j-preserved c =
     let d = degrees_at document_01 a.state.now in (
       omega arith,
       simp length-set l.invariant.1,
-      filled_more (λ k. get_or (key_degrees d) k 0) l.j (c.wide.result * second_base) l.keys
+      filled_more (λ k. get_or (key_degrees d) k 0) l.j (c.from.result * second_base) l.keys
           (omega (arith, few_components a.state.now P.0 P.1, e, P.2))
-          (ap (λ x. x * second_base) c.wide.ensures.0 ∙ component_word a.state.now P.0 P.1 l.j (omega (arith, e)))
+          (ap (λ x. x * second_base) c.from.ensures ∙ component_word a.state.now P.0 P.1 l.j (omega (arith, e)))
           l.invariant.2,
     )
 

@@ -9,6 +9,3 @@ use Rattle.columns.proofs.weights.component_keys.Given as goal
 
 abbrev pub invariant-loop-j : goal.invariant-loop-j
 invariant-loop-j l = (l.j ≤ l.s) × (length l.keys ≡ length l.initial.keys) × Filled (λ k. get_or (key_degrees (degrees_at document_01 l.state)) k 0) l.j l.keys
-
-abbrev pub decreases-loop-j : goal.decreases-loop-j
-decreases-loop-j l = l.s - l.j

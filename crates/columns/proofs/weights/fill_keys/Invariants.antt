@@ -8,6 +8,3 @@ use Rattle.columns.proofs.weights.fill_keys.Given as goal
 abbrev pub invariant-loop-j : goal.invariant-loop-j
 invariant-loop-j l = (l.j ≤ l.r) × (length l.next ≡ length l.initial.next) × (l.from ≡ start_of l.ends l.j)
     × Weighed l.kw (take l.n l.below) l.level l.ends l.j l.next
-
-abbrev pub decreases-loop-j : goal.decreases-loop-j
-decreases-loop-j l = l.r - l.j

@@ -9,6 +9,3 @@ use Rattle.columns.proofs.weights.key_of.Given as goal
 abbrev pub invariant-loop-j : goal.invariant-loop-j
 invariant-loop-j l = (l.j ≤ exponents_length) × (weighted l.kw l.e ≡ l.sum + weighted (drop l.j l.kw) (drop l.j l.e))
     × (l.sum ≤ l.j * (most_key_weight * most_exponent))
-
-abbrev pub decreases-loop-j : goal.decreases-loop-j
-decreases-loop-j l = exponents_length - l.j

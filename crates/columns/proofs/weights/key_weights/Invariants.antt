@@ -8,6 +8,3 @@ use Rattle.columns.proofs.weights.key_weights.Given as goal
 
 abbrev pub invariant-loop-j : goal.invariant-loop-j
 invariant-loop-j l = (l.j ≤ exponents_length) × (length l.r ≡ exponents_length) × Filled (λ k. get_or (key_weights l.n l.ws) k 0) l.j l.r
-
-abbrev pub decreases-loop-j : goal.decreases-loop-j
-decreases-loop-j l = exponents_length - l.j

@@ -61,49 +61,24 @@ overflow_add-r c =
           c.requires.0,
     )
 
-pub narrow-element-requires : goal.narrow-element-requires
-narrow-element-requires c =
-    omega (
-      arith,
-      c.count_of-r.ensures,
-      few_elements c.args.state.now
-          c.requires.0,
-    )
-
-pub overflow_add-count : goal.overflow_add-count
-overflow_add-count c =
+pub overflow_add-total : goal.overflow_add-total
+overflow_add-total c =
     let s = c.args.state.now in
     let b = c.requires.0 in
-    let t = c.end_of-count.ensures ∙ ap (start_of (ends_from s 0)) c.count_of-r.ensures
-    ∙ sym (terms_are s b) in
+    let t = c.end_of-count.ensures ∙ ap (start_of (ends_from s 0)) c.count_of-r.ensures ∙ sym (terms_are s b) in
     omega (arith, t, few_terms s b, c.requires.3)
 
-pub narrow-total-requires : goal.narrow-total-requires
-narrow-total-requires c =
+pub overflow_cast-total : goal.overflow_cast-total
+overflow_cast-total c =
     let s = c.args.state.now in
     let b = c.requires.0 in
-    let t = c.end_of-count.ensures ∙ ap (start_of (ends_from s 0)) c.count_of-r.ensures
-    ∙ sym (terms_are s b) in
+    let t = c.end_of-count.ensures ∙ ap (start_of (ends_from s 0)) c.count_of-r.ensures ∙ sym (terms_are s b) in
     omega (arith, t, few_terms s b, c.requires.3)
 
 pub write-end-requires : goal.write-end-requires
 write-end-requires c =
     let P = c.requires in
     (P.0, P.2, P.3, omega (arith, c.front-at.ensures.1, P.1, P.3, P.4))
-
-pub overflow_add-count-2 : goal.overflow_add-count-2
-overflow_add-count-2 c =
-    let s = c.args.state.now in
-    let b = c.requires.0 in
-    let t = c.end_of-count.ensures ∙ ap (start_of (ends_from s 0))
-    c.count_of-r.ensures
-    ∙ sym (terms_are s b) in
-    omega (
-      arith,
-      t,
-      few_terms s b,
-      c.requires.3,
-    )
 
 pub test-requires : goal.test-requires
 test-requires c =
@@ -126,9 +101,7 @@ returns c =
     let v = rows a.work.now 0 a.m in
     let w = c.write-end in
     let x = c.test.ensures in
-    let lines = spelled (λ i. element_lines (get_or s 1 0) (c.narrow-element.ensures i)
-    (monic (get_or s 0 0) v) ++ printed letter_E (c.narrow-total.ensures i ∷ []))
-    w.ensures.0 in (
+    let lines = w.ensures.0 in (
       added_is a.out.now w.new.out a.size c.front-at.result w.result
           c.count_of-r.result n
           (n + a.m)

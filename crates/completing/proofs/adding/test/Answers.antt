@@ -12,21 +12,21 @@ returns-then-end-gt-FILE_LENGTH c =
     let P = c.requires in
     (too_long_at a.out.now (heads_in a.out.now a.at a.count) a.total a.end P.1 (omega arith), tt)
 
-pub lines_in-k-requires : goal.lines_in-k-requires
-lines_in-k-requires c = omega (arith, c.requires.0, c.requires.1)
+pub lines_in-requires : goal.lines_in-requires
+lines_in-requires c = omega (arith, c.requires.0, c.requires.1)
 
 pub overflow_add-result : goal.overflow_add-result
-overflow_add-result c = omega (arith, c.less-h.ensures.1, c.lines_in-k.ensures.1, c.requires.2)
+overflow_add-result c = omega (arith, c.saturating_sub-heads.ensures, c.lines_in.ensures.1, c.requires.2)
 
 pub overflow_add-result-then-total-gt-MOST_ROWS : goal.overflow_add-result-then-total-gt-MOST_ROWS
-overflow_add-result-then-total-gt-MOST_ROWS c = omega (arith, c.less-h.ensures.1, c.lines_in-k.ensures.1, c.requires.2)
+overflow_add-result-then-total-gt-MOST_ROWS c = omega (arith, c.saturating_sub-heads.ensures, c.lines_in.ensures.1, c.requires.2)
 
 pub returns-then-total-gt-MOST_ROWS : goal.returns-then-total-gt-MOST_ROWS
 returns-then-total-gt-MOST_ROWS c =
     let a = c.args in
     let P = c.requires in
-    let k = c.lines_in-k.ensures.0 in
-    let h : c.less-h.result ≡ heads_in a.out.now a.at a.count = c.less-h.ensures.0 ∙ ap (λ n. n - a.count) k in
+    let k = c.lines_in.ensures.0 in
+    let h : c.saturating_sub-heads.result ≡ heads_in a.out.now a.at a.count = c.saturating_sub-heads.ensures ∙ ap (λ n. n - a.count) k in
     (too_many_at a.out.now (heads_in a.out.now a.at a.count) a.total a.end P.1 (omega arith) (omega arith) _ (omega (arith, h)), tt)
 
 pub returns : goal.returns

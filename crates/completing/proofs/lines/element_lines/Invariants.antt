@@ -21,6 +21,3 @@ abbrev pub invariant-loop-i : goal.invariant-loop-i
 invariant-loop-i l =
     (l.i ≤ l.m) × (length l.out ≡ length l.initial.out)
     × Printed l.initial.out l.out l.at l.a (element_lines l.n l.element (scaled l.p l.c (rows l.s 0 l.i))) × (l.a ≤ l.at + l.i * t_line_length)
-
-abbrev pub decreases-loop-i : goal.decreases-loop-i
-decreases-loop-i l = l.m - l.i

@@ -11,6 +11,3 @@ use Rattle.completing.proofs.lines.lines_in.Given as goal
 
 abbrev pub invariant-loop-i : goal.invariant-loop-i
 invariant-loop-i l = (l.i ≤ l.n) × (l.k ≡ count (λ b. eqb b newline) (take l.i l.file)) × (l.k ≤ l.i)
-
-abbrev pub decreases-loop-i : goal.decreases-loop-i
-decreases-loop-i l = l.n - l.i

@@ -1,9 +1,9 @@
 use borrow.Author.Rules.{rules}
 use native.Mathlib.Omega.{arith}
 use mathlib.Core.Path.{◌≡◌, sym, ap, ◌∙◌}
-use native.Mathlib.Nat.{not-suc-le-zero}
 use lib.ListN.{length, take}
 use lib.Seq.{length-take-le}
+use Rattle.words.specs.refusals.Numbers.{number_of}
 use Rattle.reader.specs.problem.Reading.{read_as, words_read}
 use Rattle.reader.proofs.problem.Answering.{zero_is_read}
 use Rattle.completing.proofs.whole.Attempts.{read_in, not_read, attempt_refused}
@@ -20,29 +20,27 @@ slice_bounds-read-end-2 c =
 
 pub accept-requires : goal.accept-requires
 accept-requires c =
-    let a = (c).args in
-    let P = (c).requires in
-    let r = c.read-r in
+    let a = c.args in
+    let P = c.requires in
+    let told = c.in-Ok.ensures in
     let size = length a.state.now in
     let file = take a.size a.out.now in
-    let zero = zero_is_read size file (sym (ap (λ t. t.0) r.ensures) ∙ (omega arith)) in
-    let s = r.new.state in
-    let words : s ≡ words_read size zero.0 = ap (λ t. t.2) (r.ensures ∙ ap (read_as size) zero.1) in
+    let zero = zero_is_read size file (sym (ap (λ t. t.0) told)) in
+    let s = c.read.new.state in
+    let words : s ≡ words_read size zero.0 = ap (λ t. t.2) (told ∙ ap (read_as size) zero.1) in
     (omega (arith, P.0), read_in size P.0 file zero.0 zero.1 s words, P.1, P.2, P.3, P.4)
 
-pub returns-then-number-eq0 : goal.returns-then-number-eq0
-returns-then-number-eq0 c = c.accept.ensures
+pub returns-in-Ok : goal.returns-in-Ok
+returns-in-Ok c = c.accept.ensures
 
-pub pair_line-n-requires : goal.pair_line-n-requires
-pair_line-n-requires c = omega (arith, (c).requires.3)
+pub x_line-requires : goal.x_line-requires
+x_line-requires c = omega (arith, c.requires.3)
 
-pub returns : goal.returns
-returns c =
-    let a = (c).args in
-    let r = c.read-r in
-    let q = c.pair_line-n.ensures in
+pub returns-in-Err : goal.returns-in-Err
+returns-in-Err c =
+    let a = c.args in
+    let e = c.in-Err.refused in
+    let q = c.x_line.ensures in
     let file = take a.size a.out.now in
-    attempt_refused file r.result.number r.result.place
-    (not_read (length a.state.now) r.result.number r.result.place file r.new.state (λ z. not-suc-le-zero {n = 0} (omega (arith, z)))
-    r.ensures)
+    attempt_refused file (number_of e.refusal) e.place (not_read (length a.state.now) e file c.read.new.state c.in-Err.ensures)
     a.out.now _ _ q.0 (omega (arith, q.1))

@@ -9,6 +9,3 @@ use Rattle.constants.proofs.elimination.add_multiple.Given as goal
 abbrev pub invariant-loop-j : goal.invariant-loop-j
 invariant-loop-j l = (l.j ≤ l.n) × (length l.s ≡ length l.initial.s)
     × (l.s ≡ paste l.initial.s l.b (add_multiple l.p l.t (row_words l.initial.s l.a l.n) (row_words l.initial.s l.b l.n)) l.j)
-
-abbrev pub decreases-loop-j : goal.decreases-loop-j
-decreases-loop-j l = l.n - l.j

@@ -8,6 +8,3 @@ use Rattle.constants.proofs.elimination.clear_rows.Given as goal
 
 abbrev pub invariant-loop-k : goal.invariant-loop-k
 invariant-loop-k l = (l.k ≤ l.rows) × (length l.s ≡ length l.initial.s) × Kept l.n l.b (cleared l.p l.c (row_words l.initial.s l.a l.n)) l.initial.s l.k l.s
-
-abbrev pub decreases-loop-k : goal.decreases-loop-k
-decreases-loop-k l = l.rows - l.k

@@ -13,6 +13,3 @@ invariant-loop-i l =
     × (l.marks ≡ paste l.initial.marks l.at (Rattle.ranks.specs.Elimination.marks l.p (rows_at l.n l.rows l.initial.m)) l.i)
     × (drop l.i (Rattle.ranks.specs.Elimination.marks l.p (rows_at l.n l.rows l.initial.m))
     ≡ marks_of l.p (l.rows - l.i) (rows_at l.n (l.rows - l.i) (drop (l.i * most_vectors) l.m)))
-
-abbrev pub decreases-loop-i : goal.decreases-loop-i
-decreases-loop-i l = l.rows - l.i

@@ -1,7 +1,6 @@
-use native.Mathlib.Omega.{arith}
-use mathlib.Core.Path.{◌≡◌, sym, ap, ◌∙◌, subst}
-use lib.ListN.{length, take}
-use lib.Seq.{length-take-le}
+use mathlib.Core.Path.{sym, ap, ◌∙◌, subst}
+use lib.ListN.{length}
+use Rattle.std.specs.Prelude.{unwrap_or}
 use Rattle.definitions.specs.Monomial.{same_exponents?}
 use Rattle.definitions.specs.Packed.{unpack}
 use Rattle.monomial.specs.Values.{monomial_of}
@@ -16,14 +15,12 @@ returns-then-same_exponents c =
     let g = c.generator_column in
     let e = sym c.same_exponents.ensures ∙ c.if-same_exponents.true in (
       g.ensures.0,
-      subst (λ m. Enters (take a.b a.below.now) a.d m g.result) (one_is a.m.exponents c.place.result a.m.component e
-          c.place.ensures.0) g.ensures.1,
+      subst (λ m. Enters a.below.now a.d m (unwrap_or g.result (length a.below.now)))
+          (one_is a.m.exponents c.place.result a.m.component e c.place.ensures.0) g.ensures.1,
     )
 
 pub returns : goal.returns
 returns c =
     let a = c.args in
-    let es = take a.b a.below.now in
-    let many : length es ≡ a.b = length-take-le a.b a.below.now c.requires in
     let e = ap (same_exponents? (unpack a.m.exponents)) (sym unpack_zero) ∙ sym c.same_exponents.ensures ∙ c.if-same_exponents.false in
-    (omega arith, subst (Enters es a.d (monomial_of a.m)) many (enters_variable es a.d (monomial_of a.m) e))
+    (tt, enters_variable a.below.now a.d (monomial_of a.m) e)

@@ -9,9 +9,6 @@ use Rattle.constants.proofs.filling.fill.Given as goal
 
 abbrev pub invariant-loop-j : goal.invariant-loop-j
 invariant-loop-j l =
-    (l.j ≤ l.a) × (length l.m ≡ length l.initial.m) × (l.from ≡ start_of l.ends l.j)
-    × (rows_at l.b l.j l.m ≡ whole (take l.b l.below) (take l.j l.own) (cut_level l.j l.level l.ends))
+    (length l.m ≡ length l.initial.m) × (l.from ≡ start_of l.ends l.j)
+    × (rows_at (length l.below) l.j l.m ≡ whole l.below (take l.j l.own) (cut_level l.j l.level l.ends))
     × (drop (l.j * most_vectors) l.m ≡ drop (l.j * most_vectors) l.initial.m)
-
-abbrev pub decreases-loop-j : goal.decreases-loop-j
-decreases-loop-j l = l.a - l.j

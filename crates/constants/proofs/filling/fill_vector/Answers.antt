@@ -1,8 +1,8 @@
 use native.Mathlib.Omega.{arith}
 use mathlib.Core.Path.{◌≡◌, refl, ap, ◌∙◌}
 use Prim.Native.Nat.{◌-◌}
-use lib.ListN.{length, take}
-use lib.Seq.{length-take-le, paste}
+use lib.ListN.{length}
+use lib.Seq.{paste}
 use Rattle.definitions.specs.Layout.{rows}
 use Rattle.ranks.specs.Blocks.{row_from}
 use Rattle.constants.proofs.filling.Vectorwise.{terms_none, terms_more}
@@ -12,26 +12,24 @@ pub loop-i-init : goal.loop-i-init
 loop-i-init c =
     let a = c.args in
     let P = c.requires in
-    let es = take a.b a.below.now in
-    let many : length es ≡ a.b = length-take-le a.b a.below.now P.2 in
-    (omega arith, omega arith, refl, terms_none a.m.now a.at a.level.now a.to es a.d a.b many P.4)
+    let es = a.below.now in
+    (omega arith, omega arith, refl, terms_none a.m.now a.at a.level.now a.to es a.d (length es) refl P.3)
 
 pub fill_term-requires : goal.fill_term-requires
-fill_term-requires c = (omega arith, omega arith, omega arith)
+fill_term-requires c = (omega arith, omega arith)
 
 pub loop-i-preserved : goal.loop-i-preserved
 loop-i-preserved c =
     let l = c.loop-i in
     let a = c.args in
     let P = c.requires in
-    let es = take a.b a.below.now in
-    let many : length es ≡ a.b = length-take-le a.b a.below.now P.2 in
+    let es = a.below.now in
     let f = c.fill_term in
     let turn = c.loop-i-test in (
       omega arith,
       omega arith,
       omega arith,
-      terms_more a.m.now a.at a.level.now a.to es a.d a.b many l.m f.new.m l.i P.3 (omega arith) l.invariant.1 l.invariant.3
+      terms_more a.m.now a.at a.level.now a.to es a.d (length es) refl l.m f.new.m l.i P.2 (omega arith) l.invariant.1 l.invariant.3
           f.ensures,
     )
 
@@ -40,4 +38,4 @@ returns c =
     let l = c.loop-i in
     let a = c.args in
     let e : l.i ≡ a.from = omega arith in
-    l.invariant.3 ∙ ap (λ i. paste a.m.now a.at (row_from 1 (take a.b a.below.now) a.d (rows a.level.now i (a.to - i))) a.b) e
+    l.invariant.3 ∙ ap (λ i. paste a.m.now a.at (row_from 1 a.below.now a.d (rows a.level.now i (a.to - i))) (length a.below.now)) e

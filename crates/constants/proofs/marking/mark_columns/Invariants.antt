@@ -7,6 +7,3 @@ use Rattle.constants.proofs.marking.mark_columns.Given as goal
 
 abbrev pub invariant-loop-k : goal.invariant-loop-k
 invariant-loop-k l = (l.k ≤ l.levels) × (length l.marks ≡ marks_length) × MarkedTo l.state l.k l.marks
-
-abbrev pub decreases-loop-k : goal.decreases-loop-k
-decreases-loop-k l = l.levels - l.k

@@ -1,23 +1,16 @@
-use native.Mathlib.Omega.{arith}
-use mathlib.Core.Path.{◌≡◌, refl, sym, ap, ◌∙◌, subst}
-use mathlib.Core.List.{[]}
-use Prim.Native.Nat.{◌-◌, ◌<◌, ◌≤◌}
+use mathlib.Core.Path.{◌≡◌}
+use Prim.Native.Nat.{◌≤◌}
 use lib.ListN.{length}
 use lib.Dec.{T}
 use Rattle.definitions.specs.Monomial.{Monomial}
 use Rattle.definitions.specs.Order.{Comparison}
-use Rattle.definitions.specs.Result.{done}
 use Rattle.definitions.specs.Layout.{rows}
-use Rattle.laws.proofs.Rows.{length_rows}
 use Rattle.ending.specs.Good.{good?}
 use Rattle.ending.specs.Spent.{spent}
 use Rattle.runs.specs.reduction.Grounds.{family_of, ends_in}
-use Rattle.runs.specs.run.Stages.{order_of, stage_of}
-use Rattle.runs.proofs.reduction.Adding.{rows_none}
-use Rattle.dividing.specs.steps.Divisions.{division_of, step_as, Room, stepped}
-use Rattle.dividing.proofs.steps.Stepping.{rooms_again}
-use Rattle.dividing.proofs.steps.Reaching.{Reached, reached_start, reached_on, reached_refused, reached_end, some_greatest, step_keeps, step_spends}
-use mathlib.Core.Option.{some}
+use Rattle.runs.specs.run.Stages.{stage_of}
+use Rattle.dividing.specs.steps.Divisions.{division_of}
+use Rattle.dividing.proofs.steps.Reaching.{Reached}
 use Rattle.dividing.proofs.steps.divide.Given as goal
 
 abbrev pub invariant-loop-n : goal.invariant-loop-n

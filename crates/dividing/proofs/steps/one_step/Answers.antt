@@ -1,7 +1,5 @@
-use borrow.Author.Rules.{rules}
 use native.Mathlib.Omega.{arith}
 use mathlib.Core.Path.{◌≡◌, refl, sym, ap, ◌∙◌}
-use Prim.Native.Nat.{◌-◌}
 use lib.ListN.{get_or}
 use Rattle.laws.proofs.Rows.{length_rows}
 use Rattle.definitions.specs.Packed.{unpack}
@@ -11,7 +9,7 @@ use Rattle.definitions.specs.Layout.{rows}
 use Rattle.definitions.specs.Membership.{moved}
 use Rattle.vectors.specs.terms.Rows.{term_of}
 use Rattle.vectors.proofs.sums.Rowwise.{at_row}
-use Rattle.reducers.specs.search.Search.{answered}
+use Rattle.reducers.specs.search.Search.{answer_of}
 use Rattle.runs.specs.run.Stages.{order_of, stage_of}
 use Rattle.runs.proofs.run.Stepping.{reducer_number, inside}
 use Rattle.dividing.specs.steps.Divisions.{division_of, stepped}
@@ -59,84 +57,46 @@ moved-requires c =
 
 pub returns-in_default : goal.returns-in_default
 returns-in_default c =
-    let a =
-    c.args in
-    let asked =
-    c.requires in
-    let pick-there =
-    c.pick-i in
-    let row-there =
-    c.row-t in
-    let reducer-of-there =
-    c.reducer_of-found in
+    let a = c.args in
     let g = a.g in
-    let l = inside a.value.now a.n (order_of g a.tables.now) 1 pick-there.result pick-there.ensures in
-    let m = c.moved in
     let n = a.n in
-    let i = pick-there.result in
-    let there : term_of row-there.result ≡ get_or (rows a.value.now 0 n) i no_term =
-    row-there.ensures ∙ sym (at_row a.value.now n i l) in
+    let i = c.pick-i.result in
+    let l = inside a.value.now n (order_of g a.tables.now) 1 i c.pick-i.ensures in
+    let m = c.moved in
+    let there : term_of c.row-t.result ≡ get_or (rows a.value.now 0 n) i no_term = c.row-t.ensures ∙ sym (at_row a.value.now n i l) in
     let told : lower_order ≡ answer g.p (rows a.tables.now 0 g.r) (get_or (rows a.value.now 0 n) i no_term) =
-    sym (ap (λ y. answered y (unpack reducer-of-there.result.quotient)) c.in_default.is) ∙ reducer-of-there.ensures
-    ∙ ap (answer g.p (rows a.tables.now 0 g.r)) there in (
+    sym (ap answer_of c.in_default.is) ∙ c.reducer_of.ensures ∙ ap (answer g.p (rows a.tables.now 0 g.r)) there in (
       λ above.
           let S = stage_of g a.level.now a.tables.now above in
           let d = division_of a.value.now n a.quotients.now a.v a.remainder.now a.r in
-          m.ensures.0 S refl a.quotients.now ∙ ap (moved S d i) there ∙ step_at S d i lower_order told ∙ ap (stepped S d) pick-there.ensures,
+          m.ensures.0 S refl a.quotients.now ∙ ap (moved S d i) there ∙ step_at S d i lower_order told ∙ ap (stepped S d) c.pick-i.ensures,
       m.ensures.1,
     )
 
 pub taken_away-requires : goal.taken_away-requires
 taken_away-requires c =
-    let a =
-    c.args in
-    let asked =
-    c.requires in
-    let pick-there = c.pick-i in
-    let row-there = c.row-t in
-    let reducer-of-there = c.reducer_of-found in
+    let a = c.args in
+    let P = c.requires in
     let g = a.g in
-    let l = inside a.value.now a.n (order_of g a.tables.now) 1 pick-there.result pick-there.ensures in
-    let b = reducer_number g.p (rows a.tables.now 0 g.r) (term_of row-there.result) c.in-Reducer.j
-    c.in-Reducer.c (unpack reducer-of-there.result.quotient)
-    (sym (ap (λ y. answered y (unpack reducer-of-there.result.quotient)) c.in-Reducer.is) ∙ reducer-of-there.ensures) in (
-      asked.0,
-      asked.1,
-      asked.3.value_fits,
-      asked.3.quotients_fit,
-      asked.5,
-      asked.6,
-      asked.7,
-      b.0,
-      omega (arith, b.1, length_rows a.tables.now 0 g.r),
-    )
+    let x = c.in-Some.x in
+    let b = reducer_number g.p (rows a.tables.now 0 g.r) (term_of c.row-t.result) x.number x.coefficient (unpack x.quotient) c.in-Some.ensures in
+    (P.0, P.1, P.3.value_fits, P.3.quotients_fit, P.5, P.6, P.7, b.0, omega (arith, b.1, length_rows a.tables.now 0 g.r))
 
 pub returns : goal.returns
 returns c =
-    let a =
-    c.args in
-    let asked =
-    c.requires in
-    let pick-there =
-    c.pick-i in
-    let row-there =
-    c.row-t in
-    let reducer-of-there =
-    c.reducer_of-found in
+    let a = c.args in
     let g = a.g in
-    let l = inside a.value.now a.n (order_of g a.tables.now) 1 pick-there.result pick-there.ensures in
-    let m = c.taken_away in
     let n = a.n in
-    let i = pick-there.result in
-    let j = c.in-Reducer.j in
-    let x = c.in-Reducer.c in
-    let q = unpack reducer-of-there.result.quotient in
-    let told : reducer j x q ≡ answer g.p (rows a.tables.now 0 g.r) (get_or (rows a.value.now 0 n) i no_term) =
-    sym (ap (λ y. answered y q) c.in-Reducer.is) ∙ reducer-of-there.ensures
-    ∙ ap (answer g.p (rows a.tables.now 0 g.r)) (row-there.ensures ∙ sym (at_row a.value.now n i l)) in (
+    let i = c.pick-i.result in
+    let l = inside a.value.now n (order_of g a.tables.now) 1 i c.pick-i.ensures in
+    let m = c.taken_away in
+    let x = c.in-Some.x in
+    let found = reducer x.number x.coefficient (unpack x.quotient) in
+    let told : found ≡ answer g.p (rows a.tables.now 0 g.r) (get_or (rows a.value.now 0 n) i no_term) =
+    c.in-Some.ensures ∙ ap (answer g.p (rows a.tables.now 0 g.r)) (c.row-t.ensures ∙ sym (at_row a.value.now n i l)) in (
       λ above.
           let S = stage_of g a.level.now a.tables.now above in
           let d = division_of a.value.now n a.quotients.now a.v a.remainder.now a.r in
-          m.ensures.0 above a.remainder.now ∙ step_at S d i (reducer j x q) told ∙ ap (stepped S d) pick-there.ensures,
+          m.ensures.0 above a.remainder.now ∙ step_at S d i found told ∙ ap (stepped S d) c.pick-i.ensures,
       m.ensures.1,
     )

@@ -1,6 +1,6 @@
 use borrow.Author.Rules.{rules}
 use native.Mathlib.Omega.{arith}
-use mathlib.Core.Path.{ap, ◌∙◌}
+use mathlib.Core.Path.{refl, ap, ◌∙◌}
 use Rattle.definitions.specs.Hilbert.{hilbert_value}
 use Rattle.pages.proofs.bytes.Spelling.{spelled}
 use Rattle.columns.specs.counting.Columns.{columns_of}
@@ -20,8 +20,6 @@ returns c =
     let P = c.requires in
     let s = a.state.now in
     let H = c.hilbert_value-value in
-    let N = c.narrow in
-    let W = c.shown in
     let q = c.pair_line.ensures in
-    let v = W.ensures ∙ H.ensures.0 ∙ ap (λ n. hilbert_value n (columns_of s) a.d) P.2 in
-    (spelled (line_is s N.result W.result a.d N.ensures v) q.0, q.1)
+    let v = H.ensures.0 ∙ ap (λ n. hilbert_value n (columns_of s) a.d) P.2 in
+    (spelled (line_is s a.d H.result a.d refl v) q.0, q.1)

@@ -10,6 +10,3 @@ use Rattle.hilbert_page.proofs.page.print_lines.Given as goal
 
 abbrev pub invariant-loop-d : goal.invariant-loop-d
 invariant-loop-d l = (l.d ≤ 33) × (length l.out ≡ length l.initial.out) × Printed l.initial.out l.out 0 l.at (lines_below l.state l.d) × (l.at ≤ l.d * 29)
-
-abbrev pub decreases-loop-d : goal.decreases-loop-d
-decreases-loop-d l = 33 - l.d

@@ -11,25 +11,25 @@ print_lifted-requires c =
     let P = c.requires in
     let a = c.args in
     let b = c.begin in
-    let told = c.in-Accepted.is in
+    let told = c.in-Ok.is in
     let B = begun_basis a.file.now b.new.state a.out.now b.new.out b.result b.ensures told in
     (B.base, omega (arith, P.1), omega (arith, P.2))
 
-pub returns-in-Accepted : goal.returns-in-Accepted
-returns-in-Accepted c =
+pub returns-in-Ok : goal.returns-in-Ok
+returns-in-Ok c =
     let a = c.args in
     let b = c.begin in
-    let told = c.in-Accepted.is in
+    let told = c.in-Ok.is in
     let R = c.print_lifted.ensures in (
       accepted_page a.file.now (hilbert_of document_01) b.new.state a.out.now b.new.out b.result b.ensures
           (hilbert_of_steady document_01) told R.0,
       R.1,
     )
 
-pub returns-in-Refused : goal.returns-in-Refused
-returns-in-Refused c =
+pub returns-in-Err : goal.returns-in-Err
+returns-in-Err c =
     let a = c.args in
     let b = c.begin in (
-      refused_page a.file.now (hilbert_of document_01) b.new.state a.out.now b.new.out b.result b.ensures c.in-Refused.length c.in-Refused.is,
-      omega (arith, (begun_stops a.file.now b.new.state a.out.now b.new.out b.result b.ensures c.in-Refused.length c.in-Refused.is).fits),
+      refused_page a.file.now (hilbert_of document_01) b.new.state a.out.now b.new.out b.result b.ensures c.in-Err.length c.in-Err.is,
+      omega (arith, (begun_stops a.file.now b.new.state a.out.now b.new.out b.result b.ensures c.in-Err.length c.in-Err.is).fits),
     )

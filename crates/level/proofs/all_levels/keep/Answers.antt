@@ -1,9 +1,8 @@
-use borrow.Author.Rules.{rules}
 use native.Mathlib.Omega.{arith}
 use mathlib.Core.Path.{subst}
 use Rattle.state.proofs.preparing.Complete.{words_below}
 use Rattle.level.specs.all_levels.Level.{Settles}
-use Rattle.level.proofs.all_levels.Lifting.{liftable_carried, kept_words, kept_none}
+use Rattle.level.proofs.all_levels.Lifting.{liftable_carried, kept_words}
 use Rattle.level.proofs.all_levels.keep.Goals as goal
 
 pub add_level-requires : goal.add_level-requires
@@ -20,19 +19,13 @@ add_level-requires c =
       liftable_carried a.state.now a.k P.0,
     )
 
-pub returns-in-Vectors : goal.returns-in-Vectors
-returns-in-Vectors c =
+pub returns : goal.returns
+returns c =
     let a = c.args in
-    let P = c.requires in
     let t = c.add_level in
-    kept_words a.state.now a.k P.0 a.x c.in-Vectors.n c.in-Vectors._used a.out.now t.new.state c.in-Vectors.is t.ensures
+    kept_words a.state.now a.k c.requires.0 a.x c.in-Vectors.n c.in-Vectors._used a.out.now t.new.state c.in-Vectors.is t.ensures
 
-pub returns-in-Refused : goal.returns-in-Refused
-returns-in-Refused c =
+pub returns-in_default : goal.returns-in_default
+returns-in_default c =
     let a = c.args in
-    kept_none a.state.now a.k c.requires.0 a.x c.in-Refused.number a.out.now c.in-Refused.is
-
-pub returns-in-Stopped : goal.returns-in-Stopped
-returns-in-Stopped c =
-    let a = c.args in
-    absurd (subst (λ y. Settles a.state.now a.k y a.out.now) c.in-Stopped.is c.requires.1)
+    absurd (subst (λ y. Settles a.state.now a.k y a.out.now) c.in_default.is c.requires.1)

@@ -1,15 +1,16 @@
-use borrow.Author.Rules.{rules}
 use native.Mathlib.Omega.{arith}
 use mathlib.Core.Bool.{true, false}
 use mathlib.Core.Path.{refl, sym, ap, ◌∙◌, subst}
 use Prim.Native.Nat.{◌-◌}
+use Rattle.std.specs.Prelude.{Ok, Err}
+use Rattle.std.proofs.lemmas.Result.{err_from_is_err_and}
 use Rattle.definitions.specs.Places.{most_terms}
 use Rattle.runs.specs.declared.run.Strategy.{Strategy}
 use Rattle.level.proofs.by_runs.OverGround.{usual_within}
 use Rattle.level.specs.by_runs.Stages.{Within, lift_over}
 use Rattle.level.specs.declared.by_runs.Bounds.{Bounds}
-use Rattle.level.specs.all_levels.Level.{by_picks, usual_way}
-use Rattle.level.proofs.all_levels.Lifting.{way_settles, run_way, lifted_next}
+use Rattle.level.specs.all_levels.Level.{by_picks, usual_way, LiftedNext}
+use Rattle.level.proofs.all_levels.Lifting.{way_settles, run_way, lifted_next, refused_next}
 use Rattle.level.proofs.all_levels.lift_next.Goals as goal
 
 abbrev hybrid-2 : Strategy
@@ -18,8 +19,8 @@ hybrid-2 = record { drops = true; pick = 2; stops = false }
 pub overflow_sub-k : goal.overflow_sub-k
 overflow_sub-k c = omega (arith, c.requires.0.low)
 
-pub lift_level-x-requires : goal.lift_level-x-requires
-lift_level-x-requires c =
+pub lift_level-requires : goal.lift_level-requires
+lift_level-requires c =
     let P = c.requires in
     let b = c.usual-b in (
       P.0.base,
@@ -34,24 +35,34 @@ keep-requires c =
     let a = c.args in
     let s = a.state.now in
     let P = c.requires in
-    let b = P.0.base in
-    let L = c.lift_level-x in
-    let n = L.ensures.0.0 in
-    let v = L.ensures.0.1 in
-    let e = L.ensures.0.2 ∙ ap (λ x. lift_over x s (a.k - 1) hybrid-2 n) c.usual-b.ensures in
-    let r = run_way s (a.k - 1) b L.new.out (omega arith) hybrid-2 most_terms (by_picks refl refl (omega arith)) n L.result v e in
-    (P.0, way_settles s a.k P.0 L.new.out (omega arith) usual_way n L.result v r L.ensures.1)
+    let out = c.lift_level.new.out in
+    let L = c.in_ok-x.ensures in
+    let e = L.0.2 ∙ ap (λ x. lift_over x s (a.k - 1) hybrid-2 L.0.0) c.usual-b.ensures in
+    let r = run_way s (a.k - 1) P.0.base out (omega arith) hybrid-2 most_terms (by_picks refl refl (omega arith)) L.0.0 (Ok c.in_ok-x.x) L.0.1 e in
+    (P.0, way_settles s a.k P.0 out (omega arith) usual_way L.0.0 c.in_ok-x.x L.0.1 r L.1)
+
+pub returns-in_err-x : goal.returns-in_err-x
+returns-in_err-x c =
+    let a = c.args in
+    let s = a.state.now in
+    let P = c.requires in
+    let out = c.lift_level.new.out in
+    let m = c.in_err-x.field-0.0 in
+    let L = c.in_err-x.ensures in
+    let e = L.0.2 ∙ ap (λ x. lift_over x s (a.k - 1) hybrid-2 L.0.0) c.usual-b.ensures in
+    let r = run_way s (a.k - 1) P.0.base out (omega arith) hybrid-2 most_terms (by_picks refl refl (omega arith)) L.0.0 (Err m) L.0.1 e in
+    let p = err_from_is_err_and c.from_residual.result c.from_residual.ensures.1 in
+    subst (λ y. LiftedNext s a.k y s) (sym (p.1 ∙ ap Err p.2)) (refused_next s a.k P.0 L.0.0 out m L.0.1 r)
 
 pub returns : goal.returns
 returns c =
     let a = c.args in
     let s = a.state.now in
     let P = c.requires in
-    let b = P.0.base in
-    let L = c.lift_level-x in
-    let n = L.ensures.0.0 in
-    let v = L.ensures.0.1 in
-    let e = L.ensures.0.2 ∙ ap (λ x. lift_over x s (a.k - 1) hybrid-2 n) c.usual-b.ensures in
-    let r = run_way s (a.k - 1) b L.new.out (omega arith) hybrid-2 most_terms (by_picks refl refl (omega arith)) n L.result v e in
+    let out = c.lift_level.new.out in
+    let x = c.in_ok-x.x in
+    let L = c.in_ok-x.ensures in
+    let e = L.0.2 ∙ ap (λ x. lift_over x s (a.k - 1) hybrid-2 L.0.0) c.usual-b.ensures in
+    let r = run_way s (a.k - 1) P.0.base out (omega arith) hybrid-2 most_terms (by_picks refl refl (omega arith)) L.0.0 (Ok x) L.0.1 e in
     let t = c.keep in
-    lifted_next s a.k P.0 n L.new.out (omega arith) L.result v r L.ensures.1 t.result t.new.state t.ensures
+    lifted_next s a.k P.0 L.0.0 out (omega arith) x L.0.1 r L.1 t.result t.new.state t.ensures

@@ -1,4 +1,3 @@
-use borrow.Author.Rules.{rules}
 use mathlib.Core.Path.{ap, ◌∙◌}
 use lib.Seq.{paste}
 use Rattle.definitions.specs.Places.{most_vectors, images_length}

@@ -1,18 +1,12 @@
-use borrow.Author.Rules.{rules}
 use native.Mathlib.Omega.{arith}
-use mathlib.Core.Path.{◌≡◌, refl, sym, ap, ◌∙◌, subst}
-use mathlib.Core.List.{List, [], ◌∷◌, ◌++◌}
-use Prim.Native.Nat.{ℕ, suc, ◌+◌, ◌-◌, ◌*◌, ◌<◌, ◌≤◌}
-use lib.ListN.{length, take, drop, get_or, set, length-set}
+use mathlib.Core.Path.{subst}
+use Prim.Native.Nat.{◌-◌}
+use lib.ListN.{length, take, drop}
 use Rattle.definitions.specs.Places.{rows_offset}
 use Rattle.state.proofs.soundness.VectorByVector.{whole_part}
 use Rattle.runs.specs.frame_terms.Vectors.{frame_terms, lifted_of, Whole}
 use Rattle.level.proofs.by_runs.OverGround.{asked, grounded, lifted_same}
 use mathlib.Core.Logic.{inl}
-use Rattle.level.proofs.by_runs.lift_frame.Reads as reads
-use Rattle.level.proofs.by_runs.lift_frame.Lts as lts
-use Rattle.level.proofs.by_runs.ground_of.Reads as ground_of_reads
-use Rattle.sweeping.proofs.lifting.lift_all.Reads as lift_all_reads
 use Rattle.level.proofs.by_runs.lift_frame.Goals as goal
 
 pub lift_all-requires : goal.lift_all-requires

@@ -1,7 +1,6 @@
-use borrow.Author.Rules.{rules}
 use native.Mathlib.Omega.{arith}
 use mathlib.Core.Path.{◌≡◌, sym, subst}
-use Prim.Native.Nat.{suc, ◌+◌, ◌-◌, ◌*◌}
+use Prim.Native.Nat.{suc, ◌+◌, ◌-◌}
 use lib.ListN.{length, take, drop}
 use Rattle.state.proofs.soundness.VectorByVector.{length_part}
 use Rattle.state.specs.preparing.Prepared.{ReadyPair}

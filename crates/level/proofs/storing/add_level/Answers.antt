@@ -1,4 +1,3 @@
-use borrow.Author.Rules.{rules}
 use native.Mathlib.Omega.{arith}
 use Rattle.level.proofs.storing.Storing.{complete_weighable, added}
 use Rattle.level.proofs.storing.add_level.Goals as goal

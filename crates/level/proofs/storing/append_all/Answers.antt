@@ -3,11 +3,8 @@ use mathlib.Core.Path.{◌≡◌, refl}
 use Prim.Native.Nat.{◌+◌, ◌-◌, ◌*◌, ◌<◌, ◌≤◌}
 use lib.ListN.{length, take, drop, get_or}
 use Rattle.level.proofs.storing.Storing.{storing_on, appended_all}
-use Rattle.runs.specs.frame_terms.Vectors.{lifted_vectors}
 use Rattle.state.proofs.writing.AppendLoop.{grown_none}
-use Rattle.state.specs.writing.AppendLoop.{Grown}
 use Rattle.state.proofs.soundness.VectorByVector.{whole_part, length_part}
-use Rattle.reducers.specs.tables.Cuts.{start_of}
 use Rattle.definitions.specs.Places.{most_rows, row_length, ends_length}
 use Rattle.level.proofs.storing.append_all.Goals as goal
 
@@ -82,9 +79,6 @@ append-requires c =
       omega (arith, fill, room, c.place-end.ensures.0),
       omega (arith, n, a.long, room, fill, c.place-end.ensures.0),
     )
-
-pub overflow_add-i : goal.overflow_add-i
-overflow_add-i c = omega (arith, c.requires.3.few)
 
 pub loop-i-preserved : goal.loop-i-preserved
 loop-i-preserved c =

@@ -1,7 +1,5 @@
-use borrow.Author.Rules.{rules}
 use native.Mathlib.Omega.{arith}
 use mathlib.Core.Path.{◌≡◌}
-use Prim.Native.Nat.{◌+◌, ◌*◌}
 use lib.ListN.{length, set, length-set}
 use Rattle.definitions.specs.Places.{count_offset}
 use Rattle.level.proofs.storing.complete.Goals as goal

@@ -10,6 +10,3 @@ use Rattle.listing.proofs.printing.exponents.Given as goal
 
 abbrev pub invariant-loop-j : goal.invariant-loop-j
 invariant-loop-j l = (l.j ≤ l.n) × (length l.out ≡ length l.initial.out) × Printed l.initial.out l.out l.at l.a (listed (take l.j l.e)) × (l.a ≤ l.at + l.j * 6)
-
-abbrev pub decreases-loop-j : goal.decreases-loop-j
-decreases-loop-j l = l.n - l.j

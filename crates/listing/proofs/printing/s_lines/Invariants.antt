@@ -18,6 +18,3 @@ abbrev pub invariant-loop-i : goal.invariant-loop-i
 invariant-loop-i l =
     (l.from ≤ l.i) × (l.i ≤ l.to) × (length l.out ≡ length l.initial.out)
     × Printed l.initial.out l.out l.at l.a (s_lines l.n l.k l.v (rows l.level l.from (l.i - l.from))) × (l.a ≤ l.at + (l.i - l.from) * s_line_length)
-
-abbrev pub decreases-loop-i : goal.decreases-loop-i
-decreases-loop-i l = l.to - l.i

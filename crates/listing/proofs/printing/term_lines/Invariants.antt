@@ -18,6 +18,3 @@ abbrev pub invariant-loop-i : goal.invariant-loop-i
 invariant-loop-i l =
     (l.i ≤ l.m) × (length l.out ≡ length l.initial.out) × Printed l.initial.out l.out l.at l.a (term_lines l.letter l.n (rows l.s 0 l.i))
     × (l.a ≤ l.at + l.i * w_line_length)
-
-abbrev pub decreases-loop-i : goal.decreases-loop-i
-decreases-loop-i l = l.m - l.i

@@ -16,6 +16,3 @@ abbrev pub invariant-loop-j : goal.invariant-loop-j
 invariant-loop-j l =
     (l.j ≤ l.count) × (length l.out ≡ length l.initial.out) × (l.start ≡ start_of l.ends l.j)
     × (l.v ≡ l.j + 1) × Printed l.initial.out l.out l.at l.a (vector_lines l.n l.k 1 (cut_level l.j l.level l.ends)) × (l.a ≤ l.at + l.start * s_line_length) × (l.start ≤ most_rows)
-
-abbrev pub decreases-loop-j : goal.decreases-loop-j
-decreases-loop-j l = l.count - l.j

@@ -41,10 +41,8 @@ returns c =
     let e : c.count_of-count.result
     ≡ count_at s a.k = c.count_of-count.ensures in
     let n : c.place-n.result
-    ≡ get_or s 1 0 = c.place-n.ensures.0 in
-    let l : c.narrow-l.result
-    ≡ a.k = c.narrow-l.ensures in (
-      spelled (λ i. level_lines (n i) (l i) (cut_level (e i) (whole_part (rows_offset a.k) s i) (ends_part s a.k i)))
+    ≡ get_or s 1 0 = c.place-n.ensures.0 in (
+      spelled (λ i. level_lines (n i) a.k (cut_level (e i) (whole_part (rows_offset a.k) s i) (ends_part s a.k i)))
           c.level_lines.ensures.0,
       c.level_lines.ensures.1,
     )

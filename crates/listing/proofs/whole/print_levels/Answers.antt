@@ -34,12 +34,6 @@ print_level-at-requires c =
     let nine : l.k ≤ 9 = omega (arith, h, sounding.height a.state.now b.long b.holds) in
     (record { long = b.long; holds = b.holds; has = h; low = omega (arith, nine) }, omega (arith, I.0, I.3, I.4, P.1, nine))
 
-pub overflow_add-k : goal.overflow_add-k
-overflow_add-k c =
-    let a = c.args in
-    let b = c.requires.0 in
-    omega (arith, c.place-height.ensures.0, sounding.height a.state.now b.long b.holds)
-
 pub loop-k-preserved : goal.loop-k-preserved
 loop-k-preserved c =
     let l = c.loop-k in

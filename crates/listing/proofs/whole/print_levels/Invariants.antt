@@ -13,6 +13,3 @@ use Rattle.listing.proofs.whole.print_levels.Given as goal
 
 abbrev pub invariant-loop-k : goal.invariant-loop-k
 invariant-loop-k l = (1 ≤ l.k) × (l.k ≤ l.height) × Printed l.initial.out l.out 0 l.at (lines_to l.state (l.k - 1)) × (l.at ≤ (l.k - 1) * level_lines_length) × (length l.out ≡ length l.initial.out)
-
-abbrev pub decreases-loop-k : goal.decreases-loop-k
-decreases-loop-k l = l.height - l.k

@@ -1,27 +1,22 @@
-use borrow.Author.Rules.{rules}
 use native.Mathlib.Omega.{arith}
-use mathlib.Core.Path.{sym, ◌∙◌}
-use Prim.Native.Nat.{◌-◌}
+use mathlib.Core.Path.{◌≡◌, sym, ◌∙◌}
+use mathlib.Core.Bool.{true}
+use borrow.Author.Tests.{eq-eqb}
+use Rattle.definitions.specs.Limits.{document_01}
+use Rattle.definitions.specs.Problem.{term_in_range?}
 use Rattle.words.specs.parameters.Values.{parameters_of}
-use Rattle.member_page.proofs.brought.VLines.{fits_full, fits_out, fits_first, fits_next}
+use Rattle.reader.specs.lines.Tests.{term_in}
+use Rattle.member_page.proofs.brought.VLines.{fits_first}
+use Rattle.member_page.proofs.brought.fits.Goals.{then-count-lt-MOST_TERMS, else-count-lt-MOST_TERMS}
 use Rattle.member_page.proofs.brought.fits.Goals as goal
-
-pub returns-then-count-ge-MOST_TERMS : goal.returns-then-count-ge-MOST_TERMS
-returns-then-count-ge-MOST_TERMS c = let a = c.args in sym (fits_full (parameters_of a.q) a.count a.before a.w c.if-count-ge-MOST_TERMS.true)
 
 pub returns-then-count-eq0 : goal.returns-then-count-eq0
 returns-then-count-eq0 c =
     let a = c.args in
-    sym (fits_first (parameters_of a.q) a.count a.before a.w (sym c.term_in_range.ensures ∙ c.if-term_in_range.true)
-    c.if-count-eq0.true)
-
-pub returns-then-term_in_range : goal.returns-then-term_in_range
-returns-then-term_in_range c =
-    let a = c.args in
-    c.above.ensures ∙ sym (fits_next (parameters_of a.q) a.count a.before a.w
-    (sym c.term_in_range.ensures ∙ c.if-term_in_range.true) c.if-count-eq0.false (omega arith))
-
-pub returns : goal.returns
-returns c =
-    let a = c.args in
-    sym (fits_out (parameters_of a.q) a.count a.before a.w (sym c.term_in_range.ensures ∙ c.if-term_in_range.false))
+    let q = parameters_of a.q in
+    elim c.if-count-lt-MOST_TERMS.branch [
+      | then-count-lt-MOST_TERMS w ↦
+          let e : term_in_range? document_01 q (term_in a.w) ≡ true = cc in
+          eq-eqb a.count 0 c.if-count-eq0.true ∙ sym (fits_first q a.count a.before a.w e c.if-count-eq0.true)
+      | else-count-lt-MOST_TERMS w ↦ absurd (omega arith)
+    ]

@@ -1,25 +1,14 @@
-use native.Mathlib.Omega.{arith}
-use mathlib.Core.Path.{◌≡◌, refl, sym, ap, ◌∙◌, subst}
-use mathlib.Core.List.{[], ◌∷◌, ◌++◌}
-use Prim.Native.Nat.{◌+◌, ◌-◌, ◌≤◌}
+use mathlib.Core.Path.{◌≡◌}
+use mathlib.Core.List.{[]}
+use Prim.Native.Nat.{◌+◌, ◌≤◌}
 use lib.ListN.{length, drop}
-use mathlib.Core.Option.{some}
 use Rattle.definitions.specs.Limits.{document_01}
 use Rattle.definitions.specs.Problem.{lines}
 use Rattle.definitions.specs.Membership.{v_lines}
 use Rattle.definitions.specs.Layout.{rows}
 use Rattle.definitions.specs.Places.{most_terms}
-use Rattle.laws.proofs.Results.{IfSome}
-use Rattle.laws.proofs.Rows.{length_rows}
 use Rattle.words.specs.parameters.Values.{parameters_of}
-use Rattle.vectors.proofs.terms.Stored.{rows_appended}
-use Rattle.runs.proofs.reduction.Adding.{rows_none}
-use Rattle.reader.specs.fields.Scanning.{end_as}
-use Rattle.reader.specs.lines.Tests.{term_in}
-use Rattle.member_page.specs.brought.Lines.{v_first}
-use Rattle.after.proofs.Cutting.{behind_less}
-use Rattle.member_page.proofs.brought.VLines.{Passed, v_passed, Held, held_more, goes_on, v_step_at}
-use lib.ListN.{drop_of_length-le}
+use Rattle.member_page.proofs.brought.VLines.{Held}
 use Rattle.member_page.proofs.brought.v_lines.Given as goal
 
 abbrev pub invariant-loop-at : goal.invariant-loop-at

@@ -1,8 +1,6 @@
-use borrow.Author.Rules.{rules}
 use native.Mathlib.Omega.{arith}
 use mathlib.Core.Path.{ap}
 use mathlib.Core.List.{◌∷◌}
-use Prim.Native.Nat.{◌-◌}
 use Rattle.member_page.proofs.brought.VLines.{first_fifteen}
 use Rattle.member_page.proofs.brought.with_element.Goals as goal
 

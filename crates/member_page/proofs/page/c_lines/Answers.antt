@@ -1,5 +1,3 @@
-use borrow.Author.Rules.{rules}
-use Prim.Native.Nat.{◌-◌}
 use Rattle.definitions.specs.Layout.{rows}
 use Rattle.pages.proofs.bytes.Spelling.{spelled}
 use Rattle.member_page.proofs.page.Lines.{c_lines_are}

@@ -1,6 +1,4 @@
-use borrow.Author.Rules.{rules}
 use native.Mathlib.Omega.{arith}
-use Prim.Native.Nat.{◌-◌}
 use Rattle.pages.proofs.bytes.Spelling.{after, few_digits}
 use Rattle.member_page.proofs.page.m_line.Goals as goal
 

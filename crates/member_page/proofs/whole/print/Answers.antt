@@ -1,8 +1,6 @@
-use borrow.Author.Rules.{rules}
 use native.Mathlib.Omega.{arith}
 use mathlib.Core.Path.{sym}
-use Prim.Native.Nat.{◌-◌}
-use lib.ListN.{length, take}
+use lib.ListN.{take}
 use lib.Seq.{length-take-le}
 use Rattle.definitions.specs.Limits.{document_01}
 use Rattle.definitions.specs.Membership.{membership_of}
@@ -28,7 +26,7 @@ print_vector-requires c =
     let end =
     c.file_end-end in
     let file = take end.result a.input.now in
-    let B = begun_basis file b.new.state a.out.now b.new.out b.result b.ensures c.in-Accepted.is in (
+    let B = begun_basis file b.new.state a.out.now b.new.out b.result b.ensures c.in-Ok.is in (
       B.base,
       B.alone,
       end.ensures.0,
@@ -38,8 +36,8 @@ print_vector-requires c =
       omega (arith, asked.2),
     )
 
-pub returns-in-Accepted : goal.returns-in-Accepted
-returns-in-Accepted c =
+pub returns-in-Ok : goal.returns-in-Ok
+returns-in-Ok c =
     let a =
     c.args in
     let b =
@@ -50,12 +48,12 @@ returns-in-Accepted c =
     let R = c.print_vector.ensures in (
       file_prints input end.result end.ensures.0
           (accepted_page (take end.result input) (λ n. membership_of document_01 n input) b.new.state a.out.now b.new.out b.result
-          b.ensures (of_steady document_01 tt input) c.in-Accepted.is R.0),
+          b.ensures (of_steady document_01 tt input) c.in-Ok.is R.0),
       R.1,
     )
 
-pub returns-in-Refused : goal.returns-in-Refused
-returns-in-Refused c =
+pub returns-in-Err : goal.returns-in-Err
+returns-in-Err c =
     let a =
     c.args in
     let b =
@@ -66,6 +64,6 @@ returns-in-Refused c =
     let file = take end.result input in (
       file_prints input end.result end.ensures.0
           (refused_page file (λ n. membership_of document_01 n input) b.new.state a.out.now b.new.out b.result b.ensures
-          c.in-Refused.length c.in-Refused.is),
-      omega (arith, (begun_stops file b.new.state a.out.now b.new.out b.result b.ensures c.in-Refused.length c.in-Refused.is).fits),
+          c.in-Err.length c.in-Err.is),
+      omega (arith, (begun_stops file b.new.state a.out.now b.new.out b.result b.ensures c.in-Err.length c.in-Err.is).fits),
     )

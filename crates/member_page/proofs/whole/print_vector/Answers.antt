@@ -1,11 +1,9 @@
-use borrow.Author.Rules.{rules}
 use native.Mathlib.Omega.{arith}
-use mathlib.Core.Path.{sym, ap, ◌∙◌, subst}
-use Prim.Native.Nat.{◌+◌, ◌-◌}
+use mathlib.Core.Path.{sym, ap, ◌∙◌}
+use Prim.Native.Nat.{◌+◌}
 use lib.Seq.{length-take-le}
 use Rattle.definitions.specs.Layout.{rows}
 use Rattle.words.specs.parameters.Values.{parameters_of}
-use Rattle.member_page.specs.brought.Lines.{brought_as, Few}
 use Rattle.member_page.proofs.whole.Whole.{few, brought_is, brought_good, lines_bad, lines_taken}
 use Rattle.member_page.proofs.whole.print_vector.Goals as goal
 
@@ -49,14 +47,14 @@ print_division-requires c =
       asked.0,
       asked.1,
       omega (arith, asked.5),
-      subst Few c.in-Terms.is v-there.ensures.1,
-      brought_good s asked.0 asked.1 input (rows v-there.new.value 0 c.in-Terms.n)
-          (sym (ap (λ y. brought_as y v-there.new.value) c.in-Terms.is) ∙ v-there.ensures.0 ∙ is),
+      c.in-Ok.ensures.1,
+      brought_good s asked.0 asked.1 input (rows v-there.new.value 0 c.in-Ok.n)
+          (c.in-Ok.ensures.0 ∙ is),
       omega (arith, asked.6),
     )
 
-pub returns-in-Terms : goal.returns-in-Terms
-returns-in-Terms c =
+pub returns-in-Ok : goal.returns-in-Ok
+returns-in-Ok c =
     let a =
     c.args in
     let asked =
@@ -73,13 +71,13 @@ returns-in-Terms c =
     let is = brought_is s asked.0 asked.1 input (parameters_of q-there.result) said.0 said.1 said.2 said.3 a.end
     (lines-there.result + 1) asked.2 (ap (λ k. k + 1) lines-there.ensures.0) in
     let p = c.print_division in (
-      lines_taken s asked.0 asked.1 input (rows v-there.new.value 0 c.in-Terms.n)
-          (sym (ap (λ y. brought_as y v-there.new.value) c.in-Terms.is) ∙ v-there.ensures.0 ∙ is) p.ensures.0,
+      lines_taken s asked.0 asked.1 input (rows v-there.new.value 0 c.in-Ok.n)
+          (c.in-Ok.ensures.0 ∙ is) p.ensures.0,
       p.ensures.1,
     )
 
-pub returns-in-Bad : goal.returns-in-Bad
-returns-in-Bad c =
+pub returns-in-Err : goal.returns-in-Err
+returns-in-Err c =
     let a =
     c.args in
     let asked =
@@ -95,8 +93,8 @@ returns-in-Bad c =
     let said = q-there.ensures in
     let is = brought_is s asked.0 asked.1 input (parameters_of q-there.result) said.0 said.1 said.2 said.3 a.end
     (lines-there.result + 1) asked.2 (ap (λ k. k + 1) lines-there.ensures.0) in
-    let p = c.pair_line in (
-      lines_bad s asked.0 asked.1 input c.in-Bad.place
-          (sym (ap (λ y. brought_as y v-there.new.value) c.in-Bad.is) ∙ v-there.ensures.0 ∙ is) p.ensures.0,
+    let p = c.x_line in (
+      lines_bad s asked.0 asked.1 input c.in-Err.place
+          (c.in-Err.ensures.0 ∙ is) p.ensures.0,
       omega (arith, p.ensures.1),
     )

@@ -9,9 +9,6 @@ use Rattle.minimal_page.proofs.numbers.added.Goals as goal
 pub loop-c-init : goal.loop-c-init
 loop-c-init c = (omega arith, refl, λ k h. absurd (not-suc-le-zero h))
 
-pub overflow_add-sums : goal.overflow_add-sums
-overflow_add-sums c = let fits = c.requires c.loop-c.c (omega arith) in omega (arith, fits)
-
 pub loop-c-preserved : goal.loop-c-preserved
 loop-c-preserved c =
     let a = c.args in

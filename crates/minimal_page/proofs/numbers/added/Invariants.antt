@@ -8,6 +8,3 @@ use Rattle.minimal_page.proofs.numbers.added.Given as goal
 
 abbrev pub invariant-loop-c : goal.invariant-loop-c
 invariant-loop-c l = (l.c ≤ 11) × (length l.sums ≡ 11) × Filled (λ k. get_or l.totals k 0 + get_or l.row k 0) l.c l.sums
-
-abbrev pub decreases-loop-c : goal.decreases-loop-c
-decreases-loop-c l = 11 - l.c

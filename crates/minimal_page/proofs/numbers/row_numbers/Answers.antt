@@ -16,9 +16,6 @@ use Rattle.minimal_page.proofs.numbers.row_numbers.Goals as goal
 pub loop-c-init : goal.loop-c-init
 loop-c-init c = (omega arith, refl, λ k h. absurd (not-suc-le-zero h))
 
-pub minimal_number-requires : goal.minimal_number-requires
-minimal_number-requires c = let P = c.requires in (P.0, omega arith, P.1)
-
 pub loop-c-preserved : goal.loop-c-preserved
 loop-c-preserved c =
     let a = c.args in

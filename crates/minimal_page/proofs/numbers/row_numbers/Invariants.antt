@@ -17,6 +17,3 @@ abbrev pub invariant-loop-c : goal.invariant-loop-c
 invariant-loop-c l =
     (l.c ≤ 11) × (length l.numbers ≡ 11)
     × Filled (λ k. get_or (map (minimal_number (decode document_01 l.state) (columns_of l.state) l.r) all_columns) k 0) l.c l.numbers
-
-abbrev pub decreases-loop-c : goal.decreases-loop-c
-decreases-loop-c l = 11 - l.c

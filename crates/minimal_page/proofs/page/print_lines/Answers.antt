@@ -22,15 +22,6 @@ loop-r-init c =
       no_totals s a.low (a.low - a.low) (omega arith),
     )
 
-pub row_numbers-row-requires : goal.row_numbers-row-requires
-row_numbers-row-requires c = let P = c.requires in (P.0, omega (arith, P.1.few))
-
-pub row_line-at-requires : goal.row_line-at-requires
-row_line-at-requires c =
-    let P = c.requires in
-    let l = c.loop-r in
-    (omega (arith, l.invariant.4, P.2, P.1.few), omega (arith, P.1.few))
-
 pub added-sums-requires : goal.added-sums-requires
 added-sums-requires c =
     let a = c.args in
@@ -38,11 +29,6 @@ added-sums-requires c =
     let l = c.loop-r in
     let n = c.row_numbers-row in
     totals_fit a.state.now a.low l.totals n.result l.r l.invariant.0 l.invariant.5 n.ensures P.0.holds a.high P.1 (omega arith)
-
-pub overflow_add-r : goal.overflow_add-r
-overflow_add-r c =
-    let few = c.requires.1.few in
-    omega (arith, few)
 
 pub loop-r-preserved : goal.loop-r-preserved
 loop-r-preserved c =
@@ -58,12 +44,6 @@ loop-r-preserved c =
       omega (arith, l.invariant.4, v.1),
       totals_more a.state.now a.low l.totals n.result l.r l.invariant.0 l.invariant.5 n.ensures t.result t.ensures,
     )
-
-pub total_line-requires : goal.total_line-requires
-total_line-requires c =
-    let P = c.requires in
-    let l = c.loop-r in
-    omega (arith, l.invariant.4, P.2, P.1.few)
 
 pub returns : goal.returns
 returns c =

@@ -3,33 +3,20 @@ use native.Mathlib.Omega.{arith}
 use Rattle.minimal_page.proofs.whole.Stages.{levels_done, level_refused}
 use Rattle.minimal_page.proofs.whole.print_lifted.Goals as goal
 
-pub lift_levels-e-requires : goal.lift_levels-e-requires
-lift_levels-e-requires c = let P = c.requires in (P.0, omega (arith, P.1))
-
-pub print_tested-requires : goal.print_tested-requires
-print_tested-requires c =
-    let b = c.lift_levels-e.ensures.1 in
-    let long = c.requires.2 in
-    (b.long, b.holds, omega (arith, long))
-
-pub returns-then-number-eq0 : goal.returns-then-number-eq0
-returns-then-number-eq0 c =
+pub returns-in-Ok : goal.returns-in-Ok
+returns-in-Ok c =
     let s = c.args.state.now in
-    let L = c.lift_levels-e in
+    let L = c.lift_levels in
     let t = L.new.state in
     let R = L.ensures.0 in
     let Q = c.print_tested.ensures in
-    let zero = c.if-number-eq0.true in
-    (levels_done s t R.0 L.result.number L.result.place R.1 zero Q.0, Q.1)
+    (levels_done s t R.0 L.result R.1 c.in-Ok.is Q.0, Q.1)
 
-pub pair_line-requires : goal.pair_line-requires
-pair_line-requires c = let long = c.requires.2 in omega (arith, long)
-
-pub returns : goal.returns
-returns c =
+pub returns-in-Err : goal.returns-in-Err
+returns-in-Err c =
     let s = c.args.state.now in
-    let L = c.lift_levels-e in
+    let L = c.lift_levels in
     let R = L.ensures.0 in
-    let q = c.pair_line.ensures in
-    let Some-number = c.if-number-eq0.false in
-    (level_refused s L.new.state R.0 L.result.number L.result.place R.1 Some-number q.0, omega (arith, q.1))
+    let q = c.x_line.ensures in
+    let e = c.in-Err.refused in
+    (level_refused s L.new.state R.0 L.result R.1 e c.in-Err.is q.0, omega (arith, q.1))

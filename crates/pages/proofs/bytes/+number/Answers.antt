@@ -13,4 +13,4 @@ byte-requires-2 t c =
 pub returns : goal.returns
 returns t c =
     spelled (more_digits c.args.v (omega arith)) (after c.number-i.ensures
-    (spelled (ap (λ x. x ∷ []) c.digit-d-2.ensures) c.byte-2.ensures))
+    (spelled (ap (λ x. x ∷ []) c.digit-2.ensures) c.byte-2.ensures))

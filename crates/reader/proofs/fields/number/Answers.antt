@@ -1,24 +1,12 @@
-use native.Mathlib.Omega.{arith}
-use mathlib.Core.Path.{sym, ◌∙◌}
-use Rattle.reader.proofs.fields.Positions.{first_end, first_other, first_zero, first_on}
+use mathlib.Core.Path.{◌≡◌, sym, ap, ◌∙◌}
+use mathlib.Core.Option.{some}
+use lib.ListN.{get_or}
+use Rattle.reader.specs.fields.Scanning.{digit_value}
+use Rattle.reader.proofs.fields.Positions.{first_on}
 use Rattle.reader.proofs.fields.number.Goals as goal
-
-pub returns-then-file-at : goal.returns-then-file-at
-returns-then-file-at c = let a = c.args in first_end a.file.now a.at (omega arith)
-
-pub returns-then-d-gt9 : goal.returns-then-d-gt9
-returns-then-d-gt9 c =
-    let a = c.args in
-    first_other a.file.now a.at (omega arith) c.digit-d.result c.digit-d.ensures (omega arith)
-
-pub returns-then-d-eq0 : goal.returns-then-d-eq0
-returns-then-d-eq0 c =
-    let a = c.args in c.number_zero.ensures
-    ∙ sym (first_zero a.file.now a.at (omega arith) c.digit-d.result c.digit-d.ensures
-    (omega arith))
 
 pub returns : goal.returns
 returns c =
-    let a = c.args in c.number_on.ensures
-    ∙ sym (first_on a.file.now a.at (omega arith) c.digit-d.result c.digit-d.ensures
-    (omega arith) (λ q. omega arith))
+    let a = c.args in let b = c.in_ok-b.ensures.lookup.3 in
+    let here : some c.in_ok-d.d ≡ digit_value (get_or a.file.now a.at 0) = c.in_ok-d.ensures ∙ ap digit_value (b.1 0) in
+    c.number_on.ensures ∙ sym (first_on a.file.now a.at b.0 c.in_ok-d.d here c.if-d-eq0.false)

@@ -9,6 +9,3 @@ abbrev pub invariant-loop-i : goal.invariant-loop-i
 invariant-loop-i l =
     (l.i ≤ l.count) × (length l.numbers ≡ 16) × ZerosFrom l.i l.numbers × (numbers_first 65535 l.count (drop l.from l.file)
     ≡ so_far l.numbers l.i (numbers_first 65535 (l.count - l.i) (drop l.at l.file)))
-
-abbrev pub decreases-loop-i : goal.decreases-loop-i
-decreases-loop-i l = l.count - l.i

@@ -1,20 +1,11 @@
-use borrow.Author.Rules.{rules}
 use native.Mathlib.Omega.{arith}
-use mathlib.Core.Path.{◌≡◌, sym, ap, subst}
+use mathlib.Core.Path.{sym, subst}
 use Prim.Native.Nat.{ℕ}
-use Rattle.reducers.specs.search.Search.{span_at, span_of}
+use Rattle.reducers.specs.search.Search.{span_of}
 use Rattle.reducers.proofs.search.Firsts.{span_holds, first_spanned, none_spanned}
 use Rattle.reducers.proofs.search.Firsts.{Holds}
 use Rattle.monomial.specs.Values.{monomial_of}
 use Rattle.reducers.proofs.search.lowest.Goals as goal
-
-pub first_in-j-requires : goal.first_in-j-requires
-first_in-j-requires c =
-    let a = c.args in
-    let h = span_holds a.k a.r a.spans.now a.heads.now a.m.component c.requires.2 in
-    let e : c.span_for-s.result.to ≡ (span_at a.k a.r a.spans.now a.m.component).1 =
-    ap (λ (x : ℕ × ℕ). x.1) c.span_for-s.ensures in
-    omega (arith, h.ends)
 
 pub returns-then-j-s : goal.returns-then-j-s
 returns-then-j-s c =

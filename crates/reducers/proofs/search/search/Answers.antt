@@ -1,4 +1,3 @@
-use borrow.Author.Rules.{rules}
 use native.Mathlib.Omega.{arith}
 use mathlib.Core.Path.{◌≡◌, sym, ap, ◌∙◌}
 use Prim.Native.Nat.{◌+◌, ◌<◌}
@@ -9,7 +8,7 @@ use Rattle.laws.proofs.Rows.{get_d_rows, length_rows}
 use Rattle.definitions.specs.Monomial.{no_term, Term}
 use Rattle.monomial.specs.Values.{monomial_of}
 use Rattle.laws.proofs.Rows.{row_is}
-use Rattle.reducers.specs.declared.search.Answer.TheVariants.{Reducer}
+use Rattle.std.specs.Prelude.{Some}
 use Rattle.reducers.proofs.search.search.Goals as goal
 
 pub returns-then-j-r : goal.returns-then-j-r
@@ -65,5 +64,5 @@ returns c =
     (λ q. c.if-j-r.false (q ∙ length_rows s 0 a.r)) in
     let l : j < a.r = omega (arith, length_rows s 0 a.r) in
     let z : 0 + j ≡ j = omega arith in
-    ap (Reducer (j + 1)) (sym (ap (λ (t : Term). t.0) (get_d_rows s 0 a.r j no_term l ∙ ap (row_at s) z ∙ row_is s j)))
+    ap (λ x. Some (j + 1, x)) (sym (ap (λ (t : Term). t.0) (get_d_rows s 0 a.r j no_term l ∙ ap (row_at s) z ∙ row_is s j)))
     ∙ searched_one v (monomial_of a.m) j c.lowest-j.ensures h

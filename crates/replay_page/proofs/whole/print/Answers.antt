@@ -11,20 +11,13 @@ use Rattle.replays.proofs.Replays.{l_first_steady}
 use Rattle.listing.proofs.whole.Whole.{begun_basis, begun_stops, accepted_page, refused_page}
 use Rattle.inputs.proofs.Ends.{problem_short}
 use Rattle.replay_page.proofs.whole.Whole.{file_prints}
-use Rattle.replay_page.proofs.whole.print.Reads as reads
-use Rattle.replay_page.proofs.whole.print.Lts as lts
-use Rattle.after.proofs.file_end.Reads as file_end_reads
-use Rattle.listing.proofs.reading.begin.Reads as begin_reads
-use Rattle.replay_page.proofs.whole.print_log.Reads as print_log_reads
 use Rattle.replay_page.proofs.whole.print.Goals as goal
 
--- src/whole.rt:115:26
 pub slice_bounds-begin-end : goal.slice_bounds-begin-end
 slice_bounds-begin-end c =
     let a = c.args in
     sym (length-take-le c.file_end-end.result a.input.now c.file_end-end.ensures.1)
 
--- src/whole.rt:116:28
 pub print_log-requires : goal.print_log-requires
 print_log-requires c =
     let a = c.args in
@@ -32,7 +25,7 @@ print_log-requires c =
     let b = c.begin in
     let end = c.file_end-end in
     let file = take end.result a.input.now in
-    let B = begun_basis file b.new.state a.out.now b.new.out b.result b.ensures c.in-Accepted.is in (
+    let B = begun_basis file b.new.state a.out.now b.new.out b.result b.ensures c.in-Ok.is in (
       B.base,
       B.alone,
       end.ensures.0,
@@ -42,9 +35,8 @@ print_log-requires c =
       omega (arith, asked.2),
     )
 
--- src/whole.rt:110:1
-pub returns-in-Accepted : goal.returns-in-Accepted
-returns-in-Accepted c =
+pub returns-in-Ok : goal.returns-in-Ok
+returns-in-Ok c =
     let a = c.args in
     let b = c.begin in
     let end = c.file_end-end in
@@ -53,13 +45,12 @@ returns-in-Accepted c =
       file_prints input end.result end.ensures.0
           (accepted_page (take end.result input) (λ n. replay_of document_01 n most_picks input) b.new.state a.out.now b.new.out
           b.result
-          b.ensures (l_first_steady document_01 tt most_picks (first_after input) (lines_after input)) c.in-Accepted.is R.0),
+          b.ensures (l_first_steady document_01 tt most_picks (first_after input) (lines_after input)) c.in-Ok.is R.0),
       R.1,
     )
 
--- src/whole.rt:110:1
-pub returns-in-Refused : goal.returns-in-Refused
-returns-in-Refused c =
+pub returns-in-Err : goal.returns-in-Err
+returns-in-Err c =
     let a = c.args in
     let b = c.begin in
     let end = c.file_end-end in
@@ -67,6 +58,6 @@ returns-in-Refused c =
     let file = take end.result input in (
       file_prints input end.result end.ensures.0
           (refused_page file (λ n. replay_of document_01 n most_picks input) b.new.state a.out.now b.new.out b.result b.ensures
-          c.in-Refused.length c.in-Refused.is),
-      omega (arith, (begun_stops file b.new.state a.out.now b.new.out b.result b.ensures c.in-Refused.length c.in-Refused.is).fits),
+          c.in-Err.length c.in-Err.is),
+      omega (arith, (begun_stops file b.new.state a.out.now b.new.out b.result b.ensures c.in-Err.length c.in-Err.is).fits),
     )

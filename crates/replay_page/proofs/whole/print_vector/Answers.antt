@@ -14,17 +14,10 @@ use Rattle.definitions.specs.Layout.{rows, decode}
 use Rattle.pages.specs.bytes.Printing.{Printed}
 use Rattle.level.specs.by_runs.Stages.{Base}
 use Rattle.level.proofs.all_levels.Lifting.{few_variables}
-use Rattle.replaying.specs.over.Vectors.{vector_as, Few}
+use Rattle.words.specs.refusals.Numbers.{number_of}
 use Rattle.replay_page.proofs.whole.Whole.{vector_printed, vector_refused}
-use Rattle.replay_page.proofs.whole.print_vector.Reads as reads
-use Rattle.replay_page.proofs.whole.print_vector.Lts as lts
-use Rattle.listing.proofs.printing.pair_line.Reads as pair_line_reads
-use Rattle.listing.proofs.printing.s_lines.Reads as s_lines_reads
-use Rattle.replaying.proofs.over.replay_vector.Reads as replay_vector_reads
-use Rattle.words.proofs.place.Reads as place_reads
 use Rattle.replay_page.proofs.whole.print_vector.Goals as goal
 
--- src/whole.rt:44:11
 pub replay_vector-requires : goal.replay_vector-requires
 replay_vector-requires c =
     let a = c.args in
@@ -32,33 +25,31 @@ replay_vector-requires c =
     let e = c.place-j.ensures.0 in
     (subst (λ x. Base a.state.now (x - 1)) (sym e) P.2, P.5, omega arith, omega (arith, e, P.3, P.0), P.4)
 
--- src/whole.rt:47:13
 pub s_lines-requires : goal.s_lines-requires
 s_lines-requires c =
     let a = c.args in
     let P = c.requires in
-    let f = subst Few c.in-Finished.is c.replay_vector.ensures.1 in
+    let f = c.in-Ok.ensures.1 in
     let n = few_variables a.state.now P.2.long P.2.holds in
     (omega (arith, c.place-n.ensures.0, n), omega arith, omega (arith, f), omega (arith, f, P.6))
 
--- src/whole.rt:27:1
-pub returns-in-Finished : goal.returns-in-Finished
-returns-in-Finished c =
+pub returns-in-Ok : goal.returns-in-Ok
+returns-in-Ok c =
     let a = c.args in
     let P = c.requires in
     let s = a.state.now in
     let ls = lines (drop a.from a.input.now) in
     let x = c.replay_vector in
     let vec = x.new.vector in
-    let u = c.in-Finished.u in
-    let f = subst Few c.in-Finished.is x.ensures.1 in
+    let u = c.in-Ok.u in
+    let f = c.in-Ok.ensures.1 in
     let kk : c.place-j.result - 1 + 1 ≡ a.k = omega (
       arith,
       c.place-j.ensures.0,
       P.0,
     ) in
     let told : done (rows vec 0 u) ≡ replayed_vector document_01 most_picks a.place a.k a.v ls (decode document_01 s) =
-    sym (ap (λ y. vector_as y vec) c.in-Finished.is) ∙ x.ensures.0
+    c.in-Ok.ensures.0
     ∙ (λ i. replayed_vector document_01 most_picks a.place (kk i) (c.place.ensures.0 i) ls (decode document_01 s)) in
     let z : u - 0 ≡ u = omega arith in
     let p = c.s_lines in (
@@ -68,21 +59,20 @@ returns-in-Finished c =
       omega (arith, p.ensures.1, f),
     )
 
--- src/whole.rt:27:1
-pub returns-in-Refused : goal.returns-in-Refused
-returns-in-Refused c =
+pub returns-in-Err : goal.returns-in-Err
+returns-in-Err c =
     let a = c.args in
     let P = c.requires in
     let s = a.state.now in
     let ls = lines (drop a.from a.input.now) in
     let x = c.replay_vector in
     let vec = x.new.vector in
-    let number = c.in-Refused.number in
-    let there = c.in-Refused.there in
+    let number = number_of c.in-Err.refused.refusal in
+    let there = c.in-Err.refused.place in
     let kk : c.place-j.result - 1 + 1 ≡ a.k =
     omega (arith, c.place-j.ensures.0, P.0) in
     let told : refused number there [] ≡ replayed_vector document_01 most_picks a.place a.k a.v ls (decode document_01 s) =
-    sym (ap (λ y. vector_as y vec) c.in-Refused.is) ∙ x.ensures.0
+    c.in-Err.ensures.0
     ∙ (λ i. replayed_vector document_01 most_picks a.place (kk i) (c.place.ensures.0 i) ls (decode document_01 s)) in
-    let p = c.pair_line in
+    let p = c.x_line in
     (vector_refused s a.place a.k a.v ls number there told p.ensures.0, omega (arith, p.ensures.1))

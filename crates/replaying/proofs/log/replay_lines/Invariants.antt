@@ -14,11 +14,7 @@ use Rattle.definitions.specs.Layout.{rows}
 use Rattle.laws.proofs.Rows.{length_rows}
 use Rattle.runs.specs.run.Stages.{order_of, stage_of, run_of}
 use Rattle.runs.proofs.run.Stepping.{rooms_again}
-use Rattle.replaying.specs.log.Lines.{p_first, turn_as, Turned}
 use Rattle.replaying.proofs.log.Turning.{goes_on, ends_there, at_end, less_left, zero_end, some_end}
-use Rattle.replaying.proofs.log.replay_lines.Reads as reads
-use Rattle.replaying.proofs.log.replay_lines.Lts as lts
-use Rattle.replaying.proofs.log.replay_line.Reads as replay_line_reads
 use Rattle.replaying.proofs.log.replay_lines.Given as goal
 
 abbrev pub invariant-loop-at : goal.invariant-loop-at

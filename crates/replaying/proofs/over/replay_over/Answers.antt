@@ -11,15 +11,8 @@ use Rattle.level.proofs.all_levels.Lifting.{few_variables}
 use Rattle.replaying.specs.over.Vectors.{vector_as}
 use Rattle.replaying.proofs.over.OverState.{over_ground, term_same, few_ended}
 use borrow.Author.Rules.{rules}
-use Rattle.replaying.proofs.over.replay_over.Reads as reads
-use Rattle.replaying.proofs.over.replay_over.Lts as lts
-use Rattle.level.proofs.by_runs.ground_of.Reads as ground_of_reads
-use Rattle.level.proofs.by_runs.usual.Reads as usual_reads
-use Rattle.replaying.proofs.over.replay_term.Reads as replay_term_reads
-use Rattle.words.proofs.place.Reads as place_reads
 use Rattle.replaying.proofs.over.replay_over.Goals as goal
 
--- src/over.rt:109:5
 pub replay_term-requires : goal.replay_term-requires
 replay_term-requires c =
     let a = c.args in
@@ -41,7 +34,6 @@ replay_term-requires c =
       P.6,
     )
 
--- src/over.rt:90:1
 pub returns : goal.returns
 returns c =
     let a = c.args in

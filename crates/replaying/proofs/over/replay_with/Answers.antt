@@ -21,17 +21,10 @@ use Rattle.level.specs.by_runs.Stages.{usual, ground_at}
 use Rattle.level.proofs.by_runs.GroundOfLevel.{few_vectors}
 use Rattle.level.proofs.by_runs.OverGround.{leading_at, framed_at, whole_frame}
 use Rattle.replaying.specs.over.Vectors.{vector_as}
-use Rattle.replaying.proofs.over.OverState.{frame_full, no_vector, past_vectors, at_vector}
+use Rattle.replaying.proofs.over.OverState.{frame_full, no_vector, at_vector}
 use borrow.Author.Rules.{rules}
-use Rattle.replaying.proofs.over.replay_with.Reads as reads
-use Rattle.replaying.proofs.over.replay_with.Lts as lts
-use Rattle.frame.proofs.form.Reads as form_reads
-use Rattle.replaying.proofs.over.replay_over.Reads as replay_over_reads
-use Rattle.state.proofs.soundness.count_of.Reads as count_of_reads
-use Rattle.vectors.proofs.terms.row.Reads as row_reads
 use Rattle.replaying.proofs.over.replay_with.Goals as goal
 
--- src/over.rt:145:23
 pub form-requires : goal.form-requires
 form-requires c =
     let a = c.args in
@@ -40,9 +33,8 @@ form-requires c =
     let f = few_vectors a.state.now a.j P.0 in
     (omega arith, omega (arith, e, f), omega (arith, e, f, P.1.long), omega (arith, e, f))
 
--- src/over.rt:147:25
-pub returns-in-Full : goal.returns-in-Full
-returns-in-Full c =
+pub returns-in_default : goal.returns-in_default
+returns-in_default c =
     let a = c.args in
     let P = c.requires in
     let s = a.state.now in
@@ -53,11 +45,10 @@ returns-in-Full c =
     ap (λ k. monomials_of (rows a.tables.now 0 k)) r ∙ leading_at s a.j P.0 a.tables.now (spans_in a.tables.now) P.1.led in (
       frame_full s a.j a.v a.place (lines (drop a.from a.input.now)) P.4
           (monomials_of (rows a.tables.now 0 c.count_of-r.result)) lead
-          (sym (ap (λ y. framed_of y F.new.d) c.in-Full.is) ∙ F.ensures.0),
+          c.in_default.ensures.0,
       tt,
     )
 
--- src/over.rt:150:9
 pub returns-then-v-eq0 : goal.returns-then-v-eq0
 returns-then-v-eq0 c =
     let a = c.args in
@@ -65,56 +56,33 @@ returns-then-v-eq0 c =
     let s = a.state.now in
     let F = c.form in
     let r : c.count_of-r.result ≡ count_at s a.j = c.count_of-r.ensures in
-    let lead : monomials_of (rows a.tables.now 0 c.count_of-r.result) ≡
-    leading_monomials (level_at document_01 s a.j) =
+    let lead : monomials_of (rows a.tables.now 0 c.count_of-r.result) ≡ leading_monomials (level_at document_01 s a.j) =
     ap (λ k. monomials_of (rows a.tables.now 0 k)) r ∙ leading_at s a.j P.0 a.tables.now (spans_in a.tables.now) P.1.led in (
       no_vector s a.j a.v a.place (lines (drop a.from a.input.now)) P.4
-          (monomials_of (rows a.tables.now 0 c.count_of-r.result)) lead
-          F.new.d c.in-Rows.n (sym (ap (λ y. framed_of y F.new.d) c.in-Rows.is) ∙ F.ensures.0)
-          (omega arith),
+          (monomials_of (rows a.tables.now 0 c.count_of-r.result)) lead F.new.d c.in-Some.count c.in-Some.ensures.0 c.then-v-eq0.either,
       tt,
     )
 
--- src/over.rt:153:9
-pub returns-then-count-v : goal.returns-then-count-v
-returns-then-count-v c =
-    let a = c.args in
-    let P = c.requires in
-    let s = a.state.now in
-    let F = c.form in
-    let r : c.count_of-r.result ≡ count_at s a.j = c.count_of-r.ensures in
-    let lead : monomials_of (rows a.tables.now 0 c.count_of-r.result) ≡
-    leading_monomials (level_at document_01 s a.j) =
-    ap (λ k. monomials_of (rows a.tables.now 0 k)) r ∙ leading_at s a.j P.0 a.tables.now (spans_in a.tables.now) P.1.led in (
-      past_vectors s a.j a.v a.place (lines (drop a.from a.input.now)) P.4
-          (monomials_of (rows a.tables.now 0 c.count_of-r.result)) lead
-          F.new.d c.in-Rows.n (sym (ap (λ y. framed_of y F.new.d) c.in-Rows.is) ∙ F.ensures.0) (omega arith),
-      tt,
-    )
-
--- src/over.rt:155:9
 pub row-t-requires : goal.row-t-requires
 row-t-requires c =
-    let m : c.in-Rows.n ≤ most_vectors = subst (few most_vectors) c.in-Rows.is
-    c.form.ensures.1 in
+    let m : c.in-Some.count ≤ most_vectors = c.in-Some.ensures.1 in
     omega (arith, m)
 
--- src/over.rt:157:5
 pub replay_over-requires : goal.replay_over-requires
 replay_over-requires c =
     let a = c.args in
     let P = c.requires in
     let s = a.state.now in
     let F = c.form in
-    let n = c.in-Rows.n in
+    let n = c.in-Some.count in
     let r : c.count_of-r.result ≡
     count_at s a.j = c.count_of-r.ensures in
     let lead : monomials_of (rows a.tables.now 0 c.count_of-r.result) ≡ leading_monomials (level_at document_01 s a.j) =
     ap (λ k. monomials_of (rows a.tables.now 0 k)) r ∙ leading_at s a.j P.0 a.tables.now (spans_in a.tables.now) P.1.led in
     let told : done (monomials_of (rows F.new.d 0 n)) ≡ if_few (leb (length (frame 1
     (monomials_of (rows a.tables.now 0 c.count_of-r.result)))) most_vectors)
-    (frame 1 (monomials_of (rows a.tables.now 0 c.count_of-r.result))) = sym (ap (λ y. framed_of y F.new.d) c.in-Rows.is) ∙ F.ensures.0 in
-    let m : n ≤ most_vectors = subst (few most_vectors) c.in-Rows.is F.ensures.1 in
+    (frame 1 (monomials_of (rows a.tables.now 0 c.count_of-r.result))) = c.in-Some.ensures.0 in
+    let m : n ≤ most_vectors = c.in-Some.ensures.1 in
     let framed = framed_at s a.j P.0 usual n F.new.d (record {
       few = m;
       fits = omega (arith, m);
@@ -125,7 +93,6 @@ replay_over-requires c =
     c.row-t.ensures in
     (P.0, P.1, P.2, P.3, k.0, k.1, omega (arith, P.5))
 
--- src/over.rt:125:1
 pub returns : goal.returns
 returns c =
     let a = c.args in
@@ -138,8 +105,8 @@ returns c =
     ap (λ k. monomials_of (rows a.tables.now 0 k)) r ∙ leading_at s a.j P.0 a.tables.now (spans_in a.tables.now) P.1.led in (
       at_vector s a.j a.v a.place (lines (drop a.from a.input.now)) P.4
           (monomials_of (rows a.tables.now 0 c.count_of-r.result)) lead
-          F.new.d c.in-Rows.n
-          (sym (ap (λ y. framed_of y F.new.d) c.in-Rows.is) ∙ F.ensures.0) (omega arith) (omega arith)
+          F.new.d c.in-Some.count
+          c.in-Some.ensures.0 (omega arith) (omega arith)
           (term_of c.row-t.result)
           c.row-t.ensures (vector_as x.result x.new.vector) x.ensures.0,
       x.ensures.1,

@@ -6,31 +6,21 @@ use Rattle.vectors.specs.sums.Places.{seek}
 use Rattle.replaying.specs.picks.Named.{named}
 use Rattle.replaying.proofs.picks.Naming.{nowhere}
 use borrow.Author.Rules.{rules}
-use Rattle.replaying.proofs.picks.place_of.Reads as reads
-use Rattle.replaying.proofs.picks.place_of.Lts as lts
-use Rattle.reader.proofs.lines.term_said.Reads as term_said_reads
-use Rattle.reader.proofs.lines.exponents.Reads as exponents_reads
-use Rattle.reader.proofs.lines.fits.Reads as fits_reads
-use Rattle.replaying.proofs.picks.as_term.Reads as as_term_reads
-use Rattle.vectors.proofs.sums.find.Reads as find_reads
 use Rattle.replaying.proofs.picks.place_of.Goals as goal
 
--- src/picks.rt:49:13
 pub term_said-t-requires : goal.term_said-t-requires
-term_said-t-requires c = sym (ap (fits? most_exponent) c.exponents.ensures) ∙ sym c.fits.ensures ∙ c.if-fits.true
+term_said-t-requires c = sym (ap (fits? most_exponent) c.exponents.ensures) ∙ sym c.fits.ensures ∙ c.if-not-fits.false
 
--- src/picks.rt:51:9
-pub returns-then-fits : goal.returns-then-fits
-returns-then-fits c =
+pub returns : goal.returns
+returns c =
     let a = c.args in
     c.find.ensures ∙ ap (λ x. seek x (rows a.value.now 0 a.m) 0) (ap (λ t. t.1)
     (c.term_said-t.ensures ∙ c.as_term-w.ensures))
 
--- src/picks.rt:43:1
-pub returns : goal.returns
-returns c =
+pub returns-then-not-fits : goal.returns-then-not-fits
+returns-then-not-fits c =
     let a = c.args in
     nowhere (named a.n a.v) a.value.now a.m
     (sym (ap (λ t. fits? most_exponent t.1.0) c.as_term-w.ensures) ∙ sym
     (ap (fits? most_exponent) c.exponents.ensures)
-    ∙ sym c.fits.ensures ∙ c.if-fits.false)
+    ∙ sym c.fits.ensures ∙ c.if-not-fits.true)

@@ -1,8 +1,6 @@
-use native.Mathlib.Omega.{arith}
-use mathlib.Core.Path.{◌≡◌, refl, sym, ◌∙◌}
+use mathlib.Core.Path.{◌≡◌}
 use Prim.Native.Nat.{◌-◌, ◌≤◌}
 use lib.ListN.{length}
-use Rattle.runs.proofs.reduction.Adding.{adding_on, adding_stops, adding_ends, within_rows}
 use Rattle.runs.specs.reduction.Grounds.{reduction_of}
 use Rattle.definitions.specs.Packed.{unpack}
 use Rattle.definitions.specs.Layout.{rows}
@@ -14,6 +12,3 @@ invariant-loop-i l =
     (l.from ≤ l.i) × (l.k ≤ l.g.working) × (length l.value ≡ length l.initial.value)
     × (add_products (reduction_of l.g l.tables) l.drops l.c (unpack l.q) (rows l.level l.from (l.to - l.from)) (rows l.initial.value 0 l.n)
     ≡ add_products (reduction_of l.g l.tables) l.drops l.c (unpack l.q) (rows l.level l.i (l.to - l.i)) (rows l.value 0 l.k))
-
-abbrev pub decreases-loop-i : goal.decreases-loop-i
-decreases-loop-i l = l.to - l.i

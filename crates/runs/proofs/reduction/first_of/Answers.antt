@@ -1,4 +1,3 @@
-use borrow.Author.Rules.{rules}
 use mathlib.Core.Path.{◌∙◌}
 use Rattle.runs.proofs.reduction.Families.{first_later}
 use Rattle.runs.proofs.reduction.first_of.Goals as goal

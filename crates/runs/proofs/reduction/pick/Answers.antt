@@ -1,4 +1,3 @@
-use borrow.Author.Rules.{rules}
 use native.Mathlib.Omega.{arith}
 use mathlib.Core.Path.{sym, ◌∙◌}
 use Rattle.orders.specs.Images.{table_of, table_order}
@@ -26,4 +25,4 @@ pub returns-in_default : goal.returns-in_default
 returns-in_default c =
     let a = c.args in
     picks_oldest (table_order a.g.code (table_of a.g.images (below_in a.tables.now))) a.pick a.value.now a.n (omega arith)
-    c.in_default.in_default-own.rest.0.1 c.in_default.in_default-own.rest.1
+    (λ e. omega arith) (λ e. omega arith)

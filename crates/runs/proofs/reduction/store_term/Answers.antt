@@ -1,27 +1,18 @@
-use borrow.Author.Rules.{rules}
 use native.Mathlib.Omega.{arith}
-use mathlib.Core.Path.{sym, ap, ◌∙◌}
-use Rattle.runs.proofs.reduction.Adding.{store_within}
+use mathlib.Core.Path.{sym, ◌∙◌, subst, ◌≡◌}
+use Rattle.runs.proofs.reduction.Adding.{stored_added, store_within}
+use Rattle.definitions.specs.Vectors.{store}
 use Rattle.definitions.specs.Layout.{rows}
 use Rattle.laws.proofs.Rows.{length_rows}
 use Rattle.vectors.specs.terms.Rows.{term_of}
-use Rattle.vectors.specs.sums.Places.{stored_as}
+use Rattle.runs.specs.reduction.Grounds.{added_of, Within}
 use Rattle.runs.proofs.reduction.store_term.Goals as goal
 
-pub returns-in-Rows : goal.returns-in-Rows
-returns-in-Rows c =
-    let a = c.args in (
-      sym (ap (λ y. stored_as y c.store.new.s) c.in-Rows.is)
-          ∙ c.store.ensures,
-      store_within a.limit a.p (term_of a.t) (rows a.s.now 0 a.n)
-          c.store.result c.store.new.s
-          c.in-Rows.k (omega (arith, length_rows a.s.now 0 a.n)) c.store.ensures
-          c.in-Rows.is,
+pub returns : goal.returns
+returns c =
+    let a = c.args in
+    let s = c.store in
+    subst (λ x. (added_of x s.new.s ≡ store a.limit a.p (term_of a.t) (rows a.s.now 0 a.n)) × Within a.limit x) (sym c.ok_or.ensures.value) (
+      stored_added s.result s.new.s ∙ s.ensures,
+      store_within a.limit a.p (term_of a.t) (rows a.s.now 0 a.n) s.result s.new.s (omega (arith, length_rows a.s.now 0 a.n)) s.ensures,
     )
-
-pub returns-in-Full : goal.returns-in-Full
-returns-in-Full c = (
-  sym (ap (λ y. stored_as y c.store.new.s) c.in-Full.is)
-      ∙ c.store.ensures,
-  tt,
-)

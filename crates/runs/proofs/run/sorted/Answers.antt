@@ -1,4 +1,4 @@
-use borrow.Author.Rules.{rules}
+use Rattle.std.specs.Prelude.{Ok}
 use native.Mathlib.Omega.{arith}
 use mathlib.Core.Path.{sym, ap, ◌∙◌, subst}
 use Rattle.definitions.specs.Result.{done, refused}
@@ -14,7 +14,7 @@ sort_in_place-k-requires c = (
   omega (
     arith,
     c.requires.3.vector_fits,
-    subst (Ended c.args.g) c.in-Finished.is c.requires.4,
+    subst (λ x. Ended c.args.g (Ok x)) c.in-Finished.is c.requires.4,
   ),
   c.requires.2.fits,
   c.requires.2.tabled,
@@ -26,13 +26,13 @@ sort-k-requires c = (
   omega (
     arith,
     c.requires.3.value_fits,
-    subst (Ended c.args.g) c.in-Stopped.is
+    subst (λ x. Ended c.args.g (Ok x)) c.in-Stopped.is
         c.requires.4,
   ),
   omega (
     arith,
     c.requires.3.left_fits,
-    subst (Ended c.args.g) c.in-Stopped.is
+    subst (λ x. Ended c.args.g (Ok x)) c.in-Stopped.is
         c.requires.4,
   ),
   c.requires.1.fits,
@@ -46,21 +46,13 @@ returns-in-Finished c =
     let order = order_of g a.tables.now in
     let above = table_order g.code (table_of g.r (above_in a.tables.now)) in
     let s = c.sort_in_place-k in (
-      ap done s.ensures ∙ sym (ap (λ y. ended_of order above g.p y a.value.now a.vector.now) c.in-Finished.is),
+      ap done s.ensures ∙ sym (ap (λ y. ended_of order above g.p (Ok y) a.value.now a.vector.now) c.in-Finished.is),
       omega (
         arith,
         sorted_rows above g.p s.new.s s.result a.vector.now c.in-Finished.v s.ensures,
-        subst (Ended g) c.in-Finished.is c.requires.4,
+        subst (λ x. Ended g (Ok x)) c.in-Finished.is c.requires.4,
       ),
     )
-
-pub returns-in-Refused : goal.returns-in-Refused
-returns-in-Refused c =
-    let a = c.args in
-    let g = a.g in
-    let order = order_of g a.tables.now in
-    let above = table_order g.code (table_of g.r (above_in a.tables.now)) in
-    (sym (ap (λ y. ended_of order above g.p y a.value.now a.vector.now) c.in-Refused.is), tt)
 
 pub returns-in-Stopped : goal.returns-in-Stopped
 returns-in-Stopped c =
@@ -69,13 +61,13 @@ returns-in-Stopped c =
     let order = order_of g a.tables.now in
     let above = table_order g.code (table_of g.r (above_in a.tables.now)) in
     let s = c.sort-k in (
-      ap (refused 9 0) s.ensures ∙ sym (ap (λ y. ended_of order above g.p y a.value.now a.vector.now)
+      ap (refused 9 0) s.ensures ∙ sym (ap (λ y. ended_of order above g.p (Ok y) a.value.now a.vector.now)
           c.in-Stopped.is),
       omega (
         arith,
         sorted_rows order g.p s.new.d s.result a.value.now
             c.in-Stopped.n s.ensures,
-        subst (Ended g) c.in-Stopped.is
+        subst (λ x. Ended g (Ok x)) c.in-Stopped.is
             c.requires.4,
       ),
     )

@@ -1,6 +1,5 @@
-use borrow.Author.Rules.{rules}
 use native.Mathlib.Omega.{arith}
-use mathlib.Core.Path.{ap, ◌∙◌}
+use mathlib.Core.Path.{◌∙◌}
 use Rattle.definitions.specs.Monomial as definition
 use Rattle.definitions.specs.Run.{add_products}
 use Rattle.monomial.specs.Values.{monomial_of}
@@ -22,7 +21,8 @@ pub returns : goal.returns
 returns c =
     let a = c.args in
     let m = monomial_of a.m in (
-      c.add_multiple.ensures.0 ∙ ap (add_products (reduction_of a.g a.tables.now) a.drops 1 m.0
-          (definition.vector_of (family_of a.g a.level.now (ends_in a.tables.now)) m.1)) (rows_none a.value.now 0),
+      c.add_multiple.ensures.0
+          ∙ (λ i. add_products (reduction_of a.g a.tables.now) a.drops 1 m.0
+          (definition.vector_of (family_of a.g a.level.now (ends_in a.tables.now)) (c.from-i.ensures i)) (rows_none a.value.now 0 i)),
       c.add_multiple.ensures.1,
     )

@@ -1,10 +1,9 @@
-use borrow.Author.Rules.{rules}
 use native.Mathlib.Omega.{arith}
 use mathlib.Core.Path.{◌≡◌, sym, ap, ◌∙◌, subst}
 use lib.ListN.{get_or}
+use Rattle.std.specs.Prelude.{Ok}
 use Rattle.vectors.specs.terms.Rows.{term_of}
 use Rattle.vectors.proofs.sums.Rowwise.{at_row}
-use Rattle.reducers.specs.search.Search.{answered}
 use Rattle.laws.proofs.Rows.{length_rows}
 use Rattle.definitions.specs.Packed.{unpack}
 use Rattle.definitions.specs.Reducer.{answer, reducer, lower_order}
@@ -23,16 +22,13 @@ row-t-requires c =
 
 pub without_reducer-requires : goal.without_reducer-requires
 without_reducer-requires c =
-    let asked =
-    c.requires in
+    let asked = c.requires in
     (asked.3, omega (arith, asked.2.value_fits, asked.4))
 
 pub returns-in_default : goal.returns-in_default
 returns-in_default c =
-    let a =
-    c.args in
-    let asked =
-    c.requires in
+    let a = c.args in
+    let asked = c.requires in
     let g = a.g in
     let n = a.n in
     let W = strategy_of g a.tables.now a.w in
@@ -40,30 +36,21 @@ returns-in_default c =
     let i = a.i in
     let w = c.without_reducer in
     let told : lower_order ≡ answer g.p (rows a.tables.now 0 g.r) (get_or (rows a.value.now 0 n) i no_term) =
-    sym (ap (λ y. answered y (unpack c.reducer_of-found.result.quotient))
-    c.in_default.is) ∙ c.reducer_of-found.ensures
-    ∙ ap (answer g.p (rows a.tables.now 0 g.r)) (c.row-t.ensures
-    ∙ sym (at_row a.value.now n i asked.3)) in (
-      λ above. (λ k. step_of (order_of g a.tables.now) g.p (w.ensures.0 k) (w.ensures.1 k) a.vector.now)
+    c.in_default.ensures ∙ ap (answer g.p (rows a.tables.now 0 g.r)) (c.row-t.ensures ∙ sym (at_row a.value.now n i asked.3)) in (
+      λ above. (λ k. step_of (order_of g a.tables.now) g.p (Ok (w.ensures.0 k)) (w.ensures.1 k) a.vector.now)
           ∙ left_out (stage_of g a.level.now a.tables.now above) a.value.now n a.vector.now a.v i asked.3
           (omega (arith, asked.2.value_fits, asked.4)) a.w.stops
           ∙ ap (by_answer (stage_of g a.level.now a.tables.now above) W r i) told,
-      subst (Room g) (sym w.ensures.0) (without_room g n a.v a.w.stops asked.4 asked.5),
+      subst (λ x. Room g (Ok x)) (sym w.ensures.0) (without_room g n a.v a.w.stops asked.4 asked.5),
     )
 
 pub reduced-requires : goal.reduced-requires
 reduced-requires c =
-    let a =
-    c.args in
-    let asked =
-    c.requires in
+    let a = c.args in
+    let asked = c.requires in
     let hs = rows a.tables.now 0 a.g.r in
-    let b = reducer_number a.g.p hs (term_of c.row-t.result)
-    c.in-Reducer.j c.in-Reducer.c
-    (unpack c.reducer_of-found.result.quotient)
-    (sym (ap (λ y. answered y (unpack c.reducer_of-found.result.quotient))
-    c.in-Reducer.is)
-    ∙ c.reducer_of-found.ensures) in (
+    let x = c.in-Some.x in
+    let b = reducer_number a.g.p hs (term_of c.row-t.result) x.number x.coefficient (unpack x.quotient) c.in-Some.ensures in (
       asked.0,
       asked.1,
       asked.2,
@@ -75,33 +62,21 @@ reduced-requires c =
 
 pub returns : goal.returns
 returns c =
-    let a =
-    c.args in
-    let asked =
-    c.requires in
-    let reducer-of-there =
-    c.reducer_of-found in
-    let row-there =
-    c.row-t in
+    let a = c.args in
     let g = a.g in
     let n = a.n in
     let W = strategy_of g a.tables.now a.w in
     let r = run_of a.value.now n a.vector.now a.v in
     let i = a.i in
     let d = c.reduced in
-    let j = c.in-Reducer.j in
-    let x = c.in-Reducer.c in
-    let q = unpack reducer-of-there.result.quotient in
+    let x = c.in-Some.x in
+    let q = unpack x.quotient in
     let f = family_of g a.level.now (ends_in a.tables.now) in
     let R = reduction_of g a.tables.now in
-    let told : reducer j x q ≡ answer g.p (rows a.tables.now 0 g.r) (get_or (rows a.value.now 0 n) i no_term) =
-    sym (ap (λ y. answered y q) c.in-Reducer.is)
-    ∙ reducer-of-there.ensures
-    ∙ ap (answer g.p (rows a.tables.now 0 g.r))
-    (row-there.ensures
-    ∙ sym (at_row a.value.now n i asked.3)) in (
+    let told : reducer x.number x.coefficient q ≡ answer g.p (rows a.tables.now 0 g.r) (get_or (rows a.value.now 0 n) i no_term) =
+    c.in-Some.ensures ∙ ap (answer g.p (rows a.tables.now 0 g.r)) (c.row-t.ensures ∙ sym (at_row a.value.now n i c.requires.3)) in (
       λ above. d.ensures.0 (order_of g a.tables.now)
-          ∙ ap (λ y. reduced_by R f a.w.drops r j y q) c.negative-d.ensures
+          ∙ ap (λ y. reduced_by R f a.w.drops r x.number y q) c.negative-c.ensures
           ∙ ap (by_answer (stage_of g a.level.now a.tables.now above) W r i) told,
       d.ensures.1,
     )

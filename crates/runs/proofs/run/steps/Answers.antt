@@ -1,24 +1,20 @@
 use native.Mathlib.Omega.{arith}
+use Rattle.std.specs.Prelude.{Ok}
+use Rattle.std.proofs.lemmas.Result.{err_from_is_err_and}
 use mathlib.Core.Path.{◌≡◌, refl, sym, ap, ◌∙◌, subst}
 use mathlib.Core.List.{[]}
-use Prim.Native.Nat.{◌≤◌}
-use lib.ListN.{length}
 use Rattle.runs.proofs.run.Stepping.{rooms_again}
-use Rattle.runs.proofs.run.Reaching.{Reached, reached_start, reached_on, reached_refused, reached_end, step_ends}
+use Rattle.runs.proofs.run.Reaching.{reached_start, reached_on, reached_refused, reached_end, step_ends}
 use Rattle.runs.specs.run.Stages.{order_of, stage_of, strategy_of, run_of, step_of, Room}
 use Rattle.runs.proofs.reduction.Adding.{rows_none}
-use Rattle.runs.specs.reduction.Grounds.{family_of, ends_in}
 use Rattle.ending.proofs.Picking.{picks_by_code}
 use Rattle.ending.proofs.Falling.{step_keeps, step_falls_as}
-use Rattle.ending.specs.Spent.{spent}
-use Rattle.ending.specs.Good.{good?}
 use Rattle.definitions.specs.Layout.{rows}
 use Rattle.definitions.specs.Run.{on, step}
 use Rattle.definitions.specs.Vectors.{descending}
 use Rattle.definitions.specs.Result.{done}
 use Rattle.definitions.specs.Order.{Comparison}
 use Rattle.definitions.specs.Monomial.{Monomial}
-use lib.Dec.{T}
 use Rattle.runs.proofs.run.steps.Goals as goal
 
 pub loop-n-init : goal.loop-n-init
@@ -51,12 +47,9 @@ one_step-requires c =
 
 pub loop-n-smaller : goal.loop-n-smaller
 loop-n-smaller c =
-    let a =
-    c.args in
-    let l =
-    c.loop-n in
-    let asked =
-    c.requires in
+    let a = c.args in
+    let l = c.loop-n in
+    let asked = c.requires in
     let g = a.g in
     let order = order_of g a.tables.now in
     let W = strategy_of g a.tables.now a.w in
@@ -67,17 +60,14 @@ loop-n-smaller c =
     let v = c.in-On.y in
     let r' = run_of s.new.value n s.new.vector v in
     let told : (above : Monomial → Monomial → Comparison) → done (on r') ≡ step (stage_of g a.level.now a.tables.now above) W r =
-    λ above. sym (ap (λ y. step_of order g.p y s.new.value s.new.vector) c.in-On.is) ∙ s.ensures.0 above in
+    λ above. sym (ap (λ y. step_of order g.p (Ok y) s.new.value s.new.vector) c.in-On.is) ∙ c.in_ok-x.ensures.0 above in
     step_falls_as S asked.6 W refl refl refl (picks_by_code order a.w.pick) r r' l.invariant.4 (sym (told order))
 
 pub loop-n-preserved : goal.loop-n-preserved
 loop-n-preserved c =
-    let a =
-    c.args in
-    let l =
-    c.loop-n in
-    let asked =
-    c.requires in
+    let a = c.args in
+    let l = c.loop-n in
+    let asked = c.requires in
     let g = a.g in
     let order = order_of g a.tables.now in
     let W = strategy_of g a.tables.now a.w in
@@ -88,8 +78,8 @@ loop-n-preserved c =
     let v = c.in-On.y in
     let r' = run_of s.new.value n s.new.vector v in
     let told : (above : Monomial → Monomial → Comparison) → done (on r') ≡ step (stage_of g a.level.now a.tables.now above) W r =
-    λ above. sym (ap (λ y. step_of order g.p y s.new.value s.new.vector) c.in-On.is) ∙ s.ensures.0 above in
-    let room = subst (Room g) c.in-On.is s.ensures.1 in (
+    λ above. sym (ap (λ y. step_of order g.p (Ok y) s.new.value s.new.vector) c.in-On.is) ∙ c.in_ok-x.ensures.0 above in
+    let room = subst (λ y. Room g (Ok y)) c.in-On.is c.in_ok-x.ensures.1 in (
       room.0,
       room.1,
       omega (arith, l.invariant.2),
@@ -99,27 +89,17 @@ loop-n-preserved c =
           (l.invariant.5 above) (told above),
     )
 
-pub shape_of-value-in-Refused : goal.shape_of-value-in-Refused
-shape_of-value-in-Refused c = omega (arith, c.loop-n.invariant.2)
-
-pub shape_of-vector-in-Refused : goal.shape_of-vector-in-Refused
-shape_of-vector-in-Refused c = omega (arith, c.loop-n.invariant.3)
-
-pub returns-in-Refused : goal.returns-in-Refused
-returns-in-Refused c =
-    let a =
-    c.args in
-    let l =
-    c.loop-n in
+pub returns-in_err-x : goal.returns-in_err-x
+returns-in_err-x c =
+    let a = c.args in
+    let l = c.loop-n in
     let g = a.g in
-    let order = order_of g a.tables.now in
     let W = strategy_of g a.tables.now a.w in
     let r = run_of l.value l.n l.vector l.v in
-    let s = c.one_step in
-    let x = c.in-Refused.x in (
-      λ above. reached_refused (stage_of g a.level.now a.tables.now above) W
-          (run_of a.value.now a.start a.vector.now a.first) r x 0 [] (l.invariant.5 above)
-          (sym (ap (λ y. step_of order g.p y s.new.value s.new.vector) c.in-Refused.is) ∙ s.ensures.0 above),
+    let p = err_from_is_err_and c.from_residual.result c.from_residual.ensures.1 in
+    rw (p.1, p.2) (
+      λ above. reached_refused (stage_of g a.level.now a.tables.now above) W (run_of a.value.now a.start a.vector.now a.first) r _ 0 []
+          (l.invariant.5 above) (c.in_err-x.ensures.0 above),
       tt,
     )
 
@@ -131,10 +111,8 @@ shape_of-vector-in-Stopped c = omega (arith, c.loop-n.invariant.3)
 
 pub returns-in-Stopped : goal.returns-in-Stopped
 returns-in-Stopped c =
-    let a =
-    c.args in
-    let l =
-    c.loop-n in
+    let a = c.args in
+    let l = c.loop-n in
     let g = a.g in
     let order = order_of g a.tables.now in
     let W = strategy_of g a.tables.now a.w in
@@ -143,8 +121,8 @@ returns-in-Stopped c =
     let x = c.in-Stopped.x in (
       λ above. reached_refused (stage_of g a.level.now a.tables.now above) W
           (run_of a.value.now a.start a.vector.now a.first) r 9 0 (descending order g.p (rows s.new.value 0 x)) (l.invariant.5 above)
-          (sym (ap (λ y. step_of order g.p y s.new.value s.new.vector) c.in-Stopped.is) ∙ s.ensures.0 above),
-      subst (Room g) c.in-Stopped.is s.ensures.1,
+          (sym (ap (λ y. step_of order g.p (Ok y) s.new.value s.new.vector) c.in-Stopped.is) ∙ c.in_ok-x.ensures.0 above),
+      subst (λ y. Room g (Ok y)) c.in-Stopped.is c.in_ok-x.ensures.1,
     )
 
 pub shape_of-value : goal.shape_of-value

@@ -1,21 +1,12 @@
-use native.Mathlib.Omega.{arith}
-use mathlib.Core.Path.{◌≡◌, refl, sym, ap, ◌∙◌, subst}
-use mathlib.Core.List.{[]}
+use mathlib.Core.Path.{◌≡◌}
 use Prim.Native.Nat.{◌≤◌}
 use lib.ListN.{length}
-use Rattle.runs.proofs.run.Stepping.{rooms_again}
-use Rattle.runs.proofs.run.Reaching.{Reached, reached_start, reached_on, reached_refused, reached_end, step_ends}
-use Rattle.runs.specs.run.Stages.{order_of, stage_of, strategy_of, run_of, step_of, Room}
-use Rattle.runs.proofs.reduction.Adding.{rows_none}
+use Rattle.runs.proofs.run.Reaching.{Reached}
+use Rattle.runs.specs.run.Stages.{stage_of, strategy_of, run_of}
 use Rattle.runs.specs.reduction.Grounds.{family_of, ends_in}
-use Rattle.ending.proofs.Picking.{picks_by_code}
-use Rattle.ending.proofs.Falling.{step_keeps, step_falls_as}
 use Rattle.ending.specs.Spent.{spent}
 use Rattle.ending.specs.Good.{good?}
 use Rattle.definitions.specs.Layout.{rows}
-use Rattle.definitions.specs.Run.{on, step}
-use Rattle.definitions.specs.Vectors.{descending}
-use Rattle.definitions.specs.Result.{done}
 use Rattle.definitions.specs.Order.{Comparison}
 use Rattle.definitions.specs.Monomial.{Monomial}
 use lib.Dec.{T}

@@ -1,4 +1,3 @@
-use borrow.Author.Rules.{rules}
 use mathlib.Core.Path.{sym, ap, ◌∙◌}
 use Rattle.runs.specs.run.Stages.{without_step, without_words}
 use Rattle.runs.proofs.run.without_reducer.Goals as goal

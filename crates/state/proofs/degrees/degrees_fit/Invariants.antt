@@ -8,6 +8,3 @@ use Rattle.state.proofs.degrees.degrees_fit.Given as goal
 abbrev pub invariant-loop-j : goal.invariant-loop-j
 invariant-loop-j l = (l.j ≤ l.s)
     × (fits? most_degree (take l.s (drop degrees_start l.state)) ≡ fits? most_degree (drop l.j (take l.s (drop degrees_start l.state))))
-
-abbrev pub decreases-loop-j : goal.decreases-loop-j
-decreases-loop-j l = l.s - l.j

@@ -1,7 +1,6 @@
 use native.Mathlib.Omega.{arith}
 use mathlib.Core.Path.{◌≡◌, sym, ◌∙◌, subst}
 use lib.Dec.{T}
-use borrow.Author.Tests.{not-true, not-false}
 use Rattle.definitions.specs.Limits.{document_01}
 use Rattle.definitions.specs.Layout.{levels_at}
 use Rattle.orders.specs.Levels.{images}
@@ -25,12 +24,12 @@ level_carries-requires c =
     let cut = test_cut s p.0 l.k (images (levels_at document_01 s l.k)) (omega arith) (own l.k (omega arith)) in
     (omega arith, omega arith, cut.0, components_held s p.0 a.h p.1 p.3 p.2 l.k (omega arith), cut.1)
 
-pub returns-then-fails : goal.returns-then-fails
-returns-then-fails c =
+pub returns-then-not-level_carries : goal.returns-then-not-level_carries
+returns-then-not-level_carries c =
     let a = c.args in
     let l = c.loop-k in
     sym (carry_fails a.state.now a.h l.k (omega arith)
-    (sym c.level_carries.ensures ∙ not-true c.level_carries.result (sym c.fails.ensures ∙ c.if-fails.true)))
+    (sym c.level_carries.ensures ∙ c.if-not-level_carries.true))
 
 pub loop-k-preserved : goal.loop-k-preserved
 loop-k-preserved c =
@@ -38,8 +37,7 @@ loop-k-preserved c =
     let l = c.loop-k in (
       omega arith,
       carry_one a.state.now l.k l.invariant.1
-          (is_true (sym c.level_carries.ensures ∙ not-false c.level_carries.result
-          (sym c.fails.ensures ∙ c.if-fails.false))),
+          (is_true (sym c.level_carries.ensures ∙ c.if-not-level_carries.false)),
     )
 
 pub returns : goal.returns

@@ -5,6 +5,3 @@ use Rattle.state.proofs.degrees.levels_carry.Given as goal
 
 abbrev pub invariant-loop-k : goal.invariant-loop-k
 invariant-loop-k l = (l.k ≤ l.h) × T (levels_carry? l.state l.k)
-
-abbrev pub decreases-loop-k : goal.decreases-loop-k
-decreases-loop-k l = l.h - l.k

@@ -14,8 +14,8 @@ use Rattle.state.proofs.degrees.vectors_carry.Goals as goal
 pub loop-j-init : goal.loop-j-init
 loop-j-init c = (omega arith, refl, λ i h. absurd (not-suc-le-zero h))
 
-pub degree_at-x-requires : goal.degree_at-x-requires
-degree_at-x-requires c =
+pub degree_at-requires : goal.degree_at-requires
+degree_at-requires c =
     let a = c.args in
     let l = c.loop-j in (
       subst (λ m. m * row_length + row_length ≤ length a.level.now) (sym l.invariant.1)
@@ -26,15 +26,15 @@ degree_at-x-requires c =
 pub bounds-d-j : goal.bounds-d-j
 bounds-d-j c = omega (arith, c.requires.0)
 
-pub returns-then-x-y : goal.returns-then-x-y
-returns-then-x-y c =
+pub returns-then-degree_at-wider : goal.returns-then-degree_at-wider
+returns-then-degree_at-wider c =
     let a = c.args in
     let p = c.requires in
     let l = c.loop-j in
     let m = take a.n a.below.now in
     weights_stop a.n a.below.now a.level.now a.ends.now a.r a.d.now p.1 p.0 l.j (omega arith)
-    (λ e. c.if-x-y.true (c.degree_at-x.ensures ∙ ap (λ i. degree_by m (row_at a.level.now i).1) l.invariant.1 ∙ e ∙ sym
-    c.wider-y.ensures.0))
+    (λ e. c.if-degree_at-wider.true (c.degree_at.ensures ∙ ap (λ i. degree_by m (row_at a.level.now i).1) l.invariant.1 ∙ e ∙ sym
+    c.wider.ensures.0))
 
 pub bounds-ends-j : goal.bounds-ends-j
 bounds-ends-j c = omega (arith, c.requires.1.ends_fit)
@@ -44,12 +44,12 @@ loop-j-preserved c =
     let a = c.args in
     let l = c.loop-j in
     let m = take a.n a.below.now in
-    let q = c.degree_at-x.ensures ∙ ap (λ i. degree_by m (row_at a.level.now i).1) l.invariant.1 in
+    let q = c.degree_at.ensures ∙ ap (λ i. degree_by m (row_at a.level.now i).1) l.invariant.1 in
     let z : l.j + 1 ≡ suc l.j = omega arith in (
       omega arith,
       c.place-from.ensures.0 ∙ ap (start_of a.ends.now) (sym z),
       weighed_more a.n a.below.now a.level.now a.ends.now l.j a.d.now l.invariant.2
-          (sym c.wider-y.ensures.0 ∙ sym c.if-x-y.false ∙ q),
+          (sym c.wider.ensures.0 ∙ sym c.if-degree_at-wider.false ∙ q),
     )
 
 pub returns : goal.returns

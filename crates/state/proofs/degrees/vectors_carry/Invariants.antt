@@ -5,6 +5,3 @@ use Rattle.state.proofs.degrees.vectors_carry.Given as goal
 
 abbrev pub invariant-loop-j : goal.invariant-loop-j
 invariant-loop-j l = (l.j ≤ l.r) × (l.from ≡ start_of l.ends l.j) × Weighed l.n l.below l.level l.ends l.j l.d
-
-abbrev pub decreases-loop-j : goal.decreases-loop-j
-decreases-loop-j l = l.r - l.j

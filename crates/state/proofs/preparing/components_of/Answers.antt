@@ -9,5 +9,5 @@ returns-then-k-eq0 c =
 
 pub returns : goal.returns
 returns c =
-    c.place-2.ensures.0 ∙ components_above c.args.state.now
+    c.count_of.ensures ∙ components_above c.args.state.now
     c.args.k c.if-k-eq0.false

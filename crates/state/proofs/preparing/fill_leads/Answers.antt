@@ -136,21 +136,21 @@ fill_heads-requires c =
           c.count_of-r.ensures cut.1,
     )
 
-pub components_of-c-requires : goal.components_of-c-requires
-components_of-c-requires c =
+pub components_of-requires : goal.components_of-requires
+components_of-requires c =
     let h : get_or c.args.state.now 4 0 ≤ all_levels =
     height c.args.state.now c.requires.0 c.requires.1 in
     let m : c.args.k < all_levels = omega (arith, c.requires.2) in
     omega (arith, c.requires.0)
 
-pub overflow_add-c : goal.overflow_add-c
-overflow_add-c c =
+pub overflow_add-components_of : goal.overflow_add-components_of
+overflow_add-components_of c =
     let s = c.args.state.now in
     let cut = complete_cut s c.requires.0 c.requires.1
     c.args.k c.requires.2 in
     let n = components_few s c.requires.0 c.requires.1
     c.args.k c.requires.2 in
-    omega (arith, c.components_of-c.ensures)
+    omega (arith, c.components_of.ensures)
 
 pub fill_spans-requires : goal.fill_spans-requires
 fill_spans-requires c =
@@ -161,7 +161,7 @@ fill_spans-requires c =
     let n = components_few s c.requires.0
     c.requires.1 c.args.k
     c.requires.2 in (
-      omega (arith, c.components_of-c.ensures, c.requires.4),
+      omega (arith, c.components_of.ensures, c.requires.4),
       omega (
         arith,
         c.count_of-r.ensures,
@@ -174,7 +174,7 @@ fill_spans-requires c =
 pub returns : goal.returns
 returns c =
     led c.args.state.now c.args.k c.count_of-r.result
-    c.components_of-c.result
+    c.components_of.result
     c.fill_heads.new.heads c.fill_spans.new.spans
-    c.count_of-r.ensures c.components_of-c.ensures
+    c.count_of-r.ensures c.components_of.ensures
     c.fill_heads.ensures c.fill_spans.ensures

@@ -8,6 +8,3 @@ abbrev pub invariant-loop-j : goal.invariant-loop-j
 invariant-loop-j l =
     (l.j ≤ l.k) × (length l.below ≡ length l.initial.below) × (length l.above ≡ length l.initial.above)
     × ReadyPair l.state l.j l.below l.above
-
-abbrev pub decreases-loop-j : goal.decreases-loop-j
-decreases-loop-j l = l.k - l.j

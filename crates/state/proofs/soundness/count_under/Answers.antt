@@ -7,5 +7,5 @@ returns-then-k-eq0 c = below_basis c.args.state.now c.args.k c.if-k-eq0.true
 
 pub returns : goal.returns
 returns c =
-    c.place.ensures.0 ∙ below_above c.args.state.now c.args.k
+    c.count_of.ensures ∙ below_above c.args.state.now c.args.k
     c.if-k-eq0.false

@@ -1,7 +1,6 @@
 use native.Mathlib.Omega.{arith}
 use mathlib.Core.Path.{◌≡◌, refl, sym, ap, ◌∙◌, subst}
 use lib.Dec.{T}
-use borrow.Author.Tests.{not-true, not-false}
 use Rattle.laws.proofs.Tests.{is_true, true_is}
 use Rattle.definitions.specs.Limits.{document_01}
 use Rattle.definitions.specs.Layout.{levels_at}
@@ -25,15 +24,14 @@ level_test-requires c =
           (ready_tabled c.args.state.now l.k l.above (omega arith) l.invariant.4),
     )
 
-pub returns-then-fails : goal.returns-then-fails
-returns-then-fails c =
+pub returns-then-not-level_test : goal.returns-then-not-level_test
+returns-then-not-level_test c =
     let a = c.args in
     let l = c.loop-k in
     let s = a.state.now in
     let own : c.level_test.result ≡ own_test? s l.k = c.level_test.ensures
     ∙ ap (level_test? s l.k) (ap (λ n. table_of n l.above) c.count_under-n.ensures ∙ l.invariant.4.made) in
-    sym (climb_fails s a.h l.k (omega arith) (sym own ∙ not-true c.level_test.result
-    (sym c.fails.ensures ∙ c.if-fails.true)))
+    sym (climb_fails s a.h l.k (omega arith) (sym own ∙ c.if-not-level_test.true))
 
 pub advance-requires : goal.advance-requires
 advance-requires c =
@@ -43,8 +41,7 @@ advance-requires c =
     let own : c.level_test.result ≡ own_test? s l.k = c.level_test.ensures
     ∙ ap (level_test? s l.k) (ap (λ n. table_of n l.above) c.count_under-n.ensures
     ∙ l.invariant.4.made) in
-    let u : T (own_test? s l.k) = is_true (sym own ∙ not-false c.level_test.result
-    (sym c.fails.ensures ∙ c.if-fails.false)) in
+    let u : T (own_test? s l.k) = is_true (sym own ∙ c.if-not-level_test.false) in
     let cut = test_cut s c.requires.0 l.k (images (levels_at document_01 s l.k)) (omega arith) u in
     (omega arith, omega arith, omega arith, omega arith, l.invariant.4.few, cut.0, cut.1, ready_tabled s l.k l.above (omega arith) l.invariant.4)
 
@@ -55,9 +52,7 @@ loop-k-preserved c =
     let s = a.state.now in
     let own : c.level_test.result ≡ own_test? s l.k = c.level_test.ensures
     ∙ ap (level_test? s l.k) (ap (λ n. table_of n l.above) c.count_under-n.ensures ∙ l.invariant.4.made) in
-    let u : T (own_test? s l.k) = is_true (sym own ∙ not-false c.level_test.result
-    (sym c.fails.ensures
-    ∙ c.if-fails.false)) in
+    let u : T (own_test? s l.k) = is_true (sym own ∙ c.if-not-level_test.false) in
     let cut = test_cut s c.requires.0 l.k (images (levels_at document_01 s l.k)) (omega arith) u in (
       omega arith,
       omega arith,

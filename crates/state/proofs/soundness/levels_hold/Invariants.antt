@@ -10,6 +10,3 @@ abbrev pub invariant-loop-k : goal.invariant-loop-k
 invariant-loop-k l =
     (l.k ≤ l.h) × (length l.below ≡ length l.initial.below) × (length l.above ≡ length l.initial.above) × T (levels_hold? l.state l.k)
     × Ready l.state l.k l.above
-
-abbrev pub decreases-loop-k : goal.decreases-loop-k
-decreases-loop-k l = l.h - l.k

@@ -2,7 +2,6 @@ use native.Mathlib.Omega.{arith}
 use mathlib.Core.Path.{◌≡◌, refl, sym, ap, ◌∙◌}
 use Prim.Native.Nat.{ℕ, ◌+◌, ◌-◌}
 use mathlib.Core.Bool.{Bool}
-use borrow.Author.Tests.{not-true, not-false}
 use Rattle.definitions.specs.Lists.{◌and◌}
 use Rattle.definitions.specs.Order.{greater?}
 use Rattle.definitions.specs.Layout.{row_at}
@@ -23,8 +22,8 @@ loop-i-init c =
 pub image_at-image-requires : goal.image_at-image-requires
 image_at-image-requires c = (omega arith, omega arith, c.requires.3)
 
-pub returns-then-fails : goal.returns-then-fails
-returns-then-fails c =
+pub returns-then-not-follows : goal.returns-then-not-follows
+returns-then-not-follows c =
     let a = c.args in
     let l = c.loop-i in
     let T = table_of a.n a.table.now in
@@ -32,8 +31,7 @@ returns-then-fails c =
     let e : c.follows.result ≡ F l.i = c.follows.ensures
     ∙ (λ j. row_holds? a.b a.level.now l.i and greater? (compare_keys a.code (l.invariant.2 j)
     (c.image_at-image.ensures j))) in
-    sym (l.invariant.3 ∙ hold_stops F l.i a.to (omega arith) (sym e ∙ not-true c.follows.result
-    (sym c.fails.ensures ∙ c.if-fails.true)))
+    sym (l.invariant.3 ∙ hold_stops F l.i a.to (omega arith) (sym e ∙ c.if-not-follows.true))
 
 pub loop-i-preserved : goal.loop-i-preserved
 loop-i-preserved c =
@@ -49,8 +47,7 @@ loop-i-preserved c =
       omega arith,
       c.image_at-image.ensures ∙ ap (λ k. key T (row_at a.level.now k).1) (sym z),
       l.invariant.3
-          ∙ hold_on F l.i a.to (omega arith) (sym e ∙ not-false c.follows.result
-          (sym c.fails.ensures ∙ c.if-fails.false)),
+          ∙ hold_on F l.i a.to (omega arith) (sym e ∙ c.if-not-follows.false),
     )
 
 pub returns : goal.returns

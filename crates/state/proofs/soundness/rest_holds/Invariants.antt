@@ -10,6 +10,3 @@ invariant-loop-i l =
     (l.from < l.i) × (l.i ≤ l.to) × (key_of l.before ≡ key (table_of l.n l.table) (row_at l.level (l.i - 1)).1)
     × (all_hold? (follows? l.b (table_order l.code (table_of l.n l.table)) l.level) (l.from + 1) (l.to - (l.from + 1))
     ≡ all_hold? (follows? l.b (table_order l.code (table_of l.n l.table)) l.level) l.i (l.to - l.i))
-
-abbrev pub decreases-loop-i : goal.decreases-loop-i
-decreases-loop-i l = l.to - l.i

@@ -9,6 +9,3 @@ abbrev pub invariant-loop-j : goal.invariant-loop-j
 invariant-loop-j l =
     (l.j ≤ l.r) × (vectors_hold? l.b l.most (table_order l.code (table_of l.n l.table)) l.level 0 (take l.r l.ends)
     ≡ vectors_hold? l.b l.most (table_order l.code (table_of l.n l.table)) l.level l.from (drop l.j (take l.r l.ends)))
-
-abbrev pub decreases-loop-j : goal.decreases-loop-j
-decreases-loop-j l = l.r - l.j

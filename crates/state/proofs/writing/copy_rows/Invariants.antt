@@ -9,6 +9,3 @@ use Rattle.state.proofs.writing.copy_rows.Given as goal
 abbrev pub invariant-loop-j : goal.invariant-loop-j
 invariant-loop-j l = (l.j ≤ l.v) × (length l.d ≡ length l.initial.d)
     × (l.d ≡ paste l.initial.d (l.used * row_length) (rows_of (rows l.value 0 l.j)) (l.j * row_length))
-
-abbrev pub decreases-loop-j : goal.decreases-loop-j
-decreases-loop-j l = l.v - l.j

@@ -4,6 +4,3 @@ use Rattle.state.proofs.writing.tidy_carried.Given as goal
 
 abbrev pub invariant-loop-k : goal.invariant-loop-k
 invariant-loop-k l = (l.k ≤ l.h) × CarriedTo l.initial.state l.state l.k
-
-abbrev pub decreases-loop-k : goal.decreases-loop-k
-decreases-loop-k l = l.h - l.k

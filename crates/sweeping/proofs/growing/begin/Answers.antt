@@ -1,21 +1,15 @@
 use Rattle.sweeping.proofs.Growth.{spanned_alike}
 use Rattle.sweeping.specs.Nodes.{ground_stage}
 use Rattle.runs.proofs.reduction.Families.{vector_at}
-use Rattle.runs.specs.reduction.Grounds.{ends_in, family_of}
+use Rattle.runs.specs.reduction.Grounds.{ends_in, family_of, first_row}
 use Rattle.monomial.specs.Values.{monomial_of}
 use Rattle.definitions.specs.Places.{row_length}
 use Rattle.definitions.specs.Layout.{rows}
 use Rattle.definitions.specs.Monomial.{vector_of}
-use borrow.Author.Rules.{rules}
 use native.Mathlib.Omega.{arith}
-use mathlib.Core.Path.{◌≡◌, refl, sym, ap, ◌∙◌, subst}
-use mathlib.Core.List.{List, [], ◌∷◌, ◌++◌}
-use Prim.Native.Nat.{ℕ, suc, ◌+◌, ◌-◌, ◌*◌, ◌<◌, ◌≤◌}
-use lib.ListN.{length, take, drop, get_or, set, length-set}
-use Rattle.sweeping.proofs.growing.begin.Reads as reads
-use Rattle.sweeping.proofs.growing.begin.Lts as lts
-use Rattle.runs.proofs.reduction.rows_of.Reads as rows_of_reads
-use Rattle.sweeping.proofs.growing.expand.Reads as expand_reads
+use mathlib.Core.Path.{sym, ap, ◌∙◌}
+use Prim.Native.Nat.{◌-◌, ◌*◌, ◌≤◌}
+use lib.ListN.{length, get_or}
 use Rattle.sweeping.proofs.growing.begin.Goals as goal
 
 pub expand-requires : goal.expand-requires
@@ -27,7 +21,7 @@ expand-requires c =
       c.requires.3,
       c.requires.4,
     )) in
-    (c.requires.0, c.requires.2, omega (arith, h, c.rows_of-part.ensures.1))
+    (c.requires.0, c.requires.2, omega (arith, h, c.rows_of-part.ensures.1, ap (λ j. get_or (ends_in a.tables.now) (j - 1) 0) c.from-i.ensures))
 
 pub returns : goal.returns
 returns c =
@@ -39,6 +33,7 @@ returns c =
           (rows a.level.now b.result.from (b.result.to - b.result.from))
           (vector_of (family_of a.g a.level.now ends) i) w.result w.new.nodes w.new.edges
           ((λ k. rows a.level.now (b.ensures.0 k) (b.ensures.1 k - b.ensures.0 k))
+          ∙ ap (λ j. rows a.level.now (first_row ends j) (get_or ends (j - 1) 0 - first_row ends j)) c.from-i.ensures
           ∙ sym (vector_at a.level.now ends a.g.r i c.requires.1.ends_fit c.requires.3 c.requires.4))
           (w.ensures.1 a.level.now c.requires.5),
       w.ensures.2,

@@ -2,17 +2,9 @@ use Rattle.sweeping.proofs.Growth.{same_edged, lead_old}
 use Rattle.sweeping.specs.Made.{FoundAs}
 use Rattle.sweeping.specs.Nodes.{ground_stage}
 use Rattle.monomial.specs.Values.{monomial_of}
-use borrow.Author.Rules.{rules}
 use native.Mathlib.Omega.{arith}
-use mathlib.Core.Path.{◌≡◌, refl, sym, ap, ◌∙◌, subst}
-use mathlib.Core.List.{List, [], ◌∷◌, ◌++◌}
-use Prim.Native.Nat.{ℕ, suc, ◌+◌, ◌-◌, ◌*◌, ◌<◌, ◌≤◌}
-use lib.ListN.{length, take, drop, get_or, set, length-set}
-use Rattle.sweeping.proofs.growing.lead.Reads as reads
-use Rattle.sweeping.proofs.growing.lead.Lts as lts
-use Rattle.sweeping.proofs.growing.lead_new.Reads as lead_new_reads
-use Rattle.sweeping.proofs.nodes.find.Reads as find_reads
-use Rattle.sweeping.proofs.nodes.put_edge.Reads as put_edge_reads
+use mathlib.Core.Path.{subst}
+use Prim.Native.Nat.{◌-◌}
 use Rattle.sweeping.proofs.growing.lead.Goals as goal
 
 pub put_edge-requires : goal.put_edge-requires

@@ -2,17 +2,8 @@ use Rattle.sweeping.proofs.Growth.{same_added, lead_made}
 use Rattle.sweeping.specs.Nodes.{ground_stage}
 use Rattle.vectors.specs.terms.Rows.{term_of}
 use Rattle.monomial.specs.Values.{monomial_of}
-use borrow.Author.Rules.{rules}
 use native.Mathlib.Omega.{arith}
-use mathlib.Core.Path.{◌≡◌, refl, sym, ap, ◌∙◌, subst}
-use mathlib.Core.List.{List, [], ◌∷◌, ◌++◌}
-use Prim.Native.Nat.{ℕ, suc, ◌+◌, ◌-◌, ◌*◌, ◌<◌, ◌≤◌}
-use lib.ListN.{length, take, drop, get_or, set, length-set}
-use Rattle.sweeping.proofs.growing.lead_new.Reads as reads
-use Rattle.sweeping.proofs.growing.lead_new.Lts as lts
-use Rattle.sweeping.proofs.nodes.add.Reads as add_reads
-use Rattle.sweeping.proofs.nodes.put_edge.Reads as put_edge_reads
-use Rattle.sweeping.proofs.nodes.record_of.Reads as record_of_reads
+use Prim.Native.Nat.{◌-◌}
 use Rattle.sweeping.proofs.growing.lead_new.Goals as goal
 
 pub returns : goal.returns

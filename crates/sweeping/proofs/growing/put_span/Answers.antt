@@ -1,12 +1,6 @@
 use Rattle.sweeping.proofs.Growth.{span_put}
-use borrow.Author.Rules.{rules}
 use native.Mathlib.Omega.{arith}
-use mathlib.Core.Path.{◌≡◌, refl, sym, ap, ◌∙◌, subst}
-use mathlib.Core.List.{List, [], ◌∷◌, ◌++◌}
-use Prim.Native.Nat.{ℕ, suc, ◌+◌, ◌-◌, ◌*◌, ◌<◌, ◌≤◌}
-use lib.ListN.{length, take, drop, get_or, set, length-set}
-use Rattle.sweeping.proofs.growing.put_span.Reads as reads
-use Rattle.sweeping.proofs.growing.put_span.Lts as lts
+use lib.ListN.{length-set}
 use Rattle.sweeping.proofs.growing.put_span.Goals as goal
 
 pub bounds-spans-at-2 : goal.bounds-spans-at-2

@@ -1,14 +1,5 @@
 use borrow.Author.Rules.{rules}
 use native.Mathlib.Omega.{arith}
-use mathlib.Core.Path.{◌≡◌, refl, sym, ap, ◌∙◌, subst}
-use mathlib.Core.Bool.{true, false}
-use mathlib.Core.List.{List, [], ◌∷◌, ◌++◌}
-use mathlib.Core.Logic.{inr}
-use Prim.Native.Nat.{ℕ, suc, ◌+◌, ◌-◌, ◌*◌, ◌<◌, ◌≤◌}
-use lib.ListN.{length, take, drop, get_or, set, length-set}
-use Rattle.sweeping.proofs.lifting.accept_many.Reads as reads
-use Rattle.sweeping.proofs.lifting.accept_many.Lts as lts
-use Rattle.sweeping.proofs.lifting.accept_on.Reads as accept_on_reads
 use Rattle.sweeping.proofs.lifting.accept_many.Goals as goal
 
 pub accept_on-requires : goal.accept_on-requires

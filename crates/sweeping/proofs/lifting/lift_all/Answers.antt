@@ -1,22 +1,14 @@
-use borrow.Author.Rules.{rules}
+use Rattle.std.specs.Prelude.{Ok}
+use Rattle.std.proofs.lemmas.Result.{err_from_is_err_and}
 use native.Mathlib.Omega.{arith}
-use mathlib.Core.Path.{◌≡◌, refl, sym, ap, ◌∙◌, subst}
-use mathlib.Core.Bool.{true, false}
-use mathlib.Core.List.{List, [], ◌∷◌, ◌++◌}
-use mathlib.Core.Logic.{inr}
-use Prim.Native.Nat.{ℕ, suc, ◌+◌, ◌-◌, ◌*◌, ◌<◌, ◌≤◌}
-use lib.ListN.{length, take, drop, get_or, set, length-set}
-use lib.Dec.{T}
+use mathlib.Core.Path.{subst}
+use mathlib.Core.Bool.{false}
 use Rattle.runs.specs.run.Stages.{strategy_of}
 use Rattle.runs.proofs.frame_terms.LoopsOverFrame.{going_start}
 use Rattle.runs.proofs.frame_terms.OneVectorMore.{none_kept}
 use Rattle.sweeping.specs.Nodes.{ground_stage}
 use Rattle.sweeping.specs.Gone.{GoneAs}
 use Rattle.sweeping.proofs.Ones.{gone_whole, gone_empty}
-use Rattle.sweeping.proofs.lifting.lift_all.Reads as reads
-use Rattle.sweeping.proofs.lifting.lift_all.Lts as lts
-use Rattle.sweeping.proofs.lifting.lift_any.Reads as lift_any_reads
-use Rattle.sweeping.proofs.lifting.sizes_of.Reads as sizes_of_reads
 use Rattle.sweeping.proofs.lifting.lift_all.Goals as goal
 
 pub returns-then-count-eq0 : goal.returns-then-count-eq0
@@ -53,16 +45,8 @@ returns-in-At c =
     let f = c.lift_any in
     let S = ground_stage a.g a.level.now a.tables.now in
     let W = strategy_of a.g a.tables.now a.w in
-    gone_whole a.g S W a.frame.now a.count c.in-At._i c.in-At.used f.new.out f.new.vector
-    (subst (λ x. GoneAs a.g S W a.frame.now a.count false x f.new.out f.new.vector) c.in-At.is f.ensures)
-
-pub returns-in-Refused : goal.returns-in-Refused
-returns-in-Refused c =
-    let a = c.args in
-    let f = c.lift_any in
-    let S = ground_stage a.g a.level.now a.tables.now in
-    let W = strategy_of a.g a.tables.now a.w in
-    subst (λ x. GoneAs a.g S W a.frame.now a.count false x f.new.out f.new.vector) c.in-Refused.is f.ensures
+    gone_whole a.g S W a.frame.now a.count c.in-At.field-0 c.in-At.used f.new.out f.new.vector
+    (subst (λ x. GoneAs a.g S W a.frame.now a.count false (Ok x) f.new.out f.new.vector) c.in-At.is c.in_ok-used.ensures)
 
 pub returns-in-Stopped : goal.returns-in-Stopped
 returns-in-Stopped c =
@@ -70,4 +54,8 @@ returns-in-Stopped c =
     let f = c.lift_any in
     let S = ground_stage a.g a.level.now a.tables.now in
     let W = strategy_of a.g a.tables.now a.w in
-    subst (λ x. GoneAs a.g S W a.frame.now a.count false x f.new.out f.new.vector) c.in-Stopped.is f.ensures
+    subst (λ x. GoneAs a.g S W a.frame.now a.count false (Ok x) f.new.out f.new.vector) c.in-Stopped.is c.in_ok-used.ensures
+
+pub returns-in_err-used : goal.returns-in_err-used
+returns-in_err-used c =
+    let p = err_from_is_err_and c.from_residual.result c.from_residual.ensures.1 in rw (p.1, p.2) c.in_err-used.ensures

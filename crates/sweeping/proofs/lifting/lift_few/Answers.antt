@@ -1,21 +1,8 @@
 use borrow.Author.Rules.{rules}
 use native.Mathlib.Omega.{arith}
-use mathlib.Core.Path.{◌≡◌, refl, sym, ap, ◌∙◌, subst}
-use mathlib.Core.Bool.{true, false}
-use mathlib.Core.List.{List, [], ◌∷◌, ◌++◌}
-use mathlib.Core.Logic.{inr}
-use Prim.Native.Nat.{ℕ, suc, ◌+◌, ◌-◌, ◌*◌, ◌<◌, ◌≤◌}
-use lib.ListN.{length, take, drop, get_or, set, length-set}
-use mathlib.Core.Bool.{Bool}
-use lib.Dec.{T}
 use Rattle.runs.specs.run.Stages.{strategy_of}
-use Rattle.runs.proofs.run.Stepping.{rooms_again}
 use Rattle.sweeping.specs.Nodes.{ground_stage}
-use Rattle.sweeping.specs.Gone.{GoneAs}
 use Rattle.sweeping.proofs.Ones.{gone_allowed}
-use Rattle.sweeping.proofs.lifting.lift_few.Reads as reads
-use Rattle.sweeping.proofs.lifting.lift_few.Lts as lts
-use Rattle.sweeping.proofs.lifting.lift_on.Reads as lift_on_reads
 use Rattle.sweeping.proofs.lifting.lift_few.Goals as goal
 
 pub lift_on-requires : goal.lift_on-requires

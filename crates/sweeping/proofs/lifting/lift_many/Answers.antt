@@ -1,14 +1,5 @@
 use borrow.Author.Rules.{rules}
 use native.Mathlib.Omega.{arith}
-use mathlib.Core.Path.{◌≡◌, refl, sym, ap, ◌∙◌, subst}
-use mathlib.Core.Bool.{true, false}
-use mathlib.Core.List.{List, [], ◌∷◌, ◌++◌}
-use mathlib.Core.Logic.{inr}
-use Prim.Native.Nat.{ℕ, suc, ◌+◌, ◌-◌, ◌*◌, ◌<◌, ◌≤◌}
-use lib.ListN.{length, take, drop, get_or, set, length-set}
-use Rattle.sweeping.proofs.lifting.lift_many.Reads as reads
-use Rattle.sweeping.proofs.lifting.lift_many.Lts as lts
-use Rattle.sweeping.proofs.lifting.lift_on.Reads as lift_on_reads
 use Rattle.sweeping.proofs.lifting.lift_many.Goals as goal
 
 pub lift_on-requires : goal.lift_on-requires

@@ -1,9 +1,5 @@
-use borrow.Author.Rules.{rules}
 use native.Mathlib.Omega.{arith}
-use mathlib.Core.Path.{◌≡◌, refl, sym, ap, ◌∙◌, subst}
-use mathlib.Core.List.{List, [], ◌∷◌, ◌++◌}
-use Prim.Native.Nat.{ℕ, suc, ◌+◌, ◌-◌, ◌*◌, ◌<◌, ◌≤◌}
-use lib.ListN.{length, take, drop, get_or, set, length-set}
+use mathlib.Core.Path.{refl, ap, ◌∙◌}
 use Rattle.sweeping.proofs.Ones.{ready_for, one_passed}
 use Rattle.sweeping.specs.Nodes.{ground_stage}
 use Rattle.runs.proofs.frame_terms.OneVectorMore.{frame_component}
@@ -13,23 +9,18 @@ use Rattle.vectors.specs.terms.Rows.{term_of}
 use Rattle.monomial.specs.Values.{monomial_of}
 use Rattle.definitions.specs.Run.{run}
 use Rattle.definitions.specs.Monomial.{Term}
-use Rattle.sweeping.proofs.lifting.one.Reads as reads
-use Rattle.sweeping.proofs.lifting.one.Lts as lts
-use Rattle.runs.proofs.run.run.Reads as run_reads
-use Rattle.sweeping.proofs.lifting.pass.Reads as pass_reads
-use Rattle.vectors.proofs.terms.row.Reads as row_reads
 use Rattle.sweeping.proofs.lifting.one.Goals as goal
 
-pub row-t-requires : goal.row-t-requires
-row-t-requires c =
+pub row-requires : goal.row-requires
+row-requires c =
     omega (
       arith,
       c.requires.7.fits,
       c.requires.8,
     )
 
-pub pass-k-requires : goal.pass-k-requires
-pass-k-requires c =
+pub pass-requires : goal.pass-requires
+pass-requires c =
     let a = c.args in
     let P = c.requires in (
       ready_for a.g a.level.now a.tables.now a.frame.now a.count P.9 a.w a.b a.v a.nodes.now a.spans.now a.edges.now
@@ -40,41 +31,40 @@ pass-k-requires c =
       P.14,
     )
 
-pub returns-then-k-gt0 : goal.returns-then-k-gt0
-returns-then-k-gt0 c =
-    let a = c.args in
-    let P = c.requires in
-    let p = c.pass-k in
-    one_passed a.g a.level.now a.tables.now a.frame.now a.count P.9 a.w a.b a.v a.nodes.now a.spans.now a.edges.now
-    a.order.now P.11 P.12 P.8 P.10 (monomial_of c.row-t.result.monomial) (ap (λ (t : Term). t.1) c.row-t.ensures) p.result p.new.vector
-    (p.ensures c.if-k-gt0.true)
-
 pub run-requires : goal.run-requires
 run-requires c =
     let a = c.args in
     let P = c.requires in
-    let f = frame_component a.g a.count a.frame.now a.v (term_of c.row-t.result) P.7 P.8 c.row-t.ensures
+    let f = frame_component a.g a.count a.frame.now a.v (term_of c.row.result) P.7 P.8 c.row.ensures
     in (
       P.0,
       P.1,
       P.2,
       P.3,
-      rooms_again a.g a.value.now a.vector.now a.value.now c.pass-k.new.vector refl c.pass-k.auto.vector P.4,
+      rooms_again a.g a.value.now a.vector.now a.value.now c.pass.new.vector refl c.pass.auto.vector P.4,
       P.5,
       P.6,
       f.0,
       f.1,
     )
 
-pub returns : goal.returns
-returns c =
+pub returns-in-None : goal.returns-in-None
+returns-in-None c =
     let a = c.args in
     let r = c.run in
     let S = ground_stage a.g a.level.now a.tables.now in
     let W = strategy_of a.g a.tables.now a.w in (
       (
         r.ensures.0.0,
-        r.ensures.0.1 ∙ ap (λ (t : Term). run S W r.ensures.0.0 t.1) c.row-t.ensures,
+        r.ensures.0.1 ∙ ap (λ (t : Term). run S W r.ensures.0.0 t.1) c.row.ensures,
       ),
       r.ensures.1,
     )
+
+pub returns-in-Some : goal.returns-in-Some
+returns-in-Some c =
+    let a = c.args in
+    let P = c.requires in
+    one_passed a.g a.level.now a.tables.now a.frame.now a.count P.9 a.w a.b a.v a.nodes.now a.spans.now a.edges.now
+    a.order.now P.11 P.12 P.8 P.10 (monomial_of c.row.result.monomial) (ap (λ (t : Term). t.1) c.row.ensures) c.in-Some.k c.pass.new.vector
+    c.in-Some.ensures

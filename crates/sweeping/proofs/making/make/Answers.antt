@@ -1,15 +1,6 @@
-use borrow.Author.Rules.{rules}
 use native.Mathlib.Omega.{arith}
-use mathlib.Core.Path.{◌≡◌, refl, sym, ap, ◌∙◌, subst}
-use mathlib.Core.List.{List, [], ◌∷◌, ◌++◌}
-use Prim.Native.Nat.{ℕ, suc, ◌+◌, ◌-◌, ◌*◌, ◌<◌, ◌≤◌}
-use lib.ListN.{length, take, drop, get_or, set, length-set}
+use mathlib.Core.Path.{refl}
 use Rattle.sweeping.proofs.Ones.{batched_alone, batched_made}
-use Rattle.sweeping.proofs.making.make.Reads as reads
-use Rattle.sweeping.proofs.making.make.Lts as lts
-use Rattle.sweeping.proofs.making.serving_nodes.Reads as serving_nodes_reads
-use Rattle.sweeping.proofs.making.take.Reads as take_reads
-use Rattle.sweeping.proofs.sorting.arrange.Reads as arrange_reads
 use Rattle.sweeping.proofs.making.make.Goals as goal
 
 pub take-t-requires : goal.take-t-requires
@@ -26,8 +17,8 @@ take-t-requires c =
       P.6.spans_long,
     )
 
-pub returns-then-to-i : goal.returns-then-to-i
-returns-then-to-i c =
+pub returns-then-t-i : goal.returns-then-t-i
+returns-then-t-i c =
     let a = c.args in
     let P = c.requires in (
       batched_alone a.g a.level.now a.tables.now a.frame.now a.drops a.count a.i _ _ _ _ _ P.5 refl refl,
@@ -63,5 +54,5 @@ returns c =
           (arith, m.most_few, P.6.nodes_long, t.auto.nodes))
           (omega (arith, m.most_few, P.6.edges_long, t.auto.edges, r.auto.edges)) (omega (arith, m.most_few, P.6.order_long, r.auto.order)) r.result
           r.ensures,
-      omega (arith, z, c.if-to-i.false),
+      omega (arith, z, c.if-t-i.false),
     )

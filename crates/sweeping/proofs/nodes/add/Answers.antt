@@ -1,15 +1,6 @@
 use Rattle.sweeping.proofs.Made.{added_rows}
 use Rattle.vectors.specs.terms.Rows.{term_of}
 use Rattle.monomial.specs.Values.{monomial_of}
-use borrow.Author.Rules.{rules}
-use native.Mathlib.Omega.{arith}
-use mathlib.Core.Path.{◌≡◌, refl, sym, ap, ◌∙◌, subst}
-use mathlib.Core.List.{List, [], ◌∷◌, ◌++◌}
-use Prim.Native.Nat.{ℕ, suc, ◌+◌, ◌-◌, ◌*◌, ◌<◌, ◌≤◌}
-use lib.ListN.{length, take, drop, get_or, set, length-set}
-use Rattle.sweeping.proofs.nodes.add.Reads as reads
-use Rattle.sweeping.proofs.nodes.add.Lts as lts
-use Rattle.vectors.proofs.terms.put.Reads as put_reads
 use Rattle.sweeping.proofs.nodes.add.Goals as goal
 
 pub returns : goal.returns

@@ -1,12 +1,7 @@
 use Rattle.sweeping.proofs.Made.{edged}
-use borrow.Author.Rules.{rules}
 use native.Mathlib.Omega.{arith}
-use mathlib.Core.Path.{◌≡◌, refl, sym, ap, ◌∙◌, subst}
-use mathlib.Core.List.{List, [], ◌∷◌, ◌++◌}
-use Prim.Native.Nat.{ℕ, suc, ◌+◌, ◌-◌, ◌*◌, ◌<◌, ◌≤◌}
-use lib.ListN.{length, take, drop, get_or, set, length-set}
-use Rattle.sweeping.proofs.nodes.put_edge.Reads as reads
-use Rattle.sweeping.proofs.nodes.put_edge.Lts as lts
+use Prim.Native.Nat.{◌*◌}
+use lib.ListN.{length-set}
 use Rattle.sweeping.proofs.nodes.put_edge.Goals as goal
 
 pub bounds-edges-e-2 : goal.bounds-edges-e-2

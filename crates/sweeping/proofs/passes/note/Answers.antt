@@ -2,20 +2,15 @@ use Rattle.sweeping.proofs.Visits.{choose_zero, choose_other, not_zero, not_othe
 use Rattle.vectors.proofs.terms.Stored.{rows_appended}
 use Rattle.vectors.specs.terms.Rows.{term_of}
 use Rattle.definitions.specs.Layout.{rows}
-use borrow.Author.Rules.{rules}
 use native.Mathlib.Omega.{arith}
-use mathlib.Core.Path.{◌≡◌, refl, sym, ap, ◌∙◌, subst}
-use mathlib.Core.List.{List, [], ◌∷◌, ◌++◌}
-use Prim.Native.Nat.{ℕ, suc, ◌+◌, ◌-◌, ◌*◌, ◌<◌, ◌≤◌}
-use lib.ListN.{length, take, drop, get_or, set, length-set}
-use Rattle.sweeping.proofs.passes.note.Reads as reads
-use Rattle.sweeping.proofs.passes.note.Lts as lts
-use Rattle.vectors.proofs.terms.put.Reads as put_reads
+use mathlib.Core.Path.{sym, ap, ◌∙◌}
+use mathlib.Core.List.{[], ◌∷◌, ◌++◌}
+use Prim.Native.Nat.{◌+◌}
 use Rattle.sweeping.proofs.passes.note.Goals as goal
 
-pub returns-then-m-eq0 : goal.returns-then-m-eq0
-returns-then-m-eq0 c =
-    let a = c.args in let z = c.if-m-eq0.true in
+pub returns-then-t-eq0 : goal.returns-then-t-eq0
+returns-then-t-eq0 c =
+    let a = c.args in let z = c.if-t-eq0.true in
     let v = rows a.vector.now 0 a.k in (
       sym (choose_zero a.t.monomial.component v (v ++ term_of a.t ∷ []) z),
       not_zero a.t.monomial.component z,
@@ -24,7 +19,7 @@ returns-then-m-eq0 c =
 
 pub returns : goal.returns
 returns c =
-    let a = c.args in let z = c.if-m-eq0.false in
+    let a = c.args in let z = c.if-t-eq0.false in
     let v = rows a.vector.now 0 a.k in
     let e = c.put.ensures in (
       ap (λ s. rows s 0 (a.k + 1)) e.0 ∙ rows_appended a.vector.now a.k (term_of a.t) c.requires e.1

@@ -1,23 +1,16 @@
+use Rattle.sweeping.proofs.passes.pass_all.Goals.{then-settled, else-settled}
 use mathlib.Core.List.{append-nil}
 use Rattle.sweeping.proofs.Visits.{places_next, settled_next, places_end, settled_end, places_skipped, settled_skipped, and_true}
 use Rattle.sweeping.proofs.Sums.{holds_less}
-use Rattle.sweeping.specs.Visits.{most_degree, Ready}
-use Rattle.sweeping.specs.Sums.{Holds}
+use Rattle.sweeping.specs.Visits.{most_degree}
 use Rattle.sweeping.specs.Orders.{rows_by}
 use Rattle.sweeps.specs.Places.{places, settled?}
 use Rattle.definitions.specs.Layout.{rows}
 use Rattle.definitions.specs.Lists.{◌and◌}
-use borrow.Author.Rules.{rules}
 use native.Mathlib.Omega.{arith}
-use mathlib.Core.Path.{◌≡◌, refl, sym, ap, ◌∙◌, subst}
-use mathlib.Core.List.{List, [], ◌∷◌, ◌++◌}
-use Prim.Native.Nat.{ℕ, suc, ◌+◌, ◌-◌, ◌*◌, ◌<◌, ◌≤◌}
-use lib.ListN.{length, take, drop, get_or, set, length-set}
-use Rattle.sweeping.proofs.passes.pass_all.Reads as reads
-use Rattle.sweeping.proofs.passes.pass_all.Lts as lts
-use Rattle.sweeping.proofs.passes.both.Reads as both_reads
-use Rattle.sweeping.proofs.passes.next.Reads as next_reads
-use Rattle.sweeping.proofs.passes.visit.Reads as visit_reads
+use mathlib.Core.Path.{◌≡◌, refl, sym, ap, ◌∙◌}
+use mathlib.Core.List.{◌++◌}
+use Prim.Native.Nat.{◌+◌, ◌-◌, ◌*◌}
 use Rattle.sweeping.proofs.passes.pass_all.Goals as goal
 
 pub next-x-requires : goal.next-x-requires
@@ -73,7 +66,11 @@ loop-x-preserved c =
     let h = c.next-x-in-loop-x.ensures in
     let x = c.next-x-in-loop-x.result in
     let vector = y.new.vector in
-    let sums = y.new.sums in (
+    let sums = y.new.sums in
+    let s : c.if-settled.settled ≡ (l.settled and y.result.settled) = elim c.if-settled.branch [
+      | then-settled w ↦ w.settled-is ∙ ap (λ b. b and y.result.settled) (sym w.if-settled.true)
+      | else-settled w ↦ w.settled-is ∙ w.if-settled.false ∙ ap (λ b. b and y.result.settled) (sym w.if-settled.false)
+    ] in (
       h.1,
       omega (arith, v.few, l.invariant.1, h.0.onward),
       omega (arith, y.auto.vector, l.invariant.2),
@@ -83,8 +80,8 @@ loop-x-preserved c =
           (l.x + 1) x sums h.1 h.0),
       l.invariant.5 ∙ settled_next a.p a.n a.nodes.now a.spans.now a.words.now a.order.now l.x l.k y.result.rows l.settled y.result.settled l.vector vector l.sums sums (omega arith) v
           ∙ ap (λ b. b and settled? a.p (l.x + 1) (rows_by a.nodes.now a.spans.now a.words.now a.order.now (l.x + 1) (a.n - (l.x + 1)))
-          sums) (sym c.both-settled.ensures)
-          ∙ ap (λ b. c.both-settled.result and b) (settled_skipped a.p a.n a.nodes.now a.spans.now a.words.now a.order.now
+          sums) (sym s)
+          ∙ ap (λ b. c.if-settled.settled and b) (settled_skipped a.p a.n a.nodes.now a.spans.now a.words.now a.order.now
           (l.x + 1) x sums h.1 h.0),
       v.spends ((a.n - x) * most_degree)
           (holds_less (most_degree + (a.n - x) * most_degree) ((a.n - l.x) * most_degree) l.sums (omega (arith, h.0.onward, h.1)) l.invariant.6),

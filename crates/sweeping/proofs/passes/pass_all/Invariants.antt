@@ -1,23 +1,13 @@
-use mathlib.Core.List.{append-nil}
-use Rattle.sweeping.proofs.Visits.{places_next, settled_next, places_end, settled_end, places_skipped, settled_skipped, and_true}
-use Rattle.sweeping.proofs.Sums.{holds_less}
-use Rattle.sweeping.specs.Visits.{most_degree, Ready}
+use Rattle.sweeping.specs.Visits.{most_degree}
 use Rattle.sweeping.specs.Sums.{Holds}
 use Rattle.sweeping.specs.Orders.{rows_by}
 use Rattle.sweeps.specs.Places.{places, settled?}
 use Rattle.definitions.specs.Layout.{rows}
 use Rattle.definitions.specs.Lists.{◌and◌}
-use borrow.Author.Rules.{rules}
-use native.Mathlib.Omega.{arith}
-use mathlib.Core.Path.{◌≡◌, refl, sym, ap, ◌∙◌, subst}
-use mathlib.Core.List.{List, [], ◌∷◌, ◌++◌}
-use Prim.Native.Nat.{ℕ, suc, ◌+◌, ◌-◌, ◌*◌, ◌<◌, ◌≤◌}
-use lib.ListN.{length, take, drop, get_or, set, length-set}
-use Rattle.sweeping.proofs.passes.pass_all.Reads as reads
-use Rattle.sweeping.proofs.passes.pass_all.Lts as lts
-use Rattle.sweeping.proofs.passes.both.Reads as both_reads
-use Rattle.sweeping.proofs.passes.next.Reads as next_reads
-use Rattle.sweeping.proofs.passes.visit.Reads as visit_reads
+use mathlib.Core.Path.{◌≡◌}
+use mathlib.Core.List.{◌++◌}
+use Prim.Native.Nat.{◌+◌, ◌-◌, ◌*◌, ◌≤◌}
+use lib.ListN.{length}
 use Rattle.sweeping.proofs.passes.pass_all.Given as goal
 
 abbrev pub invariant-loop-x : goal.invariant-loop-x

@@ -1,17 +1,10 @@
 use Rattle.sweeping.proofs.Sums.{holds_zeros}
 use Rattle.sweeping.specs.Nodes.{edges_in}
 use Rattle.sweeps.specs.Places.{spread_at}
-use borrow.Author.Rules.{rules}
 use native.Mathlib.Omega.{arith}
-use mathlib.Core.Path.{◌≡◌, refl, sym, ap, ◌∙◌, subst}
-use mathlib.Core.List.{List, [], ◌∷◌, ◌++◌}
-use Prim.Native.Nat.{ℕ, suc, ◌+◌, ◌-◌, ◌*◌, ◌<◌, ◌≤◌}
-use lib.ListN.{length, take, drop, get_or, set, length-set}
-use Rattle.sweeping.proofs.passes.start.Reads as reads
-use Rattle.sweeping.proofs.passes.start.Lts as lts
-use Rattle.sweeping.proofs.passes.clear.Reads as clear_reads
-use Rattle.sweeping.proofs.passes.spread.Reads as spread_reads
-use Rattle.words.proofs.place.Reads as place_reads
+use mathlib.Core.Path.{◌∙◌}
+use Prim.Native.Nat.{◌+◌, ◌-◌}
+use lib.ListN.{length}
 use Rattle.sweeping.proofs.passes.start.Goals as goal
 
 pub spread-requires : goal.spread-requires

@@ -1,19 +1,12 @@
 use Rattle.sweeping.specs.Passes.{Passes}
 use Rattle.monomial.specs.Values.{monomial_of}
 use Rattle.definitions.specs.Layout.{rows}
-use borrow.Author.Rules.{rules}
 use native.Mathlib.Omega.{arith}
-use mathlib.Core.Path.{◌≡◌, refl, sym, ap, ◌∙◌, subst}
-use mathlib.Core.List.{List, [], ◌∷◌, ◌++◌}
-use Prim.Native.Nat.{ℕ, suc, ◌+◌, ◌-◌, ◌*◌, ◌<◌, ◌≤◌}
-use lib.ListN.{length, take, drop, get_or, set, length-set}
-use Rattle.sweeping.proofs.passes.sweep.Reads as reads
-use Rattle.sweeping.proofs.passes.sweep.Lts as lts
-use Rattle.sweeping.proofs.passes.vector_of.Reads as vector_of_reads
+use mathlib.Core.Path.{subst}
 use Rattle.sweeping.proofs.passes.sweep.Goals as goal
 
-pub vector_of-r-requires : goal.vector_of-r-requires
-vector_of-r-requires c =
+pub vector_of-pass-requires : goal.vector_of-pass-requires
+vector_of-pass-requires c =
     let q = c.requires in (
       q.2,
       q.3,
@@ -29,14 +22,14 @@ vector_of-r-requires c =
       q.7,
     )
 
-pub returns-then-settled : goal.returns-then-settled
-returns-then-settled c =
+pub returns-then-pass : goal.returns-then-pass
+returns-then-pass c =
     let a = c.args
-    in let y = c.vector_of-r in (
+    in let y = c.vector_of-pass in (
       subst (λ b. Passes a.p a.n a.nodes.now a.spans.now a.edges.now a.order.now a.v (monomial_of a.m)
-          (rows y.new.vector 0 y.result.rows) b) c.if-settled.true y.ensures.0,
+          (rows y.new.vector 0 y.result.rows) b) c.if-pass.true y.ensures.0,
       y.ensures.1,
     )
 
-pub returns : goal.returns
-returns c = tt
+pub returns-else-pass : goal.returns-else-pass
+returns-else-pass c = tt

@@ -7,17 +7,11 @@ use Rattle.sweeping.specs.Nodes.{first_root, roots_end}
 use Rattle.sweeps.specs.Places.{places, settled?}
 use Rattle.monomial.specs.Values.{monomial_of}
 use Rattle.definitions.specs.Layout.{rows}
-use borrow.Author.Rules.{rules}
 use native.Mathlib.Omega.{arith}
-use mathlib.Core.Path.{◌≡◌, refl, sym, ap, ◌∙◌, subst}
-use mathlib.Core.List.{List, [], ◌∷◌, ◌++◌}
-use Prim.Native.Nat.{ℕ, suc, ◌+◌, ◌-◌, ◌*◌, ◌<◌, ◌≤◌}
-use lib.ListN.{length, take, drop, get_or, set, length-set}
-use Rattle.sweeping.proofs.passes.vector_of.Reads as reads
-use Rattle.sweeping.proofs.passes.vector_of.Lts as lts
-use Rattle.sweeping.proofs.passes.pass_all.Reads as pass_all_reads
-use Rattle.sweeping.proofs.passes.start.Reads as start_reads
-use Rattle.vectors.proofs.terms.put.Reads as put_reads
+use mathlib.Core.Path.{ap, ◌∙◌}
+use mathlib.Core.List.{◌∷◌, ◌++◌}
+use Prim.Native.Nat.{◌*◌}
+use lib.ListN.{length}
 use Rattle.sweeping.proofs.passes.vector_of.Goals as goal
 
 pub start-requires : goal.start-requires

@@ -4,19 +4,9 @@ use Rattle.sweeping.proofs.Sums.{onward_more}
 use Rattle.sweeping.specs.Visits.{Noted, Visited}
 use Rattle.sweeping.specs.Passes.{Onward}
 use Rattle.sweeping.specs.Nodes.{first_edge, edges_end, row_of_node}
-use borrow.Author.Rules.{rules}
 use native.Mathlib.Omega.{arith}
-use mathlib.Core.Path.{◌≡◌, refl, sym, ap, ◌∙◌, subst}
-use mathlib.Core.List.{List, [], ◌∷◌, ◌++◌}
-use Prim.Native.Nat.{ℕ, suc, ◌+◌, ◌-◌, ◌*◌, ◌<◌, ◌≤◌}
-use lib.ListN.{length, take, drop, get_or, set, length-set}
-use Rattle.sweeping.proofs.passes.visit.Reads as reads
-use Rattle.sweeping.proofs.passes.visit.Lts as lts
-use Rattle.sweeping.proofs.passes.note.Reads as note_reads
-use Rattle.sweeping.proofs.passes.recorded.Reads as recorded_reads
-use Rattle.sweeping.proofs.passes.remainder.Reads as remainder_reads
-use Rattle.sweeping.proofs.passes.spread_node.Reads as spread_node_reads
-use Rattle.words.proofs.place.Reads as place_reads
+use mathlib.Core.Path.{refl, sym, ◌∙◌, subst}
+use lib.ListN.{length, get_or}
 use Rattle.sweeping.proofs.passes.visit.Goals as goal
 
 pub returns-then-c-eq0 : goal.returns-then-c-eq0

@@ -34,7 +34,7 @@ loop-i-preserved c =
       counted_step
           (λ j. lower_mark (searched (rows a.heads.now 0 a.r) (row_at a.s.now j).1)) l.i l.x c.mark_lower-x.result l.invariant.2
           (c.mark_lower-x.ensures.0 ∙ ap lower_mark c.search.ensures
-          ∙ ap (λ t. lower_mark (searched (rows a.heads.now 0 a.r) t.1)) c.row-t.ensures),
+          ∙ ap (λ t. lower_mark (searched (rows a.heads.now 0 a.r) t.1)) c.row.ensures),
     )
 
 pub returns : goal.returns

@@ -8,6 +8,6 @@ pub returns : goal.returns
 returns c =
     let a = c.args in
     descent_is a.code a.s.now a.i c.greater.result (comparison_of c.compare.result)
-    (term_of c.row-a.result).1 (term_of c.row-b.result).1
-    c.greater.ensures c.compare.ensures (ap (λ t. t.1) c.row-a.ensures)
-    (ap (λ t. t.1) c.row-b.ensures)
+    (term_of c.row.result).1 (term_of c.row-2.result).1
+    c.greater.ensures c.compare.ensures (ap (λ t. t.1) c.row.ensures)
+    (ap (λ t. t.1) c.row-2.ensures)

@@ -11,6 +11,7 @@ use Rattle.definitions.specs.Places.{row_length}
 use Rattle.vectors.specs.sums.Places.{seek}
 use Rattle.testing.specs.Leaves.{counted, place_mark}
 use Rattle.testing.proofs.LeavesCalls.{counted_none, counted_step}
+use Rattle.testing.proofs.leaves.leaves_found.Goals.{then-d-r-via-then-d-r, then-d-r-via-else-d-r+then-s-n}
 use Rattle.testing.proofs.leaves.leaves_found.Goals as goal
 
 abbrev all : Words → ℕ → Words → ℕ → ℕ
@@ -22,15 +23,13 @@ two-tests b d t x e f = λ i. choose (e i) 0 (choose (f i) 0 x)
 pub returns-then-d-r : goal.returns-then-d-r
 returns-then-d-r c =
     let a = c.args in
-    sym (ap (λ b. choose b 0 (choose (ltb (length a.s.now / row_length) a.n) 0 (all a.d.now a.r a.s.now a.n)))
-    (lt-ltb (length a.d.now / row_length) a.r c.if-d-r.true))
-
-pub returns-then-s-n : goal.returns-then-s-n
-returns-then-s-n c =
-    let a = c.args in
-    sym (two-tests (ltb (length a.d.now / row_length) a.r) (ltb (length a.s.now / row_length) a.n) true
-    (all a.d.now a.r a.s.now a.n) (le-ltb (length a.d.now / row_length) a.r c.if-d-r.false)
-    (lt-ltb (length a.s.now / row_length) a.n c.if-s-n.true))
+    elim c.then-d-r.branch [
+      | then-d-r-via-then-d-r w ↦ sym (ap (λ b. choose b 0 (choose (ltb (length a.s.now / row_length) a.n) 0 (all a.d.now a.r a.s.now a.n)))
+          (lt-ltb (length a.d.now / row_length) a.r w.if-d-r.true))
+      | then-d-r-via-else-d-r+then-s-n w ↦ sym (two-tests (ltb (length a.d.now / row_length) a.r) (ltb (length a.s.now / row_length) a.n) true
+          (all a.d.now a.r a.s.now a.n) (le-ltb (length a.d.now / row_length) a.r w.if-d-r.false)
+          (lt-ltb (length a.s.now / row_length) a.n w.if-s-n.true))
+    ]
 
 pub loop-i-init : goal.loop-i-init
 loop-i-init c =
@@ -49,7 +48,7 @@ loop-i-preserved c =
       omega arith,
       counted_step (λ j. place_mark (seek (row_at a.s.now j).1 v 0)) l.i l.k c.found_mark-k.result l.invariant.2
           (c.found_mark-k.ensures.0 ∙ ap place_mark c.find.ensures
-          ∙ ap (λ t. place_mark (seek t.1 v 0)) c.row-t.ensures),
+          ∙ ap (λ t. place_mark (seek t.1 v 0)) c.row.ensures),
     )
 
 pub returns : goal.returns

@@ -16,7 +16,7 @@ pub fill_leads-requires : goal.fill_leads-requires
 fill_leads-requires c =
     let a = c.args in
     let S = a.state.now in
-    let e = sym c.ready.ensures ∙ c.if-ready.true in
+    let e = sym c.ready.ensures ∙ c.if-not-ready.false in
     let t = ready_said S a.k a.s.now a.n e in
     (t.long, t.sound, t.level, omega arith, omega arith)
 
@@ -24,7 +24,7 @@ pub count_of-r-requires : goal.count_of-r-requires
 count_of-r-requires c =
     let a = c.args in
     let S = a.state.now in
-    let e = sym c.ready.ensures ∙ c.if-ready.true in
+    let e = sym c.ready.ensures ∙ c.if-not-ready.false in
     let t = ready_said S a.k a.s.now a.n e in
     let h = height S t.long t.sound in
     (t.long, omega (arith, t.level, h))
@@ -34,7 +34,7 @@ components_of-c-requires c =
     let a = c.args in
     let S = a.state.now in
     let e = sym c.ready.ensures
-    ∙ c.if-ready.true in
+    ∙ c.if-not-ready.false in
     let t = ready_said S a.k a.s.now a.n e in
     let h = height S t.long t.sound in
     (t.long, omega (arith, t.level, h))
@@ -44,7 +44,7 @@ overflow_add-c c =
     let a = c.args in
     let S = a.state.now in
     let e = sym c.ready.ensures
-    ∙ c.if-ready.true in
+    ∙ c.if-not-ready.false in
     let t = ready_said S a.k a.s.now a.n e in
     omega (arith, c.components_of-c.ensures, components_few S t.long t.sound a.k t.level)
 
@@ -55,10 +55,10 @@ count_lower-requires c =
     let ready-there =
     c.ready in
     let if1-there =
-    c.if-ready in
+    c.if-not-ready in
     let S = a.state.now in
     let e = sym ready-there.ensures
-    ∙ if1-there.true in
+    ∙ if1-there.false in
     let t = ready_said S a.k a.s.now a.n e in
     let l = led_spans S a.k c.count_of-r.result c.components_of-c.result
     c.fill_leads.new.heads
@@ -70,27 +70,20 @@ count_lower-requires c =
       omega (arith, t.enough),
     )
 
-pub returns-then-ready : goal.returns-then-ready
-returns-then-ready c =
+pub returns : goal.returns
+returns c =
     let a =
     c.args in
     let ready-there =
     c.ready in
     let if1-there =
-    c.if-ready in
+    c.if-not-ready in
     let S = a.state.now in
     let e = sym ready-there.ensures
-    ∙ if1-there.true in
+    ∙ if1-there.false in
     let t = ready_said S a.k a.s.now a.n e in
     c.count_lower.ensures ∙ ap (λ v. counted (λ i. lower_mark (searched v (row_at a.s.now i).1)) a.n)
     (ap (rows c.fill_leads.new.heads 0)
     c.count_of-r.ensures ∙ c.fill_leads.ensures.made)
     ∙ sym (ap (λ b. choose b (counted (λ i. lower_mark (searched (heads (get_or S 0 0) (level_at document_01 S a.k)) (row_at a.s.now i).1))
     a.n) 0) e)
-
-pub returns : goal.returns
-returns c =
-    let a = c.args in
-    let S = a.state.now in
-    sym (ap (λ b. choose b (counted (λ i. lower_mark (searched (heads (get_or S 0 0) (level_at document_01 S a.k)) (row_at a.s.now i).1)) a.n)
-    0) (sym c.ready.ensures ∙ c.if-ready.false))

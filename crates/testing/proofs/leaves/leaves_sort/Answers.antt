@@ -15,18 +15,26 @@ use Prim.Native.Nat.{◌/◌}
 use borrow.Author.Tests.{lt-ltb, le-ltb}
 use Rattle.state.proofs.soundness.SoundLevels.{height, prime_above}
 use Rattle.testing.proofs.LeavesCalls.{ready_said, rows_none, table_ready, table_bounded}
+use Rattle.testing.proofs.leaves.leaves_sort.Goals.{then-d-n-via-then-d-n, then-d-n-via-else-d-n+then-not-ready}
 use Rattle.testing.proofs.leaves.leaves_sort.Goals as goal
 
 pub returns-then-d-n : goal.returns-then-d-n
 returns-then-d-n c =
-    let a = c.args in rows_none a.d.now
-    ∙ sym (ap (λ b. choose b [] (sorted a.state.now a.k a.s.now a.n)) (lt-ltb (length a.d.now / row_length) a.n c.if-d-n.true))
+    let a = c.args in
+    let S = a.state.now in
+    elim c.then-d-n.branch [
+      | then-d-n-via-then-d-n w ↦ rows_none a.d.now
+          ∙ sym (ap (λ b. choose b [] (sorted S a.k a.s.now a.n)) (lt-ltb (length a.d.now / row_length) a.n w.if-d-n.true))
+      | then-d-n-via-else-d-n+then-not-ready w ↦ rows_none a.d.now ∙ sym (λ i. choose (le-ltb (length a.d.now / row_length) a.n w.if-d-n.false i) []
+          (choose ((sym w.ready.ensures ∙ w.if-not-ready.true) i) (descending
+          (table_order (get_or S 2 0) (images (levels_at document_01 S (suc a.k)))) (get_or S 0 0) (rows a.s.now 0 a.n)) []))
+    ]
 
 pub overflow_add-k : goal.overflow_add-k
 overflow_add-k c =
     let a = c.args in
     let S = a.state.now in
-    let e = sym c.ready.ensures ∙ c.if-ready.true in
+    let e = sym c.ready.ensures ∙ c.if-not-ready.false in
     let t = ready_said S a.k a.s.now a.n e in
     let h = height S t.long t.sound in
     omega (arith, t.level, h)
@@ -35,7 +43,7 @@ pub fill_tables-requires : goal.fill_tables-requires
 fill_tables-requires c =
     let a = c.args in
     let S = a.state.now in
-    let e = sym c.ready.ensures ∙ c.if-ready.true in
+    let e = sym c.ready.ensures ∙ c.if-not-ready.false in
     let t = ready_said S a.k a.s.now a.n e in
     (t.long, t.sound, omega (arith, t.level), omega arith, omega arith)
 
@@ -43,7 +51,7 @@ pub count_of-r-requires : goal.count_of-r-requires
 count_of-r-requires c =
     let a = c.args in
     let S = a.state.now in
-    let e = sym c.ready.ensures ∙ c.if-ready.true in
+    let e = sym c.ready.ensures ∙ c.if-not-ready.false in
     let t = ready_said S a.k a.s.now a.n e in
     let h = height S t.long t.sound in
     (t.long, omega (arith, t.level, h))
@@ -54,7 +62,7 @@ bounds-state-2 c =
     c.args in
     let S = a.state.now in
     let e = sym c.ready.ensures
-    ∙ c.if-ready.true in
+    ∙ c.if-not-ready.false in
     let t = ready_said S a.k a.s.now a.n e in
     omega (arith, t.long)
 
@@ -66,7 +74,7 @@ bounds-state-0 c =
     c.ready in
     let S = a.state.now in
     let e = sym ready-there.ensures
-    ∙ c.if-ready.true in
+    ∙ c.if-not-ready.false in
     let t = ready_said S a.k a.s.now a.n e in
     omega (arith, t.long)
 
@@ -77,12 +85,12 @@ sort-requires c =
     let ready-there =
     c.ready in
     let if2-there =
-    c.if-ready in
+    c.if-not-ready in
     let if1-there =
     c.if-d-n in
     let S = a.state.now in
     let e = sym ready-there.ensures
-    ∙ if2-there.true in
+    ∙ if2-there.false in
     let t = ready_said S a.k a.s.now a.n e in
     let h = height S t.long t.sound in
     let m : a.k < all_levels = omega (arith, t.level, h) in
@@ -98,21 +106,21 @@ sort-requires c =
           c.count_of-r.ensures l,
     )
 
-pub returns-then-ready : goal.returns-then-ready
-returns-then-ready c =
+pub returns : goal.returns
+returns c =
     let a =
     c.args in
     let ready-there =
     c.ready in
     let if2-there =
-    c.if-ready in
+    c.if-not-ready in
     let fill-tables-there =
     c.fill_tables in
     let if1-there =
     c.if-d-n in
     let S = a.state.now in
     let e = sym ready-there.ensures
-    ∙ if2-there.true in
+    ∙ if2-there.false in
     let t = ready_said S a.k a.s.now a.n e in
     let l = table_ready S a.k fill-tables-there.new.below
     fill-tables-there.new.above
@@ -124,11 +132,3 @@ returns-then-ready c =
     if1-there.false i) []
     (choose (e i) (descending (table_order (get_or S 2 0) (images (levels_at document_01 S (suc a.k)))) (get_or S 0 0) (rows a.s.now 0 a.n))
     []))
-
-pub returns : goal.returns
-returns c =
-    let a = c.args in
-    let S = a.state.now in
-    rows_none a.d.now ∙ sym (λ i. choose (le-ltb (length a.d.now / row_length) a.n c.if-d-n.false i) []
-    (choose ((sym c.ready.ensures ∙ c.if-ready.false) i) (descending
-    (table_order (get_or S 2 0) (images (levels_at document_01 S (suc a.k)))) (get_or S 0 0) (rows a.s.now 0 a.n)) []))

@@ -1,13 +1,11 @@
 use native.Mathlib.Omega.{arith}
-use mathlib.Core.Bool.{true, false}
 use mathlib.Core.Path.{◌≡◌, refl, sym, ap, ◌∙◌, subst}
 use mathlib.Core.List.{[]}
 use Prim.Native.Nat.{ℕ, suc, ◌-◌, ◌≤◌}
 use lib.ListN.{length, get_or}
 use Rattle.testing.specs.Lifts.{lifted_within}
 use Rattle.testing.proofs.LevelCall.{hybrid_within}
-use Rattle.level.specs.by_runs.Stages.{Within, limits_with, lift_over, leveled_of, StoredAs}
-use Rattle.level.specs.declared.by_runs.Bounds.{Bounds}
+use Rattle.level.specs.by_runs.Stages.{limits_with, leveled_of, StoredAs}
 use Rattle.ways.specs.any_way.Ways.{way_of}
 use Rattle.definitions.specs.Lifting.{by_hybrid, lift_level}
 use Rattle.definitions.specs.Layout.{Words, work_words, levels_at}
@@ -27,18 +25,17 @@ lift_level-requires c =
 pub lift_level-requires-in-Hybrid : goal.lift_level-requires-in-Hybrid
 lift_level-requires-in-Hybrid c =
     let P = c.requires in
-    let r = c.room_of-room.ensures in
-    let b = c.with_working-c.ensures in (
+    let r = c.room_of.ensures in (
       P.0,
       omega (arith, P.3),
-      omega (arith, ap (λ (x : Bounds). x.working) b, r),
-      subst Within (sym b) (record {
+      omega (arith, r),
+      record {
         working = omega (arith, r, P.5.working);
         vector = P.5.vector;
         filled = P.5.filled;
         tree = P.5.tree;
         room = P.5.room;
-      }),
+      },
       refl,
     )
 
@@ -65,10 +62,8 @@ returns-in-Division c =
 
 pub returns-in-Hybrid : goal.returns-in-Hybrid
 returns-in-Hybrid c =
-    let a =
-    c.args in
-    let r = c.room_of-room in
-    let b = c.with_working-c in
+    let a = c.args in
+    let r = c.room_of in
     let s = a.state.now in
     let L = c.lift_level-in-Hybrid in
     let pick = c.in-Hybrid.pick in
@@ -76,7 +71,6 @@ returns-in-Hybrid c =
     let below = levels_at document_01 s (suc (a.k - 1)) in
     let e =
     L.ensures.0.2
-    ∙ ap (λ x. lift_over x s (a.k - 1) (record { drops = true; pick = pick; stops = false }) n) b.ensures
     ∙ hybrid_within a.b s a.k pick r.result n
     ∙ ap (λ x. lift_level (limits_with a.b) (get_or s 0 0) (get_or s 2 0) below (by_hybrid pick x) n) r.ensures in
     subst (λ x. ((n : ℕ) × (v : Words)

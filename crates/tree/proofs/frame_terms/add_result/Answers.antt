@@ -1,87 +1,20 @@
 use native.Mathlib.Omega.{arith}
-use mathlib.Core.Path.{ap, subst}
-use Prim.Native.Nat.{◌-◌, ◌*◌}
-use lib.ListN.{length}
+use mathlib.Core.Path.{subst}
+use Rattle.std.specs.Prelude.{Ok}
 use Rattle.definitions.specs.Layout.{rows}
-use Rattle.definitions.specs.Places.{row_length}
 use Rattle.orders.specs.Images.{table_of, table_order}
 use Rattle.runs.specs.reduction.Grounds.{above_in}
 use Rattle.cache.specs.Entries.{Sized}
-use Rattle.cache.proofs.Parts.{length_part}
 use Rattle.tree.proofs.subtrees.Joining.{fits_joined}
-use Rattle.tree.proofs.frame_terms.Filling.{cached_fills, waiting_fills, refusal_fills}
+use Rattle.tree.proofs.frame_terms.Filling.{cached_fills, waiting_fills}
 use Rattle.tree.proofs.frame_terms.add_result.Goals as goal
-
-pub held-part-requires : goal.held-part-requires
-held-part-requires c =
-    let a = c.args in
-    let P = c.requires in
-    let g = a.g in
-    let z = subst (Sized 0 g.tree a.room) c.in-Cached.is P.5 in
-    omega (arith, z.0, z.1, P.4)
-
-pub add_rows-x-requires : goal.add_rows-x-requires
-add_rows-x-requires c =
-    let a = c.args in
-    let P = c.requires in
-    let g = a.g in
-    let z = subst (Sized 0 g.tree a.room) c.in-Cached.is P.5 in (
-      P.0.prime,
-      P.1,
-      P.2,
-      P.6.fits,
-      P.6.tabled,
-      omega (
-        arith,
-        ap length c.held-part.ensures,
-        length_part a.cache.now (c.in-Cached.from * row_length) (c.in-Cached.len * row_length)
-            (omega (arith, z.0, z.1, P.4)),
-      ),
-    )
-
-pub overflow_sub-g : goal.overflow_sub-g
-overflow_sub-g c =
-    let a = c.args in
-    let P = c.requires in
-    let g = a.g in
-    let z = subst (Sized 0 g.tree a.room) c.in-Waiting.is P.5 in
-    omega (arith, z.0)
-
-pub held-part-requires-in-Waiting : goal.held-part-requires-in-Waiting
-held-part-requires-in-Waiting c =
-    let a = c.args in
-    let P = c.requires in
-    let g = a.g in
-    let z = subst (Sized 0 g.tree a.room) c.in-Waiting.is P.5 in
-    omega (arith, z.0, P.3)
-
-pub add_rows-x-requires-in-Waiting : goal.add_rows-x-requires-in-Waiting
-add_rows-x-requires-in-Waiting c =
-    let a = c.args in
-    let P = c.requires in
-    let g = a.g in
-    let z = subst (Sized 0 g.tree a.room) c.in-Waiting.is P.5 in (
-      P.0.prime,
-      P.1,
-      P.2,
-      P.6.fits,
-      P.6.tabled,
-      omega (
-        arith,
-        ap length c.held-part-in-Waiting.ensures,
-        length_part a.work.now ((g.tree - c.in-Waiting.len) * row_length)
-            (c.in-Waiting.len * row_length) (omega (arith, z.0, P.3)),
-      ),
-    )
 
 pub returns-in-Cached : goal.returns-in-Cached
 returns-in-Cached c =
-    let a =
-    c.args in
-    let P =
-    c.requires in
+    let a = c.args in
+    let P = c.requires in
     let g = a.g in
-    let z = subst (Sized 0 g.tree a.room) c.in-Cached.is P.5 in
+    let z = subst (λ y. Sized 0 g.tree a.room (Ok y)) c.in-Cached.is P.5 in
     let O = table_order g.code (table_of g.r (above_in a.tables.now)) in
     let total = rows a.vector.now 0 a.n in
     let x = c.add_rows-x in
@@ -96,12 +29,10 @@ returns-in-Cached c =
 
 pub returns-in-Waiting : goal.returns-in-Waiting
 returns-in-Waiting c =
-    let a =
-    c.args in
-    let P =
-    c.requires in
+    let a = c.args in
+    let P = c.requires in
     let g = a.g in
-    let z = subst (Sized 0 g.tree a.room) c.in-Waiting.is P.5 in
+    let z = subst (λ y. Sized 0 g.tree a.room (Ok y)) c.in-Waiting.is P.5 in
     let O = table_order g.code (table_of g.r (above_in a.tables.now)) in
     let total = rows a.vector.now 0 a.n in
     let x = c.add_rows-x-in-Waiting in
@@ -111,15 +42,4 @@ returns-in-Waiting c =
           c.in-Waiting.is c.joined-in-Waiting.ensures
           c.held-part-in-Waiting.ensures x.ensures.0,
       fits_joined 0 g.vector g.vector a.room u x.result c.joined-in-Waiting.result c.joined-in-Waiting.ensures x.ensures.1 (omega arith) z.1,
-    )
-
-pub returns-in-Refused : goal.returns-in-Refused
-returns-in-Refused c =
-    let a = c.args in
-    let g = a.g in
-    let O = table_order g.code (table_of g.r (above_in a.tables.now)) in
-    let total = rows a.vector.now 0 a.n in (
-      refusal_fills O g.p g.vector a.c g.tree total a.cache.now a.work.now a.vector.now c.in-Refused.x a.s
-          c.in-Refused.is,
-      tt,
     )

@@ -1,6 +1,6 @@
 use mathlib.Core.Path.{◌≡◌}
 use mathlib.Core.List.{[]}
-use Prim.Native.Nat.{◌-◌, ◌≤◌}
+use Prim.Native.Nat.{◌≤◌}
 use lib.ListN.{length}
 use Rattle.definitions.specs.Tree.{tree as tree_definition}
 use Rattle.definitions.specs.Lifting.{lift_all as lift_all_definition}
@@ -22,6 +22,3 @@ invariant-loop-i l =
     (frame_terms l.frame l.count) ≡ all_from (stage_of l.g l.level l.tables (table_order l.g.code (table_of l.g.r
     (above_in l.tables)))) l.room l.frame l.count l.i
     (lifted_vectors l.out l.i, l.used) (cache_of l.u l.cache))
-
-abbrev pub decreases-loop-i : goal.decreases-loop-i
-decreases-loop-i l = l.count - l.i

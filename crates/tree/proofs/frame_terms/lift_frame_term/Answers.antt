@@ -14,34 +14,12 @@ use Rattle.tree.proofs.frame_terms.Filling.{whole_of}
 use Rattle.runs.specs.reduction.Grounds.{first_row, ends_in, above_in}
 use Rattle.tree.proofs.frame_terms.lift_frame_term.Goals as goal
 
-pub lift_vector-requires : goal.lift_vector-requires
-lift_vector-requires c =
-    let a =
-    c.args in
-    let P =
-    c.requires in
-    let g = a.g in
-    let pl = c.place in
-    let ro = c.rows_of-part in (
-      P.0,
-      P.1,
-      omega (arith, P.2, c.put.auto.s),
-      omega (arith, ro.ensures.1, P.0.family.rows_fit (pl.result - 1) (omega (arith, pl.ensures, P.3, P.4))),
-      ro.ensures.3,
-    )
-
 pub returns : goal.returns
 returns c =
-    let a =
-    c.args in
-    let P =
-    c.requires in
-    let pl =
-    c.place in
-    let ro =
-    c.rows_of-part in
-    let pt =
-    c.put in
+    let a = c.args in
+    let P = c.requires in
+    let ro = c.rows_of-part in
+    let pt = c.put in
     let g = a.g in
     let S : Stage = stage_of g a.level.now a.tables.now (table_order g.code (table_of g.r (above_in a.tables.now))) in
     let lv = c.lift_vector in
@@ -49,8 +27,8 @@ returns c =
     let one : Term = (1, m) in
     let first = first_stored a.vector.now pt.new.s 0 one pt.ensures.0 pt.ensures.1 (omega (arith, P.1, P.2)) in
     let whole = whole_of g a.level.now (ends_in a.tables.now) m.1 ro.result.from ro.result.to P.0.family P.3 P.4
-    (ro.ensures.0 ∙ ap (first_row (ends_in a.tables.now)) pl.ensures.0)
-    (ro.ensures.1 ∙ ap (λ x. get_or (ends_in a.tables.now) (x - 1) 0) pl.ensures.0) in (
+    (ro.ensures.0 ∙ ap (first_row (ends_in a.tables.now)) c.from.ensures)
+    (ro.ensures.1 ∙ ap (λ x. get_or (ends_in a.tables.now) (x - 1) 0) c.from.ensures) in (
       (lv.ensures.0 ∙ (λ i. vector_definition S (lift_term S a.room g.tree) 1 m.0 (sym whole i)
           (first i, cache_of a.used a.cache.now))),
       lv.ensures.1,

@@ -21,6 +21,3 @@ invariant-loop-i l =
     ≡ filling_from (stage_of l.g l.level l.tables (table_order l.g.code (table_of l.g.r (above_in l.tables))))
     (lift_term (stage_of l.g l.level l.tables (table_order l.g.code (table_of l.g.r (above_in l.tables)))) l.room l.g.tree) (unpack l.q) l.level l.to l.i
     (rows l.vector 0 l.k, cache_of l.v l.cache))
-
-abbrev pub decreases-loop-i : goal.decreases-loop-i
-decreases-loop-i l = l.to - l.i

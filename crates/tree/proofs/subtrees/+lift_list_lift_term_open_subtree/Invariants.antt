@@ -32,6 +32,3 @@ invariant-lift_list-loop-i l =
     (term_definition (stage_of l.g l.level l.tables (table_order l.g.code (table_of l.g.r (above_in l.tables)))) l.room l.left) l.a l.c
     (unpack l.q) l.level l.to l.i
     (rows l.work l.a l.k, cache_of l.v l.cache))
-
-abbrev pub decreases-lift_list-loop-i : goal.decreases-lift_list-loop-i
-decreases-lift_list-loop-i l = l.to - l.i

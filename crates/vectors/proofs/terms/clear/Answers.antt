@@ -1,13 +1,9 @@
 use native.Mathlib.Omega.{arith}
-use mathlib.Core.Path.{◌≡◌, refl, ap, ◌∙◌}
-use Prim.Native.Nat.{◌-◌, ◌≤◌}
-use lib.ListN.{length, set, length-set}
-use Rattle.vectors.proofs.terms.Moving.{cleared_to, cleared_none, cleared_more, cleared_end}
-use mathlib.Core.Logic.{◌⊎◌, inl, inr}
+use mathlib.Core.Path.{ap, ◌∙◌}
+use lib.ListN.{set, length-set}
+use Rattle.vectors.proofs.terms.Moving.{cleared_more, cleared_end}
+use mathlib.Core.Logic.{inr}
 use Rattle.vectors.proofs.terms.clear.Goals as goal
-
-pub loop-k-init : goal.loop-k-init
-loop-k-init c = (omega arith, refl, inl refl, cleared_none c.args.s.now c.args.a)
 
 pub loop-k-preserved : goal.loop-k-preserved
 loop-k-preserved c =

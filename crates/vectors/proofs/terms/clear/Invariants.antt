@@ -1,9 +1,8 @@
-use native.Mathlib.Omega.{arith}
-use mathlib.Core.Path.{◌≡◌, refl, ap, ◌∙◌}
+use mathlib.Core.Path.{◌≡◌}
 use Prim.Native.Nat.{◌-◌, ◌≤◌}
-use lib.ListN.{length, set, length-set}
-use Rattle.vectors.proofs.terms.Moving.{cleared_to, cleared_none, cleared_more, cleared_end}
-use mathlib.Core.Logic.{◌⊎◌, inl, inr}
+use lib.ListN.{length}
+use Rattle.vectors.proofs.terms.Moving.{cleared_to}
+use mathlib.Core.Logic.{◌⊎◌}
 use Rattle.vectors.proofs.terms.clear.Given as goal
 
 abbrev pub invariant-loop-k : goal.invariant-loop-k

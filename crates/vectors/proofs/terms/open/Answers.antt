@@ -1,14 +1,11 @@
 use native.Mathlib.Omega.{arith}
 use mathlib.Core.Path.{◌≡◌, refl, ap, ◌∙◌}
-use Prim.Native.Nat.{◌+◌, ◌-◌, ◌*◌, ◌≤◌}
-use lib.ListN.{length, get_or, set, length-set}
-use Rattle.vectors.proofs.terms.Moving.{opened_none, opened_below, opened_more}
+use Prim.Native.Nat.{◌+◌, ◌-◌, ◌*◌}
+use lib.ListN.{get_or, set, length-set}
+use Rattle.vectors.proofs.terms.Moving.{opened_below, opened_more}
 use Rattle.vectors.specs.terms.Rows.{opened}
 use Rattle.definitions.specs.Places.{row_length}
 use Rattle.vectors.proofs.terms.open.Goals as goal
-
-pub loop-k-init : goal.loop-k-init
-loop-k-init c = (refl, omega arith, omega arith, refl, opened_none c.args.s.now (c.args.n * row_length))
 
 pub loop-k-preserved : goal.loop-k-preserved
 loop-k-preserved c =
@@ -25,9 +22,3 @@ loop-k-preserved c =
           ∙ ap (set (opened s (m + 1) b) (m + row_length)) (opened_below s (m + 1) b m (omega arith) (omega arith) (omega arith))
           ∙ opened_more s m b (omega arith) (omega arith),
     )
-
-pub returns : goal.returns
-returns c =
-    let l = c.loop-k in
-    let e : l.k ≡ c.args.i * row_length = omega arith in
-    l.invariant.4 ∙ ap (λ k. opened c.args.s.now k (c.args.n * row_length)) e

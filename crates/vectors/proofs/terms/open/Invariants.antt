@@ -1,8 +1,6 @@
-use native.Mathlib.Omega.{arith}
-use mathlib.Core.Path.{◌≡◌, refl, ap, ◌∙◌}
-use Prim.Native.Nat.{◌+◌, ◌-◌, ◌*◌, ◌≤◌}
-use lib.ListN.{length, get_or, set, length-set}
-use Rattle.vectors.proofs.terms.Moving.{opened_none, opened_below, opened_more}
+use mathlib.Core.Path.{◌≡◌}
+use Prim.Native.Nat.{◌*◌, ◌≤◌}
+use lib.ListN.{length}
 use Rattle.vectors.specs.terms.Rows.{opened}
 use Rattle.definitions.specs.Places.{row_length}
 use Rattle.vectors.proofs.terms.open.Given as goal

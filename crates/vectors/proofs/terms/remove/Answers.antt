@@ -1,14 +1,11 @@
 use native.Mathlib.Omega.{arith}
-use mathlib.Core.Path.{◌≡◌, refl, ap, ◌∙◌}
-use Prim.Native.Nat.{◌+◌, ◌-◌, ◌*◌, ◌≤◌}
-use lib.ListN.{length, get_or, set, length-set}
-use Rattle.vectors.proofs.terms.Moving.{closed_none, closed_ahead, closed_more}
+use mathlib.Core.Path.{refl, ap, ◌∙◌}
+use Prim.Native.Nat.{◌+◌, ◌*◌}
+use lib.ListN.{get_or, set, length-set}
+use Rattle.vectors.proofs.terms.Moving.{closed_ahead, closed_more}
 use Rattle.vectors.specs.terms.Rows.{closed}
 use Rattle.definitions.specs.Places.{row_length}
 use Rattle.vectors.proofs.terms.remove.Goals as goal
-
-pub loop-k-init : goal.loop-k-init
-loop-k-init c = (refl, omega arith, omega arith, refl, closed_none c.args.s.now (c.args.i * row_length))
 
 pub loop-k-preserved : goal.loop-k-preserved
 loop-k-preserved c =
@@ -23,9 +20,3 @@ loop-k-preserved c =
           ∙ ap (set (closed s a l.k) l.k) (closed_ahead s a l.k (omega arith) (omega arith))
           ∙ closed_more s a l.k (omega arith) (omega arith),
     )
-
-pub returns : goal.returns
-returns c =
-    let l = c.loop-k in
-    let e : l.k ≡ c.args.n * row_length - row_length = omega arith in
-    l.invariant.4 ∙ ap (closed c.args.s.now (c.args.i * row_length)) e

@@ -1,8 +1,6 @@
-use native.Mathlib.Omega.{arith}
-use mathlib.Core.Path.{◌≡◌, refl, ap, ◌∙◌}
-use Prim.Native.Nat.{◌+◌, ◌-◌, ◌*◌, ◌≤◌}
-use lib.ListN.{length, get_or, set, length-set}
-use Rattle.vectors.proofs.terms.Moving.{closed_none, closed_ahead, closed_more}
+use mathlib.Core.Path.{◌≡◌}
+use Prim.Native.Nat.{◌-◌, ◌*◌, ◌≤◌}
+use lib.ListN.{length}
 use Rattle.vectors.specs.terms.Rows.{closed}
 use Rattle.definitions.specs.Places.{row_length}
 use Rattle.vectors.proofs.terms.remove.Given as goal

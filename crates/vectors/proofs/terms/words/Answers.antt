@@ -3,7 +3,6 @@ use mathlib.Core.List.{◌∷◌}
 use native.Mathlib.Omega.{arith}
 use Rattle.laws.proofs.Packing.{pack_unpack, unpack_eight}
 use Rattle.definitions.specs.Layout.{words_of}
-use borrow.Author.Rules.{rules}
 use Rattle.vectors.proofs.terms.words.Goals as goal
 
 pub returns : goal.returns

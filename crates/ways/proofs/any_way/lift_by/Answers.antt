@@ -1,7 +1,7 @@
 use borrow.Author.Rules.{rules}
 use native.Mathlib.Omega.{arith}
 use mathlib.Core.Path.{refl, sym, subst}
-use Prim.Native.Nat.{◌-◌, ◌≤◌}
+use Prim.Native.Nat.{◌≤◌}
 use lib.ListN.{length}
 use Rattle.definitions.specs.Limits.{document_01}
 use Rattle.definitions.specs.Lifting.{by_hybrid}
@@ -9,11 +9,6 @@ use Rattle.definitions.specs.Layout.{work_words, lifting_by}
 use Rattle.definitions.specs.Places.{value_length, tree_length}
 use Rattle.level.specs.all_levels.Level.{by_picks, by_leading, LiftedBy}
 use Rattle.ways.specs.any_way.Ways.{way_of}
-use Rattle.ways.proofs.any_way.lift_by.Reads as reads
-use Rattle.ways.proofs.any_way.lift_by.Lts as lts
-use Rattle.level.proofs.all_levels.lift_level.Reads as lift_level_reads
-use Rattle.ways.proofs.any_way.lift_tree.Reads as lift_tree_reads
-use Rattle.ways.proofs.any_way.room_of.Reads as room_of_reads
 use Rattle.ways.proofs.any_way.lift_by.Goals as goal
 
 pub lift_level-requires : goal.lift_level-requires

@@ -1,8 +1,7 @@
-use borrow.Author.Rules.{rules}
 use native.Mathlib.Omega.{arith}
 use mathlib.Core.Path.{subst}
 use mathlib.Core.List.{[]}
-use Prim.Native.Nat.{◌+◌, ◌-◌, ◌*◌}
+use Prim.Native.Nat.{◌-◌}
 use lib.ListN.{length, take, drop}
 use Prim.Native.Nat.{◌/◌}
 use Rattle.state.proofs.soundness.VectorByVector.{whole_part}
