@@ -35,7 +35,7 @@ pub fn look_up(cache: &[u16], used: usize, m: Monomial) -> Option<(usize, usize)
     let mut k = used;
     // A while: the position jumps by an entry.
     while 0 < k {
-        let n = words::place(cache[(k - 1) * words::ROW_LENGTH]);
+        let n = usize::from(cache[(k - 1) * words::ROW_LENGTH]);
         let from = (k - 1).saturating_sub(n);
         if terms::same_row(cache, k - 1, m) {
             return Some((from, k - 1 - from));

@@ -2,8 +2,8 @@
 use mathlib.Core.Path.{◌≡◌, refl, sym, ap, ◌∙◌}
 use Prim.Native.Nat.{ℕ, zero, suc, ◌-◌, ◌*◌, ◌/◌, ◌%◌, ◌<◌, ◌≤◌}
 use native.Mathlib.Omega.{arith}
-use native.Mathlib.Nat.{mul_assoc, mod-lt, mod-eq_of_lt, mul-one, one-mul}
-use Rattle.definitions.specs.Field.{times, inverse_by, inverse}
+use native.Mathlib.Nat.{mul_assoc, mod-lt, mod-eq_of_lt, mul-one}
+use Rattle.definitions.specs.Field.{times, inverse_by}
 use Rattle.laws.proofs.Modular.{times_left, times_right}
 
 pub times_assoc : (p a b c : ℕ) → times p (times p a b) c ≡ times p a (times p b c)
@@ -37,16 +37,6 @@ inverse_step p (suc zero) h = absurd (omega arith)
 inverse_step p (suc (suc c)) h =
     let l : p % suc (suc c) < suc (suc c) = mod-lt p (omega arith) in
     ap (times p (p - p / suc (suc c))) (inverse_bound (suc c) (p % suc (suc c)) p (p % suc (suc c)) (omega arith) (omega arith))
-
-inverse_small : (n p a : ℕ) → 1 < p → inverse_by n p a < p
-inverse_small zero p a h = h
-inverse_small (suc n) p zero h = h
-inverse_small (suc n) p (suc zero) h = h
-inverse_small (suc n) p (suc (suc c)) h = mod-lt _ (omega arith)
-
--- where the loop starts, how it goes on, where it ends
-pub inverse_start : (p a : ℕ) → 1 < p → times p 1 (inverse_by (a % p) p (a % p)) ≡ inverse p a
-inverse_start p a h = ap (λ z. z % p) (one-mul (inverse_by (a % p) p (a % p))) ∙ mod-eq_of_lt (inverse_small (a % p) p (a % p) h)
 
 pub inverse_on : (p r x : ℕ) → 1 < x → times p (times p r (p - p / x)) (inverse_by (p % x) p (p % x)) ≡ times p r (inverse_by x p x)
 inverse_on p r x h = times_assoc p r (p - p / x) (inverse_by (p % x) p (p % x)) ∙ ap (times p r) (sym (inverse_step p x h))

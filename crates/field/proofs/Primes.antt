@@ -1,5 +1,5 @@
 -- Trial division up to the square root decides the definition's test.
-use mathlib.Core.Path.{◌≡◌, refl, sym, ap, ◌∙◌, subst}
+use mathlib.Core.Path.{◌≡◌, refl, sym, ap, ◌∙◌}
 use mathlib.Core.Logic.{◌≢◌, ◌⊎◌, inl, inr}
 use mathlib.Core.Bool.{Bool, true, false, not}
 use Prim.Native.Nat.{ℕ, zero, suc, ◌+◌, ◌*◌, ◌/◌, ◌%◌, ◌<◌, ◌≤◌, ◌∣◌}
@@ -14,16 +14,6 @@ use Rattle.laws.proofs.Tests.{true_is}
 -- no number of 2 .. d − 1 divides p
 abbrev pub Clear : ℕ → ℕ → Type 0
 Clear p d = (k : ℕ) → 1 < k → k < d → p % k ≢ 0
-
-pub clear_two : (p : ℕ) → Clear p 2
-clear_two p k h l = absurd (omega arith)
-
-pub clear_more : (p d : ℕ) → Clear p d → p % d ≢ 0 → Clear p (d + 1)
-clear_more p d f n k h l = go (ℕ_discrete k d)
-  where
-    go : Dec (k ≡ d) → p % k ≢ 0
-    go (yes e) = subst (λ z. p % z ≢ 0) (sym e) n
-    go (no ne) = f k h (omega arith)
 
 -- a divisor e gives the divisor p / e, and one of the two is at most the root
 cofactor : (p e : ℕ) → p % e ≡ 0 → e * (p / e) ≡ p
@@ -66,19 +56,6 @@ not_shown false h = refl
 
 pub prime_false : (p d : ℕ) → 2 ≤ d → d * d ≤ p → p % d ≡ 0 → false ≡ prime? p
 prime_false p d h l z = not_shown (prime? p) (λ t. (prime_says p t).alone d h (omega (arith, mul-le-mul h (le_refl d))) z)
-
-pub small_false : (p : ℕ) → p < 2 → false ≡ prime? p
-small_false zero h = refl
-small_false (suc zero) h = refl
-small_false (suc (suc p)) h = absurd (omega arith)
-
--- the loop's divisor stays below 256
-pub root_small : (d p : ℕ) → d * d ≤ p → p ≤ 65535 → d ≤ 255
-root_small d p h l = go (ltb d 256) (ltb→lt d 256) (nltb→le d 256)
-  where
-    go : (b : Bool) → (T b → d < 256) → (T (not b) → 256 ≤ d) → d ≤ 255
-    go true f g = let k = f tt in omega arith
-    go false f g = absurd (omega (arith, mul-le-mul (g tt) (g tt)))
 
 -- ## A prime has no divisor but 1 and itself
 

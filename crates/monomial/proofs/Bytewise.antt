@@ -1,12 +1,12 @@
 -- Equality, degree and each exponent of a packed number; eight exponents put together.
-use Rattle.std.proofs.Common.{◌≡◌, ℕ, zero, suc, ◌+◌, ◌*◌, ◌/◌, ◌%◌, ◌<◌, Bool, true, false, eqb, [], ◌∷◌, length, get_or, sym, refl, ap, ◌∙◌, subst, arith, ext_get_or, w64, Fits, eq-eqb, ne_eqb, eqb-true}
+use Rattle.std.proofs.Common.{◌≡◌, ℕ, zero, suc, ◌+◌, ◌*◌, ◌/◌, ◌%◌, ◌<◌, Bool, true, false, eqb, [], ◌∷◌, length, get_or, sym, refl, ap, ◌∙◌, subst, arith, ext_get_or, eq-eqb, ne_eqb, eqb-true}
 use lib.Bits.{bit_and}
 use borrow.Author.Tests.{eqb-false}
 use Rattle.monomial.specs.Values.{pair_lanes, lane_sum, lane_bytes}
 use Rattle.definitions.specs.Lists.{◌and◌}
 use Rattle.definitions.specs.Monomial.{Exponents, unit, same_exponents?, degree}
-use Rattle.definitions.specs.Packed.{low_bytes, four, unpack, pack, pack_from, long_bound}
-use Rattle.laws.proofs.Packing.{Bytes, unpack_is, Small, none, more, long_of, words_of_four}
+use Rattle.definitions.specs.Packed.{low_bytes, four, unpack, pack, pack_from}
+use Rattle.laws.proofs.Packing.{Bytes, unpack_is, Small, none, more, words_of_four}
 use Rattle.monomial.proofs.Lanes.{lows, highs, sums}
 use Rattle.monomial.proofs.Dividing.{regrouped, ended}
 
@@ -50,51 +50,6 @@ same_packed x y a b =
 
 pub lane_sum_four : (p q r s : ℕ) → p < 65536 → q < 65536 → r < 65536 → s < 65536 → lane_sum (four p q r s) ≡ p + q + r + s
 lane_sum_four p q r s hp hq hr hs = ap (λ l. get_or l 3 0 + get_or l 2 0 + get_or l 1 0 + get_or l 0 0) (words_of_four p q r s hp hq hr hs)
-
--- each lane with the one below it
-abbrev pub with_next : ℕ → ℕ
-with_next n = n + n % 281474976710656 * 65536
-
--- .. with the two below that
-abbrev pub with_third : ℕ → ℕ
-with_third n = n + n % 4294967296 * 4294967296
-
-lanes_two : (p q r s : ℕ) → p + q + r + s < 65536 → with_next (four p q r s) ≡ four (p + q) (q + r) (r + s) s
-lanes_two p q r s h = omega arith
-
-lanes_all : (p q r s : ℕ) → p + q + r + s < 65536 → with_third (four (p + q) (q + r) (r + s) s) ≡ four (p + q + r + s) (q + r + s) (r + s) s
-lanes_all p q r s h = omega arith
-
-lanes_top : (p q r s : ℕ) → p + q + r + s < 65536 → four (p + q + r + s) (q + r + s) (r + s) s / 281474976710656 ≡ p + q + r + s
-lanes_top p q r s h = omega arith
-
-module _ (s : ℕ) (b : s < long_bound) (h : lane_sum s < 65536) where
-  next_is : with_next s ≡ four (s / 281474976710656 + s / 4294967296 % 65536) (s / 4294967296 % 65536 + s / 65536 % 65536)
-      (s / 65536 % 65536 + s % 65536) (s % 65536)
-  next_is =
-      ap with_next (sym (long_of s b)) ∙ lanes_two (s / 281474976710656) (s / 4294967296 % 65536) (s / 65536 % 65536) (s % 65536) h
-
-  third_is : with_third (with_next s) ≡ four (lane_sum s) (s / 4294967296 % 65536 + s / 65536 % 65536 + s % 65536)
-      (s / 65536 % 65536 + s % 65536) (s % 65536)
-  third_is = ap with_third next_is ∙ lanes_all (s / 281474976710656) (s / 4294967296 % 65536) (s / 65536 % 65536) (s % 65536) h
-
-  pub next_fits : Fits w64 (with_next s)
-  next_fits = subst (λ n. Fits w64 n) (sym next_is)
-      (room (s / 281474976710656) (s / 4294967296 % 65536) (s / 65536 % 65536) (s % 65536) h)
-    where
-      room : (p q r s : ℕ) → p + q + r + s < 65536 → Fits w64 (four (p + q) (q + r) (r + s) s)
-      room p q r s h = omega arith
-
-  pub third_fits : Fits w64 (with_third (with_next s))
-  third_fits = subst (λ n. Fits w64 n) (sym third_is)
-      (room (s / 281474976710656) (s / 4294967296 % 65536) (s / 65536 % 65536) (s % 65536) h)
-    where
-      room : (p q r s : ℕ) → p + q + r + s < 65536 → Fits w64 (four (p + q + r + s) (q + r + s) (r + s) s)
-      room p q r s h = omega arith
-
-  pub lanes_added : with_third (with_next s) / 281474976710656 ≡ lane_sum s
-  lanes_added = ap (λ n. n / 281474976710656) third_is
-      ∙ lanes_top (s / 281474976710656) (s / 4294967296 % 65536) (s / 65536 % 65536) (s % 65536) h
 
 module _ (x : ℕ) (a : Bytes x) where
   pub paired_lanes : bit_and (x / 256) lane_bytes + bit_and x lane_bytes ≡ pair_lanes (unpack x)

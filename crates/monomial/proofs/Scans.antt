@@ -1,9 +1,9 @@
 -- Tests on eight exponents, by what holds at each place.
-use Rattle.std.proofs.Common.{◌≡◌, ℕ, zero, suc, ◌+◌, ◌<◌, ◌≤◌, Bool, true, false, eqb, ltb, leb, [], ◌∷◌, length, get_or, drop, sym, refl, ap, ◌∙◌, le_of_suc-le-suc, not-suc-le-zero, arith, drop_of_length-le, drop-cons, ltb-false, ltb-true, eq-eqb, ne_eqb, le-leb}
+use Rattle.std.proofs.Common.{◌≡◌, ℕ, zero, suc, ◌<◌, Bool, true, false, eqb, ltb, leb, [], ◌∷◌, length, get_or, sym, refl, ◌∙◌, le_of_suc-le-suc, not-suc-le-zero, arith, ltb-false, ltb-true, le-leb}
 use lib.Dec.{eqb-suc-zero}
 use borrow.Author.Tests.{lt-leb}
 use Rattle.definitions.specs.Lists.{◌and◌}
-use Rattle.definitions.specs.Monomial.{Exponents, fits?, degree}
+use Rattle.definitions.specs.Monomial.{Exponents, fits?}
 use Rattle.lists.specs.Marking.{Marked, unmarked, marked_at}
 
 -- ## Above
@@ -41,18 +41,4 @@ fits_marked limit e mark l m = go mark m
 
 -- ## Degrees
 
-pub degree_on : (a : Exponents) (j d : ℕ) → j < length a → d + degree (drop j a) ≡ d + get_or a j 0 + degree (drop (j + 1) a)
-degree_on a j d h =
-    let s : j + 1 ≡ suc j = omega arith in
-    ap (λ l. d + degree l) (drop-cons a j 0 h) ∙ omega (arith, ap (λ n. degree (drop n a)) s)
-
-pub degree_end : (a : Exponents) (j d : ℕ) → length a ≤ j → d + degree (drop j a) ≡ d
-degree_end a j d h = ap (λ l. d + degree l) (drop_of_length-le a h) ∙ omega arith
-
 -- ## Components before exponents
-
-pub components_differ : (a b : ℕ) (t : Bool) → (a ≡ b → ⊥) → false ≡ (eqb a b and t)
-components_differ a b t ne = λ i. sym (ne_eqb a b ne) i and t
-
-pub components_equal : (a b : ℕ) (t r : Bool) → a ≡ b → r ≡ t → r ≡ (eqb a b and t)
-components_equal a b t r e f = f ∙ (λ i. sym (eq-eqb a b e) i and t)

@@ -8,7 +8,7 @@ use lib.Dec.{eqb}
 use borrow.Author.Tests.{eq-eqb, ne_eqb}
 use Rattle.definitions.specs.Lists.{choose}
 use Rattle.definitions.specs.Monomial.{Exponents, degree}
-use Rattle.definitions.specs.Order.{Comparison, equal, or_at_tie, numbers, lexicographic, last_differing, degrees, exponents_by}
+use Rattle.definitions.specs.Order.{Comparison, equal, or_at_tie, lexicographic, last_differing, degrees, exponents_by}
 use Rattle.orders.specs.Images.{degrees_by, places_by}
 
 pub code_parts : (code : ℕ) (x y : Exponents) (d : ℕ) → d ≡ degree x → or_at_tie (degrees_by code d (degree y)) (places_by code x y)
@@ -28,12 +28,6 @@ code_parts code x y d e = ap (λ n. or_at_tie (degrees_by code n (degree y)) (pl
     go true b = refl
     go false true = refl
     go false false = refl
-
-pub degrees_1 : (code d e : ℕ) → code ≡ 1 → degrees_by code d e ≡ equal
-degrees_1 code d e q = ap (λ b. choose b equal (numbers d e)) (eq-eqb code 1 q)
-
-pub degrees_rest : (code d e : ℕ) → (code ≡ 1 → ⊥) → degrees_by code d e ≡ numbers d e
-degrees_rest code d e n = ap (λ b. choose b equal (numbers d e)) (ne_eqb code 1 n)
 
 pub places_first : (code : ℕ) (x y : Exponents) → 1 ≤ code → code < 3 → places_by code x y ≡ lexicographic x y
 places_first code x y h k = go (ℕ_discrete code 1)

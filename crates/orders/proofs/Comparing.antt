@@ -1,17 +1,15 @@
 -- Comparing eight exponents from the first, or from the last.
 use mathlib.Core.Path.{◌≡◌, refl, sym, ap, ◌∙◌}
-use mathlib.Core.Bool.{Bool, true, false}
+use mathlib.Core.Bool.{true, false}
 use mathlib.Core.List.{[], ◌∷◌}
 use Prim.Native.Nat.{ℕ, zero, suc, ◌+◌, ◌<◌, ◌≤◌}
 use native.Mathlib.Nat.{not-suc-le-zero, le_of_suc-le-suc}
 use native.Mathlib.Omega.{arith}
 use native.Mathlib.Decide.{ℕ_discrete}
-use lib.Dec.{eqb}
 use lib.ListN.{length, get_or, drop, drop_of_length-le}
 use lib.Seq.{drop-cons}
-use borrow.Author.Tests.{ne_eqb}
 use Rattle.definitions.specs.Monomial.{Exponents}
-use Rattle.definitions.specs.Order.{Comparison, equal, or_at_tie, numbers, lexicographic, last_differing, degrees, exponents_by}
+use Rattle.definitions.specs.Order.{Comparison, equal, or_at_tie, numbers, lexicographic, last_differing, exponents_by}
 use Rattle.definitions.specs.Layout.{Words}
 use Rattle.laws.proofs.Comparisons.{Says, numbers_say, numbers_are}
 use Rattle.std.specs.declared.cmp.Ordering.{Ordering}
@@ -120,29 +118,6 @@ equal_from_less x y j k s f e n h l = go (ℕ_discrete n k)
     go (no ne) = f n (omega arith) l
 
 -- ## The order code
-
-pub code_1 : (code : ℕ) (x y : Exponents) → code ≡ 1 → exponents_by code x y ≡ lexicographic x y
-code_1 code x y e = ap (λ n. exponents_by n x y) e
-
-pub code_2 : (code : ℕ) (x y : Exponents) → code ≡ 2 → exponents_by code x y ≡ or_at_tie (degrees x y) (lexicographic x y)
-code_2 code x y e = ap (λ n. exponents_by n x y) e
-
-pub code_3 : (code : ℕ) (x y : Exponents) → (code ≡ 1 → ⊥) → (code ≡ 2 → ⊥) → exponents_by code x y ≡ or_at_tie (degrees x y) (last_differing x y)
-code_3 code x y n m = go (eqb code 1) (eqb code 2) (ne_eqb code 1 n) (ne_eqb code 2 m)
-  where
-    go : (a b : Bool) → a ≡ false → b ≡ false → ◌≡◌ {A = Comparison}
-        (elim a [
-          | true ↦ lexicographic x y
-          | false ↦ elim b [
-            | true ↦ or_at_tie (degrees x y) (lexicographic x y)
-            | false ↦ or_at_tie (degrees x y)
-                (last_differing x y)
-          ]
-        ])
-        (or_at_tie (degrees x y) (last_differing x y))
-    go true b e f = let z : ◌≡◌ {A = ℕ} 0 1 = cc in absurd (omega arith)
-    go false true e f = let z : ◌≡◌ {A = ℕ} 0 1 = cc in absurd (omega arith)
-    go false false e f = refl
 
 -- ## Raw exponents
 

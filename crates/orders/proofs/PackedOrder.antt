@@ -3,8 +3,6 @@ use mathlib.Core.Path.{◌≡◌, refl, sym, ap, ◌∙◌}
 use mathlib.Core.List.{[], ◌∷◌, reverse}
 use Prim.Native.Nat.{ℕ, ◌+◌, ◌*◌, ◌/◌, ◌%◌, ◌<◌}
 use native.Mathlib.Omega.{arith}
-use mir.Val.{Fits}
-use mir.Syntax.{w64}
 use lib.ListN.{length}
 use Rattle.definitions.specs.Monomial.{Exponents}
 use Rattle.definitions.specs.Order.{Comparison, greater, equal, smaller, or_at_tie, numbers, lexicographic, last_differing}
@@ -79,7 +77,3 @@ swapped_packed x a =
     (e4 x a i * 16777216 + e3 x a i * 65536 + (e2 x a i * 256 + e1 x a i))) ∙ omega arith)
     a.s8 a.s7 a.s6 a.s5 a.s4 a.s3 a.s2 a.s1
     ∙ sym (ap reverse a.spelled)
-
-pub swap_room : (p q r s t u v w : ℕ) → p < 256 → q < 256 → r < 256 → s < 256 → t < 256 → u < 256 → v < 256 → w < 256
-    → Fits w64 (p * 72057594037927936 + q * 281474976710656 + (r * 1099511627776 + s * 4294967296) + (t * 16777216 + u * 65536 + (v * 256 + w)))
-swap_room p q r s t u v w hp hq hr hs ht hu hv hw = omega arith

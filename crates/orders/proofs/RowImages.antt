@@ -32,9 +32,6 @@ length_image e t b = length_product (unpack e) (exponents_raw t b) (sym (unpack_
 abbrev pub Ahead : ℕ → ℕ → ℕ → Type 0
 Ahead e j f = (k : ℕ) → get_or (unpack f) k 0 ≡ get_or (unpack e) (j + k) 0
 
-pub ahead_start : (e : ℕ) → Ahead e 0 e
-ahead_start e k = let z : k ≡ 0 + k = omega arith in ap (λ n. get_or (unpack e) n 0) z
-
 ahead_here : (e j f : ℕ) → f < long_bound → Ahead e j f → f / 72057594037927936 ≡ get_or (unpack e) j 0
 ahead_here e j f h a =
     let b = bytes_of f h in
@@ -73,9 +70,6 @@ ahead_image e t b j f h l a = ap (λ n. n + get_or t (b + j) 0) (ahead_here e j 
 -- f's last exponents are e's before place j
 abbrev pub Behind : ℕ → ℕ → ℕ → Type 0
 Behind e j f = (k m : ℕ) → j + m ≡ 8 → k < j → get_or (unpack f) (m + k) 0 ≡ get_or (unpack e) k 0
-
-pub behind_start : (e : ℕ) → Behind e 8 e
-behind_start e k m q h = let z : m + k ≡ k = omega arith in ap (λ n. get_or (unpack e) n 0) z
 
 behind_here : (e j f : ℕ) → f < long_bound → j < 8 → Behind e (j + 1) f → f % 256 ≡ get_or (unpack e) j 0
 behind_here e j f h l a =

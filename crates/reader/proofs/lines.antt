@@ -1,3 +1,2 @@
 pub mod LineTests
-pub mod LineAnswers
 pub mod HeadAnswers

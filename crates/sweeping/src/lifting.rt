@@ -229,6 +229,7 @@ fn lift_on(
 }
 
 // With small slices, which cost little to make ready and little of the stack. An array's length is a constant, so each size has a function of its own.
+#[inline(never)]
 fn lift_few(
     out: &mut [u16],
     value: &mut [u16],
@@ -285,6 +286,7 @@ fn lift_few(
 }
 
 // With large slices, for levels that reach many nodes.
+#[inline(never)]
 fn lift_many(
     out: &mut [u16],
     value: &mut [u16],
@@ -497,6 +499,7 @@ fn accept_on(
 }
 
 // Acceptance with small slices, as lift_few.
+#[inline(never)]
 fn accept_few(
     value: &mut [u16],
     vector: &mut [u16],
@@ -540,6 +543,7 @@ fn accept_few(
 }
 
 // Acceptance with large slices, as lift_many.
+#[inline(never)]
 fn accept_many(
     value: &mut [u16],
     vector: &mut [u16],

@@ -10,8 +10,8 @@ pub returns-then-same_row : goal.returns-then-same_row
 returns-then-same_row c =
     let a = c.args in
     let l = c.loop-k in (
-      sym (l.invariant.1 ∙ found (monomial_of a.m) l.k a.cache.now c.place-n.result c.saturating_sub-from.result
-          (omega arith) c.place-n.ensures.0 c.saturating_sub-from.ensures
+      sym (l.invariant.1 ∙ found (monomial_of a.m) l.k a.cache.now c.from-n.result c.saturating_sub-from.result
+          (omega arith) c.from-n.ensures c.saturating_sub-from.ensures
           (sym c.same_row.ensures ∙ c.if-same_row.true)),
       omega (arith, l.invariant.0, c.saturating_sub-from.ensures),
     )
@@ -22,8 +22,8 @@ loop-k-preserved c =
     let l = c.loop-k in (
       omega (arith, l.invariant.0, c.saturating_sub-from.ensures),
       l.invariant.1
-          ∙ not_found (monomial_of a.m) l.k a.cache.now c.place-n.result c.saturating_sub-from.result
-          (omega arith) c.place-n.ensures.0 c.saturating_sub-from.ensures
+          ∙ not_found (monomial_of a.m) l.k a.cache.now c.from-n.result c.saturating_sub-from.result
+          (omega arith) c.from-n.ensures c.saturating_sub-from.ensures
           (sym c.same_row.ensures ∙ c.if-same_row.false),
     )
 

@@ -2,15 +2,14 @@
 use mathlib.Core.Path.{◌≡◌, ap, ap₂, ◌∙◌}
 use mathlib.Core.Bool.{Bool, true, false}
 use mathlib.Core.Option.{Option, none, some}
-use mathlib.Core.List.{List, [], ◌∷◌}
+use mathlib.Core.List.{List, ◌∷◌}
 use Prim.Native.Nat.{ℕ, suc, ◌+◌, ◌%◌, ◌≤◌, ◌<◌}
 use native.Mathlib.Omega.{arith}
 use borrow.Author.Tests.{eq-eqb, ne_eqb}
-use lib.Dec.{eqb}
 use lib.ListN.{length, get_or, drop, drop_of_length-le}
 use lib.Seq.{drop-cons}
 use Rattle.definitions.specs.Rank.{Row}
-use Rattle.ranks.specs.Elimination.{pivot_from, pivot}
+use Rattle.ranks.specs.Elimination.{pivot_from}
 use Rattle.constants.specs.elimination.Rows.{row_words}
 use Rattle.constants.proofs.elimination.Words.{length_row, row_word}
 

@@ -15,11 +15,8 @@ use Rattle.laws.proofs.Rows.{rows_first}
 use Rattle.reducers.specs.tables.Cuts.{start_of, cut_level}
 use Rattle.reducers.proofs.tables.Cutting.{cut_more}
 use Rattle.state.specs.soundness.Places.{count_at}
-use Rattle.state.specs.degrees.Carrying.{under_place}
 use Rattle.state.proofs.soundness.VectorByVector.{whole_part}
 use Rattle.state.proofs.soundness.VectorTests.{length_vectors}
-use Rattle.columns.specs.counting.Columns.{column_of, Stands}
-use Rattle.columns.proofs.counting.Standing.{level_stands}
 use Rattle.ranks.specs.Blocks.{row_from, whole}
 use Rattle.constants.specs.elimination.Rows.{row_words, rows_at}
 use Rattle.constants.specs.filling.Entries.{Entered}

@@ -36,11 +36,6 @@ module _ (numbers : Words) (count i : ℕ) (bytes : Bytes) where
       ap (λ n. in_sixteen (so_far numbers i (numbers_first 65535 n bytes))) k
       ∙ ap (λ o. in_sixteen (so_far numbers i (o then λ f. numbers_first 65535 (count - suc i) f.1 then λ r. some (f.0 ∷ r.0, r.1)))) e
 
-  pub no_end : count ≤ i → line_end bytes ≡ none → in_sixteen (so_far numbers i (numbers_first 65535 (count - i) bytes)) ≡ none
-  no_end h e =
-      let k : count - i ≡ 0 = omega arith in
-      ap (λ n. in_sixteen (so_far numbers i (numbers_first 65535 n bytes))) k ∙ ap (λ o. in_sixteen (so_far numbers i o)) e
-
   -- one number more
   pub one_field : (v : ℕ) (rest : Bytes) → i < count → i < length numbers → field_first 65535 bytes ≡ some (v, rest)
       → so_far numbers i (numbers_first 65535 (count - i) bytes) ≡ so_far (set numbers i v) (i + 1) (numbers_first 65535 (count - (i + 1)) rest)

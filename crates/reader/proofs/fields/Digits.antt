@@ -1,16 +1,15 @@
 -- Laws of one number, digit by digit.
-use mathlib.Core.Path.{◌≡◌, refl, sym, ap, ◌∙◌}
+use mathlib.Core.Path.{◌≡◌, refl, ap, ◌∙◌}
 use mathlib.Core.Bool.{Bool, true, false, not, ◌||◌}
 use mathlib.Core.Option.{Option, none, some}
 use mathlib.Core.List.{[], ◌∷◌}
 use Prim.Native.Nat.{ℕ, ◌+◌, ◌-◌, ◌*◌, ◌<◌, ◌≤◌}
 use native.Mathlib.Omega.{arith}
 use lib.Dec.{leb}
-use borrow.Author.Tests.{le-leb, lt-leb, ne_eqb}
+use borrow.Author.Tests.{lt-leb, ne_eqb}
 use Rattle.definitions.specs.Lists.{◌and◌, ◌then◌, every, empty?}
 use Rattle.definitions.specs.Problem.{Bytes, digit?, value_from, written?, number}
-use Rattle.laws.proofs.Tests.{is_true, between_low}
-use Rattle.reader.specs.fields.Scanning.{digits, past_digits, digit_value, number_first, kept, number_on, number_zero}
+use Rattle.reader.specs.fields.Scanning.{digits, past_digits, digit_value, number_first, kept, number_on}
 
 -- ## One byte
 
@@ -21,17 +20,6 @@ digit_is b d e = go (digit? b) e
     go : (t : Bool) → some d ≡ kept t (some (b - 48)) → (t ≡ true) × (d ≡ b - 48)
     go true e = let v : d ≡ b - 48 = cc in (refl, v)
     go false e = let y : ◌≡◌ {A = ℕ} 0 1 = cc in absurd (omega arith)
-
-pub digit_is_none : (b : ℕ) → none ≡ digit_value b → digit? b ≡ false
-digit_is_none b e = go (digit? b) e
-  where
-    go : (t : Bool) → none ≡ kept t (some (b - 48)) → t ≡ false
-    go true e = let y : ◌≡◌ {A = ℕ} 0 1 = cc in absurd (omega arith)
-    go false e = refl
-
--- a digit is not below 48: its value is 0 only for 48 itself
-pub digit_zero : (b : ℕ) → digit? b ≡ true → b - 48 ≡ 0 → b ≡ 48
-digit_zero b e z = let l : 48 ≤ b = between_low 48 b 57 (is_true e) in omega arith
 
 -- ## The digits in front
 
@@ -74,15 +62,6 @@ module _ (limit v b : ℕ) (bytes : Bytes) where
   pub number_more : digit? b ≡ true → number_on limit v (b ∷ bytes) ≡ number_on limit (v * 10 + (b - 48)) bytes
   number_more e = λ i. taken (leb (value_from v (digits_on b bytes e i)) limit) (value_from v (digits_on b bytes e i)) (past_on b bytes e i)
 
-  -- no digit more
-  pub number_ends : digit? b ≡ false → v ≤ limit → number_on limit v (b ∷ bytes) ≡ some (v, b ∷ bytes)
-  number_ends e h =
-      (λ i. taken (leb (value_from v (digits_none b bytes e i)) limit) (value_from v (digits_none b bytes e i)) (past_none b bytes e i))
-      ∙ (λ i. taken (le-leb v limit h i) v (b ∷ bytes))
-
-pub number_ends_file : (limit v : ℕ) → v ≤ limit → number_on limit v [] ≡ some (v, [])
-number_ends_file limit v h = λ i. taken (le-leb v limit h i) v []
-
 -- too large already
 pub number_over : (limit v : ℕ) (bytes : Bytes) → limit < v → number_on limit v bytes ≡ none
 number_over limit v bytes h =
@@ -107,9 +86,6 @@ handed_if : (t : Bool) (v : ℕ) (bytes : Bytes) → handed (kept t (some v)) by
 handed_if true v bytes = refl
 handed_if false v bytes = refl
 
-pub number_none : (limit b : ℕ) (bytes : Bytes) → digit? b ≡ false → number_first limit (b ∷ bytes) ≡ none
-number_none limit b bytes e = λ i. handed (number limit (digits_none b bytes e i)) (past_digits (b ∷ bytes))
-
 pub number_begins : (limit b : ℕ) (bytes : Bytes) → digit? b ≡ true → (b ≡ 48 → ⊥) → number_first limit (b ∷ bytes) ≡ number_on limit (b - 48) bytes
 number_begins limit b bytes e n =
     (λ i. handed (number limit (digits_on b bytes e i)) (past_on b bytes e i))
@@ -123,17 +99,3 @@ number_begins limit b bytes e n =
 
     first : 0 * 10 + (b - 48) ≡ b - 48
     first = omega arith
-
-pub zero_first : (limit : ℕ) (bytes : Bytes) → number_first limit (48 ∷ bytes) ≡ number_zero bytes
-zero_first limit [] = (λ i. handed (number_said limit (48 ∷ []) refl i) []) ∙ (λ i. handed (kept (le-leb 0 limit (omega arith) i) (some 0)) [])
-zero_first limit (b ∷ bytes) = go (digit? b) refl
-  where
-    go : (t : Bool) → digit? b ≡ t → number_first limit (48 ∷ b ∷ bytes) ≡ number_zero (b ∷ bytes)
-    go true e =
-        (λ i. handed (number limit (48 ∷ digits_on b bytes e i)) (past_on b bytes e i))
-        ∙ ap (λ o. handed o (past_digits bytes)) (number_unwritten limit (48 ∷ b ∷ digits bytes) (λ i. (e i and all_digits bytes i) and false))
-        ∙ sym (λ i. taken (not (e i)) 0 (b ∷ bytes))
-    go false e =
-        (λ i. handed (number limit (48 ∷ digits_none b bytes e i)) (past_none b bytes e i))
-        ∙ (λ i. handed (number_said limit (48 ∷ []) refl i) (b ∷ bytes)) ∙ (λ i. handed (kept (le-leb 0 limit (omega arith) i) (some 0)) (b ∷ bytes))
-        ∙ sym (λ i. taken (not (e i)) 0 (b ∷ bytes))

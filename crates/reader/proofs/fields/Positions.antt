@@ -1,19 +1,17 @@
 -- The laws of numbers and lines at a position in a file, from what the code's tests say there.
-use mathlib.Core.Path.{◌≡◌, refl, sym, ap, ◌∙◌, subst}
-use mathlib.Core.Bool.{true, false}
+use mathlib.Core.Path.{◌≡◌, sym, ap, ◌∙◌}
+use mathlib.Core.Bool.{true}
 use mathlib.Core.Option.{none, some}
 use mathlib.Core.List.{[], ◌∷◌}
 use Prim.Native.Nat.{ℕ, ◌+◌, ◌-◌, ◌*◌, ◌<◌, ◌≤◌}
-use native.Mathlib.Omega.{arith}
 use native.Mathlib.Numerals.{add-one}
 use lib.ListN.{length, drop, get_or, drop_of_length-le}
 use lib.Seq.{drop-cons}
 use borrow.Author.Tests.{eq-eqb, ne_eqb}
 use Rattle.definitions.specs.Problem.{Bytes, digit?}
-use Rattle.reader.specs.fields.Scanning.{digit_value, number_first, kept, number_on, number_zero, field_first, line_end, numbers_first, shaped_first}
-use Rattle.reader.proofs.fields.Digits.{digit_is, digit_is_none, digit_zero, number_more, number_ends, number_ends_file, number_none, number_begins}
-use Rattle.reader.proofs.fields.Digits.{zero_first}
-use Rattle.reader.proofs.fields.Lines.{letter_differs, letter_stands}
+use Rattle.reader.specs.fields.Scanning.{digit_value, number_first, kept, number_on, field_first, line_end, numbers_first, shaped_first}
+use Rattle.reader.proofs.fields.Digits.{digit_is, number_more, number_begins}
+use Rattle.reader.proofs.fields.Lines.{letter_stands}
 
 -- nothing is left
 pub nothing_left : (file : Bytes) (at : ℕ) → length file ≤ at → drop at file ≡ []
@@ -25,17 +23,6 @@ byte_left file at h = drop-cons file at 0 h ∙ ap (λ n. get_or file at 0 ∷ d
 
 module _ (file : Bytes) (at : ℕ) where
   module _ (h : at < length file) where
-    module _ (none_here : none ≡ digit_value (get_or file at 0)) where
-      no_digit : digit? (get_or file at 0) ≡ false
-      no_digit = digit_is_none (get_or file at 0) none_here
-
-      pub on_other : (v : ℕ) → v ≤ 65535 → some (v, drop at file) ≡ number_on 65535 v (drop at file)
-      on_other v k = subst (λ (w : Bytes). some (v, w) ≡ number_on 65535 v w) (sym (byte_left file at h))
-          (sym (number_ends 65535 v (get_or file at 0) (drop (at + 1) file) no_digit k))
-
-      pub first_other : none ≡ number_first 65535 (drop at file)
-      first_other = sym (ap (number_first 65535) (byte_left file at h) ∙ number_none 65535 (get_or file at 0) (drop (at + 1) file) no_digit)
-
     module _ (d : ℕ) (here : some d ≡ digit_value (get_or file at 0)) where
       a_digit : digit? (get_or file at 0) ≡ true
       a_digit = (digit_is (get_or file at 0) d here).0
@@ -48,22 +35,11 @@ module _ (file : Bytes) (at : ℕ) where
           ap (number_on 65535 v) (byte_left file at h) ∙ number_more 65535 v (get_or file at 0) (drop (at + 1) file) a_digit
           ∙ ap (λ x. number_on 65535 (v * 10 + x) (drop (at + 1) file)) (sym its_value)
 
-      pub first_zero : d ≡ 0 → number_first 65535 (drop at file) ≡ number_zero (drop (at + 1) file)
-      first_zero z =
-          let q : get_or file at 0 ≡ 48 = digit_zero (get_or file at 0) a_digit (sym its_value ∙ z) in
-          ap (number_first 65535) (byte_left file at h ∙ ap (λ x. x ∷ drop (at + 1) file) q) ∙ zero_first 65535 (drop (at + 1) file)
-
       pub first_on : (d ≡ 0 → ⊥) → number_first 65535 (drop at file) ≡ number_on 65535 d (drop (at + 1) file)
       first_on n =
           ap (number_first 65535) (byte_left file at h)
           ∙ number_begins 65535 (get_or file at 0) (drop (at + 1) file) a_digit (λ q. n (its_value ∙ ap (λ x. x - 48) q))
           ∙ ap (λ x. number_on 65535 x (drop (at + 1) file)) (sym its_value)
-
-  pub on_end : (v : ℕ) → v ≤ 65535 → length file ≤ at → some (v, drop at file) ≡ number_on 65535 v (drop at file)
-  on_end v k h = subst (λ (w : Bytes). some (v, w) ≡ number_on 65535 v w) (sym (nothing_left file at h)) (sym (number_ends_file 65535 v k))
-
-  pub first_end : length file ≤ at → none ≡ number_first 65535 (drop at file)
-  first_end h = sym (ap (number_first 65535) (nothing_left file at h))
 
   -- ## A comma before a number, byte 10 behind the last
 
@@ -78,25 +54,12 @@ module _ (file : Bytes) (at : ℕ) where
   field_other h n = ap (field_first 65535) (byte_left file at h) ∙ (λ i. kept (ne_eqb (get_or file at 0) 44 n i)
       (number_first 65535 (drop (at + 1) file)))
 
-  pub end_end : length file ≤ at → line_end (drop at file) ≡ none
-  end_end h = ap line_end (nothing_left file at h)
-
   pub end_here : at < length file → get_or file at 0 ≡ 10 → line_end (drop at file) ≡ some ([], drop (at + 1) file)
   end_here h e = ap line_end (byte_left file at h) ∙ (λ i. kept (eq-eqb (get_or file at 0) 10 e i) (some ([], drop (at + 1) file)))
-
-  pub end_other : at < length file → (get_or file at 0 ≡ 10 → ⊥) → line_end (drop at file) ≡ none
-  end_other h n = ap line_end (byte_left file at h) ∙ (λ i. kept (ne_eqb (get_or file at 0) 10 n i) (some ([], drop (at + 1) file)))
 
   -- ## The letter
 
   module _ (letter count : ℕ) (after-digits : 57 < letter) where
-    pub line_none : length file ≤ at → shaped_first 65535 letter count (drop at file) ≡ none
-    line_none h = ap (shaped_first 65535 letter count) (nothing_left file at h)
-
-    pub line_other : at < length file → (get_or file at 0 ≡ letter → ⊥) → shaped_first 65535 letter count (drop at file) ≡ none
-    line_other h n = ap (shaped_first 65535 letter count) (byte_left file at h)
-        ∙ letter_differs 65535 letter count after-digits (get_or file at 0) (drop (at + 1) file) n
-
     pub line_letter : at < length file → get_or file at 0 ≡ letter → shaped_first 65535 letter count (drop at file)
         ≡ numbers_first 65535 count (drop (at + 1) file)
     line_letter h e = ap (shaped_first 65535 letter count) (byte_left file at h)

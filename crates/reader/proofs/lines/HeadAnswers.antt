@@ -1,17 +1,15 @@
--- The head's answer, from what its lines say; and that what they say is in range.
-use mathlib.Core.Path.{◌≡◌, refl, sym, ap, ◌∙◌}
+-- What the head's lines say is in range.
+use mathlib.Core.Path.{◌≡◌, refl}
 use mathlib.Core.Bool.{Bool, true, false}
 use mathlib.Core.Option.{Option, none, some}
-use mathlib.Core.List.{[]}
-use Prim.Native.Nat.{ℕ, ◌+◌, ◌*◌, ◌<◌, ◌≤◌}
+use Prim.Native.Nat.{ℕ, ◌+◌, ◌*◌, ◌≤◌}
 use native.Mathlib.Omega.{arith}
 use lib.Dec.{T, leb}
-use lib.ListN.{length, get_or, drop, replicate}
-use borrow.Author.Tests.{le-leb, lt-leb}
+use lib.ListN.{length, get_or, replicate}
 use Rattle.definitions.specs.Limits.{document_01}
 use Rattle.definitions.specs.Lists.{◌and◌, between}
 use Rattle.definitions.specs.Monomial.{fits?}
-use Rattle.definitions.specs.Result.{Result, done, refused, unless_refused, ◌>>=◌}
+use Rattle.definitions.specs.Result.{done, unless_refused, ◌>>=◌}
 use Rattle.definitions.specs.Problem as definition
 use Rattle.definitions.specs.Problem.{Bytes, Parameters, letter_D, letter_G, prime_in_range?, in_ranges?}
 use Rattle.definitions.specs.Layout.{Words}
@@ -22,56 +20,6 @@ use Rattle.reader.specs.fields.Scanning.{shaped_first, in_sixteen}
 use Rattle.reader.specs.lines.Tests.{unless}
 use Rattle.reader.specs.lines.Steps.{judged, with_shape, r_judged, r_first, Opened, or_without, optional, d_first, weights_words, g_next}
 use Rattle.reader.specs.lines.Steps.{HeadSaid, behind_r, head_first}
-
--- ## A line that may be left out
-
-module _ (most number : ℕ) (without : Words) (place : ℕ) (bytes : Bytes) (o : Option (Words × Bytes)) where
-  pub left_out : none ≡ o → done (without, place, bytes) ≡ or_without most number without place bytes o
-  left_out e = ap (or_without most number without place bytes) e
-
-  module _ (w : Words) (rest : Bytes) (said : some (w, rest) ≡ o) where
-    abbrev by_test : Bool → Result (Opened Words)
-    by_test b = unless_refused b number place >>= λ u. done (w, place + 1, rest)
-
-    pub line_taken : fits? most w ≡ true → done (w, place + 1, rest) ≡ or_without most number without place bytes o
-    line_taken t = sym (ap by_test t) ∙ ap (or_without most number without place bytes) said
-
-    pub line_refused : fits? most w ≡ false → refused number place [] ≡ or_without most number without place bytes o
-    line_refused t = sym (ap by_test t) ∙ ap (or_without most number without place bytes) said
-
--- ## The head
-
-module _ (q : Parameters) (bytes : Bytes) where
-  -- a refusal of D's line
-  pub degrees_refused : (number place : ℕ) → d_first q.s bytes ≡ refused number place [] → refused number place [] ≡ behind_r q bytes
-  degrees_refused number place e = sym (ap (λ x. x >>= λ d. g_next q.n d.1 d.2 >>= λ g. done ((q, d.0, g.0), g.1, g.2)) e)
-
-  -- G's line behind it
-  pub weights_behind : (d : Words) (place : ℕ) (rest : Bytes) (w : Words) (place' : ℕ) (rest' : Bytes) → done (d, place, rest) ≡ d_first q.s bytes
-      → done (w, place', rest') ≡ g_next q.n place rest → done ((q, d, w), place', rest') ≡ behind_r q bytes
-  weights_behind d place rest w place' rest' e said =
-      ap (λ x. x >>= λ g. done ((q, d, g.0), g.1, g.2)) said
-      ∙ ap (λ x. x >>= λ d. g_next q.n d.1 d.2 >>= λ g. done ((q, d.0, g.0), g.1, g.2)) e
-
-  -- .. or its refusal
-  pub weights_refused : (d : Words) (place : ℕ) (rest : Bytes) (number place' : ℕ) → done (d, place, rest) ≡ d_first q.s bytes
-      → refused number place' [] ≡ g_next q.n place rest → refused number place' [] ≡ behind_r q bytes
-  weights_refused d place rest number place' e said =
-      ap (λ x. x >>= λ g. done ((q, d, g.0), g.1, g.2)) said
-      ∙ ap (λ x. x >>= λ d. g_next q.n d.1 d.2 >>= λ g. done ((q, d.0, g.0), g.1, g.2)) e
-
-module _ (file : Bytes) where
-  abbrev headed : Bool → Result (Parameters × Bytes) → Result (Opened HeadSaid)
-  headed t x = unless_refused t 1 0 >>= λ u. x >>= λ a. behind_r a.0 a.1
-
-  pub head_too_long : file_length < length file → refused 1 0 [] ≡ head_first file
-  head_too_long h = sym (λ i. headed (lt-leb (length file) file_length h i) (r_first file))
-
-  pub first_refused : (number : ℕ) → length file ≤ file_length → r_first file ≡ refused number 1 [] → refused number 1 [] ≡ head_first file
-  first_refused number h e = sym (λ i. headed (le-leb (length file) file_length h i) (e i))
-
-  pub first_taken : (q : Parameters) (rest : Bytes) → length file ≤ file_length → r_first file ≡ done (q, rest) → behind_r q rest ≡ head_first file
-  first_taken q rest h e = sym (λ i. headed (le-leb (length file) file_length h i) (e i))
 
 -- ## What the R line says is in range
 

@@ -9,7 +9,6 @@ use Rattle.definitions.specs.Problem as definition
 use Rattle.definitions.specs.Problem.{Bytes, letter_R, letter_D, letter_G, letter_T, letter_E}
 use Rattle.definitions.specs.Layout.{Words, padded}
 use Rattle.definitions.specs.Places.{most_degree, most_weight, most_components, weights_length, file_length}
-use Rattle.words.specs.declared.parameters.Parameters.{Parameters}
 use Rattle.words.specs.parameters.Values.{parameters_of}
 use Rattle.reader.specs.fields.Scanning.{shaped_first, in_sixteen}
 use Rattle.words.specs.declared.refusals.Refusal.{Refusal}

@@ -43,9 +43,6 @@ module _ {A : Type 0} where
 pub length_closed : (s : Words) (a end : ℕ) → a ≤ end → end + row_length ≤ length s → length (closed s a end) ≡ length s
 length_closed s a end h k = length-paste s a (drop (a + row_length) s) (end - a) (omega arith) (omega (arith, length-drop (a + row_length) s))
 
-pub closed_none : (s : Words) (a : ℕ) → s ≡ closed s a a
-closed_none s a = let z : a - a ≡ 0 = omega arith in rw z (paste-zero s a (drop (a + row_length) s))
-
 -- the word to move has not been overwritten
 pub closed_ahead : (s : Words) (a k : ℕ) → a ≤ k → k + row_length < length s → get_or (closed s a k) (k + row_length) 0 ≡ get_or s (k + row_length) 0
 closed_ahead s a k h l = getD_paste_above s a (drop (a + row_length) s) (k - a) (k + row_length) 0 (omega arith)
@@ -65,9 +62,6 @@ closed_more s a k h l =
 
 pub length_opened : (s : Words) (a end : ℕ) → a ≤ end → end + row_length ≤ length s → length (opened s a end) ≡ length s
 length_opened s a end h k = length-paste s (a + row_length) (drop a s) (end - a) (omega arith) (omega (arith, length-drop a s))
-
-pub opened_none : (s : Words) (end : ℕ) → s ≡ opened s end end
-opened_none s end = let z : end - end ≡ 0 = omega arith in rw z (paste-zero s (end + row_length) (drop end s))
 
 -- the word to move has not been overwritten
 pub opened_below : (s : Words) (a end m : ℕ) → a ≤ end → end + row_length ≤ length s → m < a + row_length → get_or (opened s a end) m 0 ≡ get_or s m 0

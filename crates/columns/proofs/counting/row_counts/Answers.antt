@@ -13,9 +13,6 @@ use Rattle.columns.proofs.counting.row_counts.Goals as goal
 pub loop-c-init : goal.loop-c-init
 loop-c-init c = (omega arith, refl, λ k h. absurd (not-suc-le-zero h))
 
-pub betti_count-requires : goal.betti_count-requires
-betti_count-requires c = let P = c.requires in (P.0, P.1, omega arith, P.2)
-
 pub loop-c-preserved : goal.loop-c-preserved
 loop-c-preserved c =
     let a = c.args in

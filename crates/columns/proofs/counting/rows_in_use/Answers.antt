@@ -7,12 +7,6 @@ use Rattle.definitions.specs.Places.{row_shift}
 use Rattle.columns.proofs.counting.Ranges.{SoFar, so_far_first, so_far_more, rows_are, low_first, high_few}
 use Rattle.columns.proofs.counting.rows_in_use.Goals as goal
 
-pub bounds-state-124175 : goal.bounds-state-124175
-bounds-state-124175 c = omega (arith, c.requires.0)
-
-pub overflow_add-first : goal.overflow_add-first
-overflow_add-first c = omega (arith, c.place-first.ensures.1)
-
 pub loop-c-init : goal.loop-c-init
 loop-c-init c = (omega arith, so_far_first c.args.state.now _)
 

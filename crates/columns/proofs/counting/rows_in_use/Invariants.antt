@@ -1,4 +1,4 @@
-use Prim.Native.Nat.{◌-◌, ◌≤◌}
+use Prim.Native.Nat.{◌≤◌}
 use Rattle.columns.proofs.counting.Ranges.{SoFar}
 use Rattle.columns.proofs.counting.rows_in_use.Given as goal
 

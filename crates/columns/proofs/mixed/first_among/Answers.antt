@@ -1,5 +1,5 @@
 use native.Mathlib.Omega.{arith}
-use mathlib.Core.Path.{◌≡◌, refl, sym, ap, ◌∙◌}
+use mathlib.Core.Path.{◌≡◌, sym, ap, ◌∙◌}
 use Prim.Native.Nat.{suc, ◌+◌}
 use lib.ListN.{length, take, get_or}
 use lib.Seq.{length-take-le, get_or-take}
@@ -7,20 +7,6 @@ use Rattle.reducers.specs.tables.Cuts.{start_of}
 use Rattle.columns.specs.mixed.Placed.{same_key?}
 use Rattle.columns.proofs.mixed.Mixing.{first_on, first_stops, first_ends}
 use Rattle.columns.proofs.mixed.first_among.Goals as goal
-
-pub loop-j-init : goal.loop-j-init
-loop-j-init c = (omega arith, refl, refl)
-
-pub bounds-ends-j : goal.bounds-ends-j
-bounds-ends-j c = omega (arith, c.requires.1.ends_fit)
-
-pub mixed-requires : goal.mixed-requires
-mixed-requires c =
-    let P = c.requires in
-    let l = c.loop-j in
-    let e = c.place-to.ensures.0 in
-    let s = l.invariant.1 in
-    (omega (arith, e, s, P.1.filled l.j (omega arith)), omega (arith, e, P.1.rows_fit l.j (omega arith)), P.2, P.3, P.4)
 
 pub returns-then-mixed : goal.returns-then-mixed
 returns-then-mixed c =

@@ -1,5 +1,5 @@
 use mathlib.Core.Path.{◌≡◌}
-use Prim.Native.Nat.{◌+◌, ◌-◌, ◌≤◌}
+use Prim.Native.Nat.{◌+◌, ◌≤◌}
 use lib.ListN.{take, drop}
 use Rattle.definitions.specs.Layout.{vectors_at}
 use Rattle.definitions.specs.Betti.{first_mixed}

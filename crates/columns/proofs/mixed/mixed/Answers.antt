@@ -1,18 +1,9 @@
 use native.Mathlib.Omega.{arith}
-use mathlib.Core.Path.{refl, sym, ◌∙◌}
+use mathlib.Core.Path.{sym, ◌∙◌}
 use lib.ListN.{take}
 use Rattle.definitions.specs.Bidegrees.{degree_weighted}
 use Rattle.columns.proofs.mixed.Mixing.{mixed_starts, mixed_on, mixed_stops, mixed_ends}
 use Rattle.columns.proofs.mixed.mixed.Goals as goal
-
-pub key_at-x-requires : goal.key_at-x-requires
-key_at-x-requires c = let P = c.requires in (omega arith, P.2, P.3, P.4)
-
-pub loop-i-init : goal.loop-i-init
-loop-i-init c = (omega arith, omega arith, refl)
-
-pub key_at-requires : goal.key_at-requires
-key_at-requires c = let P = c.requires in (omega arith, P.2, P.3, P.4)
 
 pub returns-then-key_at-x : goal.returns-then-key_at-x
 returns-then-key_at-x c =

@@ -11,12 +11,6 @@ loop-c-init c =
     let P = c.requires in
     (omega arith, even_none a.n a.d a.state.now P.0 P.1, odd_none a.n a.d a.state.now P.0 P.1, omega arith, omega arith)
 
-pub column_value-requires : goal.column_value-requires
-column_value-requires c = let P = c.requires in (P.2, P.3, P.4, c.column.ensures.1)
-
-pub overflow_add-sum : goal.overflow_add-sum
-overflow_add-sum c = omega (arith, c.column_value.ensures.1, c.loop-c.invariant.4)
-
 pub loop-c-preserved : goal.loop-c-preserved
 loop-c-preserved c =
     let a = c.args in

@@ -15,9 +15,6 @@ use Rattle.columns.proofs.weights.component_keys.Goals as goal
 pub loop-j-init : goal.loop-j-init
 loop-j-init c = (omega arith, refl, λ k h. absurd (not-suc-le-zero h))
 
-pub overflow_add-j : goal.overflow_add-j
-overflow_add-j c = omega (arith, c.place-s.ensures.1)
-
 pub bounds-state-j : goal.bounds-state-j
 bounds-state-j c =
     let s = c.args.state.now in

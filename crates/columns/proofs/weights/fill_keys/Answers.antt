@@ -27,9 +27,6 @@ key_at-requires c =
       P.4,
     )
 
-pub bounds-ends-j : goal.bounds-ends-j
-bounds-ends-j c = omega (arith, c.requires.1.ends_fit)
-
 pub loop-j-preserved : goal.loop-j-preserved
 loop-j-preserved c =
     let a = c.args in

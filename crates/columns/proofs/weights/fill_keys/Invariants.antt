@@ -1,5 +1,5 @@
 use mathlib.Core.Path.{◌≡◌}
-use Prim.Native.Nat.{◌-◌, ◌≤◌}
+use Prim.Native.Nat.{◌≤◌}
 use lib.ListN.{length, take}
 use Rattle.reducers.specs.tables.Cuts.{start_of}
 use Rattle.columns.specs.weights.Keys.{Weighed}

@@ -15,9 +15,6 @@ key_of-w-requires c =
     let x = c.row.result.monomial.exponents in
     (c.requires.2, subst (AtMost most_exponent) (sym c.widened.ensures) (unpack_most x))
 
-pub component_key-requires : goal.component_key-requires
-component_key-requires c = c.requires.1
-
 pub overflow_add-result : goal.overflow_add-result
 overflow_add-result c =
     let a = c.args in

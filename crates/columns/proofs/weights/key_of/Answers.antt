@@ -7,9 +7,6 @@ use Rattle.definitions.specs.Places.{most_exponent}
 use Rattle.columns.proofs.weights.Summing.{sum_on, sum_ends}
 use Rattle.columns.proofs.weights.key_of.Goals as goal
 
-pub loop-j-init : goal.loop-j-init
-loop-j-init c = (omega arith, omega arith, omega arith)
-
 pub overflow_mul-sum : goal.overflow_mul-sum
 overflow_mul-sum c =
     let l = c.loop-j in

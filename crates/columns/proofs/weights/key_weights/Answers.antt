@@ -11,9 +11,6 @@ use Rattle.columns.proofs.weights.key_weights.Goals as goal
 pub loop-j-init : goal.loop-j-init
 loop-j-init c = (omega arith, refl, λ k h. absurd (not-suc-le-zero h))
 
-pub weight_key-requires : goal.weight_key-requires
-weight_key-requires c = c.requires.0
-
 pub loop-j-preserved : goal.loop-j-preserved
 loop-j-preserved c =
     let a = c.args in

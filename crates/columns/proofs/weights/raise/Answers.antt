@@ -12,9 +12,6 @@ use Rattle.state.proofs.soundness.VectorByVector.{whole_part}
 use Rattle.columns.proofs.weights.Raising.{raised}
 use Rattle.columns.proofs.weights.raise.Goals as goal
 
-pub count_of-r-requires : goal.count_of-r-requires
-count_of-r-requires c = (c.requires.0, c.requires.3)
-
 pub fill_keys-requires : goal.fill_keys-requires
 fill_keys-requires c =
     let a = c.args in

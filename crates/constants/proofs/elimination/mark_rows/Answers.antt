@@ -15,9 +15,6 @@ loop-i-init c =
     let L = marks a.p (rows_at a.n a.rows a.m.now) in
     (omega arith, refl, refl, paste-zero a.marks.now a.at L, marks_start a.p a.n a.rows a.m.now)
 
-pub step-requires : goal.step-requires
-step-requires c = (omega arith, omega arith, omega arith, omega arith)
-
 pub loop-i-preserved : goal.loop-i-preserved
 loop-i-preserved c =
     let l = c.loop-i in

@@ -1,10 +1,7 @@
 use native.Mathlib.Omega.{arith}
-use mathlib.Core.Path.{refl, sym, ◌∙◌}
+use mathlib.Core.Path.{sym, ◌∙◌}
 use Rattle.constants.proofs.elimination.Pivots.{pivot_here, pivot_on, pivot_none}
 use Rattle.constants.proofs.elimination.pivot.Goals as goal
-
-pub loop-j-init : goal.loop-j-init
-loop-j-init c = refl
 
 pub returns-then-s-at-ne0 : goal.returns-then-s-at-ne0
 returns-then-s-at-ne0 c =

@@ -12,15 +12,6 @@ use Rattle.constants.proofs.filling.Entering.{length_row_from}
 use Rattle.constants.proofs.filling.Vectorwise.{zero_part, vectors_more, vectors_behind}
 use Rattle.constants.proofs.filling.fill.Goals as goal
 
-pub loop-j-init : goal.loop-j-init
-loop-j-init c = (refl, refl, refl, refl)
-
-pub offset_bounds-ends-j : goal.offset_bounds-ends-j
-offset_bounds-ends-j c = omega (arith, c.requires.2.ends_fit)
-
-pub bounds-ends-j : goal.bounds-ends-j
-bounds-ends-j c = omega (arith, c.requires.2.ends_fit)
-
 pub fill_vector-requires : goal.fill_vector-requires
 fill_vector-requires c =
     let a = c.args in

@@ -1,4 +1,4 @@
-use mathlib.Core.Path.{refl, ap, ◌∙◌, subst}
+use mathlib.Core.Path.{ap, subst}
 use Prim.Native.Nat.{◌+◌}
 use lib.ListN.{length, set}
 use Rattle.std.specs.Prelude.{unwrap_or}

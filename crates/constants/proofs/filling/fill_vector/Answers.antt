@@ -15,9 +15,6 @@ loop-i-init c =
     let es = a.below.now in
     (omega arith, omega arith, refl, terms_none a.m.now a.at a.level.now a.to es a.d (length es) refl P.3)
 
-pub fill_term-requires : goal.fill_term-requires
-fill_term-requires c = (omega arith, omega arith)
-
 pub loop-i-preserved : goal.loop-i-preserved
 loop-i-preserved c =
     let l = c.loop-i in

@@ -8,19 +8,10 @@ use Rattle.hilbert_page.specs.page.Lines.{lines_below}
 use Rattle.hilbert_page.proofs.page.Lines.{no_lines, lines_more, all_lines}
 use Rattle.hilbert_page.proofs.page.print_lines.Goals as goal
 
-pub bounds-state-1 : goal.bounds-state-1
-bounds-state-1 c = omega (arith, c.requires.0)
-
 pub loop-d-init : goal.loop-d-init
 loop-d-init c =
     let a = c.args in
     (omega arith, refl, spelled (no_lines a.state.now) (nothing a.out.now 0), omega arith)
-
-pub print_line-at-requires : goal.print_line-at-requires
-print_line-at-requires c =
-    let P = c.requires in
-    let l = c.loop-d in
-    (P.0, P.1, c.place-n.ensures.0, omega arith, omega (arith, l.invariant.3, P.2))
 
 pub loop-d-preserved : goal.loop-d-preserved
 loop-d-preserved c =

@@ -4,15 +4,6 @@ use Rattle.definitions.specs.Hilbert.{hilbert_lines}
 use Rattle.listing.proofs.whole.Whole.{page_printed, level_refused}
 use Rattle.hilbert_page.proofs.whole.print_lifted.Goals as goal
 
-pub lift_levels-requires : goal.lift_levels-requires
-lift_levels-requires c = let P = c.requires in (P.0, omega (arith, P.1))
-
-pub print_lines-requires : goal.print_lines-requires
-print_lines-requires c =
-    let b = c.lift_levels.ensures.1 in
-    let long = c.requires.2 in
-    (b.long, b.holds, omega (arith, long))
-
 pub returns-in-Ok : goal.returns-in-Ok
 returns-in-Ok c =
     let s = c.args.state.now in
@@ -21,9 +12,6 @@ returns-in-Ok c =
     let R = L.ensures.0 in
     let Q = c.print_lines.ensures in
     (page_printed hilbert_lines s t R.0 L.result R.1 c.in-Ok.is Q.0, Q.1)
-
-pub x_line-requires : goal.x_line-requires
-x_line-requires c = let long = c.requires.2 in omega (arith, long)
 
 pub returns-in-Err : goal.returns-in-Err
 returns-in-Err c =

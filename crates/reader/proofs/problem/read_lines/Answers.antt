@@ -1,8 +1,7 @@
 use native.Mathlib.Omega.{arith}
-use mathlib.Core.Path.{◌≡◌, sym, ap, ◌∙◌}
+use mathlib.Core.Path.{sym, ap, ◌∙◌}
 use lib.ListN.{length, drop}
 use Rattle.std.proofs.lemmas.Result.{err_from_is_err_and}
-use Rattle.definitions.specs.Result.{done}
 use Rattle.laws.proofs.Results.{if_done_says}
 use Rattle.words.specs.parameters.Values.{parameters_of}
 use Rattle.words.specs.refusals.Numbers.{number_of}
