@@ -347,8 +347,9 @@ fn small(tables: &[u16], g: Ground) -> bool
     g.working <= words::FEW_NODES || g.r == 0 || reduction::rows_of(tables, g.r).to <= FEW_ROWS
 }
 
-// With small slices; where these have not room for all frame terms, the others once more, with large ones. A function that calls itself, and lends an
-// array of its own, stays one: so the large slices are no part of a frame where they are not used.
+// With small slices; where these have not room for all frame terms, the others once more, with large ones. Never part of another function, as those that have
+// the slices are not: so no slices are part of a frame where they are not used.
+#[inline(never)]
 fn lift_any(
     out: &mut [u16],
     value: &mut [u16],
