@@ -27,5 +27,5 @@ fn main(rt: HostRuntime) {
         &mut programs::file_bytes(),
         &mut programs::page_bytes(),
         answer,
-    )
+    );
 }

@@ -2,6 +2,7 @@
 // Knows: crate definitions' Completing.
 // The buffer holds the file so far; what it says is read anew after each addition. A refusal's line is all that is printed; nothing is zeroed.
 ghost use Rattle.std.specs.Prelude.{◌≡◌, ◌≤◌, length, take};
+ghost use Rattle.std.proofs.Math.Seq.{paste};
 ghost use Rattle.definitions.specs.Limits.{document_01};
 ghost use Rattle.definitions.specs.Completing.{completing as completing_definition};
 ghost use Rattle.definitions.specs.Layout.{rows};
@@ -105,6 +106,16 @@ fn complete(out: &mut [u8], given: usize, state: &mut [u16], work: &mut [u16]) -
     0
 }
 
+// A loop, since std's copy_from_slice would make the library ask for `memmove`, which it does not take (docs/LICENSING.md).
+fn copy(out: &mut [u8], file: &[u8])
+    requires { length file.now ≤ length out.old }
+    ensures { out.new ≡ paste out.old 0 file.now (length file.now) }
+{
+    for i in 0..file.len() {
+        out[i] = file[i];
+    }
+}
+
 // A6: "It prints the file so obtained, in the problem format"
 pub fn print(file: &[u8], state: &mut [u16], work: &mut [u16], out: &mut [u8]) -> usize
     requires { (state_length ≤ length state.old) × (value_length ≤ length work.old) × (completed_length ≤ length out.old) }
@@ -119,6 +130,6 @@ pub fn print(file: &[u8], state: &mut [u16], work: &mut [u16], out: &mut [u8]) -
         };
         return printing::x_line(out, 0, refused);
     }
-    out[..size].copy_from_slice(file);
+    copy(out, file);
     complete(out, size, state, work)
 }

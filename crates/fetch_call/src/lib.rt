@@ -15,7 +15,7 @@ ghost use Rattle.fetch_call.specs.Replies.{fetch_reply, fetch_said, settled_of};
 use state::{soundness, writing};
 use words::refusals::{Refusal, Refused};
 
-// The refusal's number and place; 0 and 0 where the call succeeded. C gets this record.
+// The refusal's number and place; 0 and 0 where the call succeeded. C gets the number, and the place behind a pointer.
 #[derive(Clone, Copy)]
 pub struct Reply {
     pub number: u16,

@@ -24,9 +24,9 @@ use runs::run::Strategy;
 use state::soundness;
 use words::refusals::{Refusal, Refused};
 
-// What lifting gave is stored as level k.
-pub fn store(state: &mut [u16], k: usize, x: Leveled, out: &[u16]) -> Result<(), Refusal>
-    requires { Liftable state.old k × Settles state.old k x out.now }
+// A level that was lifted is stored as level k.
+fn store_lifted(state: &mut [u16], k: usize, x: Leveled, out: &[u16]) -> Result<(), Refusal>
+    requires { Liftable state.old k × Settles state.old k (Ok x) out.now }
     ensures { told result state.new ≡ stored state.old (state_over state.old k (leveled_of (Ok x) out.now [])) }
 {
     let Leveled::Vectors(n, _used) = x else {
@@ -35,6 +35,22 @@ pub fn store(state: &mut [u16], k: usize, x: Leveled, out: &[u16]) -> Result<(),
     };
     storing::store_level(state, k, n, out);
     Ok(())
+}
+
+// What lifting gave: a level is stored as level k, a refusal is handed on and changes nothing.
+pub fn store(
+    state: &mut [u16],
+    k: usize,
+    x: Result<Leveled, Refusal>,
+    out: &[u16],
+) -> Result<(), Refusal>
+    requires { Liftable state.old k × Settles state.old k x out.now }
+    ensures { told result state.new ≡ stored state.old (state_over state.old k (leveled_of x out.now [])) }
+{
+    match x {
+        Ok(lifted) => store_lifted(state, k, lifted, out),
+        Err(refusal) => Err(refusal),
+    }
 }
 
 // Level k by division or hybrid, with room for so many terms in a working value; out is for the level while it is made.
@@ -50,13 +66,13 @@ pub fn lift_level(
     ensures { LiftedBy state.old k (way_by w working) result state.new }
 {
     let b = by_runs::with_working(working);
-    let x = by_runs::lift_level(out, work, state, k - 1, w, b)?;
+    let x = by_runs::lift_level(out, work, state, k - 1, w, b);
     store(state, k, x, out)
 }
 
-// The same without zeroing: unused places stay as they are.
+// A level stored without zeroing: unused places stay as they are.
 fn keep(state: &mut [u16], k: usize, x: Leveled, out: &[u16]) -> Result<(), Refusal>
-    requires { Liftable state.old k × Settles state.old k x out.now }
+    requires { Liftable state.old k × Settles state.old k (Ok x) out.now }
     ensures { KeptAs state.old k x out.now result state.new }
 {
     let Leveled::Vectors(n, _used) = x else {

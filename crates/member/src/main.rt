@@ -35,5 +35,5 @@ fn out_bytes() -> [u8; words::MEMBER_LENGTH]
 }
 
 fn main(rt: HostRuntime) {
-    programs::run(rt, &mut input_bytes(), &mut out_bytes(), answer)
+    programs::run(rt, &mut input_bytes(), &mut out_bytes(), answer);
 }

@@ -5,9 +5,9 @@
 // What a program answers is its own.
 #![tactic(auto)]
 
-ghost use Rattle.std.specs.Prelude.{◌≡◌, ◌≤◌, length};
+ghost use Rattle.std.specs.Prelude.{◌≡◌, ◌≤◌, length, take};
 ghost use Rattle.definitions.specs.Places.{state_length, value_length, read_length, page_length};
-ghost use Rattle.programs.specs.Streams.{IsPrefixLen, Moved};
+ghost use Rattle.programs.specs.Streams.{IsPrefixLen, Moved, IfRead};
 
 use std::io::{Read, Write};
 
@@ -65,15 +65,22 @@ pub fn read(rt: HostRuntime, file: &mut [u8]) -> Input
 }
 
 // A program's whole run: standard input into `input`, what `answer` puts in front of `out` to standard output; nothing where the input could not be read.
+// What `read` said is the result: `answer` got just so many bytes of `input` and `out` is what it left, or `out` is as it was where they are no whole input.
 pub fn run<F: FnOnce(&[u8], &mut [u16], &mut [u16], &mut [u8]) -> usize>(
     rt: HostRuntime,
     input: &mut [u8],
     out: &mut [u8],
     answer: F,
-)
+) -> Input
     requires callable { (i : _) (s : _) (w : _) (o : _) → state_length ≤ length s.now → value_length ≤ length w.now → length o.now ≡ length out.old
         → F.pre answer i s w o }
     requires in_front { (i : _) (s : _) (w : _) (o : _) (r : _) (s' : _) (w' : _) (o' : _) → F.post answer i s w o r s' w' o' → IsPrefixLen r o'.now }
+    ensures prefix_len { IsPrefixLen result.length input.new }
+    ensures moved { Moved 1 result.more }
+    ensures ran { IfRead result.more
+        ((i : _) × (s : _) × (w : _) × (o : _) × (r : _) × (s' : _) × (w' : _) × (o' : _) × F.post answer i s w o r s' w' o'
+        × (i.now ≡ take result.length input.new) × (o.now ≡ out.old) × (o'.now ≡ out.new))
+        (out.new ≡ out.old) }
 {
     let mut state = state_words();
     let mut work = work_words();
@@ -82,6 +89,7 @@ pub fn run<F: FnOnce(&[u8], &mut [u16], &mut [u16], &mut [u8]) -> usize>(
         let length = answer(&input[..read.length], &mut state, &mut work, out);
         write(rt, &out[..length]);
     }
+    read
 }
 
 // All of this to standard output; where a write fails, that is told on standard error.
@@ -96,6 +104,7 @@ fn read_full<R: Read>(from: &mut R, buffer: &mut [u8]) -> usize
     ensures { IsPrefixLen result buffer.new }
 {
     let mut done = 0;
+    // A while: a read moves as many bytes as it likes.
     while done < buffer.len() {
         match from.read(&mut buffer[done..]) {
             Ok(0) => return done,
@@ -119,6 +128,7 @@ fn more_of<R: Read>(from: &mut R, buffer: &mut [u8; 1]) -> isize
 // Whether all of it was written; else the first write that takes nothing or fails is the last.
 fn write_all<W: Write>(to: &mut W, bytes: &[u8]) -> bool {
     let mut done = 0;
+    // A while: a write takes as many bytes as it likes.
     while done < bytes.len() {
         match to.write(&bytes[done..]) {
             Ok(0) => return false,

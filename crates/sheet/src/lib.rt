@@ -1,6 +1,6 @@
 // The call that prints the sheet of a file, for every file.
 // Exists for: `sheet`.
-// Knows: crate definitions' SheetPage; listing::whole prints it.
+// Knows: crate definitions' Sheet; listing::whole prints it.
 // What it tests first and leaves at its end is crate lending's.
 #![tactic(auto)]
 

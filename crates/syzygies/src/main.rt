@@ -28,5 +28,5 @@ fn out_bytes() -> [u8; words::SHEET_LENGTH]
 }
 
 fn main(rt: HostRuntime) {
-    programs::run(rt, &mut programs::file_bytes(), &mut out_bytes(), answer)
+    programs::run(rt, &mut programs::file_bytes(), &mut out_bytes(), answer);
 }

@@ -33,7 +33,7 @@ fn lift_tree(
     ensures { LiftedBy state.old k (by_tree (length cache.old / row_length)) result state.new }
 {
     let b = by_runs::usual();
-    let x = by_tree::lift_level(out, cache, work, state, k - 1, b)?;
+    let x = by_tree::lift_level(out, cache, work, state, k - 1, b);
     all_levels::store(state, k, x, out)
 }
 

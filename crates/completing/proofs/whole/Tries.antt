@@ -1,11 +1,10 @@
 -- One try after the other, and what is printed at the end.
 use mathlib.Core.Path.{◌≡◌, refl, sym, ap, ◌∙◌, subst}
-use mathlib.Core.List.{[], ◌∷◌, ◌++◌}
+use mathlib.Core.List.{[], ◌∷◌}
 use Prim.Native.Nat.{ℕ, suc, ◌+◌, ◌-◌, ◌<◌, ◌≤◌}
 use native.Mathlib.Omega.{arith}
-use lib.ListN.{length, take, drop, length-append, length-drop}
-use lib.Seq.{length-take-le, take-length}
-use Rattle.std.proofs.lemmas.List.{take-append-le}
+use lib.ListN.{length, take}
+use lib.Seq.{paste, length-take-le, take-paste, take-length}
 use Rattle.definitions.specs.Limits.{document_01}
 use Rattle.definitions.specs.Result.{Result, done, refused}
 use Rattle.definitions.specs.Problem.{Bytes, problem}
@@ -102,18 +101,10 @@ too_long_printed given out out' r h p = prints_refusal given out out' r 1 0
 
 -- ## The file in the buffer
 
-pub copied : (out file front : Bytes) → front ≡ file → take (length file) (front ++ drop (length file) out) ≡ file
-copied out file front e =
-    ap (λ u. take (length file) (u ++ drop (length file) out)) e
-    ∙ take-append-le (length file) file (drop (length file) out) (omega arith) ∙ take-length file
-
-pub copied_length : (out file front : Bytes) → length file ≤ length out → front ≡ file
-    → length (front ++ drop (length file) out) ≡ length out
-copied_length out file front h e =
-    let a = length-append front (drop (length file) out) in
-    let d = length-drop (length file) out in
-    let l = ap length e in
-    omega (arith, a, d, l, h)
+pub copied : (out file : Bytes) → length file ≤ length out → take (length file) (paste out 0 file (length file)) ≡ file
+copied out file h =
+    let z : length file ≡ 0 + length file = omega arith in
+    ap (λ k. take k (paste out 0 file (length file))) z ∙ take-paste out 0 file (length file) (omega arith) (omega arith) ∙ take-length file
 
 -- a file's bytes, wherever they stand
 pub prints_alike : (given given' out before out' : Bytes) (r : ℕ) → given ≡ given'

@@ -222,15 +222,17 @@ module _ (s : Words) (k : ℕ) (h : Liftable s k) where
       (omega (arith, length_levels s (get_or s 4 0), h.base.has)) f
       (subst (λ ls. T (levels_sound? document_01 (parameters_at s) (f ∷ ls))) (sym up) t))
 
-  settles : (x : Leveled) (out v : Words) → Right s (k - 1) h.base (leveled_of (Ok x) out v) → Apart (Ok x) out → Settles s k x out
-  settles (Vectors n used) out v r a = (a, sound_with (lifted_vectors out n) r)
-  settles (Stopped n) out v r a = a
+  settles : (x : CodeResult Leveled Refusal) (out v : Words) → Right s (k - 1) h.base (leveled_of x out v) → Apart x out → Settles s k x out
+  settles (Ok (Vectors n used)) out v r a = (a, sound_with (lifted_vectors out n) r)
+  settles (Ok (Stopped n)) out v r a = a
+  settles (Err e) out v r a = tt
 
   -- what a lifting left, any way
-  pub way_settles : (out : Words) → lifted_length ≤ length out → (way : Lifting) (n : ℕ) (x : Leveled) (v : Words) → leveled_of (Ok x) out v
-      ≡ lift_level document_01 (get_or s 0 0) (get_or s 2 0) (levels_at document_01 s (suc (k - 1))) way n → StoredAs (Ok x) out → Settles s k x out
+  pub way_settles : (out : Words) → lifted_length ≤ length out → (way : Lifting) (n : ℕ) (x : CodeResult Leveled Refusal) (v : Words)
+      → leveled_of x out v ≡ lift_level document_01 (get_or s 0 0) (get_or s 2 0) (levels_at document_01 s (suc (k - 1))) way n → StoredAs x out
+      → Settles s k x out
   way_settles out long way n x v e saved =
-      settles x out v (way_right s (k - 1) h.base out long way n (Ok x) v e) (way_apart s (k - 1) h.base out long way n (Ok x) v e saved)
+      settles x out v (way_right s (k - 1) h.base out long way n x v e) (way_apart s (k - 1) h.base out long way n x v e saved)
 
   at_finished : (x : Result Level) → T (finished? x) → T (finished? (state_over s k x))
   at_finished (done f) t = tt
@@ -249,12 +251,6 @@ module _ (s : Words) (k : ℕ) (h : Liftable s k) where
         subst (λ y. T (finished? y)) (lift_is way n) (at_finished (lift_level document_01 (get_or s 0 0) (get_or s 2 0)
             (levels_at document_01 s (suc (k - 1))) way n) (subst (λ y. T (finished? y)) e (over_finished s (k - 1) h.base out long x v))),
       )
-
-  -- a refusal changes nothing
-  pub refused_by : (way : Lifting) (n : ℕ) (out : Words) → lifted_length ≤ length out → (e : Refusal) (v : Words)
-      → leveled_of (Err e) out v ≡ lift_level document_01 (get_or s 0 0) (get_or s 2 0) (levels_at document_01 s (suc (k - 1))) way n
-      → LiftedBy s k way (Err e) s
-  refused_by way n out long e v p = lifted_by way n out long (Err e) v p tt (Err e) s refl
 
   -- ## Kept without zeroing
 
@@ -338,6 +334,10 @@ module _ (s : Words) (k : ℕ) (h : Liftable s k) where
       ≡ encode document_01 (length s) (with_level s k count out)
       → told (Ok tt) t ≡ stored s (state_over s k (leveled_of (Ok x) out []))
   stored_words x count used out t e p = ap (told (Ok tt)) p ∙ ap (λ y. stored s (state_over s k (leveled_of (Ok y) out []))) (sym e)
+
+  pub refused_words : (x : CodeResult Leveled Refusal) (e : Refusal) (out : Words) → x ≡ Err e
+      → told (Err e) s ≡ stored s (state_over s k (leveled_of x out []))
+  refused_words x e out p = ap (λ y. stored s (state_over s k (leveled_of y out []))) (sym p)
 
 -- ## Degrees that are carried
 

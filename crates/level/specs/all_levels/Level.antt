@@ -35,10 +35,11 @@ pub data Chosen (w : Strategy) (working : ℕ) : Type 0 where
 abbrev pub way_by : Strategy → ℕ → Lifting
 way_by w working = choose w.drops (by_hybrid w.pick working) by_division
 
--- vectors that can be stored as level k and leave the state sound
-abbrev pub Settles : Words → ℕ → Leveled → Words → Type 0
-Settles s k (Vectors n used) out = KeptApart n out × T (sound? document_01 (with_level s k n out))
-Settles s k (Stopped n) out = ⊥
+-- vectors that can be stored as level k and leave the state sound, or a refusal
+abbrev pub Settles : Words → ℕ → CodeResult Leveled Refusal → Words → Type 0
+Settles s k (Ok (Vectors n used)) out = KeptApart n out × T (sound? document_01 (with_level s k n out))
+Settles s k (Ok (Stopped n)) out = ⊥
+Settles s k (Err e) out = Unit {0}
 
 -- this as level k, over the levels below it, in the state that the words hold
 abbrev pub state_over : Words → ℕ → Result Level → Result State

@@ -1,10 +1,8 @@
 use borrow.Author.Rules.{rules}
 use native.Mathlib.Omega.{arith}
 use mathlib.Core.Path.{ap, ◌∙◌}
-use lib.ListN.{length, take, drop}
-use lib.Seq.{length-take-le}
-use mathlib.Core.List.{◌++◌}
-use Rattle.completing.proofs.whole.Tries.{too_long_printed, copied, copied_length, prints_alike}
+use lib.ListN.{length, take}
+use Rattle.completing.proofs.whole.Tries.{too_long_printed, copied, prints_alike}
 use Rattle.completing.proofs.whole.print.Goals as goal
 
 pub x_line-requires : goal.x_line-requires
@@ -16,26 +14,22 @@ returns-then-size-gt-FILE_LENGTH c =
     let q = c.x_line.ensures in
     (too_long_printed a.file.now a.out.now _ _ (omega arith) q.0, omega (arith, q.1))
 
-pub copy_from_slice-requires : goal.copy_from_slice-requires
-copy_from_slice-requires c =
-    let a = c.args in
-    length-take-le (length a.file.now) a.out.now (omega (arith, c.requires.2))
+pub copy-requires : goal.copy-requires
+copy-requires c = omega (arith, c.requires.2)
 
 pub complete-requires : goal.complete-requires
 complete-requires c =
-    let a = c.args in
     let P = c.requires in
-    let k = c.copy_from_slice in
-    let l = copied_length a.out.now a.file.now k.new.self (omega (arith, P.2)) k.ensures.after in
-    (P.0, omega arith, P.1, omega (arith, P.2, l))
+    (P.0, omega arith, P.1, omega (arith, P.2, c.copy.auto.out))
 
 pub returns : goal.returns
 returns c =
     let a = c.args in
-    let k = c.copy_from_slice in
+    let P = c.requires in
+    let k = c.copy in
     let x = c.complete in
     let file = a.file.now in (
-      prints_alike (take (length file) (k.new.self ++ drop (length file) a.out.now)) file a.out.now
-          (k.new.self ++ drop (length file) a.out.now) _ _ (copied a.out.now file k.new.self k.ensures.after) x.ensures.0,
+      prints_alike (take (length file) k.new.out) file a.out.now k.new.out _ _
+          (ap (take (length file)) k.ensures ∙ copied a.out.now file (omega (arith, P.2))) x.ensures.0,
       x.ensures.1,
     )

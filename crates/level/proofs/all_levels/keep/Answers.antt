@@ -1,5 +1,6 @@
 use native.Mathlib.Omega.{arith}
 use mathlib.Core.Path.{subst}
+use Rattle.std.specs.Prelude.{Ok}
 use Rattle.state.proofs.preparing.Complete.{words_below}
 use Rattle.level.specs.all_levels.Level.{Settles}
 use Rattle.level.proofs.all_levels.Lifting.{liftable_carried, kept_words}
@@ -10,7 +11,7 @@ add_level-requires c =
     let a = c.args in
     let P = c.requires in
     let b = P.0.base in
-    let st = subst (λ y. Settles a.state.now a.k y a.out.now) c.in-Vectors.is P.1 in (
+    let st = subst (λ y. Settles a.state.now a.k (Ok y) a.out.now) c.in-Vectors.is P.1 in (
       b.long,
       omega (arith, P.0.high),
       words_below a.state.now b.long b.holds a.k (omega (arith, b.has)),
@@ -28,4 +29,4 @@ returns c =
 pub returns-in_default : goal.returns-in_default
 returns-in_default c =
     let a = c.args in
-    absurd (subst (λ y. Settles a.state.now a.k y a.out.now) c.in_default.is c.requires.1)
+    absurd (subst (λ y. Settles a.state.now a.k (Ok y) a.out.now) c.in_default.is c.requires.1)

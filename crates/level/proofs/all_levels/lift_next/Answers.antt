@@ -39,7 +39,7 @@ keep-requires c =
     let L = c.in_ok-x.ensures in
     let e = L.0.2 ∙ ap (λ x. lift_over x s (a.k - 1) hybrid-2 L.0.0) c.usual-b.ensures in
     let r = run_way s (a.k - 1) P.0.base out (omega arith) hybrid-2 most_terms (by_picks refl refl (omega arith)) L.0.0 (Ok c.in_ok-x.x) L.0.1 e in
-    (P.0, way_settles s a.k P.0 out (omega arith) usual_way L.0.0 c.in_ok-x.x L.0.1 r L.1)
+    (P.0, way_settles s a.k P.0 out (omega arith) usual_way L.0.0 (Ok c.in_ok-x.x) L.0.1 r L.1)
 
 pub returns-in_err-x : goal.returns-in_err-x
 returns-in_err-x c =

@@ -1,31 +1,23 @@
-use native.Mathlib.Omega.{arith}
-use mathlib.Core.Path.{subst}
-use Rattle.state.proofs.preparing.Complete.{words_below}
-use Rattle.level.specs.all_levels.Level.{Settles}
-use Rattle.level.proofs.all_levels.Lifting.{liftable_carried, stored_words}
+use mathlib.Core.List.{[]}
+use mathlib.Core.Path.{◌≡◌, sym, subst}
+use Rattle.level.specs.by_runs.Stages.{leveled_of}
+use Rattle.level.specs.all_levels.Level.{Settles, state_over, stored, told}
+use Rattle.level.proofs.all_levels.Lifting.{refused_words}
 use Rattle.level.proofs.all_levels.store.Goals as goal
 
-pub store_level-requires : goal.store_level-requires
-store_level-requires c =
+pub store_lifted-requires : goal.store_lifted-requires
+store_lifted-requires c =
     let a = c.args in
-    let P = c.requires in
-    let b = P.0.base in
-    let st = subst (λ y. Settles a.state.now a.k y a.out.now) c.in-Vectors.is P.1 in (
-      b.long,
-      omega (arith, P.0.high),
-      words_below a.state.now b.long b.holds a.k (omega (arith, b.has)),
-      st.0,
-      st.1,
-      liftable_carried a.state.now a.k P.0,
-    )
+    (c.requires.0, subst (λ y. Settles a.state.now a.k y a.out.now) c.in-Ok.is c.requires.1)
 
-pub returns : goal.returns
-returns c =
+pub returns-in-Ok : goal.returns-in-Ok
+returns-in-Ok c =
     let a = c.args in
-    let t = c.store_level in
-    stored_words a.state.now a.k c.requires.0 a.x c.in-Vectors.n c.in-Vectors._used a.out.now t.new.state c.in-Vectors.is t.ensures
+    let s = a.state.now in
+    let t = c.store_lifted in
+    subst (λ y. told t.result t.new.state ≡ stored s (state_over s a.k (leveled_of y a.out.now []))) (sym c.in-Ok.is) t.ensures
 
-pub returns-in_default : goal.returns-in_default
-returns-in_default c =
+pub returns-in-Err : goal.returns-in-Err
+returns-in-Err c =
     let a = c.args in
-    absurd (subst (λ y. Settles a.state.now a.k y a.out.now) c.in_default.is c.requires.1)
+    refused_words a.state.now a.k c.requires.0 a.x c.in-Err.refusal a.out.now c.in-Err.is
